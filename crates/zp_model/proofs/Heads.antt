@@ -1,0 +1,74 @@
+-- Where aligned runs begin, and how two of them lie.
+use Rattle.std.proofs.Common.{ℕ, suc, ◌+◌, ◌-◌, ◌*◌, ◌/◌, ◌%◌, ◌^◌, ◌≡◌, ◌≤◌, ◌<◌, ◌⊎◌, inl, inr, sym, ◌∙◌, ap, arith}
+use Rattle.std.proofs.lemmas.Nat.{shr_split, pow_pos, mod_below, shr_high, shr-shr, shl-shr, mod-pow-add}
+use Rattle.std.proofs.lemmas.Bool.{cases_lt}
+use Rattle.std.proofs.Math.Nat.{mul-mod_left, pow-suc, add-mod_right}
+use Rattle.zp_model.specs.Block.{head}
+
+pub two : (k : ℕ) → 2 ^ (k + 1) ≡ 2 ^ k + 2 ^ k
+two k = let e : 2 ^ suc k ≡ 2 ^ k * 2 = pow-suc 2 k in let f : k + 1 ≡ suc k = omega arith in rw f (omega arith)
+
+pub head_le : (i k : ℕ) → head i k ≤ i
+head_le i k = omega (arith, shr_split i k)
+
+pub lt_head : (i k : ℕ) → i < head i k + 2 ^ k
+lt_head i k = omega (arith, shr_split i k, mod_below i (2 ^ k) (pow_pos k))
+
+pub head_aligned : (i k : ℕ) → head i k % 2 ^ k ≡ 0
+head_aligned i k = mul-mod_left (i / 2 ^ k) (2 ^ k)
+
+-- the aligned run around a page is the one that it lies in
+pub head_of : (h i k : ℕ) → h % 2 ^ k ≡ 0 → h ≤ i → i < h + 2 ^ k → head i k ≡ h
+head_of h i k al lo hi =
+    let s : h / 2 ^ k * 2 ^ k + h % 2 ^ k ≡ h = shr_split h k in
+    let r : (i - h) < 2 ^ k = omega arith in
+    let e : i ≡ h / 2 ^ k * 2 ^ k + (i - h) = omega arith in
+    let q : (h / 2 ^ k * 2 ^ k + (i - h)) / 2 ^ k ≡ h / 2 ^ k = shr_high (h / 2 ^ k) k (i - h) r in
+    let f : i / 2 ^ k ≡ h / 2 ^ k = ap (λ n. n / 2 ^ k) e ∙ q in
+    ap (λ n. n * 2 ^ k) f ∙ omega arith
+
+pub head_self : (h k : ℕ) → h % 2 ^ k ≡ 0 → head h k ≡ h
+head_self h k al = head_of h h k al (omega arith) (omega (arith, pow_pos k))
+
+pub aligned_down : (j k h : ℕ) → j ≤ k → h % 2 ^ k ≡ 0 → h % 2 ^ j ≡ 0
+aligned_down j k h le al =
+    let e : (k - j) + j ≡ k = omega arith in
+    let f : h % 2 ^ ((k - j) + j) ≡ (h / 2 ^ j % 2 ^ (k - j)) * 2 ^ j + h % 2 ^ j = mod-pow-add h (k - j) j in
+    let g : h % 2 ^ ((k - j) + j) ≡ 0 = rw e al in
+    omega arith
+
+-- the run of order k around the run of order j around i
+pub head_head : (i j k : ℕ) → j ≤ k → head (head i j) k ≡ head i k
+head_head i j k le =
+    let e : j + (k - j) ≡ k = omega arith in
+    let s : (n : ℕ) → n / 2 ^ j / 2 ^ (k - j) ≡ n / 2 ^ k = λ n. shr-shr n j (k - j) ∙ ap (λ m. n / 2 ^ m) e in
+    let q : (i / 2 ^ j * 2 ^ j) / 2 ^ j ≡ i / 2 ^ j = shl-shr (i / 2 ^ j) j in
+    ap (λ m. m * 2 ^ k) (sym (s (i / 2 ^ j * 2 ^ j)) ∙ ap (λ m. m / 2 ^ (k - j)) q ∙ s i)
+
+-- pages of one run of order j lie in one run of each larger order
+pub head_same : (h i j k : ℕ) → j ≤ k → h % 2 ^ j ≡ 0 → h ≤ i → i < h + 2 ^ j → head i k ≡ head h k
+head_same h i j k le al lo hi = sym (head_head i j k le) ∙ ap (λ n. head n k) (head_of h i j al lo hi)
+
+-- the smaller run lies inside the larger one around it
+pub head_room : (h j k : ℕ) → j ≤ k → h % 2 ^ j ≡ 0 → h + 2 ^ j ≤ head h k + 2 ^ k
+head_room h j k le al =
+    let p : 0 < 2 ^ j = pow_pos j in
+    let e : head (h + 2 ^ j - 1) k ≡ head h k = head_same h (h + 2 ^ j - 1) j k le al (omega arith) (omega arith) in
+    omega (arith, lt_head (h + 2 ^ j - 1) k)
+
+-- an aligned run is the low or the high half of its double
+pub half : (h j : ℕ) → h % 2 ^ j ≡ 0 → (h ≡ head h (j + 1)) ⊎ (h ≡ head h (j + 1) + 2 ^ j)
+half h j al =
+    let d = head h (j + 1) in
+    let t : 2 ^ (j + 1) ≡ 2 ^ j + 2 ^ j = two j in
+    let lo : d ≤ h = head_le h (j + 1) in
+    let hi : h < d + 2 ^ (j + 1) = lt_head h (j + 1) in
+    let dal : d % 2 ^ j ≡ 0 = aligned_down j (j + 1) d (omega arith) (head_aligned h (j + 1)) in
+    let self : head h j ≡ h = head_self h j al in
+    elim (cases_lt h (d + 2 ^ j)) [
+      | inl lt ↦ inl (sym self ∙ head_of d h j dal lo lt)
+      | inr ge ↦ inr (sym self ∙ head_of (d + 2 ^ j) h j (up d j dal) ge (omega arith))
+    ]
+  where
+    up : (d j : ℕ) → d % 2 ^ j ≡ 0 → (d + 2 ^ j) % 2 ^ j ≡ 0
+    up d j al = add-mod_right d (2 ^ j) ∙ al

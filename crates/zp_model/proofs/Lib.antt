@@ -1,0 +1,9 @@
+pub mod Heads
+pub mod Normal
+pub mod Pages
+pub mod Maximal
+pub mod Split
+pub mod Join
+pub mod Covers
+pub mod Settles
+pub mod MaximalBlocks

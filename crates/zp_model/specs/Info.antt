@@ -1,0 +1,26 @@
+-- Counts of free blocks, and the line that shows them (the shape of /proc/buddyinfo; its bytes are this profile's).
+use Rattle.std.specs.Prelude.{ℕ, ◌+◌, ◌-◌, Bool, List, [], ◌∷◌, ◌++◌, length, map, replicate, codes}
+use Rattle.std.specs.List.{range_with_len, count_by, flat_map}
+use Rattle.std.specs.Fmt.{decimal}
+use Rattle.zp_model.specs.declared.counts.Counts.{Counts}
+use Rattle.zp_model.specs.Block.{largest_order, is_max, size}
+
+-- how many maximal blocks of order k the free pages have
+unfoldable pub blocks_of_order : List Bool → ℕ → ℕ
+blocks_of_order free k = count_by (λ h. is_max largest_order free h k) (range_with_len 0 (length free))
+
+-- the counts of each order, the least first, and of the free pages
+abbrev pub counts : List Bool → Counts
+counts free = record { by_order = map (blocks_of_order free) (range_with_len 0 (largest_order + 1)); free = size free }
+
+-- a text right-aligned in so many places; a longer one stands whole
+abbrev pub right_aligned : ℕ → List ℕ → List ℕ
+right_aligned places text = replicate (places - length text) 32 ++ text
+
+-- one number of the line: right-aligned in six places, and a space
+abbrev pub number_field : ℕ → List ℕ
+number_field n = right_aligned 6 (decimal n) ++ 32 ∷ []
+
+abbrev pub info_line : List ℕ → Counts → List ℕ
+info_line name c =
+    codes "Node 0, zone " ++ (right_aligned 8 name ++ (32 ∷ (flat_map number_field c.by_order ++ 10 ∷ [])))

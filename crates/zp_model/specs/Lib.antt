@@ -1,0 +1,16 @@
+pub mod Block
+pub mod BlockSet
+pub mod MigrateType
+pub mod Rows
+pub mod Area
+pub mod Choose
+pub mod Take
+pub mod Zone
+pub mod Mark
+pub mod Info
+pub mod Refused
+pub mod Step
+pub mod Run
+pub mod Lawful
+pub mod Described
+pub mod Laws

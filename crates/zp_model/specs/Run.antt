@@ -1,0 +1,40 @@
+-- Runs and legal histories: the zone that a list of entries leaves, and which lists a zone could have made.
+use Rattle.std.specs.Prelude.{ℕ, ◌-◌, ◌≡◌, ◌<◌, ◌&&◌, Bool, true, List, [], ◌∷◌, leb, ltb, not}
+use Rattle.std.specs.List.{list_all}
+use Rattle.zp_model.specs.declared.request.Entry.{Entry}
+use Rattle.zp_model.specs.declared.request.Request.{Request}
+use Rattle.zp_model.specs.declared.request.Request.TheVariants.{Alloc, AllocLow, Free, Post, Collect, Refill, Drain}
+use Rattle.zp_model.specs.Rows.{stands_in}
+use Rattle.zp_model.specs.Zone.{PlainZone, is_held, workers_of}
+use Rattle.zp_model.specs.Step.{step}
+
+abbrev pub is_distinct : List ℕ → Bool
+is_distinct [] = true
+is_distinct (x ∷ xs) = not (stands_in x xs) && is_distinct xs
+
+-- whether the block of order k at an absolute page is out in w's name
+abbrev pub is_out : PlainZone → ℕ → ℕ → ℕ → Bool
+is_out z w p k = leb z.base p && is_held z w (p - z.base) k
+
+-- whether the step is defined
+abbrev pub may_ask : PlainZone → ℕ → Request → Bool
+may_ask z w (Alloc k t m) = true
+may_ask z w (AllocLow k) = true
+may_ask z w (Free p k) = is_out z w p k
+may_ask z w (Post p k to) = is_out z w p k && ltb to (workers_of z)
+may_ask z w Collect = true
+may_ask z w (Refill t m n) = leb 1 n && leb n 31
+may_ask z w (Drain t ps) = list_all (λ p. is_out z w p 0) ps && is_distinct ps
+
+abbrev pub run : PlainZone → List Entry → PlainZone
+run z [] = z
+run z (e ∷ es) = run (step z e.worker e.request).zone es
+
+-- from z on, each entry could be asked, and has the reply of the step
+abbrev pub IsLegal : PlainZone → List Entry → Type 0
+IsLegal z [] = Unit {0}
+IsLegal z (e ∷ es) =
+    (e.worker < workers_of z)
+    × (may_ask z e.worker e.request ≡ true)
+    × ((step z e.worker e.request).reply ≡ e.reply)
+    × IsLegal (step z e.worker e.request).zone es

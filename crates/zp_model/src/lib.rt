@@ -1,0 +1,37 @@
+//! The vocabulary of the zone allocator: the small types that all crates share, the definitions of the plain zone
+//! (`specs/`), and the laws on maximal blocks.
+//!
+//! Contracts see an order, a page and a worker as a number. The definitions read from top to bottom in the order of
+//! `specs/Lib.antt`.
+#![tactic(auto)]
+
+mod block;
+mod blocks_law;
+mod constants;
+mod counts;
+mod mark;
+mod migrate_type;
+mod order;
+mod page;
+mod page_list;
+mod refused;
+mod request;
+mod state;
+mod worker;
+
+pub use block::Block;
+pub use blocks_law::{each_page_in_one_block, unjoined_blocks_are_maximal};
+pub use constants::{
+    BASE_LIMIT, CLAIM_PAGES, LARGEST_ORDER, LEAST_MOVABLE_CLAIM, MAX_PAGES, MAX_WORKERS, ORDERS,
+    PAGEBLOCK_PAGES, TYPES,
+};
+pub use counts::Counts;
+pub use mark::{Level, Mark};
+pub use migrate_type::MigrateType;
+pub use order::Order;
+pub use page::{PageAt, PageNo};
+pub use page_list::PageList;
+pub use refused::Refused;
+pub use request::{Entry, Reply, Request};
+pub use state::State;
+pub use worker::Worker;
