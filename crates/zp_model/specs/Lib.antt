@@ -3,6 +3,7 @@ pub mod BlockSet
 pub mod MigrateType
 pub mod Rows
 pub mod Area
+pub mod Frames
 pub mod Choose
 pub mod Take
 pub mod Zone

@@ -1,0 +1,13 @@
+pub mod Filters
+pub mod RowEdits
+pub mod Stacked
+pub mod Halves
+pub mod Taken
+pub mod Restating
+pub mod TakenFrames
+pub mod Counting
+pub mod BlocksListed
+pub mod Own
+pub mod AllPages
+pub mod OpenedFrames
+pub mod Noting

@@ -1,0 +1,15 @@
+-- When the fields of a buddy allocator are sound.
+use Rattle.std.specs.Prelude.{ℕ, ◌≡◌, List, length}
+use Rattle.zp_model.specs.declared.migrate_type.MigrateType.{MigrateType}
+use Rattle.zp_model.specs.Block.{size}
+use Rattle.zp_model.specs.BlockSet.{cover}
+use Rattle.zp_model.specs.Rows.{Rows}
+use Rattle.zp_model.specs.Area.{pageblocks_of}
+use Rattle.zp_buddy.specs.Sound.{IsSound, blocks_of}
+
+pub record IsHeld (rows : Rows) (kinds : List MigrateType) (free : ℕ) : Type 0 where
+  pub sound : IsSound rows.states kinds rows.lists
+  -- each pageblock has a type
+  pub typed : length kinds ≡ pageblocks_of (length rows.states)
+  -- the free pages are counted
+  pub counted : free ≡ size (cover (blocks_of rows.states))

@@ -1,0 +1,136 @@
+//! The buddy allocator of one zone.
+ghost use Rattle.std.specs.Prelude.{◌≡◌, ◌≢◌, ◌<◌, ◌≤◌, ◌+◌, ◌*◌, ◌^◌, ◌↔◌, ℕ, false, length, slice_set, IfOk, IsTrue};
+ghost use Rattle.zp_model.specs.Block.{has, size};
+ghost use Rattle.zp_model.specs.Info.{counts, blocks_of_order};
+ghost use Rattle.zp_model.specs.Rows.{state_at};
+ghost use Rattle.zp_model.specs.Frames.{frames_opening, with_area, IsNote};
+ghost use Rattle.zp_model.specs.MigrateType.{types_count};
+ghost use Rattle.zp_model.specs.Area.{lists_count};
+ghost use Rattle.zp_model.specs.Choose.{own, chosen};
+ghost use Rattle.zp_model.specs.Take.{taken};
+ghost use Rattle.zp_buddy.specs.Listed.{blocks_listed_of};
+
+use crate::blocks::{first_order, list_of, take_front};
+use crate::lists::Lists;
+use crate::opening::list_all_pages;
+use std::alloc::{AllocError, Global};
+use std::marker::Model;
+use zp_model::{
+    Counts, LARGEST_ORDER, MAX_PAGES, MigrateType, ORDERS, Order, PAGEBLOCK_PAGES, PageAt, State,
+    TYPES,
+};
+
+/// The free blocks of a zone, what is noted of its other pages, and further lists of those pages. Contracts see the plain
+/// free area with these.
+#[derive(Drop)]
+pub struct Buddy {
+    lists: Lists,
+    kinds: Vec<MigrateType>,
+    free: u32,
+}
+
+impl Model for Buddy {
+    ghost use Rattle.zp_model.specs.Frames.{Frames};
+    ghost use Rattle.zp_buddy.specs.Sound.{frames_of};
+    ghost use Rattle.zp_buddy.specs.Held.{IsHeld};
+
+    ghost Value = { Frames };
+
+    ghost view = { λ b. frames_of b.lists.states b.kinds.items b.lists.lists };
+
+    ghost invariant = { λ b. IsHeld b.lists b.kinds.items b.free };
+}
+
+impl Buddy {
+    /// A zone of so many pages, all free, with so many empty further lists.
+    pub fn new(alloc: Global, pages: u32, side: usize) -> Result<Buddy, AllocError>
+        requires pages { pages ≤ MAX_PAGES }
+        requires side { side < 2 ^ 32 }
+        ensures { IfOk result (λ b. b ≡ frames_opening pages side) }
+    {
+        let kinds = Vec::from_elem(
+            alloc,
+            MigrateType::Movable,
+            pages.div_ceil(PAGEBLOCK_PAGES) as usize,
+        )?;
+        let mut lists = Lists::new(alloc, pages, TYPES * ORDERS + side)?;
+        list_all_pages(&mut lists);
+        Ok(Buddy {
+            lists,
+            kinds,
+            free: pages,
+        })
+    }
+
+    /// Takes a block of this order from the lists of this type, the smallest that serves.
+    pub fn take(&mut self, order: Order, kind: MigrateType) -> Option<PageAt>
+        ensures answer { result ≡ own self.old.area order kind }
+        ensures after { self.new ≡ with_area self.old (taken self.old.area order kind (chosen false (own self.old.area order kind))) }
+    {
+        let found = first_order(&self.lists, order, kind)?;
+        let head = take_front(&mut self.lists, &self.kinds, found, order, kind);
+        self.free -= order.pages();
+        Some(head)
+    }
+
+    /// How many pages the zone has.
+    pub fn pages(&self) -> u32
+        ensures pages { result ≡ length self.now.states }
+        ensures within { result ≤ MAX_PAGES }
+    {
+        self.lists.pages() as u32
+    }
+
+    /// Notes what a page that is not free holds.
+    pub fn hold(&mut self, at: PageAt, state: State)
+        requires page { at < length self.old.states }
+        requires used { has self.old.area.free at ≡ false }
+        requires note { IsNote state }
+        ensures { self.new ≡ record self.old { states = slice_set self.old.states at state } }
+    {
+        self.lists.set_state(at, state);
+    }
+
+    /// What is noted of a page.
+    pub fn holding(&self, at: PageAt) -> State
+        requires { at < length self.now.states }
+        ensures { result ≡ state_at self.now.states at }
+    {
+        self.lists.state(at)
+    }
+
+    /// How many free pages there are.
+    pub fn free_pages(&self) -> u32
+        ensures { result ≡ size self.now.area.free }
+    {
+        self.free
+    }
+
+    /// How many free blocks of each order there are, and how many free pages.
+    pub fn counts(&self) -> Counts
+        ensures { result ≡ counts self.now.area.free }
+    {
+        let mut by_order = [0u32; ORDERS];
+        'orders: for k in 0..ORDERS {
+            by_order[k] = blocks_listed(&self.lists, k);
+        }
+        Counts {
+            by_order,
+            free: self.free,
+        }
+    }
+}
+
+/// How many blocks of an order the free lists hold, over all types.
+fn blocks_listed(lists: &Lists, order: usize) -> u32
+    requires order { order ≤ LARGEST_ORDER }
+    requires table { lists_count ≤ length lists.now.lists }
+    ensures { result ≡ blocks_listed_of lists.now.lists order types_count }
+{
+    let _pages = lists.pages();
+    let mut blocks = 0;
+    'types: for kind in 0..TYPES {
+        blocks += lists.len(TYPES * order + kind);
+    }
+    blocks
+}

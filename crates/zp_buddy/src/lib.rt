@@ -1,0 +1,10 @@
+//! The buddy allocator of one zone: takes and gives blocks of its free pages.
+#![tactic(auto)]
+
+mod blocks;
+mod buddy;
+mod lists;
+mod opening;
+mod page_stack;
+
+pub use buddy::Buddy;

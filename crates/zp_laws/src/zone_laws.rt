@@ -1,0 +1,45 @@
+//! Laws on lawful zones. Each function does nothing: its contract is the law.
+ghost use Rattle.zp_laws.specs.KeptLawful.{
+  OpeningIsLawful,
+  SettlingListsTheArea,
+  ChoosingFindsFree,
+  ChoosingMissesNone,
+  AllocKeepsLawful,
+  StepsKeepLawful,
+  RunsKeepLawful,
+};
+
+/// The zone that all begins with is lawful.
+pub fn opening_is_lawful()
+    ensures { OpeningIsLawful }
+{}
+
+/// Settling an area lists exactly its maximal free blocks.
+pub fn settling_lists_the_area()
+    ensures { SettlingListsTheArea }
+{}
+
+/// A block is chosen only from the free ones, and large enough.
+pub fn choosing_finds_free()
+    ensures { ChoosingFindsFree }
+{}
+
+/// None is chosen only where no free block is large enough.
+pub fn choosing_misses_none()
+    ensures { ChoosingMissesNone }
+{}
+
+/// Handing out a block keeps a lawful zone lawful.
+pub fn alloc_keeps_lawful()
+    ensures { AllocKeepsLawful }
+{}
+
+/// Each step keeps a lawful zone lawful.
+pub fn steps_keep_lawful()
+    ensures { StepsKeepLawful }
+{}
+
+/// So does a whole run.
+pub fn runs_keep_lawful()
+    ensures { RunsKeepLawful }
+{}

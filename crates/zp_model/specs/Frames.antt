@@ -1,0 +1,63 @@
+-- The free area with what is noted of each page, and further lists of pages that are not free.
+use Rattle.std.specs.Prelude.{ℕ, ◌≡◌, ◌<◌, ◌≤◌, ◌%◌, ◌^◌, ◌+◌, Bool, true, false, List, [], length, map, replicate, slice_index_or, Option, None, Some}
+use Rattle.std.specs.List.{range_with_len}
+use Rattle.zp_model.specs.declared.state.State.{State}
+use Rattle.zp_model.specs.declared.state.State.TheVariants.{Tail, Free, Out, Posted}
+use Rattle.zp_model.specs.Block.{has, IsBlock}
+use Rattle.zp_model.specs.BlockSet.{max_blocks}
+use Rattle.zp_model.specs.Rows.{state_at, stands_in, list_at}
+use Rattle.zp_model.specs.Area.{Area, opening}
+
+pub record Frames : Type 0 where
+  pub area : Area
+  -- for each page what is noted of it
+  pub states : List State
+  -- lists of pages that are not free
+  pub sides : List (List ℕ)
+
+-- what is noted of a page that heads a free block, or none: a head that was free before and is none now is a tail, and what
+-- is noted of any other page stays
+abbrev pub restate : Option ℕ → State → State
+restate (Some k) s = Free k
+restate None (Free j) = Tail
+restate None Tail = Tail
+restate None (Out k t w) = Out k t w
+restate None (Posted k t w) = Posted k t w
+
+-- what is noted of each page, where these are the free pages now
+unfoldable pub restated : List Bool → List State → List State
+restated free states =
+    map (λ h. restate (slice_index_or (max_blocks free) h None) (state_at states h)) (range_with_len 0 (length states))
+
+-- the frames with another free area
+abbrev pub with_area : Frames → Area → Frames
+with_area f a = record f { area = a; states = restated a.free f.states }
+
+-- all pages free, and nothing on the further lists
+abbrev pub frames_opening : ℕ → ℕ → Frames
+frames_opening pages side =
+    record {
+      area = opening pages;
+      states = restated (replicate pages true) (replicate pages Tail);
+      sides = replicate side [];
+    }
+
+-- page p is free, page p stands on a further list
+abbrev pub IsFree : Frames → ℕ → Type 0
+IsFree f p = has f.area.free p ≡ true
+
+abbrev pub IsAside : Frames → ℕ → Type 0
+IsAside f p = (r : ℕ) × (stands_in p (list_at f.sides r) ≡ true)
+
+-- (h, k) is a block of the zone of which no page is free or on a further list
+pub record IsClear (f : Frames) (h k : ℕ) : Type 0 where
+  pub block : IsBlock (length f.area.free) h k
+  pub free : (i : ℕ) → h ≤ i → i < h + 2 ^ k → has f.area.free i ≡ false
+  pub aside : (r i : ℕ) → h ≤ i → i < h + 2 ^ k → stands_in i (list_at f.sides r) ≡ false
+
+-- what may be noted of a page that is not free
+abbrev pub IsNote : State → Type 0
+IsNote Tail = Unit {0}
+IsNote (Free k) = ⊥
+IsNote (Out k t w) = Unit {0}
+IsNote (Posted k t w) = Unit {0}
