@@ -11,3 +11,8 @@ pub mod Own
 pub mod AllPages
 pub mod OpenedFrames
 pub mod Noting
+pub mod Framed
+pub mod Joining
+pub mod Ending
+pub mod GivenBack
+pub mod ClearRuns

@@ -55,7 +55,7 @@ max_block_none u h lt f =
     get_or-map-range_with_len (λ h. find (is_max largest_order u h) (orders_from 0)) 0 (length u) h h None lt (omega arith)
     ∙ find_none (is_max largest_order u h) 0 (largest_order + 1) f
 
-restate_not_free : (s : State) (k : ℕ) → restate None s ≡ Free k → ⊥
+pub restate_not_free : (s : State) (k : ℕ) → restate None s ≡ Free k → ⊥
 restate_not_free Tail k e = cc
 restate_not_free (Free j) k e = cc
 restate_not_free (Out j t w) k e = cc

@@ -3,6 +3,7 @@ pub mod Stacks
 pub mod Sound
 pub mod Split
 pub mod Join
+pub mod Given
 pub mod Held
 pub mod Listed
 pub mod Opened

@@ -3,14 +3,17 @@ ghost use Rattle.std.specs.Prelude.{◌≡◌, ◌≢◌, ◌<◌, ◌≤◌, �
 ghost use Rattle.zp_model.specs.Block.{has, size};
 ghost use Rattle.zp_model.specs.Info.{counts, blocks_of_order};
 ghost use Rattle.zp_model.specs.Rows.{state_at};
-ghost use Rattle.zp_model.specs.Frames.{frames_opening, with_area, IsNote};
+ghost use Rattle.zp_model.specs.Frames.{frames_opening, with_area, IsNote, IsFramed, IsClear};
 ghost use Rattle.zp_model.specs.MigrateType.{types_count};
 ghost use Rattle.zp_model.specs.Area.{lists_count};
 ghost use Rattle.zp_model.specs.Choose.{own, chosen};
 ghost use Rattle.zp_model.specs.Take.{taken};
+ghost use Rattle.zp_buddy.specs.Given.{given};
 ghost use Rattle.zp_buddy.specs.Listed.{blocks_listed_of};
 
 use crate::blocks::{first_order, list_of, take_front};
+use crate::clear::{is_block, is_clear_run};
+use crate::joins::join;
 use crate::lists::Lists;
 use crate::opening::list_all_pages;
 use std::alloc::{AllocError, Global};
@@ -73,10 +76,27 @@ impl Buddy {
         Some(head)
     }
 
-    /// How many pages the zone has.
+    /// Whether this is a block of which no page is free or on a further list.
+    pub fn is_clear(&self, at: PageAt, order: Order) -> bool
+        ensures { IsTrue result ↔ IsClear self.now at order }
+    {
+        is_block(&self.lists, at, order) && is_clear_run(&self.lists, at, order)
+    }
+
+    /// Gives back a block, joined with its free buddies.
+    pub fn give(&mut self, at: PageAt, order: Order)
+        requires { IsClear self.old at order }
+        ensures { self.new ≡ given self.old at order }
+    {
+        join(&mut self.lists, &self.kinds, at, order);
+        self.free += order.pages();
+    }
+
+    /// How many pages the zone has. The frames of a buddy allocator note as free what is free.
     pub fn pages(&self) -> u32
         ensures pages { result ≡ length self.now.states }
         ensures within { result ≤ MAX_PAGES }
+        ensures framed { IsFramed self.now }
     {
         self.lists.pages() as u32
     }

@@ -3,6 +3,8 @@
 
 mod blocks;
 mod buddy;
+mod clear;
+mod joins;
 mod lists;
 mod opening;
 mod page_stack;

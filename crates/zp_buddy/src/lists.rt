@@ -86,6 +86,14 @@ impl Lists {
         self.lists[list].front()
     }
 
+    /// Whether a page is on a list.
+    pub fn is_on(&self, list: usize, at: PageAt) -> bool
+        requires { list < length self.now.lists }
+        ensures { IsTrue result ↔ IsOn self.now.lists list at }
+    {
+        self.lists[list].has(at)
+    }
+
     /// Puts a page in front of a list.
     pub fn push_front(&mut self, list: usize, at: PageAt)
         requires list { list < length self.old.lists }

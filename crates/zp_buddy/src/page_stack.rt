@@ -46,6 +46,12 @@ impl PageStack {
         self.pages.last().copied()
     }
 
+    pub fn has(&self, page: PageAt) -> bool
+        ensures { result ≡ stands_in page self.now.pages }
+    {
+        self.pages.as_slice().contains(&page)
+    }
+
     pub fn push_front(&mut self, page: PageAt)
         requires { length self.old.pages < self.old.room }
         ensures { self.new ≡ record self.old { pages = page ∷ self.old.pages } }

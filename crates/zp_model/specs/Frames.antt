@@ -1,12 +1,12 @@
 -- The free area with what is noted of each page, and further lists of pages that are not free.
-use Rattle.std.specs.Prelude.{ℕ, ◌≡◌, ◌<◌, ◌≤◌, ◌%◌, ◌^◌, ◌+◌, Bool, true, false, List, [], length, map, replicate, slice_index_or, Option, None, Some}
+use Rattle.std.specs.Prelude.{ℕ, ◌≡◌, ◌<◌, ◌≤◌, ◌^◌, ◌+◌, ◌↔◌, Bool, true, false, List, [], length, map, replicate, slice_index_or, Option, None, Some}
 use Rattle.std.specs.List.{range_with_len}
 use Rattle.zp_model.specs.declared.state.State.{State}
 use Rattle.zp_model.specs.declared.state.State.TheVariants.{Tail, Free, Out, Posted}
-use Rattle.zp_model.specs.Block.{has, IsBlock}
+use Rattle.zp_model.specs.Block.{largest_order, has, is_max, IsBlock}
 use Rattle.zp_model.specs.BlockSet.{max_blocks}
 use Rattle.zp_model.specs.Rows.{state_at, stands_in, list_at}
-use Rattle.zp_model.specs.Area.{Area, opening}
+use Rattle.zp_model.specs.Area.{Area, opening, pageblocks_of}
 
 pub record Frames : Type 0 where
   pub area : Area
@@ -61,3 +61,10 @@ IsNote Tail = Unit {0}
 IsNote (Free k) = ⊥
 IsNote (Out k t w) = Unit {0}
 IsNote (Posted k t w) = Unit {0}
+
+-- what is noted as free are the heads of the maximal blocks of the free pages, and no page of a further list is free
+pub record IsFramed (f : Frames) : Type 0 where
+  pub pages : length f.area.free ≡ length f.states
+  pub typed : length f.area.kinds ≡ pageblocks_of (length f.states)
+  pub noted : (g k : ℕ) → (state_at f.states g ≡ Free k) ↔ (is_max largest_order f.area.free g k ≡ true)
+  pub beside : (r p : ℕ) → stands_in p (list_at f.sides r) ≡ true → has f.area.free p ≡ false

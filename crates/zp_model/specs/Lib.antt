@@ -9,6 +9,7 @@ pub mod Take
 pub mod Zone
 pub mod Mark
 pub mod Info
+pub mod Naming
 pub mod Refused
 pub mod Step
 pub mod Run

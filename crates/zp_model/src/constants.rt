@@ -26,3 +26,6 @@ pub const MAX_WORKERS: u32 = 32;
 
 /// The largest base of a zone.
 pub const BASE_LIMIT: u32 = 16_777_216;
+
+/// The most bytes of a name.
+pub const LONGEST_NAME: usize = 8;

@@ -11,6 +11,7 @@ mod constants;
 mod counts;
 mod mark;
 mod migrate_type;
+mod name;
 mod order;
 mod page;
 mod page_list;
@@ -22,12 +23,13 @@ mod worker;
 pub use block::Block;
 pub use blocks_law::{each_page_in_one_block, unjoined_blocks_are_maximal};
 pub use constants::{
-    BASE_LIMIT, CLAIM_PAGES, LARGEST_ORDER, LEAST_MOVABLE_CLAIM, MAX_PAGES, MAX_WORKERS, ORDERS,
-    PAGEBLOCK_PAGES, TYPES,
+    BASE_LIMIT, CLAIM_PAGES, LARGEST_ORDER, LEAST_MOVABLE_CLAIM, LONGEST_NAME, MAX_PAGES,
+    MAX_WORKERS, ORDERS, PAGEBLOCK_PAGES, TYPES,
 };
 pub use counts::Counts;
 pub use mark::{Level, Mark};
 pub use migrate_type::MigrateType;
+pub use name::Name;
 pub use order::Order;
 pub use page::{PageAt, PageNo};
 pub use page_list::PageList;

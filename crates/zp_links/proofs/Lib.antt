@@ -1,0 +1,5 @@
+pub mod Places
+pub mod Standing
+pub mod Splice
+pub mod Writes
+pub mod Telling

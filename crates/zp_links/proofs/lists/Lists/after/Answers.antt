@@ -1,0 +1,12 @@
+use Rattle.std.proofs.Common.{◌∙◌, ap}
+use Rattle.zp_table.specs.declared.entry.PageEntry.{PageEntry}
+use Rattle.zp_links.proofs.Writes.{linked_in}
+use Rattle.zp_links.proofs.Telling.{within, forward_on}
+use Rattle.zp_links.proofs.lists.Lists.after.Goals as goal
+
+pub entry-entry-requires : goal.entry-entry-requires
+entry-entry-requires c = within _ _ _ (linked_in _ _ _ c.self.view_is c.self.invariant) c.args.list c.args.at c.requires
+
+pub returns : goal.returns
+returns c =
+    ap (λ (e : PageEntry). e.forward) c.entry-entry.ensures ∙ forward_on _ _ _ (linked_in _ _ _ c.self.view_is c.self.invariant) c.args.list c.args.at c.requires

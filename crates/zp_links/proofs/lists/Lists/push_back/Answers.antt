@@ -1,0 +1,52 @@
+use Rattle.std.proofs.Common.{◌≤◌, refl, arith, length, None}
+use Rattle.zp_model.specs.declared.constants.TheConstants.{MAX_PAGES}
+use Rattle.zp_model.specs.Rows.{list_at}
+use Rattle.zp_links.proofs.Writes.{push_linked, push_value, push_end, past_end, count_fits, end_of}
+use Rattle.zp_links.proofs.lists.Lists.push_back.Goals as goal
+
+pub overflow_add-ends : goal.overflow_add-ends
+overflow_add-ends c =
+    let s : c.index-ends.result.now.len ≤ MAX_PAGES = count_fits _ _ _ _ _ c.self.view_is c.self.invariant c.requires.list c.index-ends.ensures in
+    omega arith
+
+pub invariant_of-self : goal.invariant_of-self
+invariant_of-self c =
+    let xs = list_at c.args.self.now.lists c.args.list in
+    push_linked c.args.self.now c.args.list (length xs) c.args.at c.self.inside.table _ _ c.set_forward_of.new.table c.self.inside.ends.items c.index-ends.result.now _ c.index-ends.result.now.back None (record {
+      view = c.self.view_is;
+      linked = c.self.invariant;
+      list = c.requires.list;
+      page = c.requires.page;
+      loose = c.requires.loose;
+      place = omega arith;
+      previous = end_of _ _ _ _ _ c.self.view_is c.self.invariant c.requires.list c.index-ends.ensures;
+      next = past_end xs;
+      read = c.index-ends.ensures;
+      first = c.set_links.ensures;
+      second = refl;
+      third = c.set_forward_of.ensures;
+      front = c.end_where-front.ensures;
+      back = refl;
+      count = refl;
+    })
+
+pub returns : goal.returns
+returns c =
+    let xs = list_at c.args.self.now.lists c.args.list in
+    push_end c.args.self.now c.args.list c.args.at _ (push_value c.args.self.now c.args.list (length xs) c.args.at c.self.inside.table _ _ c.set_forward_of.new.table c.self.inside.ends.items c.index-ends.result.now _ c.index-ends.result.now.back None (record {
+      view = c.self.view_is;
+      linked = c.self.invariant;
+      list = c.requires.list;
+      page = c.requires.page;
+      loose = c.requires.loose;
+      place = omega arith;
+      previous = end_of _ _ _ _ _ c.self.view_is c.self.invariant c.requires.list c.index-ends.ensures;
+      next = past_end xs;
+      read = c.index-ends.ensures;
+      first = c.set_links.ensures;
+      second = refl;
+      third = c.set_forward_of.ensures;
+      front = c.end_where-front.ensures;
+      back = refl;
+      count = refl;
+    }))

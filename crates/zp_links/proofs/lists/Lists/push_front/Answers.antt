@@ -1,0 +1,49 @@
+use Rattle.std.proofs.Common.{◌≤◌, refl, arith, None}
+use Rattle.zp_model.specs.declared.constants.TheConstants.{MAX_PAGES}
+use Rattle.zp_links.proofs.Writes.{push_linked, push_value, count_fits, front_of}
+use Rattle.zp_links.proofs.lists.Lists.push_front.Goals as goal
+
+pub overflow_add-ends : goal.overflow_add-ends
+overflow_add-ends c =
+    let s : c.index-ends.result.now.len ≤ MAX_PAGES = count_fits _ _ _ _ _ c.self.view_is c.self.invariant c.requires.list c.index-ends.ensures in
+    omega arith
+
+pub invariant_of-self : goal.invariant_of-self
+invariant_of-self c =
+    push_linked c.args.self.now c.args.list 0 c.args.at c.self.inside.table _ _ c.set_back_of.new.table c.self.inside.ends.items c.index-ends.result.now _ None c.index-ends.result.now.front (record {
+      view = c.self.view_is;
+      linked = c.self.invariant;
+      list = c.requires.list;
+      page = c.requires.page;
+      loose = c.requires.loose;
+      place = omega arith;
+      previous = refl;
+      next = front_of _ _ _ _ _ c.self.view_is c.self.invariant c.requires.list c.index-ends.ensures;
+      read = c.index-ends.ensures;
+      first = c.set_links.ensures;
+      second = c.set_back_of.ensures;
+      third = refl;
+      front = refl;
+      back = c.end_where-back.ensures;
+      count = refl;
+    })
+
+pub returns : goal.returns
+returns c =
+    push_value c.args.self.now c.args.list 0 c.args.at c.self.inside.table _ _ c.set_back_of.new.table c.self.inside.ends.items c.index-ends.result.now _ None c.index-ends.result.now.front (record {
+      view = c.self.view_is;
+      linked = c.self.invariant;
+      list = c.requires.list;
+      page = c.requires.page;
+      loose = c.requires.loose;
+      place = omega arith;
+      previous = refl;
+      next = front_of _ _ _ _ _ c.self.view_is c.self.invariant c.requires.list c.index-ends.ensures;
+      read = c.index-ends.ensures;
+      first = c.set_links.ensures;
+      second = c.set_back_of.ensures;
+      third = refl;
+      front = refl;
+      back = c.end_where-back.ensures;
+      count = refl;
+    })

@@ -1,0 +1,41 @@
+//! The ends of a list.
+ghost use Rattle.std.specs.Prelude.{ℕ, ◌≡◌, ◌↔◌, Some, IsTrue};
+ghost use Rattle.zp_links.specs.Linked.{end_if, ends_at};
+
+use zp_model::PageAt;
+
+/// The first and the last page of a list, and its length.
+#[derive(Clone, Copy, Drop)]
+pub struct Ends {
+    pub front: Option<PageAt>,
+    pub back: Option<PageAt>,
+    pub len: u32,
+}
+
+/// `there` where a page has no neighbour, else `other`.
+pub fn end_where(
+    neighbour: Option<PageAt>,
+    there: Option<PageAt>,
+    other: Option<PageAt>,
+) -> Option<PageAt>
+    ensures { result ≡ end_if neighbour there other }
+{
+    match neighbour {
+        None => there,
+        Some(_) => other,
+    }
+}
+
+/// Whether a page is the first one of a list.
+pub fn is_front(ends: &[Ends], at: PageAt) -> bool
+    ensures { IsTrue result ↔ ((r : ℕ) × ((ends_at ends.now r).front ≡ Some at)) }
+{
+    for end in ends {
+        if let Some(page) = end.front {
+            if page == at {
+                return true;
+            }
+        }
+    }
+    false
+}

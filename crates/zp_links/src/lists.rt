@@ -1,0 +1,233 @@
+//! Lists of pages.
+ghost use Rattle.std.specs.Prelude.{◌≡◌, ◌<◌, ◌≤◌, ℕ, true, false, [], ◌∷◌, ◌++◌, length, map, replicate, slice_get, IfOk, IsTrue, ◌↔◌, None, Some};
+ghost use Rattle.zp_model.specs.Rows.{Rows, list_at, state_at, IsOn, IsLoose, IsRow, with_list, with_state, without_page, front, rest, after};
+ghost use Rattle.zp_model.specs.declared.constants.TheConstants.{MAX_PAGES};
+ghost use Rattle.zp_links.specs.Linked.{IsUnlinked, states_of};
+
+use crate::ends::{Ends, end_where, is_front};
+use crate::neighbour::{set_back_of, set_forward_of};
+use std::alloc::{AllocError, Global};
+use std::marker::Model;
+use zp_model::PageAt;
+use zp_table::{PageTable, State};
+
+/// A row of lists of pages; no page stands twice.
+#[derive(Drop)]
+pub struct Lists {
+    table: PageTable,
+    ends: Vec<Ends>,
+}
+
+impl Model for Lists {
+    ghost use Rattle.zp_model.specs.Rows.{Rows};
+    ghost use Rattle.zp_links.specs.Linked.{spelled, states_of, IsLinked};
+
+    ghost Value = { Rows };
+
+    ghost view = { λ s. record { lists = spelled s.table s.ends.items; states = states_of s.table } };
+
+    ghost invariant = { λ s. IsLinked s.table s.ends.items (spelled s.table s.ends.items) };
+}
+
+impl Lists {
+    /// So many empty lists over a table.
+    pub fn new(alloc: Global, table: PageTable, count: usize) -> Result<Lists, AllocError>
+        requires { IsUnlinked table }
+        ensures { IfOk result (λ l. l ≡ record { lists = replicate count []; states = states_of table }) }
+    {
+        // the table is no longer than a zone can be, which the lists rely on
+        let _pages = table.len();
+        let empty = Ends {
+            front: None,
+            back: None,
+            len: 0,
+        };
+        let ends = Vec::from_elem(alloc, empty, count)?;
+        Ok(Lists { table, ends })
+    }
+
+    /// Puts a page in front of a list.
+    pub fn push_front(&mut self, list: usize, at: PageAt)
+        requires list { list < length self.old.lists }
+        requires page { at < length self.old.states }
+        requires loose { IsLoose self.old.lists at }
+        ensures { self.new ≡ with_list self.old list (at ∷ list_at self.old.lists list) }
+    {
+        let ends = self.ends[list];
+        self.table.set_links(at, None, ends.front);
+        set_back_of(&mut self.table, ends.front, Some(at));
+        let back = end_where(ends.front, Some(at), ends.back);
+        self.ends[list] = Ends {
+            front: Some(at),
+            back,
+            len: ends.len + 1,
+        };
+    }
+
+    /// Puts a page at the end of a list.
+    pub fn push_back(&mut self, list: usize, at: PageAt)
+        requires list { list < length self.old.lists }
+        requires page { at < length self.old.states }
+        requires loose { IsLoose self.old.lists at }
+        ensures { self.new ≡ with_list self.old list (list_at self.old.lists list ++ at ∷ []) }
+    {
+        let ends = self.ends[list];
+        self.table.set_links(at, ends.back, None);
+        set_forward_of(&mut self.table, ends.back, Some(at));
+        let front = end_where(ends.back, Some(at), ends.front);
+        self.ends[list] = Ends {
+            front,
+            back: Some(at),
+            len: ends.len + 1,
+        };
+    }
+
+    /// Takes a page out of its list. No search is made.
+    pub fn remove(&mut self, list: usize, at: PageAt)
+        requires { IsOn self.old.lists list at }
+        ensures { self.new ≡ with_list self.old list (without_page at (list_at self.old.lists list)) }
+    {
+        let entry = self.table.entry(at);
+        set_back_of(&mut self.table, entry.forward, entry.back);
+        set_forward_of(&mut self.table, entry.back, entry.forward);
+        self.table.set_links(at, None, None);
+        let ends = self.ends[list];
+        let front = end_where(entry.back, entry.forward, ends.front);
+        let back = end_where(entry.forward, entry.back, ends.back);
+        self.ends[list] = Ends {
+            front,
+            back,
+            len: ends.len - 1,
+        };
+    }
+
+    /// Takes the page in front of a list.
+    pub fn pop_front(&mut self, list: usize) -> Option<PageAt>
+        requires { list < length self.old.lists }
+        ensures answer { result ≡ front (list_at self.old.lists list) }
+        ensures after { self.new ≡ with_list self.old list (rest (list_at self.old.lists list)) }
+    {
+        let ends = self.ends[list];
+        match ends.front {
+            None => None,
+            Some(at) => {
+                self.remove(list, at);
+                Some(at)
+            }
+        }
+    }
+
+    /// The page in front of a list.
+    pub fn front(&self, list: usize) -> Option<PageAt>
+        requires { list < length self.now.lists }
+        ensures { result ≡ front (list_at self.now.lists list) }
+    {
+        self.ends[list].front
+    }
+
+    /// The page after a page of a list.
+    pub fn after(&self, list: usize, at: PageAt) -> Option<PageAt>
+        requires { IsOn self.now.lists list at }
+        ensures { result ≡ after at (list_at self.now.lists list) }
+    {
+        // the page's own link names it, whichever the list
+        let _list = list;
+        let entry = self.table.entry(at);
+        entry.forward
+    }
+
+    /// How many pages a list has.
+    pub fn len(&self, list: usize) -> u32
+        requires { list < length self.now.lists }
+        ensures { result ≡ length (list_at self.now.lists list) }
+    {
+        self.ends[list].len
+    }
+
+    /// Whether a page stands on a list. The list is walked.
+    pub fn is_on(&self, list: usize, at: PageAt) -> bool
+        requires { list < length self.now.lists }
+        ensures { IsTrue result ↔ IsOn self.now.lists list at }
+    {
+        let ends = self.ends[list];
+        let mut next = ends.front;
+        for _place in 0..ends.len {
+            match next {
+                None => return false,
+                Some(page) => {
+                    if page == at {
+                        return true;
+                    }
+                    next = self.table.entry(page).forward;
+                }
+            }
+        }
+        false
+    }
+
+    /// Whether a page stands on some list. The fronts of the lists are looked at, and no list is walked.
+    pub fn on_any(&self, at: PageAt) -> bool
+        requires { at < length self.now.states }
+        ensures on { IsTrue result ↔ ((r : ℕ) × IsOn self.now.lists r at) }
+        ensures loose { result ≡ false → IsLoose self.now.lists at }
+    {
+        // a page that no page stands before is a front, or on no list
+        let entry = self.table.entry(at);
+        entry.back.is_some() || is_front(&self.ends, at)
+    }
+
+    /// What is noted of a page.
+    pub fn state(&self, at: PageAt) -> State
+        requires { at < length self.now.states }
+        ensures { result ≡ state_at self.now.states at }
+    {
+        self.table.entry(at).state
+    }
+
+    /// Notes another state of a page.
+    pub fn set_state(&mut self, at: PageAt, state: State)
+        requires { at < length self.old.states }
+        ensures { self.new ≡ with_state self.old at state }
+    {
+        self.table.set_state(at, state);
+    }
+
+    /// The page before a page in its list.
+    pub fn back(&self, at: PageAt) -> Option<PageAt>
+        requires { at < length self.now.states }
+        ensures previous { (r p : ℕ) → IsOn self.now.lists r p → after p (list_at self.now.lists r) ≡ Some at → result ≡ Some p }
+        ensures first { (r : ℕ) → slice_get (list_at self.now.lists r) 0 ≡ Some at → result ≡ None }
+        ensures loose { IsLoose self.now.lists at → result ≡ None }
+    {
+        self.table.entry(at).back
+    }
+
+    /// The page after a page in its list, as the page's link names it.
+    pub fn forward(&self, at: PageAt) -> Option<PageAt>
+        requires { at < length self.now.states }
+        ensures next { (r : ℕ) → IsOn self.now.lists r at → result ≡ after at (list_at self.now.lists r) }
+        ensures loose { IsLoose self.now.lists at → result ≡ None }
+    {
+        self.table.entry(at).forward
+    }
+
+    /// How many pages there are.
+    pub fn pages(&self) -> usize
+        ensures same { result ≡ length self.now.states }
+        ensures within { result ≤ MAX_PAGES }
+        ensures row { IsRow self.now.lists (length self.now.states) }
+    {
+        self.table.len()
+    }
+
+    /// How many lists there are.
+    pub fn count(&self) -> usize
+        ensures same { result ≡ length self.now.lists }
+        ensures row { IsRow self.now.lists (length self.now.states) }
+    {
+        self.ends.len()
+    }
+}
+
+#[cfg(test)]
+mod tests;

@@ -1,0 +1,6 @@
+pub mod Written
+pub mod Noted
+pub mod Movable
+pub mod Allocated
+pub mod AllocSteps
+pub mod OpeningZone

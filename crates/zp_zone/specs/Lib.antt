@@ -1,0 +1,4 @@
+pub mod Streams
+pub mod NamedZone
+pub mod Making
+pub mod Kept

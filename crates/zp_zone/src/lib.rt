@@ -1,0 +1,14 @@
+//! One zone: its making, its requests, its counts and its info line. Every `Zone` is a lawful plain zone.
+#![tactic(auto)]
+
+mod config;
+mod info;
+mod seat;
+mod streams;
+mod zone;
+
+pub use config::ZoneConfig;
+pub use info::write_counts;
+pub use seat::Seat;
+pub use streams::{ReadFault, Reader, WriteFault, Writer, write_all};
+pub use zone::Zone;

@@ -1,0 +1,147 @@
+//! A zone.
+ghost use Rattle.std.specs.Prelude.{◌≡◌, ◌<◌, ◌≤◌, ◌+◌, ℕ, length, IfOk, IfErr, OnOk, OnErr, IsTrue};
+ghost use Rattle.zp_model.specs.declared.migrate_type.MigrateType.TheVariants.{Movable};
+ghost use Rattle.zp_model.specs.Zone.{zone_opening};
+ghost use Rattle.zp_model.specs.Mark.{level, level_of, is_above};
+ghost use Rattle.zp_model.specs.Info.{counts, info_line};
+ghost use Rattle.zp_model.specs.Step.{alloc};
+ghost use Rattle.zp_zone.specs.NamedZone.{IsSeatOf, page_reply};
+ghost use Rattle.zp_zone.specs.Making.{wanted, IsGood, IsWhy, seats_of};
+ghost use Rattle.zp_zone.specs.Streams.{IsWritten, IsBegun};
+
+use crate::config::{ZoneConfig, checked_name};
+use crate::info::write_counts;
+use crate::seat::{Seat, seats};
+use crate::streams::{WriteFault, Writer};
+use std::alloc::Global;
+use std::marker::Model;
+use zp_buddy::Buddy;
+use zp_model::{Counts, Level, MAX_PAGES, Mark, MigrateType, Name, Order, PageNo, Refused, State};
+
+/// A zone: pages that workers take and give back. Contracts see its name and the plain zone, which is always lawful.
+#[derive(Drop)]
+pub struct Zone {
+    buddy: Buddy,
+    name: Name,
+    base: u32,
+    min: u32,
+}
+
+impl Model for Zone {
+    ghost use Rattle.zp_zone.specs.NamedZone.{NamedZone};
+    ghost use Rattle.zp_zone.specs.Kept.{plain_of, IsKept};
+
+    ghost Value = { NamedZone };
+
+    ghost view = { λ z. record { name = z.name; plain = plain_of z.buddy z.base z.min } };
+
+    ghost invariant = { λ z. IsKept z.name z.buddy z.base z.min };
+}
+
+impl Zone {
+    /// A zone with all its pages free, and a seat for each of its workers. Refused 1 to 5 where the config is wrong, the
+    /// least number that applies, and 6 where it is not and there is no memory.
+    pub fn new(
+        alloc: Global,
+        config: ZoneConfig<'_>,
+        workers: u32,
+    ) -> Result<(Zone, Vec<Seat>), Refused>
+        ensures good { OnOk result (IsGood (wanted config.entry.name.now config.entry.base config.entry.pages config.entry.min workers)) }
+        ensures why { IfErr result (IsWhy (wanted config.entry.name.now config.entry.base config.entry.pages config.entry.min workers)) }
+        ensures zone { IfOk result (λ z. z.0 ≡ record { name = config.entry.name.now; plain = zone_opening config.entry.base config.entry.pages config.entry.min workers }) }
+        ensures seats { IfOk result (λ z. z.1.items ≡ seats_of (wanted config.entry.name.now config.entry.base config.entry.pages config.entry.min workers)) }
+    {
+        let name = checked_name(config, workers)?;
+        let Ok(buddy) = Buddy::new(alloc, config.pages, workers as usize) else {
+            return Err(Refused::Memory);
+        };
+        let Ok(seats) = seats(alloc, config.base, config.pages, workers) else {
+            return Err(Refused::Memory);
+        };
+        let zone = Zone {
+            buddy,
+            name,
+            base: config.base,
+            min: config.min,
+        };
+        Ok((zone, seats))
+    }
+
+    /// A block of this order for this type, held to this mark: its first page. Refused 10 or 11.
+    pub fn alloc(
+        &mut self,
+        seat: &mut Seat,
+        order: Order,
+        kind: MigrateType,
+        mark: Mark,
+    ) -> Result<PageNo, Refused>
+        requires seat { IsSeatOf self.old.plain seat.old }
+        requires kind { kind ≡ Movable }
+        ensures reply { page_reply result ≡ (alloc self.old.plain seat.old.worker order kind mark).reply }
+        ensures after { self.new ≡ record self.old { plain = (alloc self.old.plain seat.old.worker order kind mark).zone } }
+        ensures seat { seat.new ≡ seat.old }
+    {
+        let _pages = self.buddy.pages();
+        if !is_above(self.min, self.buddy.free_pages(), order, mark) {
+            return Err(Refused::BelowMark);
+        }
+        let Some(head) = self.buddy.take(order, kind) else {
+            return Err(Refused::NoBlock);
+        };
+        self.buddy
+            .hold(head, State::Out(order, kind, seat.worker()));
+        Ok(PageNo::new(self.base + head.number()))
+    }
+
+    /// How many free blocks of each order there are, and how many free pages.
+    pub fn counts(&self) -> Counts
+        ensures { result ≡ counts self.now.plain.area.free }
+    {
+        self.buddy.counts()
+    }
+
+    /// The highest mark that the free pages are above.
+    pub fn level(&self) -> Level
+        ensures { result ≡ level self.now.plain }
+    {
+        level_above(self.min, self.buddy.free_pages())
+    }
+
+    /// Writes the zone's info line.
+    pub fn write_info<W: Writer>(&self, writer: &mut W) -> Result<(), WriteFault>
+        ensures ok { OnOk result (IsWritten (W.contents writer.old) (W.contents writer.new) (info_line self.now.name (counts self.now.plain.area.free))) }
+        ensures calm { OnOk result (W.failures writer.new ≡ W.failures writer.old) }
+        ensures err { OnErr result (IsBegun (W.contents writer.old) (W.contents writer.new) (info_line self.now.name (counts self.now.plain.area.free))) }
+        ensures failed { OnErr result (W.failures writer.old < W.failures writer.new) }
+    {
+        write_counts(writer, self.name.as_str(), &self.counts())
+    }
+}
+
+/// Whether a request of this order may go on at a mark, with so many free pages.
+fn is_above(min: u32, free: u32, order: Order, mark: Mark) -> bool
+    requires { min ≤ MAX_PAGES }
+    ensures { result ≡ is_above min free order mark }
+{
+    match mark {
+        Mark::Low => free > min + min / 4 + (order.pages() - 1),
+        Mark::Min => free > min + (order.pages() - 1),
+        Mark::Any => true,
+    }
+}
+
+/// The highest mark that so many free pages are above.
+fn level_above(min: u32, free: u32) -> Level
+    requires { min ≤ MAX_PAGES }
+    ensures { result ≡ level_of min free }
+{
+    if free > min + min / 2 {
+        Level::High
+    } else if free > min + min / 4 {
+        Level::Low
+    } else if free > min {
+        Level::Min
+    } else {
+        Level::Short
+    }
+}
