@@ -12,10 +12,10 @@ use Rattle.zp_model.specs.Lawful.{times, times_out, times_posted, IsLawful}
 use Rattle.zp_laws.proofs.HandedOut.{one_if, count_posted, times_out-more, times_posted-set, times-parts, out-has, in_run-head}
 use Rattle.zp_laws.proofs.Keeping.{AllPosted, out_more, posted_set}
 
-count-front : (p : PostedBlock) (ps : List PostedBlock) (i : ℕ) → count_posted (p ∷ ps) i ≡ one_if (in_run p.head p.order i) + count_posted ps i
+pub count-front : (p : PostedBlock) (ps : List PostedBlock) (i : ℕ) → count_posted (p ∷ ps) i ≡ one_if (in_run p.head p.order i) + count_posted ps i
 count-front p ps i = sum_by-cons (λ (q : PostedBlock). one_if (in_run q.head q.order i)) p ps
 
-posted-has : (posted : List (List PostedBlock)) (w i : ℕ) → w < length posted → count_posted (get_or posted w []) i ≤ times_posted posted i
+pub posted-has : (posted : List (List PostedBlock)) (w i : ℕ) → w < length posted → count_posted (get_or posted w []) i ≤ times_posted posted i
 unfolding times_posted
 posted-has posted w i lt = get_or-le-sum_by (λ ps. count_posted ps i) posted w [] lt
 

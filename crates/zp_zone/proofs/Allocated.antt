@@ -71,7 +71,7 @@ pub record IsAsked (f : Frames) (base min : ℕ) : Type 0 where
   pub lawful : IsLawful (plain_of f base min)
 
 -- a free page heads no block out
-not_out : (f : Frames) (base min g : ℕ) → IsAsked f base min → has f.area.free g ≡ true → holding_of (state_at f.states g) ≡ None
+pub not_out : (f : Frames) (base min g : ℕ) → IsAsked f base min → has f.area.free g ≡ true → holding_of (state_at f.states g) ≡ None
 not_out f base min g x e =
     let lt : g < length f.area.free = has_below f.area.free g e in
     sym (get_or-map holding_of f.states g Tail) ∙ free-not_out (plain_of f base min) g x.lawful lt e

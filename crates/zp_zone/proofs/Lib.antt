@@ -4,3 +4,4 @@ pub mod Movable
 pub mod Allocated
 pub mod AllocSteps
 pub mod OpeningZone
+pub mod Freed

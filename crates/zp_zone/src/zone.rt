@@ -1,10 +1,12 @@
 //! A zone.
-ghost use Rattle.std.specs.Prelude.{◌≡◌, ◌<◌, ◌≤◌, ◌+◌, ℕ, length, IfOk, IfErr, OnOk, OnErr, IsTrue};
+ghost use Rattle.std.specs.Prelude.{◌≡◌, ◌<◌, ◌≤◌, ◌+◌, ℕ, length, IfOk, IfErr, IfSome, IfNone, OnOk, OnErr, IsTrue, ◌-◌};
 ghost use Rattle.zp_model.specs.declared.migrate_type.MigrateType.TheVariants.{Movable};
-ghost use Rattle.zp_model.specs.Zone.{zone_opening};
+ghost use Rattle.zp_model.specs.Zone.{zone_opening, is_of};
+ghost use Rattle.zp_zone.specs.Kept.{holding_of};
 ghost use Rattle.zp_model.specs.Mark.{level, level_of, is_above};
 ghost use Rattle.zp_model.specs.Info.{counts, info_line};
-ghost use Rattle.zp_model.specs.Step.{alloc};
+ghost use Rattle.zp_model.specs.Step.{alloc, freed};
+ghost use Rattle.zp_model.specs.Run.{is_out};
 ghost use Rattle.zp_zone.specs.NamedZone.{IsSeatOf, page_reply};
 ghost use Rattle.zp_zone.specs.Making.{wanted, IsGood, IsWhy, seats_of};
 ghost use Rattle.zp_zone.specs.Streams.{IsWritten, IsBegun};
@@ -16,7 +18,10 @@ use crate::streams::{WriteFault, Writer};
 use std::alloc::Global;
 use std::marker::Model;
 use zp_buddy::Buddy;
-use zp_model::{Counts, Level, MAX_PAGES, Mark, MigrateType, Name, Order, PageNo, Refused, State};
+use zp_model::{
+    Counts, Level, MAX_PAGES, Mark, MigrateType, Name, Order, PageAt, PageNo, Refused, State,
+    Worker,
+};
 
 /// A zone: pages that workers take and give back. Contracts see its name and the plain zone, which is always lawful.
 #[derive(Drop)]
@@ -93,6 +98,30 @@ impl Zone {
         Ok(PageNo::new(self.base + head.number()))
     }
 
+    /// Whether the block at this page, of this order, is out to the seat's worker.
+    pub fn held_by(&self, seat: &Seat, page: PageNo, order: Order) -> bool
+        requires { IsSeatOf self.now.plain seat.now }
+        ensures { result ≡ is_out self.now.plain seat.now.worker page order }
+    {
+        match place_of(page, self.base, self.buddy.pages()) {
+            None => false,
+            Some(at) => is_out_to(self.buddy.holding(at), order, seat.worker()),
+        }
+    }
+
+    /// Gives back the block at this page, of this order. It is never refused; `held_by` tells whether it may be called.
+    pub fn free(&mut self, seat: &mut Seat, page: PageNo, order: Order)
+        requires seat { IsSeatOf self.old.plain seat.old }
+        requires out { IsTrue (is_out self.old.plain seat.old.worker page order) }
+        ensures after { self.new ≡ record self.old { plain = freed self.old.plain (page - self.old.plain.base) order } }
+        ensures seat { seat.new ≡ seat.old }
+    {
+        let _pages = self.buddy.pages();
+        let _worker = seat.worker();
+        let at = PageAt::at(page.number() - self.base);
+        self.buddy.give(at, order);
+    }
+
     /// How many free blocks of each order there are, and how many free pages.
     pub fn counts(&self) -> Counts
         ensures { result ≡ counts self.now.plain.area.free }
@@ -115,6 +144,29 @@ impl Zone {
         ensures failed { OnErr result (W.failures writer.old < W.failures writer.new) }
     {
         write_counts(writer, self.name.as_str(), &self.counts())
+    }
+}
+
+/// The place of an absolute page in a zone, where it has one.
+fn place_of(page: PageNo, base: u32, pages: u32) -> Option<PageAt>
+    requires { pages ≤ MAX_PAGES }
+    ensures some { IfSome result (λ at. (base ≤ page) × (at ≡ page - base) × (at < pages)) }
+    ensures none { IfNone result (base ≤ page → pages ≤ page - base) }
+{
+    let number = page.number();
+    if number < base || number - base >= pages {
+        return None;
+    }
+    Some(PageAt::at(number - base))
+}
+
+/// Whether a page's state notes a block of this order that is out to this worker.
+fn is_out_to(state: State, order: Order, worker: Worker) -> bool
+    ensures { result ≡ is_of worker order (holding_of state) }
+{
+    match state {
+        State::Out(out, _, holder) => out == order && holder == worker,
+        _ => false,
     }
 }
 

@@ -1,0 +1,9 @@
+pub mod Numbers
+pub mod Cutting
+pub mod WordLists
+pub mod Places
+pub mod LineWords
+pub mod Beginnings
+pub mod BadLines
+pub mod NextLine
+pub mod OneReading

@@ -1,0 +1,74 @@
+-- What the text of each line is: words, each two of them parted by one space, and a line feed.
+use Rattle.std.specs.Prelude.{ℕ, ◌<◌, ◌≤◌, List, [], ◌∷◌, ◌++◌, length, map, codes}
+use Rattle.std.specs.List.{join_with_byte, flat_map, AllByRecursion}
+use Rattle.std.specs.Fmt.{decimal}
+use Rattle.std.specs.Borrow.{Bor}
+use Rattle.zp_model.specs.declared.migrate_type.MigrateType.{MigrateType}
+use Rattle.zp_model.specs.declared.migrate_type.MigrateType.TheVariants.{Unmovable, Reclaimable, Movable}
+use Rattle.zp_trace.specs.declared.bounds.TheConstants.{MOST_WORDS}
+use Rattle.zp_trace.specs.declared.line.ZoneLine.{ZoneLine}
+use Rattle.zp_trace.specs.declared.line.Call.{Call}
+use Rattle.zp_trace.specs.declared.line.Call.TheVariants.{Info, Alloc}
+use Rattle.zp_trace.specs.declared.line.Command.{Command}
+use Rattle.zp_trace.specs.Lines.{Line}
+use Rattle.zp_trace.specs.Lines as line
+
+abbrev pub space : ℕ
+space = 32
+
+abbrev pub line_feed : ℕ
+line_feed = 10
+
+-- words with one space between each two
+abbrev pub joined : List (List ℕ) → List ℕ
+joined words = join_with_byte space words
+
+-- the bytes of words, wherever they lie
+abbrev pub spelled : List (Bor (List ℕ)) → List (List ℕ)
+spelled words = map (λ w. w.now) words
+
+-- each byte of a word stands above the space and the line feed
+abbrev pub IsWord : List ℕ → Type 0
+IsWord word = AllByRecursion (λ b. space < b) word
+
+-- what may be the words of a line
+abbrev pub AreWords : List (List ℕ) → Type 0
+AreWords words = (0 < length words) × (length words ≤ MOST_WORDS) × AllByRecursion IsWord words
+
+abbrev pub zone_words : ZoneLine → List (List ℕ)
+zone_words z = codes "zone" ∷ z.name ∷ decimal z.base ∷ decimal z.pages ∷ codes "0" ∷ []
+
+abbrev pub workers_words : List (List ℕ)
+workers_words = codes "workers" ∷ codes "1" ∷ []
+
+abbrev pub lists_words : List (List ℕ)
+lists_words = codes "lists" ∷ codes "0" ∷ codes "0" ∷ []
+
+abbrev pub kind_word : MigrateType → List ℕ
+kind_word Unmovable = codes "U"
+kind_word Reclaimable = codes "R"
+kind_word Movable = codes "M"
+
+abbrev pub call_words : Call → List (List ℕ)
+call_words Info = codes "info" ∷ []
+call_words (Alloc label order kind zone) =
+    codes "alloc" ∷ label ∷ decimal order ∷ kind_word kind ∷ zone ∷ codes "any" ∷ []
+
+abbrev pub command_words : Command → List (List ℕ)
+command_words c = decimal c.worker ∷ call_words c.call
+
+abbrev pub line_words : Line → List (List ℕ)
+line_words (line.Zone z) = zone_words z
+line_words line.Workers = workers_words
+line_words line.Lists = lists_words
+line_words (line.Command c) = command_words c
+
+abbrev pub line_text : Line → List ℕ
+line_text l = joined (line_words l) ++ line_feed ∷ []
+
+abbrev pub text_of : List Line → List ℕ
+text_of lines = flat_map line_text lines
+
+-- the lines before the first worker line
+abbrev pub header_of : ZoneLine → List Line
+header_of z = line.Zone z ∷ line.Workers ∷ line.Lists ∷ []

@@ -1,0 +1,25 @@
+//! Traces: what they hold, the grammar of their text, and the parser.
+//!
+//! A trace is one text. Its grammar says what the text of each line is and which lines may stand after which; the parser
+//! answers the trace that a text writes, or the number of the text's bad line.
+#![tactic(auto)]
+
+mod bounds;
+mod forms;
+mod grammar_law;
+mod line;
+mod number;
+mod parser;
+mod trace;
+mod words;
+
+pub use bounds::{HEADER_LINES, MOST_LINES, WORKERS};
+pub use grammar_law::{
+    a_good_text_has_no_bad_line, a_text_has_one_bad_line, a_text_writes_one_trace,
+};
+pub use line::{Call, Command, ZoneLine};
+pub use parser::parse_trace;
+pub use trace::{Commands, Trace, TraceFault};
+
+#[cfg(test)]
+mod tests;

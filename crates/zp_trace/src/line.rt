@@ -1,0 +1,33 @@
+//! The lines of a trace.
+
+use zp_model::{MigrateType, Name, Order, Worker};
+
+/// The line that declares a zone.
+#[derive(Clone, Copy, PartialEq, Eq, Debug, Drop)]
+pub struct ZoneLine {
+    pub name: Name,
+    /// The first page.
+    pub base: u32,
+    pub pages: u32,
+}
+
+/// What a worker line asks for.
+#[derive(Clone, Copy, PartialEq, Eq, Debug, Drop)]
+pub enum Call {
+    /// The counts of each zone.
+    Info,
+    /// A block of this order for this type out of the zone of this name; the label is bound to it.
+    Alloc {
+        label: Name,
+        order: Order,
+        kind: MigrateType,
+        zone: Name,
+    },
+}
+
+/// One worker line: who asks, and for what.
+#[derive(Clone, Copy, PartialEq, Eq, Debug, Drop)]
+pub struct Command {
+    pub worker: Worker,
+    pub call: Call,
+}

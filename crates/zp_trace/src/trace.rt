@@ -1,0 +1,85 @@
+//! A trace, and why a text is none.
+ghost use Rattle.std.specs.Prelude.{◌≡◌, ◌↔◌, [], ◌∷◌, ◌++◌, length, IsTrue, OnOk, OnErr};
+
+use crate::line::{Command, ZoneLine};
+use std::alloc::{AllocError, Global};
+use std::marker::Model;
+
+/// The commands of a trace, in order.
+#[derive(Debug, Drop)]
+pub struct Commands {
+    commands: Vec<Command>,
+}
+
+impl Model for Commands {
+    ghost use Rattle.std.specs.Prelude.{List};
+    ghost use Rattle.zp_trace.specs.declared.line.Command.{Command};
+
+    ghost Value = { List Command };
+
+    ghost view = { λ c. c.commands.items };
+}
+
+impl Commands {
+    pub(crate) fn new(alloc: Global) -> Commands
+        ensures { result ≡ [] }
+    {
+        Commands {
+            commands: Vec::new(alloc),
+        }
+    }
+
+    pub fn len(&self) -> usize
+        ensures { result ≡ length self.now }
+    {
+        self.commands.len()
+    }
+
+    pub fn is_empty(&self) -> bool
+        ensures { IsTrue result ↔ (self.now ≡ []) }
+    {
+        self.commands.is_empty()
+    }
+
+    pub fn as_slice(&self) -> &[Command]
+        ensures { result.now ≡ self.now }
+    {
+        &self.commands
+    }
+
+    /// Puts a command at the end. Where memory is wanting, the list stays as it was.
+    pub(crate) fn push(&mut self, command: Command) -> Result<(), AllocError>
+        ensures ok { OnOk result (self.new ≡ self.old ++ command ∷ []) }
+        ensures err { OnErr result (self.new ≡ self.old) }
+    {
+        let Command { worker, call } = command;
+        self.commands.push(Command { worker, call })?;
+        Ok(())
+    }
+}
+
+/// What a text of the grammar says.
+#[derive(Debug, Drop)]
+pub struct Trace {
+    pub zone: ZoneLine,
+    pub commands: Commands,
+}
+
+/// Why there is no trace.
+#[derive(Clone, Copy, PartialEq, Eq, Debug, Drop)]
+pub enum TraceFault {
+    /// The first line that may not stand after the lines before it, counted from 1.
+    BadLine(u32),
+    /// There is no memory for the commands.
+    Memory,
+}
+
+impl From<AllocError> for TraceFault {
+    ghost use Rattle.zp_trace.specs.declared.trace.TraceFault.TheVariants.{Memory};
+
+    ghost from_gives = { λ _ e. e ≡ Memory };
+
+    fn from(_e: AllocError) -> TraceFault {
+        TraceFault::Memory
+    }
+}
