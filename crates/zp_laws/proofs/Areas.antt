@@ -78,6 +78,11 @@ unfolding taken
 kinds-taken a k t c =
     ap length (kinds-leave (claimed a (c.head / pageblock_pages) t c.claims) c.head k) ∙ kinds-claimed a (c.head / pageblock_pages) t c.claims
 
+pub kinds-unclaimed : (a : Area) (k : ℕ) (t : MigrateType) (c : Chosen) → c.claims ≡ false → (taken a k t (Some c)).kinds ≡ a.kinds
+unfolding taken
+kinds-unclaimed a k t c e =
+    kinds-leave (claimed a (c.head / pageblock_pages) t c.claims) c.head k ∙ ap (λ b. (claimed a (c.head / pageblock_pages) t b).kinds) e
+
 pub lists-taken : (a : Area) (k : ℕ) (t : MigrateType) (c : Chosen) → IsListedArea a → IsListedArea (taken a k t (Some c))
 unfolding taken
 lists-taken a k t c l =

@@ -18,3 +18,5 @@ pub mod Steps
 pub mod Refusals
 pub mod Moves
 pub mod StepMoves
+pub mod TakingBack
+pub mod Replaying

@@ -1,3 +1,5 @@
 pub mod Found
 pub mod KeptLawful
 pub mod FreePages
+pub mod TakenBack
+pub mod Journals

@@ -1,9 +1,11 @@
 //! The laws of the plain zone: what holds of every zone that its requests leave.
 #![tactic(auto)]
 
+mod journal_laws;
 mod page_laws;
 mod zone_laws;
 
+pub use journal_laws::{giving_back_restores, journals_replay, legal_histories_are_journals};
 pub use page_laws::{refusals_change_nothing, steps_keep_the_zone, steps_move_pages};
 pub use zone_laws::{
     alloc_keeps_lawful, choosing_finds_free, choosing_misses_none, opening_is_lawful,

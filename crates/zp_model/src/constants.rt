@@ -29,3 +29,6 @@ pub const BASE_LIMIT: u32 = 16_777_216;
 
 /// The most bytes of a name.
 pub const LONGEST_NAME: usize = 8;
+
+/// The most pages of a list of pages in a request or a reply, as many as a worker's list can have.
+pub const LONGEST_LIST: usize = 64;

@@ -87,6 +87,7 @@ impl PageNo {
         ensures same { result ≡ self }
         ensures within { result < 2 ^ 32 }
     {
-        self.number
+        let PageNo { number } = self;
+        number
     }
 }

@@ -1,14 +1,15 @@
 //! Short lists of pages, as requests and replies hold them.
 ghost use Rattle.std.specs.Prelude.{◌≡◌, ◌<◌, ◌≤◌, List, [], ◌∷◌, ◌++◌, length, ℕ};
 
+use crate::constants::LONGEST_LIST;
 use crate::page::PageNo;
 use arrayvec::ArrayVec;
 use std::marker::Model;
 
-/// At most 64 absolute pages, in order, in place: making one takes no memory.
+/// Absolute pages, at most `LONGEST_LIST`, in order, in place: making one takes no memory.
 #[derive(Drop)]
 pub struct PageList {
-    pages: ArrayVec<PageNo, 64>,
+    pages: ArrayVec<PageNo, LONGEST_LIST>,
 }
 
 impl Model for PageList {
@@ -30,7 +31,7 @@ impl PageList {
 
     /// Puts a page at the end.
     pub fn push(&mut self, page: PageNo)
-        requires { length self.old < 64 }
+        requires { length self.old < LONGEST_LIST }
         ensures { self.new ≡ self.old ++ page ∷ [] }
     {
         self.pages.push(page);
@@ -38,7 +39,7 @@ impl PageList {
 
     pub fn as_slice(&self) -> &[PageNo]
         ensures same { result.now ≡ self.now }
-        ensures within { length result.now ≤ 64 }
+        ensures within { length result.now ≤ LONGEST_LIST }
     {
         self.pages.as_slice()
     }

@@ -12,3 +12,6 @@ pub use info::write_counts;
 pub use seat::Seat;
 pub use streams::{ReadFault, Reader, WriteFault, Writer, write_all};
 pub use zone::Zone;
+
+#[cfg(test)]
+mod tests;

@@ -7,6 +7,7 @@ ghost use Rattle.zp_model.specs.Mark.{level, level_of, is_above};
 ghost use Rattle.zp_model.specs.Info.{counts, info_line};
 ghost use Rattle.zp_model.specs.Step.{alloc, freed};
 ghost use Rattle.zp_model.specs.Run.{is_out};
+ghost use Rattle.zp_model.specs.Lawful.{IsLawful};
 ghost use Rattle.zp_zone.specs.NamedZone.{IsSeatOf, page_reply};
 ghost use Rattle.zp_zone.specs.Making.{wanted, IsGood, IsWhy, seats_of};
 ghost use Rattle.zp_zone.specs.Streams.{IsWritten, IsBegun};
@@ -122,9 +123,10 @@ impl Zone {
         self.buddy.give(at, order);
     }
 
-    /// How many free blocks of each order there are, and how many free pages.
+    /// How many free blocks of each order there are, and how many free pages. Each zone is lawful.
     pub fn counts(&self) -> Counts
-        ensures { result ≡ counts self.now.plain.area.free }
+        ensures counts { result ≡ counts self.now.plain.area.free }
+        ensures lawful { IsLawful self.now.plain }
     {
         self.buddy.counts()
     }

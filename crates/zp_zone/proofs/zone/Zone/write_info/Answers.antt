@@ -11,11 +11,11 @@ returns-clause-ok g c =
     let name : c.as_str.result.now ≡ c.args.self.now.name = c.as_str.ensures ∙ ap (λ (z : NamedZone). z.name) c.self.view_is in
     let P : List ℕ → Type 0 = λ n. OnOk c.write_counts.result (IsWritten (g.W.Writer.contents c.args.writer.now) (g.W.Writer.contents c.write_counts.new.writer) (info_line n c.counts.result)) in
     let Q : Counts → Type 0 = λ k. OnOk c.write_counts.result (IsWritten (g.W.Writer.contents c.args.writer.now) (g.W.Writer.contents c.write_counts.new.writer) (info_line c.args.self.now.name k)) in
-    subst Q c.counts.ensures (subst P name c.write_counts.ensures.ok)
+    subst Q c.counts.ensures.counts (subst P name c.write_counts.ensures.ok)
 
 pub returns-clause-err : goal.returns-clause-err
 returns-clause-err g c =
     let name : c.as_str.result.now ≡ c.args.self.now.name = c.as_str.ensures ∙ ap (λ (z : NamedZone). z.name) c.self.view_is in
     let P : List ℕ → Type 0 = λ n. OnErr c.write_counts.result (IsBegun (g.W.Writer.contents c.args.writer.now) (g.W.Writer.contents c.write_counts.new.writer) (info_line n c.counts.result)) in
     let Q : Counts → Type 0 = λ k. OnErr c.write_counts.result (IsBegun (g.W.Writer.contents c.args.writer.now) (g.W.Writer.contents c.write_counts.new.writer) (info_line c.args.self.now.name k)) in
-    subst Q c.counts.ensures (subst P name c.write_counts.ensures.err)
+    subst Q c.counts.ensures.counts (subst P name c.write_counts.ensures.err)

@@ -1,0 +1,45 @@
+-- What workers ask of a zone one after the other, and the journal of it.
+use Rattle.std.specs.Prelude.{ℕ, ◌≡◌, ◌<◌, true, List, [], ◌∷◌}
+use Rattle.zp_model.specs.declared.request.Entry.{Entry}
+use Rattle.zp_model.specs.declared.request.Request.{Request}
+use Rattle.zp_model.specs.Zone.{PlainZone, workers_of}
+use Rattle.zp_model.specs.Step.{step}
+use Rattle.zp_model.specs.Run.{may_ask, run, IsLegal}
+
+-- a worker's request
+pub record Asked : Type 0 where
+  pub worker : ℕ
+  pub request : Request
+
+-- the zone after all of it
+abbrev pub asked_all : PlainZone → List Asked → PlainZone
+asked_all z [] = z
+asked_all z (q ∷ qs) = asked_all (step z q.worker q.request).zone qs
+
+-- each of them could be asked where it was
+abbrev pub MayAskAll : PlainZone → List Asked → Type 0
+MayAskAll z [] = Unit {0}
+MayAskAll z (q ∷ qs) =
+    (q.worker < workers_of z) × (may_ask z q.worker q.request ≡ true) × MayAskAll (step z q.worker q.request).zone qs
+
+-- an entry for each of them, with the reply that it had
+abbrev pub journal : PlainZone → List Asked → List Entry
+journal z [] = []
+journal z (q ∷ qs) =
+    record { worker = q.worker; request = q.request; reply = (step z q.worker q.request).reply } ∷ journal (step z q.worker q.request).zone qs
+
+-- a journal that is run from where it began gives the zone that made it, and it is legal there
+pub record IsReplayed (z : PlainZone) (qs : List Asked) : Type 0 where
+  pub same : run z (journal z qs) ≡ asked_all z qs
+  pub legal : MayAskAll z qs → IsLegal z (journal z qs)
+
+abbrev pub JournalsReplay : Type 0
+JournalsReplay = (z : PlainZone) (qs : List Asked) → IsReplayed z qs
+
+-- and a legal history is the journal of its own requests: no other replies would be legal
+abbrev pub asked_in : List Entry → List Asked
+asked_in [] = []
+asked_in (e ∷ es) = record { worker = e.worker; request = e.request } ∷ asked_in es
+
+abbrev pub LegalHistoriesAreJournals : Type 0
+LegalHistoriesAreJournals = (z : PlainZone) (es : List Entry) → IsLegal z es → journal z (asked_in es) ≡ es

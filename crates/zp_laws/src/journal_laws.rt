@@ -1,0 +1,18 @@
+//! Laws on journals, and on taking and giving back. Each function does nothing: its contract is the law.
+ghost use Rattle.zp_laws.specs.Journals.{JournalsReplay, LegalHistoriesAreJournals};
+ghost use Rattle.zp_laws.specs.TakenBack.{GivingBackRestores};
+
+/// A journal run from where it began gives the zone that made it, and is legal there.
+pub fn journals_replay()
+    ensures { JournalsReplay }
+{}
+
+/// A legal history is the journal of its own requests.
+pub fn legal_histories_are_journals()
+    ensures { LegalHistoriesAreJournals }
+{}
+
+/// A block that is taken and given back leaves the free pages as they were, and the types where none was claimed.
+pub fn giving_back_restores()
+    ensures { GivingBackRestores }
+{}
