@@ -8,7 +8,7 @@ use Rattle.std.proofs.lemmas.List.FromFn.{fill_by_all}
 use Rattle.zp_model.specs.Block.{has, in_run, without, size}
 use Rattle.zp_model.proofs.Normal.{Filled}
 use Rattle.zp_model.proofs.Pages.{In}
-use Rattle.zp_model.proofs.Covers.{length-without, without-decides}
+use Rattle.zp_model.proofs.Covers.{has_below, length-without, without-decides}
 
 pub same_tests : (a b : Bool) → (a ≡ true → b ≡ true) → (b ≡ true → a ≡ true) → a ≡ b
 same_tests a b f g = same_from_decides {P = b ≡ true} a b (f, g) (λ e. e, λ e. e)
@@ -61,10 +61,10 @@ count-run p h m a (suc n) f g =
       ]
     ]
 
-in_run-yes : (h k i : ℕ) → h ≤ i → i < h + 2 ^ k → in_run h k i ≡ true
+pub in_run-yes : (h k i : ℕ) → h ≤ i → i < h + 2 ^ k → in_run h k i ≡ true
 in_run-yes h k i a b = and_from _ _ (le-leb h i a) (lt-ltb i (h + 2 ^ k) b)
 
-in_run-no : (h k i : ℕ) → (i < h) ⊎ (h + 2 ^ k ≤ i) → in_run h k i ≡ false
+pub in_run-no : (h k i : ℕ) → (i < h) ⊎ (h + 2 ^ k ≤ i) → in_run h k i ≡ false
 in_run-no h k i w = false_from_ne_true _ (λ e.
     let a = and_parts _ _ e in
     let lo : h ≤ i = leb-true h i a.0 in
@@ -90,31 +90,35 @@ unfolding size
 size-range u =
     ap (λ v. count_by (λ b. b) v) (fill_by_all (has u) u (length u) false refl (λ i lt. refl)) ∙ count-map (has u) (range_with_len 0 (length u))
 
+-- whether one number is in the set, before and after the pages of a run of it leave
+pub one-without : (u : List Bool) (h k i : ℕ) → Filled (In u) h k → one_if (has u i) ≡ one_if (has (without u h k) i) + one_if (in_run h k i)
+one-without u h k i f =
+    elim (cases_Bool (in_run h k i)) [
+      | inl within ↦
+          let a = and_parts _ _ within in
+          let lo : h ≤ i = leb-true h i a.0 in
+          let hi : i < h + 2 ^ k = ltb-true i (h + 2 ^ k) a.1 in
+          let here : has u i ≡ true = f i lo hi in
+          let gone : has (without u h k) i ≡ false = false_from_ne_true _ (λ e. ((without-decides u h k i (has_below u i here)).0 e).1 lo hi) in
+          rw (here, gone, within) refl
+      | inr past ↦
+          let out : h ≤ i → i < h + 2 ^ k → ⊥ = λ x y. both_ways (in_run h k i) past (in_run-yes h k i x y) in
+          let n : length (without u h k) ≡ length u = length-without u h k in
+          let same : has (without u h k) i ≡ has u i =
+          same_tests _ _
+          (λ e. let lt : i < length (without u h k) = has_below (without u h k) i e in ((without-decides u h k i (omega arith)).0 e).0)
+          (λ e. (without-decides u h k i (has_below u i e)).1 (e, out)) in
+          rw (same, past) (omega arith)
+    ]
+
 -- the pages of a run of the set leave it
 pub size-without : (u : List Bool) (h k : ℕ) → h + 2 ^ k ≤ length u → Filled (In u) h k → size u ≡ size (without u h k) + 2 ^ k
 size-without u h k le f =
     let n : length (without u h k) ≡ length u = length-without u h k in
     let e : count_by (has u) (range_with_len 0 (length u)) ≡ count_by (has (without u h k)) (range_with_len 0 (length u)) + count_by (in_run h k) (range_with_len 0 (length u)) =
-    counts-add (has u) (has (without u h k)) (in_run h k) 0 (length u) (λ i lo hi. each u h k i (omega arith) f) in
+    counts-add (has u) (has (without u h k)) (in_run h k) 0 (length u) (λ i lo hi. one-without u h k i f) in
     let c : count_by (in_run h k) (range_with_len 0 (length u)) ≡ 2 ^ k = count-in_run h k (length u) le in
     let a : size u ≡ count_by (has u) (range_with_len 0 (length u)) = size-range u in
     let b : size (without u h k) ≡ count_by (has (without u h k)) (range_with_len 0 (length u)) =
     size-range (without u h k) ∙ ap (λ m. count_by (has (without u h k)) (range_with_len 0 m)) n in
     omega arith
-  where
-    each : (u : List Bool) (h k i : ℕ) → i < length u → Filled (In u) h k → one_if (has u i) ≡ one_if (has (without u h k) i) + one_if (in_run h k i)
-    each u h k i lt f =
-        let d = without-decides u h k i lt in
-        elim (cases_Bool (in_run h k i)) [
-          | inl within ↦
-              let a = and_parts _ _ within in
-              let lo : h ≤ i = leb-true h i a.0 in
-              let hi : i < h + 2 ^ k = ltb-true i (h + 2 ^ k) a.1 in
-              let here : has u i ≡ true = f i lo hi in
-              let gone : has (without u h k) i ≡ false = false_from_ne_true _ (λ e. (d.0 e).1 lo hi) in
-              rw (here, gone, within) refl
-          | inr past ↦
-              let out : h ≤ i → i < h + 2 ^ k → ⊥ = λ x y. both_ways (in_run h k i) past (in_run-yes h k i x y) in
-              let same : has (without u h k) i ≡ has u i = same_tests _ _ (λ e. (d.0 e).0) (λ e. d.1 (e, out)) in
-              rw (same, past) (omega arith)
-        ]

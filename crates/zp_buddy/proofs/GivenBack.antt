@@ -14,7 +14,7 @@ use Rattle.zp_model.specs.Rows.{Rows, list_at, state_at, stands_in, with_state, 
 use Rattle.zp_model.specs.Area.{Area, lists_count, list_number, kind_at, settle}
 use Rattle.zp_model.specs.Frames.{IsClear, restate, restated, with_area}
 use Rattle.zp_model.specs.Take.{give}
-use Rattle.zp_model.proofs.Normal.{IsNormal}
+use Rattle.zp_model.proofs.Normal.{Filled, IsNormal}
 use Rattle.zp_model.proofs.Pages.{In}
 use Rattle.zp_model.proofs.Covers.{length-cover, has_below, same_pages, length-with, length-without, with-decides, without-decides}
 use Rattle.zp_model.proofs.Settles.{IsListed}
@@ -27,22 +27,30 @@ use Rattle.zp_buddy.proofs.Counting.{size-without}
 use Rattle.zp_buddy.proofs.Joining.{IsBack}
 use Rattle.zp_buddy.proofs.Ending.{IsEnded, ended_cover, ended_area, ended_aside, ended_sound}
 
+-- the pages of a run of others that come are in the set, and without them it is what it was
+pub without-with_run : (u : List Bool) (h k : ℕ) → h + 2 ^ k ≤ length u → ((i : ℕ) → h ≤ i → i < h + 2 ^ k → In u i → ⊥) →
+    Filled (In (with_run u h k)) h k × (without (with_run u h k) h k ≡ u)
+without-with_run u h k le none =
+    let v : List Bool = with_run u h k in
+    let n : length (with_run u h k) ≡ length u = length-with u h k in
+    let m : length (without (with_run u h k) h k) ≡ length (with_run u h k) = length-without (with_run u h k) h k in (
+      λ i a b. (with-decides u h k i (omega arith)).1 (inr (a, b)),
+      same_pages (without v h k) u (m ∙ n)
+          (λ i e.
+          let lt : i < length (without (with_run u h k) h k) = has_below (without v h k) i e in
+          let x = (without-decides v h k i (omega arith)).0 e in
+          elim ((with-decides u h k i (omega arith)).0 x.0) [ inl old ↦ old | inr run ↦ absurd (x.1 run.0 run.1) ])
+          (λ i e.
+          let lt : i < length u = has_below u i e in
+          (without-decides v h k i (omega arith)).1 ((with-decides u h k i lt).1 (inl e), λ a b. none i a b e)),
+    )
+
 -- a set gets as many pages more as a run of others has
 pub size-with : (u : List Bool) (h k : ℕ) → h + 2 ^ k ≤ length u → ((i : ℕ) → h ≤ i → i < h + 2 ^ k → In u i → ⊥) → size (with_run u h k) ≡ size u + 2 ^ k
 size-with u h k le none =
-    let v : List Bool = with_run u h k in
     let n : length (with_run u h k) ≡ length u = length-with u h k in
-    let m : length (without (with_run u h k) h k) ≡ length (with_run u h k) = length-without (with_run u h k) h k in
-    let same : without (with_run u h k) h k ≡ u =
-    same_pages (without v h k) u (m ∙ n)
-    (λ i e.
-    let lt : i < length (without (with_run u h k) h k) = has_below (without v h k) i e in
-    let x = (without-decides v h k i (omega arith)).0 e in
-    elim ((with-decides u h k i (omega arith)).0 x.0) [ inl old ↦ old | inr run ↦ absurd (x.1 run.0 run.1) ])
-    (λ i e.
-    let lt : i < length u = has_below u i e in
-    (without-decides v h k i (omega arith)).1 ((with-decides u h k i lt).1 (inl e), λ a b. none i a b e)) in
-    size-without v h k (omega arith) (λ i a b. (with-decides u h k i (omega arith)).1 (inr (a, b))) ∙ ap (λ q. size q + 2 ^ k) same
+    let w = without-with_run u h k le none in
+    size-without (with_run u h k) h k (omega arith) w.0 ∙ ap (λ q. size q + 2 ^ k) w.1
 
 -- what is noted of a page that heads no free block may be forgotten
 cleared_blocks : (s : List State) (h : ℕ) → free_order (state_at s h) ≡ None → blocks_of (set s h Tail) ≡ blocks_of s

@@ -7,7 +7,16 @@ pub mod Restating
 pub mod TakenFrames
 pub mod Counting
 pub mod BlocksListed
-pub mod Own
+pub mod FirstFound
+pub mod Walks
+pub mod Finders
+pub mod SettledBy
+pub mod Retyping
+pub mod RetypedFrames
+pub mod TakenChosen
+pub mod PageblockCounts
+pub mod HeldCounts
+pub mod TakenWhole
 pub mod AllPages
 pub mod OpenedFrames
 pub mod Noting

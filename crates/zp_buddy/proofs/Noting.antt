@@ -9,7 +9,7 @@ use Rattle.zp_model.specs.declared.state.State.TheVariants.{Tail, Free, Out, Pos
 use Rattle.zp_model.specs.Block.{largest_order, has, size}
 use Rattle.zp_model.specs.BlockSet.{Starts, cover}
 use Rattle.zp_model.specs.Rows.{Rows, state_at, list_at, with_state}
-use Rattle.zp_model.specs.Area.{pageblocks_of}
+use Rattle.zp_model.specs.Area.{pageblocks_of, size_in}
 use Rattle.zp_model.specs.Frames.{Frames, IsNote}
 use Rattle.zp_model.proofs.Normal.{IsNormal}
 use Rattle.zp_model.proofs.Pages.{In}
@@ -46,15 +46,19 @@ sound_by s z kinds l x e n =
       aside = λ r p ge on u. let P : List (Option ℕ) → Type 0 = λ b. In (cover b) p in x.aside r p ge on (subst P e u);
     }
 
-pub held_noted : (w : Rows) (kinds : List MigrateType) (free p : ℕ) (n : State) → IsHeld w kinds free → has (cover (blocks_of w.states)) p ≡ false → IsNote n →
-    IsHeld (with_state w p n) kinds free
-held_noted w kinds free p n x e y =
+pub held_noted : (w : Rows) (kinds : List MigrateType) (free : ℕ) (free_in : List ℕ) (p : ℕ) (n : State) → IsHeld w kinds free free_in → has (cover (blocks_of w.states)) p ≡ false → IsNote n →
+    IsHeld (with_state w p n) kinds free free_in
+held_noted w kinds free free_in p n x e y =
     let b : blocks_of (set w.states p n) ≡ blocks_of w.states = noted_blocks w.states kinds w.lists p n x.sound e y in
     let len : length (set w.states p n) ≡ length w.states = length-set w.states p n in
     record {
       sound = sound_by w.states (set w.states p n) kinds w.lists x.sound b len;
       typed = x.typed ∙ ap pageblocks_of (sym len);
       counted = x.counted ∙ ap (λ q. size (cover q)) (sym b);
+      each = record {
+        blocks = x.each.blocks ∙ ap pageblocks_of (sym len);
+        each = λ j. x.each.each j ∙ ap (λ q. size_in (cover q) j) (sym b);
+      };
     }
 
 pub frames_noted : (s : List State) (kinds : List MigrateType) (l : List (List ℕ)) (p : ℕ) (n : State) → IsSound s kinds l → has (cover (blocks_of s)) p ≡ false → IsNote n →

@@ -48,7 +48,7 @@ blocks-from n s l x g k e =
     let lt : g < n = all_below n g ((is_max-to largest_order (all_pages n) g k e).inside g (omega arith) (omega (arith, pow_pos k))) in
     starts-from s g k ((x.heads g k lt).0 e)
 
-opened_cover : (n : ℕ) (s : List State) (l : List (List ℕ)) → IsOpenedTo n n s l →
+pub opened_cover : (n : ℕ) (s : List State) (l : List (List ℕ)) → IsOpenedTo n n s l →
     (IsNormal largest_order (Starts (blocks_of s)) (In (cover (blocks_of s)))) × (cover (blocks_of s) ≡ all_pages n)
 opened_cover n s l x =
     let ls : length (blocks_of s) ≡ n = length-map s free_order ∙ x.pages in

@@ -1,8 +1,8 @@
--- Taking the front block of a list and splitting it leaves what the definition of a block's leaving says.
-use Rattle.std.proofs.Common.{ℕ, suc, zero, ◌+◌, ◌-◌, ◌*◌, ◌/◌, ◌%◌, ◌^◌, ◌≡◌, ◌≤◌, ◌<◌, ◌≢◌, ◌⊎◌, inl, inr, refl, sym, ◌∙◌, ap, subst, arith, Bool, true, false, List, [], ◌∷◌, length, map, take, set, get_or, get_or-set_same, get_or-set_other, get_or-take, length-take-le, Some, None}
+-- Taking a block off its list and splitting it leaves what the definition of a block's leaving says.
+use Rattle.std.proofs.Common.{ℕ, suc, zero, ◌+◌, ◌-◌, ◌*◌, ◌/◌, ◌%◌, ◌^◌, ◌≡◌, ◌≤◌, ◌<◌, ◌≢◌, ◌⊎◌, inl, inr, refl, sym, ◌∙◌, ap, subst, arith, Bool, true, false, ◌==◌, not, List, [], ◌∷◌, length, map, take, set, get_or, get_or-set_same, get_or-set_other, get_or-take, length-take-le, Some, None}
 use Rattle.std.specs.List.{range_with_len}
 use Rattle.std.proofs.lemmas.Nat.{pow_pos, pow_below}
-use Rattle.std.proofs.lemmas.Bool.{cases_lt, cases_eq, false_from_ne_true}
+use Rattle.std.proofs.lemmas.Bool.{cases_lt, cases_eq, eq-eqb, ne_eqb, not-true, both_ways, false_from_ne_true}
 use Rattle.std.proofs.lemmas.List.{length-map}
 use Rattle.std.proofs.Math.ListN.{get_or-map}
 use Rattle.std.proofs.lemmas.List.FromFn.{fill_by_all}
@@ -11,8 +11,8 @@ use Rattle.zp_model.specs.declared.migrate_type.MigrateType.TheVariants.{Movable
 use Rattle.zp_model.specs.Block.{head}
 use Rattle.zp_model.specs.MigrateType.{type_number, types_count}
 use Rattle.zp_model.specs.Block.{largest_order, without}
-use Rattle.zp_model.specs.Rows.{list_at, state_at, stands_in, IsLoose, front, rest}
-use Rattle.zp_model.specs.Area.{Area, list_number, lists_count, kind_at, settled, settle}
+use Rattle.zp_model.specs.Rows.{list_at, state_at, stands_in, IsOn, IsLoose, without_page}
+use Rattle.zp_model.specs.Area.{Area, list_number, lists_count, kind_at, belongs, settled, settle}
 use Rattle.zp_model.specs.BlockSet.{Starts, cover}
 use Rattle.zp_model.specs.Take.{leave}
 use Rattle.zp_model.proofs.Heads.{head_same}
@@ -20,12 +20,14 @@ use Rattle.zp_model.proofs.Normal.{IsNormal}
 use Rattle.zp_model.proofs.Pages.{In}
 use Rattle.zp_model.proofs.Split.{High, AfterSplit, high_lies}
 use Rattle.zp_model.proofs.Covers.{cover-split, has_below, length-cover, length-without, without-decides}
-use Rattle.zp_model.proofs.Settles.{Here, IsListed, stands_first, stands_later, stands_cases, distinct_first, distinct_more, distinct_rest, settled_same, settled_less, settled_more}
+use Rattle.zp_model.proofs.Settles.{Here, IsListed, belongs-to, belongs-from, stands_first, stands_later, stands_cases, distinct_more, settled_same, settled_kept, settled_more}
 use Rattle.zp_model.specs.declared.state.State.{State}
 use Rattle.zp_model.specs.declared.state.State.TheVariants.{Tail, Free, Out, Posted}
 use Rattle.zp_buddy.specs.Split.{IsSplit}
 use Rattle.zp_buddy.specs.Sound.{free_order, blocks_of, area_of, IsSound}
 use Rattle.zp_buddy.proofs.Halves.{type_below, find_row}
+use Rattle.zp_buddy.proofs.Filters.{filter_same, stands_filter-to, stands_filter-from, distinct_filter}
+use Rattle.zp_buddy.proofs.Counting.{same_tests}
 
 pub block_at : (s : List State) (g : ℕ) → get_or (blocks_of s) g None ≡ free_order (state_at s g)
 block_at s g = get_or-map free_order s g Tail
@@ -73,12 +75,13 @@ find_high h k (suc o) g =
           ]
     ]
 
--- what the taking is about: the front block (h, o) of the list of type t is split down to order k
+-- what the taking is about: the block (h, o) leaves the list of type t, of which hs is left, and is split down to order k
 pub record IsTaken (h k o : ℕ) (t : MigrateType) (hs : List ℕ) (s s' : List State) (kinds : List MigrateType) (l l' : List (List ℕ)) : Type 0 where
   pub sound : IsSound s kinds l
   pub down : k ≤ o
   pub order : o ≤ largest_order
-  pub front : list_at l (list_number o t) ≡ h ∷ hs
+  pub on : IsOn l (list_number o t) h
+  pub left : hs ≡ without_page h (list_at l (list_number o t))
   pub split : IsSplit h k o t (set s h Tail) s' (set l (list_number o t) hs) l'
   pub pages : length s' ≡ length s
   pub lists : length l' ≡ length l
@@ -86,14 +89,12 @@ pub record IsTaken (h k o : ℕ) (t : MigrateType) (hs : List ℕ) (s s' : List 
 pub row_below : (o : ℕ) (t : MigrateType) → o ≤ largest_order → list_number o t < lists_count
 row_below o t le = let b : type_number t < 3 = type_below t in omega arith
 
--- the front block starts there, in a pageblock of its type
-pub front_here : (h k o : ℕ) (t : MigrateType) (hs : List ℕ) (s : List State) (kinds : List MigrateType) (l : List (List ℕ)) →
-    IsSound s kinds l → o ≤ largest_order → list_at l (list_number o t) ≡ h ∷ hs → Starts (blocks_of s) h o × (type_number (kind_at kinds h) ≡ type_number t)
-front_here h k o t hs s kinds l x le e =
+-- a listed block starts there, in a pageblock of its list's type
+pub block_here : (h o : ℕ) (t : MigrateType) (s : List State) (kinds : List MigrateType) (l : List (List ℕ)) →
+    IsSound s kinds l → o ≤ largest_order → IsOn l (list_number o t) h → Starts (blocks_of s) h o × (type_number (kind_at kinds h) ≡ type_number t)
+block_here h o t s kinds l x le e =
     let b : type_number t < 3 = type_below t in
-    let P : List ℕ → Type 0 = λ xs. stands_in h xs ≡ true in
-    let here : Here (blocks_of s) kinds (list_number o t) h =
-    (x.listed (list_number o t) (row_below o t le)).to h (subst P (sym e) (stands_first h hs)) in
+    let here : Here (blocks_of s) kinds (list_number o t) h = (x.listed (list_number o t) (row_below o t le)).to h e in
     let d : list_number o t / types_count ≡ o = omega arith in
     let m : list_number o t % types_count ≡ type_number t = omega arith in
     let Q : ℕ → Type 0 = λ n. Starts (blocks_of s) h n in
@@ -122,7 +123,7 @@ taken-to h k o t hs s s' kinds l l' x g j e =
           let z : state_at (set s h Tail) g ≡ Free j = sym (x.split.other g none) ∙ st in
           elim (cases_eq g h) [
             | inl same ↦
-                let fh : Starts (blocks_of s) h o × (type_number (kind_at kinds h) ≡ type_number t) = front_here h k o t hs s kinds l x.sound x.order x.front in
+                let fh : Starts (blocks_of s) h o × (type_number (kind_at kinds h) ≡ type_number t) = block_here h o t s kinds l x.sound x.order x.on in
                 let inside : In (cover (blocks_of s)) h = x.sound.normal.inside h o fh.0 h (omega arith) (omega (arith, pow_pos o)) in
                 let lt : h < length (cover (blocks_of s)) = has_below (cover (blocks_of s)) h inside in
                 let len : length (cover (blocks_of s)) ≡ length (blocks_of s) = length-cover (blocks_of s) in
@@ -139,7 +140,7 @@ taken-from h k o t hs s s' kinds l l' x g j (inr y) =
     let P : ℕ → Type 0 = λ n. state_at s' n ≡ Free j in
     starts-from s' g j (subst P (sym y.2) (x.split.high j y.0 y.1))
 taken-from h k o t hs s s' kinds l l' x g j (inl y) =
-    let fh : Starts (blocks_of s) h o × (type_number (kind_at kinds h) ≡ type_number t) = front_here h k o t hs s kinds l x.sound x.order x.front in
+    let fh : Starts (blocks_of s) h o × (type_number (kind_at kinds h) ≡ type_number t) = block_here h o t s kinds l x.sound x.order x.on in
     let none : (i : ℕ) → k ≤ i → i < o → g ≡ h + 2 ^ i → ⊥ = λ i p q e.
     let lies : (h + 2 ^ k ≤ g) × (g + 2 ^ i ≤ h + 2 ^ o) = high_lies h k o g i (p, q, e) in
     let b : 0 < 2 ^ i = pow_pos i in
@@ -151,7 +152,7 @@ pub taken_cover : (h k o : ℕ) (t : MigrateType) (hs : List ℕ) (s s' : List S
     IsTaken h k o t hs s s' kinds l l' →
     (IsNormal largest_order (Starts (blocks_of s')) (In (cover (blocks_of s')))) × (cover (blocks_of s') ≡ without (cover (blocks_of s)) h k)
 taken_cover h k o t hs s s' kinds l l' x =
-    cover-split (blocks_of s) (blocks_of s') h o k x.sound.normal (front_here h k o t hs s kinds l x.sound x.order x.front).0 x.down
+    cover-split (blocks_of s) (blocks_of s') h o k x.sound.normal (block_here h o t s kinds l x.sound x.order x.on).0 x.down
     (length-map s' free_order ∙ x.pages ∙ sym (length-map s free_order))
     (taken-to h k o t hs s s' kinds l l' x) (taken-from h k o t hs s s' kinds l l' x)
 
@@ -165,7 +166,7 @@ row_more h k o t hs s s' kinds l l' x r i below p q er =
     let d : r / types_count ≡ i = omega arith in
     let m : r % types_count ≡ type_number t = omega arith in
     let old : IsListed (blocks_of s) kinds r (list_at l r) = x.sound.listed r below in
-    let fh : Starts (blocks_of s) h o × (type_number (kind_at kinds h) ≡ type_number t) = front_here h k o t hs s kinds l x.sound x.order x.front in
+    let fh : Starts (blocks_of s) h o × (type_number (kind_at kinds h) ≡ type_number t) = block_here h o t s kinds l x.sound x.order x.on in
     let lies : (h + 2 ^ k ≤ h + 2 ^ i) × (h + 2 ^ i + 2 ^ i ≤ h + 2 ^ o) = high_lies h k o (h + 2 ^ i) i (p, q, refl) in
     let pos : 0 < 2 ^ i = pow_pos i in
     let kind : kind_at kinds (h + 2 ^ i) ≡ kind_at kinds h =
@@ -205,31 +206,25 @@ row_more h k o t hs s s' kinds l l' x r i below p q er =
       ];
     }
 
--- the list that lost its front
+-- the list that lost the block
 row_less : (h k o : ℕ) (t : MigrateType) (hs : List ℕ) (s s' : List State) (kinds : List MigrateType) (l l' : List (List ℕ)) →
     IsTaken h k o t hs s s' kinds l l' → (r : ℕ) → r < lists_count → r ≡ list_number o t →
-    IsListed (blocks_of s') kinds r hs × (Here (blocks_of s') kinds r h → ⊥)
+    IsListed (blocks_of s') kinds r (without_page h (list_at l r)) × (Here (blocks_of s') kinds r h → ⊥)
 row_less h k o t hs s s' kinds l l' x r below er =
     let b : type_number t < 3 = type_below t in
     let er3 : r ≡ 3 * o + type_number t = er in
     let d : r / types_count ≡ o = omega arith in
-    let P : List ℕ → Type 0 = λ xs. IsListed (blocks_of s) kinds r xs in
-    let Q : ℕ → Type 0 = λ n. list_at l n ≡ h ∷ hs in
-    let old : IsListed (blocks_of s) kinds r (h ∷ hs) = subst P (subst Q (sym er) x.front) (x.sound.listed r below) in (
+    let old : IsListed (blocks_of s) kinds r (list_at l r) = x.sound.listed r below in (
       record {
-        distinct = distinct_rest h hs old.distinct;
+        distinct = distinct_filter (λ q. not (q == h)) (list_at l r) old.distinct;
         to = λ g e.
-            let w : Here (blocks_of s) kinds r g = old.to g (stands_later g h hs e) in (
-              taken-from h k o t hs s s' kinds l l' x g (r / types_count) (inl (
-                w.0,
-                λ same.
-                    let R : ℕ → Type 0 = λ n. stands_in n hs ≡ true in
-                    distinct_first h hs old.distinct (subst R same e),
-              )),
+            let f = stands_filter-to (λ q. not (q == h)) g (list_at l r) e in
+            let w : Here (blocks_of s) kinds r g = old.to g f.0 in (
+              taken-from h k o t hs s s' kinds l l' x g (r / types_count) (inl (w.0, λ same. both_ways (g == h) (not-true (g == h) f.1) (eq-eqb g h same))),
               w.1,
             );
         from = λ g w. elim (taken-to h k o t hs s s' kinds l l' x g (r / types_count) w.0) [
-          | inl y ↦ elim (stands_cases g h hs (old.from g (y.0, w.1))) [ inl same ↦ absurd (y.1 same) | inr later ↦ later ]
+          | inl y ↦ stands_filter-from (λ q. not (q == h)) g (list_at l r) (old.from g (y.0, w.1)) (rw (ne_eqb g h y.1) refl)
           | inr y ↦ let lt : r / types_count < o = y.1 in absurd (omega arith)
         ];
       },
@@ -246,7 +241,7 @@ row_same : (h k o : ℕ) (t : MigrateType) (hs : List ℕ) (s s' : List State) (
 row_same h k o t hs s s' kinds l l' x r below none ne =
     let b : type_number t < 3 = type_below t in
     let old : IsListed (blocks_of s) kinds r (list_at l r) = x.sound.listed r below in
-    let fh : Starts (blocks_of s) h o × (type_number (kind_at kinds h) ≡ type_number t) = front_here h k o t hs s kinds l x.sound x.order x.front in
+    let fh : Starts (blocks_of s) h o × (type_number (kind_at kinds h) ≡ type_number t) = block_here h o t s kinds l x.sound x.order x.on in
     record {
       distinct = old.distinct;
       to = λ g e.
@@ -303,13 +298,20 @@ taken_list h k o t hs s s' kinds l l' x r below =
           elim (cases_eq r (list_number o t)) [
             | inl same ↦
                 let lt : list_number o t < length l = let c : lists_count ≤ length l = x.sound.table in let d : list_number o t < lists_count = row_below o t x.order in omega arith in
-                let P : ℕ → Type 0 = λ q. list_at l1 q ≡ hs in
-                let e : list_at l' r ≡ hs = x.split.unlisted r none ∙ subst P (sym same) (get_or-set_same l (list_number o t) hs [] lt) in
+                let P : ℕ → Type 0 = λ q. list_at l1 q ≡ without_page h (list_at l q) in
+                let e : list_at l' r ≡ without_page h (list_at l r) =
+                x.split.unlisted r none ∙ subst P (sym same) (get_or-set_same l (list_number o t) hs [] lt ∙ x.left) in
                 let y = row_less h k o t hs s s' kinds l l' x r below same in
-                let R : ℕ → Type 0 = λ q. list_at l q ≡ h ∷ hs in
-                let f : list_at l r ≡ h ∷ hs = subst R (sym same) x.front in
+                let old : IsListed (blocks_of s) kinds r (list_at l r) = x.sound.listed r below in
                 record {
-                  settles = ap (λ q. settled (cover (blocks_of s')) kinds r q) f ∙ settled_less (blocks_of s') kinds r h hs n y.0 y.1 ∙ sym e;
+                  settles =
+                      settled_kept (blocks_of s') kinds r (list_at l r) (without_page h (list_at l r)) n
+                      (filter_same (belongs (cover (blocks_of s')) kinds r) (λ q. not (q == h)) (list_at l r)
+                      (λ g on. same_tests _ _
+                      (λ t. rw (ne_eqb g h (λ s. let P : ℕ → Type 0 = λ q. Here (blocks_of s') kinds r q in y.1 (subst P s (belongs-to (blocks_of s') kinds r g n t)))) refl)
+                      (λ t. belongs-from (blocks_of s') kinds r g n (y.0.to g (stands_filter-from (λ q. not (q == h)) g (list_at l r) on t)))))
+                      (λ g w. (stands_filter-to (λ q. not (q == h)) g (list_at l r) (y.0.from g w)).0)
+                      ∙ sym e;
                   listed = subst Q (sym e) y.0;
                 }
             | inr ne ↦
@@ -372,11 +374,13 @@ taken_area h k o t hs s s' kinds l l' x =
     let len : lists_count ≤ length l' = (taken_sound h k o t hs s s' kinds l l' x).table in
     areas _ _ kinds _ _ c (free_lists l' f len each)
 
--- the high halves of the front block are loose, once it is off its list
-pub half_loose : (h k o : ℕ) (t : MigrateType) (hs : List ℕ) (s : List State) (kinds : List MigrateType) (l : List (List ℕ)) →
-    IsSound s kinds l → o ≤ largest_order → list_at l (list_number o t) ≡ h ∷ hs → (j : ℕ) → j < o → IsLoose (set l (list_number o t) hs) (h + 2 ^ j)
-half_loose h k o t hs s kinds l x le e j lt r =
-    let fh : Starts (blocks_of s) h o × (type_number (kind_at kinds h) ≡ type_number t) = front_here h k o t hs s kinds l x le e in
+-- the high halves of a listed block are loose, once it is off its list
+pub half_loose : (h o : ℕ) (t : MigrateType) (s : List State) (kinds : List MigrateType) (l : List (List ℕ)) →
+    IsSound s kinds l → o ≤ largest_order → IsOn l (list_number o t) h → (j : ℕ) → j < o →
+    IsLoose (set l (list_number o t) (without_page h (list_at l (list_number o t)))) (h + 2 ^ j)
+half_loose h o t s kinds l x le e j lt r =
+    let hs : List ℕ = without_page h (list_at l (list_number o t)) in
+    let fh : Starts (blocks_of s) h o × (type_number (kind_at kinds h) ≡ type_number t) = block_here h o t s kinds l x le e in
     let less : 2 ^ j < 2 ^ o = pow_below j o lt in
     let pos : 0 < 2 ^ j = pow_pos j in
     let free : In (cover (blocks_of s)) (h + 2 ^ j) = x.normal.inside h o fh.0 (h + 2 ^ j) (omega arith) (omega arith) in
@@ -391,29 +395,21 @@ half_loose h k o t hs s kinds l x le e j lt r =
     ] in
     let b : list_number o t < lists_count = row_below o t le in
     let tl : lists_count ≤ length l = x.table in
+    let S : List ℕ → Type 0 = λ q. stands_in (h + 2 ^ j) q ≡ false in
     elim (cases_eq r (list_number o t)) [
       | inl same ↦
           let P : ℕ → Type 0 = λ n. stands_in (h + 2 ^ j) (list_at l n) ≡ true → ⊥ in
-          let R : List ℕ → Type 0 = λ q. stands_in (h + 2 ^ j) q ≡ true → ⊥ in
-          let out : stands_in (h + 2 ^ j) (h ∷ hs) ≡ true → ⊥ = subst R e (subst P same off) in
           let Q : ℕ → Type 0 = λ n. stands_in (h + 2 ^ j) (list_at (set l (list_number o t) hs) n) ≡ false in
-          let S : List ℕ → Type 0 = λ q. stands_in (h + 2 ^ j) q ≡ false in
           subst Q (sym same) (subst S (sym (get_or-set_same l (list_number o t) hs [] (omega arith)))
-          (false_from_ne_true _ (λ w. out (stands_later (h + 2 ^ j) h hs w))))
-      | inr ne ↦
-          let S : List ℕ → Type 0 = λ q. stands_in (h + 2 ^ j) q ≡ false in
-          subst S (sym (get_or-set_other l (list_number o t) r hs [] ne)) (false_from_ne_true _ off)
+          (false_from_ne_true _ (λ w. subst P same off (stands_filter-to (λ q. not (q == h)) (h + 2 ^ j) (list_at l (list_number o t)) w).0)))
+      | inr ne ↦ subst S (sym (get_or-set_other l (list_number o t) r hs [] ne)) (false_from_ne_true _ off)
     ]
 
-pub front_rest : (xs : List ℕ) (h : ℕ) → front xs ≡ Some h → xs ≡ h ∷ rest xs
-front_rest [] h e = cc
-front_rest (x ∷ xs) h e = let f : x ≡ h = cc in ap (λ n. n ∷ xs) f
-
--- the page in front of a free list lies in the zone with its block
-pub front_inside : (h o : ℕ) (t : MigrateType) (hs : List ℕ) (s : List State) (kinds : List MigrateType) (l : List (List ℕ)) →
-    IsSound s kinds l → o ≤ largest_order → list_at l (list_number o t) ≡ h ∷ hs → h + 2 ^ o ≤ length s
-front_inside h o t hs s kinds l x le f =
-    let fh = front_here h 0 o t hs s kinds l x le f in
+-- a listed block lies in the zone
+pub block_inside : (h o : ℕ) (t : MigrateType) (s : List State) (kinds : List MigrateType) (l : List (List ℕ)) →
+    IsSound s kinds l → o ≤ largest_order → IsOn l (list_number o t) h → h + 2 ^ o ≤ length s
+block_inside h o t s kinds l x le f =
+    let fh = block_here h o t s kinds l x le f in
     let p : 0 < 2 ^ o = pow_pos o in
     let last : h + 2 ^ o - 1 < length (cover (blocks_of s)) =
     has_below (cover (blocks_of s)) (h + 2 ^ o - 1) (x.normal.inside h o fh.0 (h + 2 ^ o - 1) (omega arith) (omega arith)) in

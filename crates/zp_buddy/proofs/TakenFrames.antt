@@ -1,23 +1,18 @@
--- Taking the front block of a list, in all that contracts see.
-use Rattle.std.proofs.Common.{ℕ, ◌+◌, ◌^◌, ◌≡◌, ◌≤◌, ◌<◌, inl, inr, sym, ◌∙◌, ap, subst, arith, List, ◌∷◌, length, set, get_or-set_same, get_or-set_other, length-set, Some, None}
+-- Taking a block off its list, in all that contracts see.
+use Rattle.std.proofs.Common.{ℕ, ◌+◌, ◌^◌, ◌≡◌, ◌≤◌, ◌<◌, inl, inr, refl, sym, ◌∙◌, ap, subst, arith, List, length, set, get_or-set_same, get_or-set_other, length-set, None}
 use Rattle.std.proofs.lemmas.Nat.{pow_pos}
 use Rattle.std.proofs.lemmas.Bool.{cases_eq}
 use Rattle.zp_model.specs.declared.migrate_type.MigrateType.{MigrateType}
 use Rattle.zp_model.specs.declared.state.State.{State}
 use Rattle.zp_model.specs.declared.state.State.TheVariants.{Tail, Free}
-use Rattle.std.proofs.lemmas.List.{length-map}
-use Rattle.std.proofs.Math.Nat.{pow-le-pow_right}
-use Rattle.zp_model.specs.Block.{largest_order, size}
-use Rattle.zp_model.specs.BlockSet.{cover}
-use Rattle.zp_model.specs.Rows.{Rows, state_at, list_at, rest, front, with_state, with_list, IsLoose}
+use Rattle.zp_model.specs.Block.{largest_order}
+use Rattle.zp_model.specs.Rows.{Rows, state_at, list_at, without_page, with_state, with_list, IsOn, IsLoose}
 use Rattle.zp_model.specs.Area.{Area, lists_count, list_number, settle}
 use Rattle.zp_model.specs.Frames.{Frames, with_area, restate, restated}
 use Rattle.zp_model.specs.Take.{leave}
 use Rattle.zp_buddy.specs.Split.{IsSplit}
-use Rattle.zp_model.proofs.Covers.{length-cover}
-use Rattle.zp_buddy.proofs.Counting.{size-without}
-use Rattle.zp_buddy.specs.Sound.{free_order, blocks_of, area_of, frames_of, IsSound}
-use Rattle.zp_buddy.proofs.Taken.{IsTaken, find_high, front_here, front_inside, front_rest, half_loose, taken_area, taken_aside, taken_cover, starts-to}
+use Rattle.zp_buddy.specs.Sound.{area_of, frames_of, IsSound}
+use Rattle.zp_buddy.proofs.Taken.{IsTaken, find_high, block_here, block_inside, half_loose, taken_area, taken_aside, taken_cover, starts-to}
 use Rattle.zp_buddy.proofs.Restating.{IsRestated, restated_from, free_or_same, sides_same}
 
 -- frames are equal by their parts
@@ -36,8 +31,8 @@ taken_each h k o t hs s s' kinds l l' x g =
           let e : state_at s' g ≡ state_at (set s h Tail) g = x.split.other g none in
           elim (cases_eq g h) [
             | inl same ↦
-                let i : h + 2 ^ o ≤ length s = front_inside h o t hs s kinds l x.sound x.order x.front in
-                let fh = front_here h k o t hs s kinds l x.sound x.order x.front in
+                let i : h + 2 ^ o ≤ length s = block_inside h o t s kinds l x.sound x.order x.on in
+                let fh = block_here h o t s kinds l x.sound x.order x.on in
                 let was : state_at s h ≡ Free o = starts-to s h o fh.0 in
                 let now : state_at (set s h Tail) h ≡ Tail = get_or-set_same s h Tail Tail (omega (arith, pow_pos o)) in
                 let P : ℕ → Type 0 = λ n. state_at (set s h Tail) n ≡ Tail in
@@ -61,55 +56,41 @@ taken_frames h k o t hs s s' kinds l l' x =
     (restated_from s s' c.0 x.pages (taken_each h k o t hs s s' kinds l l' x) ∙ ap (λ u. restated u s) c.1)
     (sides_same l l' x.lists (λ r ge. taken_aside h k o t hs s s' kinds l l' x r ge))
 
--- as many free pages fewer as the block has
-pub taken_size : (h k o : ℕ) (t : MigrateType) (hs : List ℕ) (s s' : List State) (kinds : List MigrateType) (l l' : List (List ℕ)) →
-    IsTaken h k o t hs s s' kinds l l' → size (cover (blocks_of s)) ≡ size (cover (blocks_of s')) + 2 ^ k
-taken_size h k o t hs s s' kinds l l' x =
-    let c = taken_cover h k o t hs s s' kinds l l' x in
-    let fh = front_here h k o t hs s kinds l x.sound x.order x.front in
-    let i : h + 2 ^ o ≤ length s = front_inside h o t hs s kinds l x.sound x.order x.front in
-    let p : 2 ^ k ≤ 2 ^ o = pow-le-pow_right (omega arith) x.down in
-    let n : length (cover (blocks_of s)) ≡ length s = length-cover (blocks_of s) ∙ length-map s free_order in
-    size-without (cover (blocks_of s)) h k (omega arith) (λ q a b. x.sound.normal.inside h o fh.0 q a (omega arith)) ∙ ap (λ u. size u + 2 ^ k) (sym c.1)
-
--- the page in front of list r is popped, and noted as a tail
-pub popped : (h o r : ℕ) (t : MigrateType) (w v u : Rows) → r ≡ list_number o t → v ≡ with_list w r (rest (list_at w.lists r)) → u ≡ with_state v h Tail →
-    u ≡ record { lists = set w.lists (list_number o t) (rest (list_at w.lists (list_number o t))); states = set w.states h Tail }
-popped h o r t w v u er ev eu =
+-- page h is taken off list r, and noted as a tail
+pub removed : (h o r : ℕ) (t : MigrateType) (w v u : Rows) → r ≡ list_number o t → v ≡ with_list w r (without_page h (list_at w.lists r)) → u ≡ with_state v h Tail →
+    u ≡ record { lists = set w.lists (list_number o t) (without_page h (list_at w.lists (list_number o t))); states = set w.states h Tail }
+removed h o r t w v u er ev eu =
     eu
     ∙ ap (λ q. with_state q h Tail) ev
-    ∙ ap (λ q. let x : Rows = record { lists = set w.lists q (rest (list_at w.lists q)); states = set w.states h Tail } in x) er
-
-pub at_front : (h o r : ℕ) (t : MigrateType) (w : Rows) → r ≡ list_number o t → Some h ≡ front (list_at w.lists r) →
-    list_at w.lists (list_number o t) ≡ h ∷ rest (list_at w.lists (list_number o t))
-at_front h o r t w er ef = front_rest (list_at w.lists (list_number o t)) h (ap (λ q. front (list_at w.lists q)) (sym er) ∙ sym ef)
+    ∙ ap (λ q. let x : Rows = record { lists = set w.lists q (without_page h (list_at w.lists q)); states = set w.states h Tail } in x) er
 
 -- the facts in the words of the code
 pub make_taken : (h k o r : ℕ) (t : MigrateType) (kinds : List MigrateType) (w v u y : Rows) →
-    IsSound w.states kinds w.lists → k ≤ o → o ≤ largest_order → r ≡ list_number o t → Some h ≡ front (list_at w.lists r) →
-    v ≡ with_list w r (rest (list_at w.lists r)) → u ≡ with_state v h Tail → IsSplit h k o t u.states y.states u.lists y.lists →
-    IsTaken h k o t (rest (list_at w.lists (list_number o t))) w.states y.states kinds w.lists y.lists
-make_taken h k o r t kinds w v u y x le top er ef ev eu sp =
-    let e = popped h o r t w v u er ev eu in
+    IsSound w.states kinds w.lists → k ≤ o → o ≤ largest_order → r ≡ list_number o t → IsOn w.lists (list_number o t) h →
+    v ≡ with_list w r (without_page h (list_at w.lists r)) → u ≡ with_state v h Tail → IsSplit h k o t u.states y.states u.lists y.lists →
+    IsTaken h k o t (without_page h (list_at w.lists (list_number o t))) w.states y.states kinds w.lists y.lists
+make_taken h k o r t kinds w v u y x le top er on ev eu sp =
+    let e = removed h o r t w v u er ev eu in
     let P : Rows → Type 0 = λ q. IsSplit h k o t q.states y.states q.lists y.lists in
-    let sp' : IsSplit h k o t (set w.states h Tail) y.states (set w.lists (list_number o t) (rest (list_at w.lists (list_number o t)))) y.lists = subst P e sp in
+    let sp' : IsSplit h k o t (set w.states h Tail) y.states (set w.lists (list_number o t) (without_page h (list_at w.lists (list_number o t)))) y.lists =
+    subst P e sp in
     record {
       sound = x;
       down = le;
       order = top;
-      front = at_front h o r t w er ef;
+      on = on;
+      left = refl;
       split = sp';
       pages = sp'.pages ∙ length-set w.states h Tail;
       lists = sp'.table ∙ length-set w.lists (list_number o t) _;
     }
 
-pub popped_inside : (h o r : ℕ) (t : MigrateType) (kinds : List MigrateType) (w v u : Rows) → IsSound w.states kinds w.lists → o ≤ largest_order →
-    r ≡ list_number o t → Some h ≡ front (list_at w.lists r) → v ≡ with_list w r (rest (list_at w.lists r)) → u ≡ with_state v h Tail →
+pub removed_inside : (h o r : ℕ) (t : MigrateType) (kinds : List MigrateType) (w v u : Rows) → IsSound w.states kinds w.lists → o ≤ largest_order →
+    r ≡ list_number o t → IsOn w.lists (list_number o t) h → v ≡ with_list w r (without_page h (list_at w.lists r)) → u ≡ with_state v h Tail →
     (h + 2 ^ o ≤ length u.states) × (lists_count ≤ length u.lists) × ((j : ℕ) → j < o → IsLoose u.lists (h + 2 ^ j))
-popped_inside h o r t kinds w v u x top er ef ev eu =
-    let e = popped h o r t w v u er ev eu in
-    let f : list_at w.lists (list_number o t) ≡ h ∷ rest (list_at w.lists (list_number o t)) = at_front h o r t w er ef in
-    let i : h + 2 ^ o ≤ length w.states = front_inside h o t _ w.states kinds w.lists x top f in
+removed_inside h o r t kinds w v u x top er on ev eu =
+    let e = removed h o r t w v u er ev eu in
+    let i : h + 2 ^ o ≤ length w.states = block_inside h o t w.states kinds w.lists x top on in
     let n : length u.states ≡ length w.states = ap (λ (q : Rows). length q.states) e ∙ length-set w.states h Tail in
     let m : length u.lists ≡ length w.lists = ap (λ (q : Rows). length q.lists) e ∙ length-set w.lists (list_number o t) _ in
     let b : lists_count ≤ length w.lists = x.table in (
@@ -117,5 +98,5 @@ popped_inside h o r t kinds w v u x top er ef ev eu =
       omega arith,
       λ j lt.
           let P : Rows → Type 0 = λ q. IsLoose q.lists (h + 2 ^ j) in
-          subst P (sym e) (half_loose h 0 o t (rest (list_at w.lists (list_number o t))) w.states kinds w.lists x top f j lt),
+          subst P (sym e) (half_loose h o t w.states kinds w.lists x top on j lt),
     )

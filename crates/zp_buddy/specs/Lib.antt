@@ -7,3 +7,6 @@ pub mod Given
 pub mod Held
 pub mod Listed
 pub mod Opened
+pub mod Counted
+pub mod Choices
+pub mod Retyped

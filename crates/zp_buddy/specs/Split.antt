@@ -1,9 +1,8 @@
 -- What listing the high halves of a block leaves of the page states and of the lists.
-use Rattle.std.specs.Prelude.{ℕ, ◌+◌, ◌^◌, ◌≡◌, ◌≢◌, ◌≤◌, ◌<◌, List, [], ◌∷◌, length, Option, None, Some}
+use Rattle.std.specs.Prelude.{ℕ, ◌+◌, ◌^◌, ◌≡◌, ◌≤◌, ◌<◌, List, ◌∷◌, length}
 use Rattle.zp_model.specs.declared.migrate_type.MigrateType.{MigrateType}
 use Rattle.zp_model.specs.declared.state.State.{State}
 use Rattle.zp_model.specs.declared.state.State.TheVariants.{Free}
-use Rattle.zp_model.specs.Block.{largest_order}
 use Rattle.zp_model.specs.Rows.{list_at, state_at}
 use Rattle.zp_model.specs.Area.{list_number}
 
@@ -15,9 +14,3 @@ pub record IsSplit (h k o : ℕ) (t : MigrateType) (s s' : List State) (l l' : L
   pub unlisted : (r : ℕ) → ((j : ℕ) → k ≤ j → j < o → r ≡ list_number j t → ⊥) → list_at l' r ≡ list_at l r
   pub pages : length s' ≡ length s
   pub table : length l' ≡ length l
-
--- the least order from k on whose list for t isn't empty, or that there is none
-abbrev pub IsFirstOrder : List (List ℕ) → ℕ → MigrateType → Option ℕ → Type 0
-IsFirstOrder l k t None = (o : ℕ) → k ≤ o → o ≤ largest_order → list_at l (list_number o t) ≡ []
-IsFirstOrder l k t (Some n) =
-    (k ≤ n) × (n ≤ largest_order) × (list_at l (list_number n t) ≢ []) × ((o : ℕ) → k ≤ o → o < n → list_at l (list_number o t) ≡ [])

@@ -2,11 +2,11 @@
 ghost use Rattle.std.specs.Prelude.{◌≡◌, ◌≢◌, ◌<◌, ◌≤◌, ◌+◌, ◌%◌, ◌^◌, ◌↔◌, ℕ, [], false, length, min, IsTrue, Some};
 ghost use Rattle.zp_model.specs.Block.{has, size};
 ghost use Rattle.zp_model.specs.BlockSet.{cover};
-ghost use Rattle.zp_model.specs.Rows.{list_at, state_at, front, IsLoose};
+ghost use Rattle.zp_model.specs.Rows.{list_at, state_at, IsOn, IsLoose};
 ghost use Rattle.zp_model.specs.Area.{list_number, lists_count, kind_at};
 ghost use Rattle.zp_model.specs.Frames.{with_area};
 ghost use Rattle.zp_model.specs.Take.{leave, give};
-ghost use Rattle.zp_buddy.specs.Split.{IsSplit, IsFirstOrder};
+ghost use Rattle.zp_buddy.specs.Split.{IsSplit};
 ghost use Rattle.zp_buddy.specs.Sound.{IsSound, area_of, frames_of, blocks_of};
 
 use crate::lists::Lists;
@@ -38,46 +38,25 @@ pub fn split(lists: &mut Lists, head: PageAt, from: Order, to: Order, kind: Migr
     }
 }
 
-/// Takes the front block of a list, of order `found`, and splits it down to `order`.
-pub fn take_front(
+/// Takes the free block of order `found` at `head` off its list, and splits it down to `order`.
+pub fn take_block(
     lists: &mut Lists,
     kinds: &[MigrateType],
+    head: PageAt,
     found: Order,
     order: Order,
     kind: MigrateType,
-) -> PageAt
+)
     requires down { order ≤ found }
-    requires some { list_at lists.old.lists (list_number found kind) ≢ [] }
+    requires listed { IsOn lists.old.lists (list_number found kind) head }
     requires sound { IsSound lists.old.states kinds.now lists.old.lists }
-    ensures answer { front (list_at lists.old.lists (list_number found kind)) ≡ Some result }
     ensures sound { IsSound lists.new.states kinds.now lists.new.lists }
     ensures pages { length lists.new.states ≡ length lists.old.states }
-    ensures size { size (cover (blocks_of lists.old.states)) ≡ size (cover (blocks_of lists.new.states)) + 2 ^ order }
     ensures after { let old = frames_of lists.old.states kinds.now lists.old.lists in
-        frames_of lists.new.states kinds.now lists.new.lists ≡ with_area old (leave old.area result order) }
+        frames_of lists.new.states kinds.now lists.new.lists ≡ with_area old (leave old.area head order) }
 {
     let _kinds = kinds;
-    let Some(head) = lists.pop_front(list_of(found, kind)) else {
-        unreachable!()
-    };
+    lists.remove(list_of(found, kind), head);
     lists.set_state(head, State::Tail);
     split(lists, head, found, order, kind);
-    head
-}
-
-/// The least order from `order` on whose list of this type isn't empty.
-pub fn first_order(lists: &Lists, order: Order, kind: MigrateType) -> Option<Order>
-    requires { lists_count ≤ length lists.now.lists }
-    ensures { IsFirstOrder lists.now.lists order kind result }
-{
-    let mut found = order;
-    'orders: loop {
-        if lists.front(list_of(found, kind)).is_some() {
-            return Some(found);
-        }
-        if found == Order::largest() {
-            return None;
-        }
-        found = found.higher();
-    }
 }

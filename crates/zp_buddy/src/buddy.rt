@@ -6,16 +6,17 @@ ghost use Rattle.zp_model.specs.Rows.{state_at};
 ghost use Rattle.zp_model.specs.Frames.{frames_opening, with_area, IsNote, IsFramed, IsClear};
 ghost use Rattle.zp_model.specs.MigrateType.{types_count};
 ghost use Rattle.zp_model.specs.Area.{lists_count};
-ghost use Rattle.zp_model.specs.Choose.{own, chosen};
-ghost use Rattle.zp_model.specs.Take.{taken};
+ghost use Rattle.zp_model.specs.Take.{take_answer, take_after};
 ghost use Rattle.zp_buddy.specs.Given.{given};
 ghost use Rattle.zp_buddy.specs.Listed.{blocks_listed_of};
 
-use crate::blocks::{first_order, list_of, take_front};
+use crate::choices::choose;
 use crate::clear::{is_block, is_clear_run};
 use crate::joins::join;
 use crate::lists::Lists;
 use crate::opening::list_all_pages;
+use crate::pageblocks::{pageblock_of, pages_in_each};
+use crate::takes::take_chosen;
 use std::alloc::{AllocError, Global};
 use std::marker::Model;
 use zp_model::{
@@ -30,6 +31,8 @@ pub struct Buddy {
     lists: Lists,
     kinds: Vec<MigrateType>,
     free: u32,
+    /// How many pages of each pageblock are free.
+    free_in: Vec<u32>,
 }
 
 impl Model for Buddy {
@@ -41,7 +44,7 @@ impl Model for Buddy {
 
     ghost view = { λ b. frames_of b.lists.states b.kinds.items b.lists.lists };
 
-    ghost invariant = { λ b. IsHeld b.lists b.kinds.items b.free };
+    ghost invariant = { λ b. IsHeld b.lists b.kinds.items b.free b.free_in.items };
 }
 
 impl Buddy {
@@ -56,23 +59,27 @@ impl Buddy {
             MigrateType::Movable,
             pages.div_ceil(PAGEBLOCK_PAGES) as usize,
         )?;
+        let free_in = pages_in_each(alloc, pages)?;
         let mut lists = Lists::new(alloc, pages, TYPES * ORDERS + side)?;
         list_all_pages(&mut lists);
         Ok(Buddy {
             lists,
             kinds,
             free: pages,
+            free_in,
         })
     }
 
-    /// Takes a block of this order from the lists of this type, the smallest that serves.
+    /// Takes a block of this order for this type: the smallest of its own lists that serves; or else the largest of another
+    /// type whose pageblock it may claim, which then gets the type; or else the smallest of another type.
     pub fn take(&mut self, order: Order, kind: MigrateType) -> Option<PageAt>
-        ensures answer { result ≡ own self.old.area order kind }
-        ensures after { self.new ≡ with_area self.old (taken self.old.area order kind (chosen false (own self.old.area order kind))) }
+        ensures answer { result ≡ take_answer self.old.area order kind }
+        ensures after { self.new ≡ with_area self.old (take_after self.old.area order kind) }
     {
-        let found = first_order(&self.lists, order, kind)?;
-        let head = take_front(&mut self.lists, &self.kinds, found, order, kind);
+        let chosen = choose(&self.lists, &self.free_in, order, kind)?;
+        let head = take_chosen(&mut self.lists, &mut self.kinds, chosen, order, kind);
         self.free -= order.pages();
+        self.free_in[pageblock_of(head)] -= order.pages();
         Some(head)
     }
 
@@ -90,6 +97,7 @@ impl Buddy {
     {
         join(&mut self.lists, &self.kinds, at, order);
         self.free += order.pages();
+        self.free_in[pageblock_of(at)] += order.pages();
     }
 
     /// How many pages the zone has. The frames of a buddy allocator note as free what is free.
@@ -154,3 +162,6 @@ fn blocks_listed(lists: &Lists, order: usize) -> u32
     }
     blocks
 }
+
+#[cfg(test)]
+mod tests;

@@ -3,10 +3,14 @@
 
 mod blocks;
 mod buddy;
+mod choices;
 mod clear;
 mod joins;
 mod lists;
 mod opening;
 mod page_stack;
+mod pageblocks;
+mod retypes;
+mod takes;
 
 pub use buddy::Buddy;

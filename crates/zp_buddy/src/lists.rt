@@ -1,6 +1,6 @@
 //! A row of lists of pages, with what is noted of each page, in plain vectors.
 ghost use Rattle.std.specs.Prelude.{◌≡◌, ◌<◌, ◌≤◌, ℕ, [], ◌∷◌, ◌++◌, length, replicate, slice_index_or, vec_capacity, IfOk, IsTrue, ◌↔◌};
-ghost use Rattle.zp_model.specs.Rows.{Rows, IsRow, IsOn, IsLoose, list_at, state_at, with_list, with_state, without_page, front, rest};
+ghost use Rattle.zp_model.specs.Rows.{Rows, IsRow, IsOn, IsLoose, list_at, state_at, with_list, with_state, without_page, front, rest, after};
 ghost use Rattle.zp_model.specs.declared.state.State.TheVariants.{Tail};
 
 use crate::page_stack::PageStack;
@@ -84,6 +84,14 @@ impl Lists {
         ensures { result ≡ front (list_at self.now.lists list) }
     {
         self.lists[list].front()
+    }
+
+    /// The page after this one on its list.
+    pub fn after(&self, list: usize, at: PageAt) -> Option<PageAt>
+        requires { IsOn self.now.lists list at }
+        ensures { result ≡ after at (list_at self.now.lists list) }
+    {
+        self.lists[list].after(at)
     }
 
     /// Whether a page is on a list.

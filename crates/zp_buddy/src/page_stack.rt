@@ -46,6 +46,13 @@ impl PageStack {
         self.pages.last().copied()
     }
 
+    /// The page after this one.
+    pub fn after(&self, page: PageAt) -> Option<PageAt>
+        ensures { result ≡ after page self.now.pages }
+    {
+        page_after(&self.pages, page)
+    }
+
     pub fn has(&self, page: PageAt) -> bool
         ensures { result ≡ stands_in page self.now.pages }
     {
@@ -80,4 +87,19 @@ fn remove_page(pages: &mut Vec<PageAt>, page: PageAt)
     ensures capacity { vec_capacity pages.new ≡ vec_capacity pages.old }
 {
     pages.retain(|x| *x != page);
+}
+
+/// The page after this one, in a list whose front is the last.
+fn page_after(pages: &[PageAt], page: PageAt) -> Option<PageAt>
+    ensures { result ≡ after page (reverse pages.now) }
+{
+    let mut after = None;
+    let mut behind = None;
+    'pages: for at in pages {
+        if *at == page {
+            after = behind;
+        }
+        behind = Some(*at);
+    }
+    after
 }

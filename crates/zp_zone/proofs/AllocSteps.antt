@@ -1,26 +1,23 @@
 -- What a zone's fields become when a block is asked for, as the step of the plain zone.
 use Rattle.std.proofs.Common.{ℕ, ◌+◌, ◌^◌, ◌≡◌, ◌≤◌, ◌<◌, sym, ◌∙◌, ap, subst, arith, Bool, true, false, List, length, set, length-set, Option, Some, None}
 use Rattle.zp_model.specs.declared.migrate_type.MigrateType.{MigrateType}
-use Rattle.zp_model.specs.declared.migrate_type.MigrateType.TheVariants.{Movable}
 use Rattle.zp_model.specs.declared.mark.Mark.{Mark}
 use Rattle.zp_model.specs.declared.request.Reply.{Reply}
 use Rattle.zp_model.specs.declared.state.State.TheVariants.{Out}
 use Rattle.zp_model.specs.declared.constants.TheConstants.{MAX_PAGES}
 use Rattle.zp_model.specs.Block.{has, size}
-use Rattle.zp_model.specs.Area.{Area, kind_at}
-use Rattle.zp_model.specs.Choose.{Chosen, choose, chosen, own}
+use Rattle.zp_model.specs.Area.{Area}
+use Rattle.zp_model.specs.Choose.{Chosen, choose}
 use Rattle.zp_model.specs.Take.{taken, take_answer, take_after}
 use Rattle.zp_model.specs.Frames.{Frames, IsFramed, with_area, restated}
 use Rattle.zp_model.specs.Zone.{PlainZone, workers_of}
 use Rattle.zp_model.specs.Mark.{is_above, passes}
 use Rattle.zp_model.specs.Step.{Outcome, alloc}
 use Rattle.zp_model.specs.Lawful.{IsLawful}
-use Rattle.zp_laws.proofs.Areas.{kinds-leave}
 use Rattle.zp_laws.proofs.Allocating.{alloc_lawful}
 use Rattle.zp_zone.specs.NamedZone.{NamedZone}
 use Rattle.zp_zone.specs.Kept.{plain_of, IsKept}
 use Rattle.zp_zone.proofs.Noted.{length-restated}
-use Rattle.zp_zone.proofs.Movable.{movable_choice, movable_answer, movable_after}
 use Rattle.zp_zone.proofs.Allocated.{IsAsked, IsTakenOut, alloc_some, after_none, after_some, plain-nothing, taken_out}
 
 -- a zone by its name and its plain zone
@@ -63,7 +60,6 @@ nothing_kept name f f2 base min k t x y c e =
       pages = omega arith;
       mark = omega arith;
       workers = x.workers;
-      movable = x.movable;
       lawful = subst L (sym (plain-nothing f base min asked)) x.lawful;
     })
 
@@ -81,25 +77,15 @@ pub some_reply : (f : Frames) (base min w k : ℕ) (t : MigrateType) (m : Mark) 
     Reply.Page (base + c.head) ≡ (alloc (plain_of f base min) w k t m).reply
 some_reply f base min w k t m c p e = ap (λ (o : Outcome). o.reply) (sym (alloc_some (plain_of f base min) w k t m c p e))
 
--- an own block is taken with no claim
-unclaimed : (o : Option ℕ) (c : Chosen) → chosen false o ≡ Some c → c.claims ≡ false
-unclaimed None c e = cc
-unclaimed (Some h) c e = let f : (let x : Chosen = record { head = h; claims = false } in x) ≡ c = cc in ap (λ (q : Chosen). q.claims) (sym f)
-
-kinds-unclaimed : (a : Area) (k : ℕ) (t : MigrateType) (c : Chosen) → c.claims ≡ false → (taken a k t (Some c)).kinds ≡ a.kinds
-unfolding taken
-kinds-unclaimed a k t c e = rw e (kinds-leave a c.head k)
-
-pub some_kept : (name : List ℕ) (f : Frames) (base min w k : ℕ) (m : Mark) (c : Chosen) → IsKept name f base min → IsFramed f → w < workers_of (plain_of f base min) →
-    passes (plain_of f base min) k m ≡ true → choose f.area k Movable ≡ Some c → IsKept name (held_out f k w Movable c) base min
-some_kept name f base min w k m c x y lt pass e =
+pub some_kept : (name : List ℕ) (f : Frames) (base min w k : ℕ) (t : MigrateType) (m : Mark) (c : Chosen) → IsKept name f base min → IsFramed f → w < workers_of (plain_of f base min) →
+    passes (plain_of f base min) k m ≡ true → choose f.area k t ≡ Some c → IsKept name (held_out f k w t c) base min
+some_kept name f base min w k t m c x y lt pass e =
     let asked : IsAsked f base min = record { framed = y; lawful = x.lawful } in
-    let a : Area = taken f.area k Movable (Some c) in
+    let a : Area = taken f.area k t (Some c) in
     let n : length (restated a.free f.states) ≡ length f.states = length-restated a.free f.states in
-    let l : length (set (restated a.free f.states) c.head (Out k Movable w)) ≡ length (restated a.free f.states) = length-set _ _ _ in
+    let l : length (set (restated a.free f.states) c.head (Out k t w)) ≡ length (restated a.free f.states) = length-set _ _ _ in
     let p : length f.states ≤ MAX_PAGES = x.pages in
     let q : min ≤ length f.states = x.mark in
-    let kinds : a.kinds ≡ f.area.kinds = kinds-unclaimed f.area k Movable c (unclaimed (own f.area k Movable) c (sym (movable_choice f.area k x.lawful.lists x.movable) ∙ e)) in
     let L : PlainZone → Type 0 = λ z. IsLawful z in
     record {
       named = x.named;
@@ -107,24 +93,13 @@ some_kept name f base min w k m c x y lt pass e =
       pages = omega arith;
       mark = omega arith;
       workers = x.workers;
-      movable = λ h. ap (λ ks. kind_at ks h) kinds ∙ x.movable h;
-      lawful = subst L (sym (some_left f base min w k Movable m c asked pass e)) (alloc_lawful (plain_of f base min) w k Movable m x.lawful lt);
+      lawful = subst L (sym (some_left f base min w k t m c asked pass e)) (alloc_lawful (plain_of f base min) w k t m x.lawful lt);
     }
 
 -- what `take` ensures, in the words of choosing and taking whole
 pub record IsTake (f f2 : Frames) (k : ℕ) (t : MigrateType) (o : Option ℕ) : Type 0 where
   pub answer : o ≡ take_answer f.area k t
   pub after : f2 ≡ with_area f (take_after f.area k t)
-
-pub movable_take : (name : List ℕ) (f f2 : Frames) (base min k : ℕ) (t : MigrateType) (o : Option ℕ) → IsKept name f base min → t ≡ Movable →
-    o ≡ own f.area k t → f2 ≡ with_area f (taken f.area k t (chosen false (own f.area k t))) → IsTake f f2 k t o
-movable_take name f f2 base min k t o x et a b =
-    let P : MigrateType → Type 0 = λ q. (o ≡ own f.area k q) → (f2 ≡ with_area f (taken f.area k q (chosen false (own f.area k q)))) → IsTake f f2 k q o in
-    let m : P Movable = λ d e. record {
-      answer = d ∙ movable_answer f.area k x.lawful.lists x.movable;
-      after = e ∙ ap (λ q. with_area f q) (movable_after f.area k x.lawful.lists x.movable);
-    } in
-    subst P (sym et) m a b
 
 -- the frames that hold the block chosen, in the words of the code
 pub held_by : (f f2 f3 : Frames) (k w h : ℕ) (t : MigrateType) (c : Chosen) → f2 ≡ with_area f (take_after f.area k t) → choose f.area k t ≡ Some c → c.head ≡ h →

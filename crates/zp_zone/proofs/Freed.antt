@@ -9,7 +9,7 @@ use Rattle.zp_model.specs.declared.state.State.TheVariants.{Tail, Free, Out, Pos
 use Rattle.zp_model.specs.declared.constants.TheConstants.{MAX_PAGES}
 use Rattle.zp_model.specs.Block.{largest_order, has, in_run, with_run, IsBlock}
 use Rattle.zp_model.specs.Rows.{state_at, list_at, stands_in}
-use Rattle.zp_model.specs.Area.{Area, kind_at}
+use Rattle.zp_model.specs.Area.{Area}
 use Rattle.zp_model.specs.Take.{give}
 use Rattle.zp_model.specs.Frames.{Frames, IsFramed, IsClear, with_area, restated}
 use Rattle.zp_model.specs.Zone.{PlainZone, Holding, PostedBlock, holding_at}
@@ -18,7 +18,7 @@ use Rattle.zp_model.specs.Lawful.{times, times_out, times_posted, IsLawful}
 use Rattle.zp_model.proofs.Pages.{is_max-to}
 use Rattle.zp_model.proofs.Covers.{has_below, has-with, length-with}
 use Rattle.zp_model.proofs.Settles.{stands_cases}
-use Rattle.zp_laws.proofs.Areas.{free-give, kinds-give}
+use Rattle.zp_laws.proofs.Areas.{free-give}
 use Rattle.zp_laws.proofs.Held.{IsHolding, held_block, held-not_free}
 use Rattle.zp_laws.proofs.HandedOut.{one_if, count_posted, times-parts, times_out-less, held_below, in_run-head, out-has}
 use Rattle.zp_laws.proofs.Collecting.{posted-has, count-front}
@@ -212,6 +212,5 @@ given_kept name f base min h k w x y held =
       pages = omega arith;
       mark = omega arith;
       workers = x.workers;
-      movable = λ g. ap (λ ks. kind_at ks g) (kinds-give f.area h k) ∙ x.movable g;
       lawful = subst L (sym (plain-given f base min h k w asked held)) (freed_lawful (plain_of f base min) h k w x.lawful held);
     }

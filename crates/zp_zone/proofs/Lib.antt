@@ -1,6 +1,5 @@
 pub mod Written
 pub mod Noted
-pub mod Movable
 pub mod Allocated
 pub mod AllocSteps
 pub mod OpeningZone

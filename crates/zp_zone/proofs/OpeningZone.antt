@@ -1,12 +1,11 @@
 -- The frames of an opening are the opening of the plain zone.
-use Rattle.std.proofs.Common.{ℕ, zero, suc, ◌/◌, ◌≡◌, ◌≤◌, inl, inr, refl, sym, ◌∙◌, ap, subst, arith, true, List, [], ◌∷◌, length, map, replicate, Option}
+use Rattle.std.proofs.Common.{ℕ, zero, suc, ◌≡◌, ◌≤◌, inl, inr, refl, sym, ◌∙◌, ap, subst, arith, true, List, [], ◌∷◌, length, map, replicate, Option}
 use Rattle.std.proofs.lemmas.Bool.{cases_lt}
 use Rattle.std.proofs.lemmas.List.{get_or_past, get_or-replicate, length-replicate}
 use Rattle.zp_model.specs.declared.constants.TheConstants.{MAX_PAGES, MAX_WORKERS}
-use Rattle.zp_model.specs.declared.migrate_type.MigrateType.TheVariants.{Movable}
 use Rattle.zp_model.specs.declared.state.State.TheVariants.{Tail}
 use Rattle.zp_model.specs.Rows.{state_at}
-use Rattle.zp_model.specs.Area.{Area, opening, settle, kind_at, pageblocks_of}
+use Rattle.zp_model.specs.Area.{Area, opening}
 use Rattle.zp_model.specs.Frames.{frames_opening, restated}
 use Rattle.zp_model.specs.Zone.{PlainZone, Holding, PostedBlock, zone_opening}
 use Rattle.zp_model.specs.Lawful.{IsLawful}
@@ -35,19 +34,6 @@ plain-opening base pages min workers =
     (holdings_stay (replicate pages true) (replicate pages Tail) (λ g e. ap holding_of (tail_at pages g)) ∙ map-replicate holding_of Tail pages)
     (map-replicate (λ (ps : List ℕ). map (λ h. posted_block h (state_at (restated (replicate pages true) (replicate pages Tail)) h)) ps) [] workers)
 
-kinds-opening : (pages : ℕ) → (opening pages).kinds ≡ replicate (pageblocks_of pages) Movable
-unfolding opening settle
-kinds-opening pages = refl
-
-opened_movable : (pages h : ℕ) → kind_at (opening pages).kinds h ≡ Movable
-opened_movable pages h =
-    ap (λ ks. kind_at ks h) (kinds-opening pages)
-    ∙ elim (cases_lt (h / 1024) (pageblocks_of pages)) [
-      | inl lt ↦ get_or-replicate (pageblocks_of pages) (h / 1024) Movable Movable lt
-      | inr ge ↦ get_or_past (replicate (pageblocks_of pages) Movable) (h / 1024) Movable
-          (let e : length (replicate (pageblocks_of pages) Movable) ≡ pageblocks_of pages = length-replicate (pageblocks_of pages) Movable in omega arith)
-    ]
-
 pub opening_kept : (name : List ℕ) (base pages min workers : ℕ) → IsGood (wanted name base pages min workers) → IsKept name (frames_opening pages workers) base min
 opening_kept name base pages min workers x =
     let n : length (restated (replicate pages true) (replicate pages Tail)) ≡ pages =
@@ -63,6 +49,5 @@ opening_kept name base pages min workers x =
       pages = omega arith;
       mark = omega arith;
       workers = omega arith;
-      movable = opened_movable pages;
       lawful = subst P (sym (plain-opening base pages min workers)) (opening_lawful base pages min workers);
     }

@@ -1,12 +1,11 @@
 -- What a zone keeps, as the plain zone that it is.
-use Rattle.std.specs.Prelude.{ℕ, ◌≡◌, ◌≤◌, List, length, map, Option, None, Some}
+use Rattle.std.specs.Prelude.{ℕ, ◌≤◌, List, length, map, Option, None, Some}
 use Rattle.zp_model.specs.declared.constants.TheConstants.{BASE_LIMIT, MAX_PAGES, MAX_WORKERS}
 use Rattle.zp_model.specs.declared.migrate_type.MigrateType.TheVariants.{Movable}
 use Rattle.zp_model.specs.declared.state.State.{State}
 use Rattle.zp_model.specs.declared.state.State.TheVariants.{Tail, Free, Out, Posted}
 use Rattle.zp_model.specs.Naming.{IsName}
 use Rattle.zp_model.specs.Rows.{state_at}
-use Rattle.zp_model.specs.Area.{kind_at}
 use Rattle.zp_model.specs.Frames.{Frames}
 use Rattle.zp_model.specs.Zone.{PlainZone, Holding, PostedBlock}
 use Rattle.zp_model.specs.Lawful.{IsLawful}
@@ -41,5 +40,4 @@ pub record IsKept (name : List ℕ) (f : Frames) (base min : ℕ) : Type 0 where
   pub pages : length f.states ≤ MAX_PAGES
   pub mark : min ≤ length f.states
   pub workers : length f.sides ≤ MAX_WORKERS
-  pub movable : (h : ℕ) → kind_at f.area.kinds h ≡ Movable
   pub lawful : IsLawful (plain_of f base min)

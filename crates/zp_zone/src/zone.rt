@@ -1,6 +1,5 @@
 //! A zone.
 ghost use Rattle.std.specs.Prelude.{◌≡◌, ◌<◌, ◌≤◌, ◌+◌, ℕ, length, IfOk, IfErr, IfSome, IfNone, OnOk, OnErr, IsTrue, ◌-◌};
-ghost use Rattle.zp_model.specs.declared.migrate_type.MigrateType.TheVariants.{Movable};
 ghost use Rattle.zp_model.specs.Zone.{zone_opening, is_of};
 ghost use Rattle.zp_zone.specs.Kept.{holding_of};
 ghost use Rattle.zp_model.specs.Mark.{level, level_of, is_above};
@@ -82,7 +81,6 @@ impl Zone {
         mark: Mark,
     ) -> Result<PageNo, Refused>
         requires seat { IsSeatOf self.old.plain seat.old }
-        requires kind { kind ≡ Movable }
         ensures reply { page_reply result ≡ (alloc self.old.plain seat.old.worker order kind mark).reply }
         ensures after { self.new ≡ record self.old { plain = (alloc self.old.plain seat.old.worker order kind mark).zone } }
         ensures seat { seat.new ≡ seat.old }

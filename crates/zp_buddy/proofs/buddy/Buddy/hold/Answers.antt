@@ -11,8 +11,8 @@ use Rattle.zp_buddy.proofs.buddy.Buddy.hold.Goals as goal
 pub invariant_of-self : goal.invariant_of-self
 invariant_of-self c =
     let u : has (cover (blocks_of c.self.inside.lists.states)) c.args.at ≡ false = ap (λ (f : Frames). has f.area.free c.args.at) c.self.view_is ∙ c.requires.used in
-    let P : Rows → Type 0 = λ w. IsHeld w c.self.inside.kinds.items c.self.inside.free in
-    subst P (sym c.set_state.ensures) (held_noted _ _ _ _ _ c.self.invariant u c.requires.note)
+    let P : Rows → Type 0 = λ w. IsHeld w c.self.inside.kinds.items c.self.inside.free c.self.inside.free_in.items in
+    subst P (sym c.set_state.ensures) (held_noted _ _ _ _ _ _ c.self.invariant u c.requires.note)
 
 pub returns : goal.returns
 returns c =

@@ -9,7 +9,8 @@ use Rattle.zp_model.specs.Rows.{Rows}
 use Rattle.zp_model.specs.Area.{lists_count, pageblocks_of}
 use Rattle.zp_buddy.specs.Sound.{IsSound, frames_of}
 use Rattle.zp_buddy.specs.Opened.{all_movable, IsOpenedTo}
-use Rattle.zp_buddy.proofs.OpenedFrames.{opened_sound, opened_frames, opened_counted}
+use Rattle.zp_buddy.proofs.OpenedFrames.{opened_cover, opened_sound, opened_frames, opened_counted}
+use Rattle.zp_buddy.proofs.HeldCounts.{counts_all}
 use Rattle.zp_buddy.proofs.buddy.Buddy.new.Goals as goal
 
 round_up : (n : ℕ) → div_ceil n 1024 ≡ (n + 1023) / 1024
@@ -29,6 +30,7 @@ invariant_of-result c =
       sound = subst Q (sym k) (opened_sound _ _ _ o le (omega arith));
       typed = ap length k ∙ length-replicate _ _ ∙ ap pageblocks_of (sym o.pages);
       counted = opened_counted _ _ _ o;
+      each = counts_all c.args.pages _ _ o.pages (opened_cover _ _ _ o).1 c.in_ok-free_in.ensures;
     }
 
 pub returns : goal.returns

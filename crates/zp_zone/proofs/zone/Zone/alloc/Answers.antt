@@ -1,6 +1,4 @@
 use Rattle.std.proofs.Common.{◌≡◌, ◌+◌, ◌<◌, true, false, set, Some, None, ap, sym, subst, ◌∙◌}
-use Rattle.zp_model.specs.declared.migrate_type.MigrateType.{MigrateType}
-use Rattle.zp_model.specs.declared.migrate_type.MigrateType.TheVariants.{Movable}
 use Rattle.zp_model.specs.declared.state.State.TheVariants.{Out}
 use Rattle.zp_model.specs.Choose.{choose}
 use Rattle.zp_model.specs.Frames.{Frames}
@@ -11,7 +9,7 @@ use Rattle.zp_zone.specs.NamedZone.{NamedZone}
 use Rattle.zp_zone.specs.Kept.{plain_of, IsKept}
 use Rattle.zp_zone.proofs.Allocated.{IsAsked, alloc_below, alloc_none, chosen_none, chosen_some}
 use Rattle.zp_model.specs.declared.request.Reply.TheVariants as Reply
-use Rattle.zp_zone.proofs.AllocSteps.{IsTake, movable_take, held_by, head_page, reply_at, after_at, passes_by, nothing_left, nothing_kept, held_out, some_left, some_reply, some_kept}
+use Rattle.zp_zone.proofs.AllocSteps.{IsTake, held_by, head_page, reply_at, after_at, passes_by, nothing_left, nothing_kept, held_out, some_left, some_reply, some_kept}
 use Rattle.zp_zone.proofs.zone.Zone.alloc.Goals as goal
 
 pub returns-then-not-is_above-clause-reply : goal.returns-then-not-is_above-clause-reply
@@ -29,7 +27,7 @@ returns-then-not-is_above-clause-after c =
 pub invariant_of-self : goal.invariant_of-self
 invariant_of-self c =
     let k : IsTake c.self.inside.buddy c.take.new.self c.args.order c.args.kind None =
-    movable_take c.self.inside.name c.self.inside.buddy c.take.new.self c.self.inside.base c.self.inside.min c.args.order c.args.kind None c.self.invariant c.requires.kind c.in_default.ensures.answer c.in_default.ensures.after in
+    record { answer = c.in_default.ensures.answer; after = c.in_default.ensures.after } in
     let none : choose (c.self.inside.buddy).area c.args.order c.args.kind ≡ None = chosen_none (c.self.inside.buddy).area c.args.order c.args.kind k.answer in
     nothing_kept _ _ _ _ _ _ _ c.self.invariant c.pages-pages.ensures.framed none k.after
 
@@ -38,7 +36,7 @@ returns-in_default-clause-reply c =
     let p : passes (plain_of c.self.inside.buddy c.self.inside.base c.self.inside.min) c.args.order c.args.mark ≡ true =
     passes_by c.self.inside.buddy c.self.inside.base c.self.inside.min c.free_pages.result c.args.order c.args.mark true c.free_pages.ensures c.if-not-is_above.ensures in
     let k : IsTake c.self.inside.buddy c.take.new.self c.args.order c.args.kind None =
-    movable_take c.self.inside.name c.self.inside.buddy c.take.new.self c.self.inside.base c.self.inside.min c.args.order c.args.kind None c.self.invariant c.requires.kind c.in_default.ensures.answer c.in_default.ensures.after in
+    record { answer = c.in_default.ensures.answer; after = c.in_default.ensures.after } in
     let none : choose (c.self.inside.buddy).area c.args.order c.args.kind ≡ None = chosen_none (c.self.inside.buddy).area c.args.order c.args.kind k.answer in
     reply_at c.args.self.now _ _ _ _ _ _ _ c.self.view_is (ap (λ (o : Outcome). o.reply) (sym (alloc_none _ _ _ _ _ p none)))
 
@@ -48,7 +46,7 @@ returns-in_default-clause-after c =
     passes_by c.self.inside.buddy c.self.inside.base c.self.inside.min c.free_pages.result c.args.order c.args.mark true c.free_pages.ensures c.if-not-is_above.ensures in
     let x : IsAsked c.self.inside.buddy c.self.inside.base c.self.inside.min = record { framed = c.pages-pages.ensures.framed; lawful = c.self.invariant.lawful } in
     let k : IsTake c.self.inside.buddy c.take.new.self c.args.order c.args.kind None =
-    movable_take c.self.inside.name c.self.inside.buddy c.take.new.self c.self.inside.base c.self.inside.min c.args.order c.args.kind None c.self.invariant c.requires.kind c.in_default.ensures.answer c.in_default.ensures.after in
+    record { answer = c.in_default.ensures.answer; after = c.in_default.ensures.after } in
     let none : choose (c.self.inside.buddy).area c.args.order c.args.kind ≡ None = chosen_none (c.self.inside.buddy).area c.args.order c.args.kind k.answer in
     after_at c.args.self.now _ _ _ _ _ _ _ c.self.view_is
     (nothing_left _ _ _ _ _ _ x none k.after ∙ ap (λ (o : Outcome). o.zone) (sym (alloc_none _ _ _ _ _ p none)))
@@ -57,7 +55,7 @@ pub hold-requires-clause-page : goal.hold-requires-clause-page
 hold-requires-clause-page c =
     let x : IsAsked c.self.inside.buddy c.self.inside.base c.self.inside.min = record { framed = c.pages-pages.ensures.framed; lawful = c.self.invariant.lawful } in
     let k : IsTake c.self.inside.buddy c.take.new.self c.args.order c.args.kind (Some c.in-Some.head) =
-    movable_take c.self.inside.name c.self.inside.buddy c.take.new.self c.self.inside.base c.self.inside.min c.args.order c.args.kind (Some c.in-Some.head) c.self.invariant c.requires.kind c.in-Some.ensures.answer c.in-Some.ensures.after in
+    record { answer = c.in-Some.ensures.answer; after = c.in-Some.ensures.after } in
     let s = chosen_some (c.self.inside.buddy).area c.args.order c.in-Some.head c.args.kind k.answer in
     (head_page _ _ _ _ _ c.args.seat.now.worker _ _ _ x s.1 s.2 k.after).0
 
@@ -65,7 +63,7 @@ pub hold-requires-clause-used : goal.hold-requires-clause-used
 hold-requires-clause-used c =
     let x : IsAsked c.self.inside.buddy c.self.inside.base c.self.inside.min = record { framed = c.pages-pages.ensures.framed; lawful = c.self.invariant.lawful } in
     let k : IsTake c.self.inside.buddy c.take.new.self c.args.order c.args.kind (Some c.in-Some.head) =
-    movable_take c.self.inside.name c.self.inside.buddy c.take.new.self c.self.inside.base c.self.inside.min c.args.order c.args.kind (Some c.in-Some.head) c.self.invariant c.requires.kind c.in-Some.ensures.answer c.in-Some.ensures.after in
+    record { answer = c.in-Some.ensures.answer; after = c.in-Some.ensures.after } in
     let s = chosen_some (c.self.inside.buddy).area c.args.order c.in-Some.head c.args.kind k.answer in
     (head_page _ _ _ _ _ c.args.seat.now.worker _ _ _ x s.1 s.2 k.after).1
 
@@ -75,22 +73,20 @@ invariant_of-self-2 c =
     passes_by c.self.inside.buddy c.self.inside.base c.self.inside.min c.free_pages.result c.args.order c.args.mark true c.free_pages.ensures c.if-not-is_above.ensures in
     let x : IsAsked c.self.inside.buddy c.self.inside.base c.self.inside.min = record { framed = c.pages-pages.ensures.framed; lawful = c.self.invariant.lawful } in
     let k : IsTake c.self.inside.buddy c.take.new.self c.args.order c.args.kind (Some c.in-Some.head) =
-    movable_take c.self.inside.name c.self.inside.buddy c.take.new.self c.self.inside.base c.self.inside.min c.args.order c.args.kind (Some c.in-Some.head) c.self.invariant c.requires.kind c.in-Some.ensures.answer c.in-Some.ensures.after in
+    record { answer = c.in-Some.ensures.answer; after = c.in-Some.ensures.after } in
     let s = chosen_some (c.self.inside.buddy).area c.args.order c.in-Some.head c.args.kind k.answer in
     let held : c.hold.new.self ≡ held_out c.self.inside.buddy c.args.order c.args.seat.now.worker c.args.kind s.0 = held_by _ _ _ _ _ _ _ _ k.after s.1 s.2 (c.hold.ensures ∙ ap (λ w. let q : Frames = record c.take.new.self { states = set c.take.new.self.states c.in-Some.head (Out c.args.order c.args.kind w) } in q) c.worker.ensures) in
     let workers : c.args.seat.now.worker < workers_of (plain_of c.self.inside.buddy c.self.inside.base c.self.inside.min) =
     (let P : NamedZone → Type 0 = λ z. c.args.seat.now.worker < workers_of z.plain in subst P (sym c.self.view_is) c.requires.seat.worker) in
-    let m : choose (c.self.inside.buddy).area c.args.order Movable ≡ Some s.0 = ap (λ t. choose (c.self.inside.buddy).area c.args.order t) (sym c.requires.kind) ∙ s.1 in
-    let P : MigrateType → Type 0 = λ t. IsKept c.self.inside.name (held_out c.self.inside.buddy c.args.order c.args.seat.now.worker t s.0) c.self.inside.base c.self.inside.min in
     let Q : Frames → Type 0 = λ f. IsKept c.self.inside.name f c.self.inside.base c.self.inside.min in
-    subst Q (sym held) (subst P (sym c.requires.kind) (some_kept c.self.inside.name c.self.inside.buddy c.self.inside.base c.self.inside.min c.args.seat.now.worker c.args.order c.args.mark s.0 c.self.invariant c.pages-pages.ensures.framed workers p m))
+    subst Q (sym held) (some_kept c.self.inside.name c.self.inside.buddy c.self.inside.base c.self.inside.min c.args.seat.now.worker c.args.order c.args.kind c.args.mark s.0 c.self.invariant c.pages-pages.ensures.framed workers p s.1)
 
 pub returns-clause-reply : goal.returns-clause-reply
 returns-clause-reply c =
     let p : passes (plain_of c.self.inside.buddy c.self.inside.base c.self.inside.min) c.args.order c.args.mark ≡ true =
     passes_by c.self.inside.buddy c.self.inside.base c.self.inside.min c.free_pages.result c.args.order c.args.mark true c.free_pages.ensures c.if-not-is_above.ensures in
     let k : IsTake c.self.inside.buddy c.take.new.self c.args.order c.args.kind (Some c.in-Some.head) =
-    movable_take c.self.inside.name c.self.inside.buddy c.take.new.self c.self.inside.base c.self.inside.min c.args.order c.args.kind (Some c.in-Some.head) c.self.invariant c.requires.kind c.in-Some.ensures.answer c.in-Some.ensures.after in
+    record { answer = c.in-Some.ensures.answer; after = c.in-Some.ensures.after } in
     let s = chosen_some (c.self.inside.buddy).area c.args.order c.in-Some.head c.args.kind k.answer in
     let e : c.new.result ≡ c.self.inside.base + s.0.head = c.new.ensures ∙ ap (λ n. c.self.inside.base + n) (c.number.ensures.same ∙ sym s.2) in
     reply_at c.args.self.now _ _ _ _ _ _ _ c.self.view_is (ap (λ n. Reply.Page n) e ∙ some_reply _ _ _ _ _ _ _ _ p s.1)
@@ -101,7 +97,7 @@ returns-clause-after c =
     passes_by c.self.inside.buddy c.self.inside.base c.self.inside.min c.free_pages.result c.args.order c.args.mark true c.free_pages.ensures c.if-not-is_above.ensures in
     let x : IsAsked c.self.inside.buddy c.self.inside.base c.self.inside.min = record { framed = c.pages-pages.ensures.framed; lawful = c.self.invariant.lawful } in
     let k : IsTake c.self.inside.buddy c.take.new.self c.args.order c.args.kind (Some c.in-Some.head) =
-    movable_take c.self.inside.name c.self.inside.buddy c.take.new.self c.self.inside.base c.self.inside.min c.args.order c.args.kind (Some c.in-Some.head) c.self.invariant c.requires.kind c.in-Some.ensures.answer c.in-Some.ensures.after in
+    record { answer = c.in-Some.ensures.answer; after = c.in-Some.ensures.after } in
     let s = chosen_some (c.self.inside.buddy).area c.args.order c.in-Some.head c.args.kind k.answer in
     let held : c.hold.new.self ≡ held_out c.self.inside.buddy c.args.order c.args.seat.now.worker c.args.kind s.0 = held_by _ _ _ _ _ _ _ _ k.after s.1 s.2 (c.hold.ensures ∙ ap (λ w. let q : Frames = record c.take.new.self { states = set c.take.new.self.states c.in-Some.head (Out c.args.order c.args.kind w) } in q) c.worker.ensures) in
     after_at c.args.self.now _ _ _ _ _ _ _ c.self.view_is
