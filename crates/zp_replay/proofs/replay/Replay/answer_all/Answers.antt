@@ -1,0 +1,27 @@
+use Rattle.std.proofs.Common.{◌<◌, length, sym, subst, ◌∙◌, arith}
+use Rattle.zp_replay.specs.Asked.{IsCommand}
+use Rattle.zp_replay.proofs.Answering.{zone_more, written_more, begun_more}
+use Rattle.zp_replay.proofs.Outputs.{on_err}
+use Rattle.zp_replay.proofs.replay.Replay.answer_all.Goals as goal
+
+pub answer-requires : goal.answer-requires
+answer-requires g c =
+    let at : c.loop-command.command-index < length c.args.commands.now = omega arith in
+    subst IsCommand (sym c.command-item.is) (c.requires c.loop-command.command-index c.command-item.result at)
+
+pub returns-in_err-answer-clause-err : goal.returns-in_err-answer-clause-err
+returns-in_err-answer-clause-err g c =
+    let at : c.loop-command.command-index < length c.args.commands.now = omega arith in
+    let i = c.loop-command.invariant in
+    on_err c.from_residual.result (begun_more _ _ _ _ _ _ _ _ at c.command-item.is i.zone i.written c.in_err-answer.ensures.err)
+
+pub loop-command-preserved : goal.loop-command-preserved
+loop-command-preserved g c =
+    let at : c.loop-command.command-index < length c.args.commands.now = omega arith in
+    let i = c.loop-command.invariant in
+    let a = c.in_ok-answer.ensures in
+    record {
+      zone = zone_more _ _ _ _ _ _ at c.command-item.is i.zone a.zone;
+      written = written_more _ _ _ _ _ _ _ _ at c.command-item.is i.zone i.written a.ok;
+      calm = a.calm ∙ i.calm;
+    }

@@ -1,0 +1,4 @@
+pub mod Replies
+pub mod Output
+pub mod Replaying
+pub mod Asked

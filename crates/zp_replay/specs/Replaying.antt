@@ -1,0 +1,45 @@
+-- What a replay has read and written when it ends.
+use Rattle.std.specs.Prelude.{ℕ, ◌≡◌, ◌≤◌, ◌<◌, ◌⊎◌, List, [], ◌++◌, length, take, Option, IfSome}
+use Rattle.std.specs.Option.{option_map}
+use Rattle.zp_trace.specs.declared.trace.Trace.{Trace}
+use Rattle.zp_trace.specs.Grammar.{IsTraceText, IsBadLine}
+use Rattle.zp_zone.specs.Streams.{IsWritten, IsBegun}
+use Rattle.zp_replay.specs.declared.input.TheConstants.{INPUT_LIMIT}
+use Rattle.zp_replay.specs.Output.{output, bad_line}
+
+-- the first n bytes of a buffer were read, n below its length only where the reader has none left
+pub record IsFilled (old new : Option (List ℕ)) (buffer : List ℕ) (n : ℕ) : Type 0 where
+  pub within : n ≤ length buffer
+  pub front : old ≡ option_map (λ rest. take n buffer ++ rest) new
+  pub end : n < length buffer → IfSome new (λ rest. rest ≡ [])
+
+-- these bytes were read, to the reader's end or up to the limit
+pub record IsRead (old new : Option (List ℕ)) (text : List ℕ) : Type 0 where
+  pub within : length text ≤ INPUT_LIMIT
+  pub front : old ≡ option_map (λ rest. text ++ rest) new
+  pub end : length text < INPUT_LIMIT → IfSome new (λ rest. rest ≡ [])
+
+-- this text is all that the reader had left, where it tells that
+abbrev pub IsAllOf : Option (List ℕ) → List ℕ → Type 0
+IsAllOf had text = IfSome had (λ left. left ≡ text)
+
+-- the reader had the text of a trace, and the trace's output was written
+pub record IsReplayed (had old new : Option (List ℕ)) : Type 0 where
+  pub text : List ℕ
+  pub all : IsAllOf had text
+  pub trace : Trace
+  pub grammar : IsTraceText text trace
+  pub written : IsWritten old new (output trace)
+
+-- the reader had a text with this bad line, and its number was written
+pub record IsRefusedAt (had old new : Option (List ℕ)) (n : ℕ) : Type 0 where
+  pub text : List ℕ
+  pub all : IsAllOf had text
+  pub grammar : IsBadLine text n
+  pub written : IsWritten old new (bad_line n)
+
+-- of what was to be written a beginning was
+pub record IsCutShort (had old new : Option (List ℕ)) : Type 0 where
+  pub text : List ℕ
+  pub all : IsAllOf had text
+  pub written : ((t : Trace) × IsTraceText text t × IsBegun old new (output t)) ⊎ ((n : ℕ) × IsBadLine text n × IsBegun old new (bad_line n))

@@ -1,0 +1,72 @@
+//! The command line.
+ghost use Rattle.std.specs.Prelude.{◌≡◌, false, codes, Any, Err, IfOk};
+
+use clap::error::ErrorKind;
+use clap::{Arg, ArgAction, Command};
+use std::alloc::{AllocError, Global};
+use std::convert::AsStr;
+use thiserror::Error;
+
+/// What was asked for.
+#[derive(Clone, Copy, PartialEq, Eq, Debug, Drop)]
+pub struct Flags {
+    /// One thread, the commands in the trace's order.
+    pub serial: bool,
+    /// The journals' text after the output.
+    pub journal: bool,
+}
+
+/// Why the words are no flags.
+#[derive(Clone, Copy, PartialEq, Eq, Debug, Drop, Error)]
+pub enum FlagFault {
+    #[error("zonereplay: unknown argument")]
+    Unknown,
+    #[error("zonereplay: --journal needs threads")]
+    NeedsThreads,
+    #[error("zonereplay: no memory")]
+    Memory,
+}
+
+impl From<AllocError> for FlagFault {
+    ghost use Rattle.zp_replay.specs.declared.flags.FlagFault.TheVariants.{Memory};
+
+    ghost from_gives = { λ _ e. e ≡ Memory };
+
+    fn from(_e: AllocError) -> FlagFault {
+        FlagFault::Memory
+    }
+}
+
+/// The flags that the words after the program's name set. Each may stand more than once.
+pub fn read_flags<S: AsStr>(alloc: Global, words: &[S]) -> Result<Flags, FlagFault>
+    ensures dashes { Any (λ w. S.text w ≡ codes "--") words.now → result ≡ Err FlagFault.Unknown }
+    ensures journal { IfOk result (λ flags. flags.journal ≡ false) }
+{
+    if words.iter().any(|word| word.as_str() == "--") {
+        return Err(FlagFault::Unknown);
+    }
+    parse_flags(alloc, words)
+}
+
+/// The flags, where no word ends them.
+fn parse_flags<S: AsStr>(alloc: Global, words: &[S]) -> Result<Flags, FlagFault>
+    ensures { IfOk result (λ flags. flags.journal ≡ false) }
+{
+    let serial = Arg::new(alloc, "serial")
+        .long("serial")
+        .action(ArgAction::Count);
+    let command = Command::new(alloc, "zonereplay")
+        .no_binary_name(true)
+        .disable_help_flag(true)
+        .disable_version_flag(true)
+        .disable_help_subcommand(true)
+        .arg(serial)?;
+    match command.try_get_matches_from(words) {
+        Ok(matches) => Ok(Flags {
+            serial: matches.get_count("serial") > 0,
+            journal: false,
+        }),
+        Err(error) if error.kind() == ErrorKind::OutOfMemory => Err(FlagFault::Memory),
+        Err(_) => Err(FlagFault::Unknown),
+    }
+}

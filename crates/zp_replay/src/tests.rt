@@ -1,0 +1,293 @@
+//! Traces in and output out, with devices that give and take small pieces or fail, and the words of the command line.
+ghost use Rattle.std.specs.Prelude.{◌≡◌, ◌<◌};
+
+use super::memory::{Schedule, SliceReader, VecWriter};
+use super::*;
+use std::marker::Brand;
+use std::sync::ledger::{Blank, Ledger};
+use std::test::*;
+
+/// How the devices of a replay behave.
+#[derive(Clone, Copy, Drop)]
+struct Devices {
+    /// The most bytes of a piece.
+    piece: usize,
+    reads: Schedule,
+    writes: Schedule,
+    ghost some: { 0 < piece },
+}
+
+/// What came of a replay.
+#[derive(Drop)]
+struct Outcome {
+    ending: Result<Ending, ReplayFault>,
+    written: Vec<u8>,
+    unread: usize,
+}
+
+fn sound(piece: usize) -> Devices
+    requires { 0 < piece }
+{
+    Devices {
+        piece,
+        reads: Schedule::never(),
+        writes: Schedule::never(),
+    }
+}
+
+fn replayed(rt: &HostRuntime, text: &[u8], devices: Devices) -> Outcome {
+    replayed_on::<Brand, Brand>(rt, text, devices, Blank::new(1), Blank::new(1))
+}
+
+fn replayed_on<K: Ledger, L: Ledger>(
+    rt: &HostRuntime,
+    text: &[u8],
+    devices: Devices,
+    reads: Blank,
+    writes: Blank,
+) -> Outcome
+    requires read_name { reads.name ≡ K.name }
+    requires read_parts { (reads.parts ≡ K.parts) × (0 < reads.parts) }
+    requires write_name { writes.name ≡ L.name }
+    requires write_parts { (writes.parts ≡ L.parts) × (0 < writes.parts) }
+{
+    let reads = Failures::<K>::new(reads);
+    let writes = Failures::<L>::new(writes);
+    let mut reader = SliceReader::new(text, devices.piece, devices.reads, reads);
+    let mut writer = VecWriter::new(rt.alloc(), devices.piece, devices.writes, writes);
+    let ending = replay_serial(rt.alloc(), &mut reader, &mut writer);
+    Outcome {
+        ending,
+        unread: reader.rest().len(),
+        written: writer.into_bytes(),
+    }
+}
+
+const INFO_TRACE: &str = "zone DMA 0 4096 0\nworkers 1\nlists 0 0\n0 info\n";
+
+const INFO_OUTPUT: &str = "\
+Node 0, zone      DMA      0      0      0      0      0      0      0      0      0      0      4 \n\
+total DMA pages 4096 free 4096 posted 0 cached 0 lent 0 level high\n\
+Node 0, zone      DMA      0      0      0      0      0      0      0      0      0      0      4 \n";
+
+#[test]
+fn good_traces_write_their_output(rt: HostRuntime) {
+    for (text, output) in [
+        (INFO_TRACE, INFO_OUTPUT),
+        (
+            "zone DMA 0 4096 0\nworkers 1\nlists 0 0\n0 alloc a 0 M DMA any\n0 info\n",
+            "0: page 3072\n\
+Node 0, zone      DMA      1      1      1      1      1      1      1      1      1      1      3 \n\
+total DMA pages 4096 free 4095 posted 0 cached 0 lent 1 level high\n\
+Node 0, zone      DMA      1      1      1      1      1      1      1      1      1      1      3 \n",
+        ),
+        (
+            "zone DMA 1024 13 0\nworkers 1\nlists 0 0\n0 info\n0 alloc a 2 M DMA any\n",
+            "Node 0, zone      DMA      1      0      1      1      0      0      0      0      0      0      0 \n\
+0: page 1032\n\
+total DMA pages 13 free 9 posted 0 cached 0 lent 4 level high\n\
+Node 0, zone      DMA      1      0      0      1      0      0      0      0      0      0      0 \n",
+        ),
+        (
+            "zone DMA 0 1023 0\nworkers 1\nlists 0 0\n0 alloc a 10 M DMA any\n0 alloc b 9 M DMA any\n0 alloc c 9 M DMA any\n",
+            "0: refused 11\n0: page 0\n0: refused 11\n\
+total DMA pages 1023 free 511 posted 0 cached 0 lent 512 level high\n\
+Node 0, zone      DMA      1      1      1      1      1      1      1      1      1      0      0 \n",
+        ),
+        (
+            "zone Normal 4096 1 0\nworkers 1\nlists 0 0\n0 alloc a 0 M Normal any\n",
+            "0: page 4096\n\
+total Normal pages 1 free 0 posted 0 cached 0 lent 1 level short\n\
+Node 0, zone   Normal      0      0      0      0      0      0      0      0      0      0      0 \n",
+        ),
+    ] {
+        for piece in [1, 7, 1000] {
+            let outcome = replayed(&rt, text.as_bytes(), sound(piece));
+            assert!(rt; outcome.ending == Ok(Ending::Good), "of {text} by {piece}");
+            assert!(rt;
+                outcome.written.as_slice() == output.as_bytes(),
+                "of {text} by {piece}"
+            );
+        }
+    }
+}
+
+#[test]
+fn bad_traces_write_their_bad_line(rt: HostRuntime) -> Result<(), Fail> {
+    for (text, line) in [
+        ("", 1),
+        ("z", 1),
+        ("zone DMA 0 4096 0\n", 2),
+        ("zone DMA 0 4096 0\nworkers 1\nlists 0 0\n0 info", 4),
+        ("zone DMA 0 4096 0\nworkers 1\nlists 0 0\n0  info\n", 4),
+        (
+            "zone DMA 0 4096 0\nworkers 1\nlists 0 0\n0 alloc a 11 M DMA any\n",
+            4,
+        ),
+        ("zone DMA 0 4096 0\nworkers 1\nlists 0 0\n0 free a\n", 4),
+        ("zone DMA 0 4096 0\nworkers 1\nlists 4 4\n0 info\n", 3),
+    ] {
+        let expected = format!(in rt.alloc(); "bad line {line}\n")?;
+        for piece in [1, 1000] {
+            let outcome = replayed(&rt, text.as_bytes(), sound(piece));
+            assert!(rt;
+                outcome.ending == Ok(Ending::BadLine(line)),
+                "of {text} by {piece}"
+            );
+            assert!(rt;
+                outcome.written.as_slice() == expected.as_bytes(),
+                "of {text} by {piece}"
+            );
+        }
+    }
+    Ok(())
+}
+
+#[test]
+fn long_texts_stay_unread_past_the_limit(rt: HostRuntime) -> Result<(), Fail> {
+    let zeros = vec![in rt.alloc(); b'0'; 300_000]?;
+    let outcome = replayed(&rt, &zeros, sound(1000));
+    assert!(rt; outcome.ending == Ok(Ending::BadLine(1)));
+    assert!(rt; outcome.written.as_slice() == "bad line 1\n".as_bytes());
+    assert_eq!(rt; outcome.unread, 300_000 - INPUT_LIMIT);
+    let mut text = String::from_str(rt.alloc(), "zone DMA 0 4096 0\nworkers 1\nlists 0 0\n")?;
+    for _ in 3..50_000 {
+        text.push_str("0 info\n")?;
+    }
+    let outcome = replayed(&rt, text.as_bytes(), sound(300_000));
+    assert!(rt; outcome.ending == Ok(Ending::BadLine(4097)));
+    assert!(rt; outcome.written.as_slice() == "bad line 4097\n".as_bytes());
+    assert!(rt; outcome.unread > 0);
+    Ok(())
+}
+
+#[test]
+fn failing_reads_write_nothing(rt: HostRuntime) {
+    for calls in 0..=INFO_TRACE.len() {
+        let devices = Devices {
+            piece: 1,
+            reads: Schedule::after(calls),
+            writes: Schedule::never(),
+        };
+        let outcome = replayed(&rt, INFO_TRACE.as_bytes(), devices);
+        assert!(rt; outcome.ending == Err(ReplayFault::Read), "after {calls}");
+        assert!(rt; outcome.written.is_empty(), "after {calls}");
+    }
+}
+
+#[test]
+fn failing_writes_leave_a_beginning(rt: HostRuntime) {
+    let output = INFO_OUTPUT.as_bytes();
+    assert_eq!(rt; output.len(), 267);
+    for calls in 0..output.len() {
+        let devices = Devices {
+            piece: 1,
+            reads: Schedule::never(),
+            writes: Schedule::after(calls),
+        };
+        let outcome = replayed(&rt, INFO_TRACE.as_bytes(), devices);
+        assert!(rt; outcome.ending == Err(ReplayFault::Write), "after {calls}");
+        assert!(rt;
+            outcome.written.as_slice() == &output[..calls],
+            "after {calls}"
+        );
+    }
+    let late = Devices {
+        piece: 1,
+        reads: Schedule::never(),
+        writes: Schedule::after(output.len()),
+    };
+    let outcome = replayed(&rt, INFO_TRACE.as_bytes(), late);
+    assert!(rt; outcome.ending == Ok(Ending::Good));
+}
+
+#[test]
+fn flags_are_read(rt: HostRuntime) {
+    let none: [&str; 0] = [];
+    let flags = read_flags(rt.alloc(), &none);
+    assert!(rt;
+        flags
+            == Ok(Flags {
+                serial: false,
+                journal: false
+            })
+    );
+    let many = ["--serial"; 300];
+    for count in 1..=many.len() {
+        let flags = read_flags(rt.alloc(), &many[..count]);
+        assert!(rt;
+            flags
+                == Ok(Flags {
+                    serial: true,
+                    journal: false
+                }),
+            "of {count}"
+        );
+    }
+}
+
+#[test]
+fn other_words_are_unknown(rt: HostRuntime) {
+    for word in [
+        "",
+        "-",
+        "--",
+        "---",
+        "serial",
+        "-s",
+        "--s",
+        "--seria",
+        "--serials",
+        "--Serial",
+        "--serial=",
+        "--serial=1",
+        "--journal",
+        "--help",
+        "-h",
+        "help",
+        "--version",
+        "-V",
+        "x",
+        "--serial --serial",
+    ] {
+        let unknown = Err(FlagFault::Unknown);
+        assert!(rt; read_flags(rt.alloc(), &[word]) == unknown, "of {word}");
+        assert!(rt;
+            read_flags(rt.alloc(), &["--serial", word]) == unknown,
+            "of {word} behind"
+        );
+        assert!(rt;
+            read_flags(rt.alloc(), &[word, "--serial"]) == unknown,
+            "of {word} in front"
+        );
+    }
+}
+
+#[test]
+fn faults_have_their_messages(rt: HostRuntime) -> Result<(), Fail> {
+    for (fault, message) in [
+        (ReplayFault::Memory, "zonereplay: no memory"),
+        (ReplayFault::Read, "zonereplay: cannot read"),
+        (ReplayFault::Write, "zonereplay: cannot write"),
+        (ReplayFault::NoThread, "zonereplay: no thread"),
+    ] {
+        assert!(rt;
+            format!(in rt.alloc(); "{fault}")?.as_str() == message,
+            "of {message}"
+        );
+    }
+    for (fault, message) in [
+        (FlagFault::Unknown, "zonereplay: unknown argument"),
+        (
+            FlagFault::NeedsThreads,
+            "zonereplay: --journal needs threads",
+        ),
+        (FlagFault::Memory, "zonereplay: no memory"),
+    ] {
+        assert!(rt;
+            format!(in rt.alloc(); "{fault}")?.as_str() == message,
+            "of {message}"
+        );
+    }
+    Ok(())
+}
