@@ -8,7 +8,7 @@ use Rattle.zp_model.specs.declared.constants.TheConstants.{LARGEST_ORDER, MAX_PA
 use Rattle.zp_trace.specs.declared.bounds.TheConstants.{MOST_LINES, WORKERS}
 use Rattle.zp_trace.specs.declared.line.ZoneLine.{ZoneLine}
 use Rattle.zp_trace.specs.declared.line.Call.{Call}
-use Rattle.zp_trace.specs.declared.line.Call.TheVariants.{Info, Alloc}
+use Rattle.zp_trace.specs.declared.line.Call.TheVariants.{Info, Alloc, Free}
 use Rattle.zp_trace.specs.declared.line.Command.{Command}
 use Rattle.zp_trace.specs.declared.trace.Trace.{Trace}
 use Rattle.zp_trace.specs.Lines.{Line}
@@ -53,8 +53,12 @@ call_short z worker (Alloc label order kind zone) named first is =
     let l : length label ≤ LONGEST_NAME = is.0.1 in
     let o : order ≤ LARGEST_ORDER = is.1 in
     let k : length (decimal order) ≤ 2 = length-decimal-le 2 order (omega arith) (omega arith) (omega arith) in
-    let n : length zone ≡ length z.name = ap length is.3 in
+    let n : length zone ≡ length z.name = ap length is.2 in
     omega (arith, length-kind_word kind)
+call_short z worker (Free label) named first is =
+    let w : length (decimal worker) ≤ 1 = length-decimal-le 1 worker (omega arith) (omega arith) (omega arith) in
+    let l : length label ≤ LONGEST_NAME = is.1 in
+    omega arith
 
 command_short : (z : ZoneLine) (c : Command) → IsZoneLine z → IsCommandOf z c → length (line_text (line.Command c)) ≤ 40
 command_short z c good is =
@@ -71,7 +75,7 @@ allowed_short before (line.Zone z) begins allowed = zone_short z allowed.1
 allowed_short before line.Workers begins allowed = omega arith
 allowed_short before line.Lists begins allowed = omega arith
 allowed_short before (line.Command c) begins allowed =
-    command_short allowed.0.zone c (zone-beginning allowed.0 (subst IsBeginning allowed.1 begins)) allowed.3
+    command_short allowed.0.zone c (zone-beginning allowed.0 (subst IsBeginning allowed.1 begins)) allowed.3.0
 
 -- a line stands only after fewer lines than a trace may have
 allowed_few : (before : List Line) (l : Line) → IsAllowedAfter before l → length before < MOST_LINES

@@ -1,3 +1,4 @@
+pub mod Labels
 pub mod Replies
 pub mod Output
 pub mod Replaying

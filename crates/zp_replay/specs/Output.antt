@@ -11,7 +11,7 @@ use Rattle.zp_trace.specs.declared.line.ZoneLine.{ZoneLine}
 use Rattle.zp_trace.specs.declared.trace.Trace.{Trace}
 use Rattle.zp_zone.specs.NamedZone.{NamedZone}
 use Rattle.zp_replay.specs.declared.lines.Totals.{Totals}
-use Rattle.zp_replay.specs.Replies.{line_feed, info_of, answers}
+use Rattle.zp_replay.specs.Replies.{Standing, standing, line_feed, info_of, answers}
 
 abbrev pub level_word : Level → List ℕ
 level_word High = codes "high"
@@ -44,11 +44,15 @@ total_of z = total_line z.name (pages_of z.plain) (totals z.plain) (level z.plai
 abbrev pub declared_zone : ZoneLine → NamedZone
 declared_zone z = record { name = z.name; plain = zone_opening z.base z.pages 0 WORKERS }
 
+-- before the first command: that zone, and no label is bound
+abbrev pub opened : ZoneLine → Standing
+opened z = standing (declared_zone z) []
+
 -- all that a good trace writes
 unfoldable pub output : Trace → List ℕ
 output t =
-    let all = answers (declared_zone t.zone) t.commands in
-    all.text ++ (total_of all.zone ++ info_of all.zone)
+    let all = answers (opened t.zone) t.commands in
+    all.text ++ (total_of all.left.zone ++ info_of all.left.zone)
 
 -- all that a bad trace writes
 abbrev pub bad_line : ℕ → List ℕ

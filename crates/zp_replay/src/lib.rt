@@ -4,6 +4,7 @@
 //! proved to write it, over any reader and writer that tell their bytes.
 #![tactic(auto)]
 
+mod bindings;
 pub mod device;
 mod ending;
 mod failures;

@@ -1,9 +1,10 @@
 //! The lines of the output, as text.
-ghost use Rattle.std.specs.Prelude.{◌≡◌, ◌≤◌, ◌+◌, ◌++◌, length};
+ghost use Rattle.std.specs.Prelude.{◌≡◌, ◌≤◌, ◌+◌, ◌*◌, ◌++◌, codes, length};
 ghost use Rattle.std.specs.Fmt.{decimal};
 ghost use Rattle.arrayvec.specs.ArrayString.{array_string_len};
+ghost use Rattle.zp_model.specs.Refused.{refused_number};
 ghost use Rattle.zp_zone.specs.NamedZone.{page_reply};
-ghost use Rattle.zp_replay.specs.Replies.{reply_words, reply_line};
+ghost use Rattle.zp_replay.specs.Replies.{reply_words, reply_line, freed_reply};
 ghost use Rattle.zp_replay.specs.Output.{level_word, counted, total_line, bad_line};
 
 use arrayvec::ArrayString;
@@ -32,15 +33,46 @@ pub struct Totals {
 pub fn reply_line(worker: Worker, reply: Result<PageNo, Refused>) -> Line
     ensures { result.bytes ≡ reply_line worker (page_reply reply) }
 {
-    let mut line = Line::new();
-    push_counted(&mut line, "", u32::from(worker.number()));
-    line.push_str(": ");
+    let mut line = line_of(worker);
     match reply {
         Ok(page) => push_counted(&mut line, "page ", page.number()),
-        Err(refused) => push_counted(&mut line, "refused ", u32::from(refused.number())),
+        Err(refused) => push_refused(&mut line, refused),
     }
     line.push_str("\n");
     line
+}
+
+/// `W: freed` or `W: refused C`.
+pub fn freed_line(worker: Worker, reply: Result<(), Refused>) -> Line
+    ensures { result.bytes ≡ reply_line worker (freed_reply reply) }
+{
+    let mut line = line_of(worker);
+    match reply {
+        Ok(()) => line.push_str("freed"),
+        Err(refused) => push_refused(&mut line, refused),
+    }
+    line.push_str("\n");
+    line
+}
+
+/// The beginning of a worker's line.
+fn line_of(worker: Worker) -> Line
+    ensures bytes { result.bytes ≡ decimal worker ++ codes ": " }
+    ensures len { array_string_len result ≤ DIGITS + 2 }
+{
+    let mut line = Line::new();
+    push_counted(&mut line, "", u32::from(worker.number()));
+    line.push_str(": ");
+    line
+}
+
+/// Appends a refusal, by its number.
+fn push_refused(line: &mut Line, refused: Refused)
+    requires { array_string_len line.old ≤ DIGITS + 2 }
+    ensures bytes { line.new.bytes ≡ line.old.bytes ++ counted (codes "refused ") (refused_number refused) }
+    ensures len { array_string_len line.new ≤ 2 * DIGITS + 10 }
+{
+    push_counted(line, "refused ", u32::from(refused.number()));
 }
 
 /// `total NAME pages A free B posted C cached D lent E level L`.

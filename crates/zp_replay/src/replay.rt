@@ -1,8 +1,7 @@
 //! A replay under way.
-ghost use Rattle.std.specs.Prelude.{◌≡◌, ◌<◌, ◌≤◌, ◌++◌, length, IfOk, OnOk, OnErr, All};
+ghost use Rattle.std.specs.Prelude.{◌≡◌, ◌<◌, ◌≤◌, ◌+◌, ◌++◌, [], length, vec_capacity, IfOk, OnOk, OnErr, All};
 ghost use Rattle.zp_model.specs.declared.constants.TheConstants.{LONGEST_NAME};
 ghost use Rattle.zp_model.specs.declared.mark.Mark.TheVariants.{Any};
-ghost use Rattle.zp_model.specs.declared.migrate_type.MigrateType.TheVariants.{Movable};
 ghost use Rattle.zp_model.specs.declared.request.Request.TheVariants as request;
 ghost use Rattle.zp_model.specs.Zone.{pages_of, workers_of};
 ghost use Rattle.zp_model.specs.Step.{step};
@@ -11,21 +10,24 @@ ghost use Rattle.zp_trace.specs.Grammar.{IsZoneLine};
 ghost use Rattle.zp_zone.specs.NamedZone.{page_reply};
 ghost use Rattle.zp_zone.specs.Streams.{IsWritten, IsBegun};
 ghost use Rattle.zp_replay.specs.Asked.{IsCommand, seats_for};
-ghost use Rattle.zp_replay.specs.Replies.{answer, answers, info_of};
+ghost use Rattle.zp_replay.specs.Labels.{bound_to, bind};
+ghost use Rattle.zp_replay.specs.Replies.{standing, answer, answers, free_of, freed_reply, info_of};
 ghost use Rattle.zp_replay.specs.Output.{declared_zone, totals, total_of};
 
-use crate::lines::{Line, Totals, reply_line, total_line};
+use crate::bindings::{Binding, bind, bound_to};
+use crate::lines::{Line, Totals, freed_line, reply_line, total_line};
 use std::alloc::Global;
-use zp_model::{LONGEST_NAME, Mark, MigrateType, Order, PageNo, Refused, Worker};
+use zp_model::{LONGEST_NAME, Mark, MigrateType, Name, Order, PageNo, Refused, Worker};
 use zp_trace::{Call, Command, WORKERS, ZoneLine};
 use zp_zone::{Seat, WriteFault, Writer, Zone, ZoneConfig, write_all};
 
-/// The zone of a trace as the commands so far left it, with the seats of its workers.
+/// The zone of a trace as the commands so far left it, with the seats of its workers and the bindings of their labels.
 #[derive(Drop)]
 pub struct Replay {
     line: ZoneLine,
     zone: Zone,
     seats: Vec<Seat>,
+    bindings: Vec<Binding>,
     ghost named: { zone.name ≡ line.name },
     ghost short: { length line.name ≤ LONGEST_NAME },
     ghost sized: { pages_of zone.plain ≡ line.pages },
@@ -34,10 +36,12 @@ pub struct Replay {
 }
 
 impl Replay {
-    /// The zone that the line declares, with all its pages free.
-    pub fn new(alloc: Global, line: &ZoneLine) -> Result<Replay, Refused>
+    /// The zone that the line declares, with all its pages free, and room for so many bindings.
+    pub fn new(alloc: Global, line: &ZoneLine, labels: usize) -> Result<Replay, Refused>
         requires { IsZoneLine line.now }
-        ensures { IfOk result (λ r. r.zone ≡ declared_zone line.now) }
+        ensures zone { IfOk result (λ r. r.zone ≡ declared_zone line.now) }
+        ensures unbound { IfOk result (λ r. r.bindings.items ≡ []) }
+        ensures room { IfOk result (λ r. labels ≤ vec_capacity r.bindings) }
     {
         let config = ZoneConfig {
             name: line.name.as_str(),
@@ -46,24 +50,29 @@ impl Replay {
             min: 0,
         };
         let (zone, seats) = Zone::new(alloc, config, WORKERS)?;
+        let Ok(bindings) = Vec::with_capacity(alloc, labels) else {
+            return Err(Refused::Memory);
+        };
         Ok(Replay {
             line: *line,
             zone,
             seats,
+            bindings,
         })
     }
 
-    /// Answers the commands in turn.
+    /// Answers the commands in turn. There is room for all the labels that they bind.
     pub fn answer_all<W: Writer>(
         &mut self,
         writer: &mut W,
         commands: &[Command],
     ) -> Result<(), WriteFault>
-        requires { All IsCommand commands.now }
-        ensures zone { OnOk result (self.new.zone ≡ (answers self.old.zone commands.now).zone) }
-        ensures ok { OnOk result (IsWritten (W.contents writer.old) (W.contents writer.new) (answers self.old.zone commands.now).text) }
+        requires commands { All IsCommand commands.now }
+        requires room { length self.old.bindings.items + length commands.now ≤ vec_capacity self.old.bindings }
+        ensures left { OnOk result (standing self.new.zone self.new.bindings.items ≡ (answers (standing self.old.zone self.old.bindings.items) commands.now).left) }
+        ensures ok { OnOk result (IsWritten (W.contents writer.old) (W.contents writer.new) (answers (standing self.old.zone self.old.bindings.items) commands.now).text) }
         ensures calm { OnOk result (W.failures writer.new ≡ W.failures writer.old) }
-        ensures err { OnErr result (IsBegun (W.contents writer.old) (W.contents writer.new) (answers self.old.zone commands.now).text) }
+        ensures err { OnErr result (IsBegun (W.contents writer.old) (W.contents writer.new) (answers (standing self.old.zone self.old.bindings.items) commands.now).text) }
         ensures failed { OnErr result (W.failures writer.old < W.failures writer.new) }
     {
         for command in commands {
@@ -74,36 +83,78 @@ impl Replay {
 
     /// Answers one command.
     fn answer<W: Writer>(&mut self, writer: &mut W, command: &Command) -> Result<(), WriteFault>
-        requires { IsCommand command.now }
-        ensures zone { self.new.zone ≡ (answer self.old.zone command.now).zone }
-        ensures ok { OnOk result (IsWritten (W.contents writer.old) (W.contents writer.new) (answer self.old.zone command.now).text) }
+        requires command { IsCommand command.now }
+        requires room { length self.old.bindings.items < vec_capacity self.old.bindings }
+        ensures left { standing self.new.zone self.new.bindings.items ≡ (answer (standing self.old.zone self.old.bindings.items) command.now).left }
+        ensures room { vec_capacity self.old.bindings ≤ vec_capacity self.new.bindings }
+        ensures ok { OnOk result (IsWritten (W.contents writer.old) (W.contents writer.new) (answer (standing self.old.zone self.old.bindings.items) command.now).text) }
         ensures calm { OnOk result (W.failures writer.new ≡ W.failures writer.old) }
-        ensures err { OnErr result (IsBegun (W.contents writer.old) (W.contents writer.new) (answer self.old.zone command.now).text) }
+        ensures err { OnErr result (IsBegun (W.contents writer.old) (W.contents writer.new) (answer (standing self.old.zone self.old.bindings.items) command.now).text) }
         ensures failed { OnErr result (W.failures writer.old < W.failures writer.new) }
     {
+        let worker = command.worker;
         match command.call {
             Call::Info => self.zone.write_info(writer),
             Call::Alloc {
-                label: _,
+                label,
                 order,
                 kind,
                 zone: _,
             } => {
-                let reply = self.alloc(command.worker, order, kind);
-                write_all(writer, reply_line(command.worker, reply).as_bytes())
+                let reply = self.alloc(worker, label, order, kind);
+                write_all(writer, reply_line(worker, reply).as_bytes())
+            }
+            Call::Free { label } => {
+                let reply = self.free(worker, label);
+                write_all(writer, freed_line(worker, reply).as_bytes())
             }
         }
     }
 
-    /// A block for a worker.
-    fn alloc(&mut self, worker: Worker, order: Order, kind: MigrateType) -> Result<PageNo, Refused>
+    /// A block for a worker, bound to its label.
+    fn alloc(
+        &mut self,
+        worker: Worker,
+        label: Name,
+        order: Order,
+        kind: MigrateType,
+    ) -> Result<PageNo, Refused>
         requires worker { worker < WORKERS }
-        requires kind { kind ≡ Movable }
+        requires room { length self.old.bindings.items < vec_capacity self.old.bindings }
         ensures reply { page_reply result ≡ (step self.old.zone.plain worker (request.Alloc order kind Any)).reply }
         ensures zone { self.new.zone ≡ record self.old.zone { plain = (step self.old.zone.plain worker (request.Alloc order kind Any)).zone } }
+        ensures bound { self.new.bindings.items ≡ bind self.old.bindings.items worker label order (page_reply result) }
+        ensures room { vec_capacity self.old.bindings ≤ vec_capacity self.new.bindings }
     {
         let seat = &mut self.seats[usize::from(worker.number())];
-        self.zone.alloc(seat, order, kind, Mark::Any)
+        let page = self.zone.alloc(seat, order, kind, Mark::Any)?;
+        let binding = Binding {
+            worker,
+            label,
+            page,
+            order,
+        };
+        bind(&mut self.bindings, binding);
+        Ok(page)
+    }
+
+    /// Gives back the block that a label of a worker is bound to. Refused 20 where there is none, or it is not lent to the
+    /// worker. The label stays bound.
+    fn free(&mut self, worker: Worker, label: Name) -> Result<(), Refused>
+        requires { worker < WORKERS }
+        ensures reply { freed_reply result ≡ (free_of self.old.zone.plain worker (bound_to self.old.bindings.items worker label)).reply }
+        ensures zone { self.new.zone ≡ record self.old.zone { plain = (free_of self.old.zone.plain worker (bound_to self.old.bindings.items worker label)).zone } }
+        ensures bindings { self.new.bindings ≡ self.old.bindings }
+    {
+        let Some(binding) = bound_to(&self.bindings, worker, label) else {
+            return Err(Refused::NotLent);
+        };
+        let seat = &mut self.seats[usize::from(worker.number())];
+        if !self.zone.held_by(seat, binding.page, binding.order) {
+            return Err(Refused::NotLent);
+        }
+        self.zone.free(seat, binding.page, binding.order);
+        Ok(())
     }
 
     /// Where the pages are. Nothing is posted and no worker has lists, so what is not free is lent.

@@ -55,7 +55,7 @@ fn replay<W: Writer>(alloc: Global, trace: &Trace, writer: &mut W) -> Result<(),
     ensures only { (result ≡ Err ReplayFault.Read → ⊥) × (result ≡ Err ReplayFault.NoThread → ⊥) }
 {
     // The zone of a good trace is refused only for want of memory.
-    let Ok(mut replay) = Replay::new(alloc, &trace.zone) else {
+    let Ok(mut replay) = Replay::new(alloc, &trace.zone, trace.commands.len()) else {
         return Err(ReplayFault::Memory);
     };
     replay.answer_all(writer, trace.commands.as_slice())?;

@@ -113,6 +113,97 @@ Node 0, zone   Normal      0      0      0      0      0      0      0      0   
 }
 
 #[test]
+fn frees_join_and_types_fall_back_on_each_other(rt: HostRuntime) {
+    for (text, output) in [
+        (
+            "zone DMA 0 4096 0\nworkers 1\nlists 0 0\n0 alloc a 0 M DMA any\n0 info\n0 free a\n",
+            "0: page 3072\n\
+Node 0, zone      DMA      1      1      1      1      1      1      1      1      1      1      3 \n\
+0: freed\n\
+total DMA pages 4096 free 4096 posted 0 cached 0 lent 0 level high\n\
+Node 0, zone      DMA      0      0      0      0      0      0      0      0      0      0      4 \n",
+        ),
+        (
+            "zone DMA 0 4096 0\nworkers 1\nlists 0 0\n0 alloc a 0 U DMA any\n0 alloc b 0 M DMA any\n0 alloc c 0 U DMA any\n",
+            "0: page 3072\n0: page 2048\n0: page 3073\n\
+total DMA pages 4096 free 4093 posted 0 cached 0 lent 3 level high\n\
+Node 0, zone      DMA      1      2      2      2      2      2      2      2      2      2      2 \n",
+        ),
+        (
+            "zone DMA 0 8 0\nworkers 1\nlists 0 0\n0 alloc a 0 U DMA any\n0 alloc b 0 M DMA any\n0 alloc c 1 U DMA any\n\
+0 free a\n0 free c\n0 info\n0 free b\n",
+            "0: page 0\n0: page 1\n0: page 2\n0: freed\n0: freed\n\
+Node 0, zone      DMA      1      1      1      0      0      0      0      0      0      0      0 \n\
+0: freed\n\
+total DMA pages 8 free 8 posted 0 cached 0 lent 0 level high\n\
+Node 0, zone      DMA      0      0      0      1      0      0      0      0      0      0      0 \n",
+        ),
+        (
+            "zone DMA 0 1024 0\nworkers 1\nlists 0 0\n0 alloc a 9 M DMA any\n0 alloc b 0 U DMA any\n0 alloc c 0 M DMA any\n\
+0 free a\n0 alloc d 1 M DMA any\n",
+            "0: page 0\n0: page 512\n0: page 513\n0: freed\n0: page 0\n\
+total DMA pages 1024 free 1020 posted 0 cached 0 lent 4 level high\n\
+Node 0, zone      DMA      0      2      2      2      2      2      2      2      2      0      0 \n",
+        ),
+    ] {
+        let outcome = replayed(&rt, text.as_bytes(), sound(1000));
+        assert!(rt; outcome.ending == Ok(Ending::Good), "of {text}");
+        assert!(rt;
+            outcome.written.as_slice() == output.as_bytes(),
+            "of {text}"
+        );
+    }
+}
+
+/// A label stays bound when its block is freed, and when it is refused another; it names the newest block that it was
+/// bound to, and that block again where it is lent to the worker again with the same order.
+#[test]
+fn labels_stay_bound_and_go_stale(rt: HostRuntime) {
+    for (commands, replies) in [
+        (
+            "0 alloc a 0 M DMA any\n0 free a\n0 free a\n",
+            "0: page 0\n0: freed\n0: refused 20\n",
+        ),
+        // The page is lent again with its order, and then with another one.
+        (
+            "0 alloc a 0 M DMA any\n0 free a\n0 alloc b 0 M DMA any\n0 free a\n0 free b\n0 alloc c 1 M DMA any\n0 free a\n0 free c\n",
+            "0: page 0\n0: freed\n0: page 0\n0: freed\n0: refused 20\n0: page 0\n0: refused 20\n0: freed\n",
+        ),
+        // Bound anew: the former block stays lent and has no label.
+        (
+            "0 alloc a 1 M DMA any\n0 alloc a 1 M DMA any\n0 free a\n0 free a\n0 alloc b 1 M DMA any\n",
+            "0: page 0\n0: page 2\n0: freed\n0: refused 20\n0: page 2\n",
+        ),
+        // A refused request leaves the label bound.
+        (
+            "0 alloc a 2 M DMA any\n0 alloc a 3 M DMA any\n0 free a\n0 alloc b 3 M DMA any\n",
+            "0: page 0\n0: refused 11\n0: freed\n0: page 0\n",
+        ),
+        // A label that was asked for and refused was never bound.
+        (
+            "0 alloc a 4 M DMA any\n0 free a\n",
+            "0: refused 11\n0: refused 20\n",
+        ),
+    ] {
+        let mut text = String::new(rt.alloc());
+        let made = text
+            .push_str("zone DMA 0 8 0\nworkers 1\nlists 0 0\n")
+            .and_then(|()| text.push_str(commands));
+        assert!(rt; made.is_ok());
+        let outcome = replayed(&rt, text.as_bytes(), sound(1000));
+        assert!(rt; outcome.ending == Ok(Ending::Good), "of {commands}");
+        assert!(rt;
+            outcome.written.as_slice().starts_with(replies.as_bytes()),
+            "of {commands}"
+        );
+        assert!(rt;
+            outcome.written.as_slice()[replies.len()..].starts_with(b"total "),
+            "of {commands}"
+        );
+    }
+}
+
+#[test]
 fn bad_traces_write_their_bad_line(rt: HostRuntime) -> Result<(), Fail> {
     for (text, line) in [
         ("", 1),
@@ -125,6 +216,10 @@ fn bad_traces_write_their_bad_line(rt: HostRuntime) -> Result<(), Fail> {
             4,
         ),
         ("zone DMA 0 4096 0\nworkers 1\nlists 0 0\n0 free a\n", 4),
+        (
+            "zone DMA 0 4096 0\nworkers 1\nlists 0 0\n0 alloc a 0 M DMA any\n0 free b\n",
+            5,
+        ),
         ("zone DMA 0 4096 0\nworkers 1\nlists 4 4\n0 info\n", 3),
     ] {
         let expected = format!(in rt.alloc(); "bad line {line}\n")?;

@@ -3,11 +3,12 @@ use Rattle.std.proofs.Common.{ℕ, ◌≡◌, ◌<◌, ◌+◌, List, [], ◌∷
 use Rattle.zp_trace.specs.declared.bounds.TheConstants.{HEADER_LINES, MOST_LINES}
 use Rattle.zp_trace.specs.declared.line.ZoneLine.{ZoneLine}
 use Rattle.zp_trace.specs.declared.line.Command.{Command}
+use Rattle.zp_trace.specs.declared.trace.Trace.{Trace}
 use Rattle.zp_trace.specs.Lines.{Line}
 use Rattle.zp_trace.specs.Lines as line
 use Rattle.zp_trace.specs.Spelling.{line_text, text_of, header_of}
-use Rattle.zp_trace.specs.Grammar.{IsZoneLine, IsCommandOf, IsAllowedAfter, IsBeginning, IsBadLine}
-use Rattle.zp_trace.proofs.Beginnings.{begin_none, begin_zone, begin_workers, lines_with, lines_count, text_one}
+use Rattle.zp_trace.specs.Grammar.{IsZoneLine, IsNextCommand, IsAllowedAfter, IsBeginning, IsBadLine}
+use Rattle.zp_trace.proofs.Beginnings.{begin_none, begin_zone, begin_workers, same_trace, lines_with, lines_count, text_one}
 
 -- no line that may stand after these begins the rest
 abbrev pub NoLine : List Line → List ℕ → Type 0
@@ -17,9 +18,9 @@ abbrev pub NoZoneLine : List ℕ → Type 0
 NoZoneLine rest =
     (z : ZoneLine) (more : List ℕ) → IsZoneLine z → rest ≡ line_text (line.Zone z) ++ more → ⊥
 
-abbrev pub NoCommandLine : ZoneLine → List ℕ → Type 0
-NoCommandLine z rest =
-    (c : Command) (more : List ℕ) → IsCommandOf z c → rest ≡ line_text (line.Command c) ++ more → ⊥
+abbrev pub NoCommandLine : ZoneLine → List Command → List ℕ → Type 0
+NoCommandLine z cs rest =
+    (c : Command) (more : List ℕ) → IsNextCommand z cs c → rest ≡ line_text (line.Command c) ++ more → ⊥
 
 no_first : (rest : List ℕ) → NoZoneLine rest → NoLine [] rest
 no_first rest none (line.Zone z) more allowed e = none z more allowed.1 e
@@ -40,14 +41,13 @@ no_third z rest none line.Lists more allowed e = none more e
 no_third z rest none (line.Command c) more allowed e = let no = allowed.1 in cc
 
 -- a worker line may stand next only if there are not too many lines
-no_command : (z : ZoneLine) (cs : List Command) (rest : List ℕ) → (length (lines_with z cs) < MOST_LINES → NoCommandLine z rest) → NoLine (lines_with z cs) rest
+no_command : (z : ZoneLine) (cs : List Command) (rest : List ℕ) → (length (lines_with z cs) < MOST_LINES → NoCommandLine z cs rest) → NoLine (lines_with z cs) rest
 no_command z cs rest none (line.Zone w) more allowed e = let no = allowed.0 in cc
 no_command z cs rest none line.Workers more allowed e = let no = allowed.1 in cc
 no_command z cs rest none line.Lists more allowed e = let no = allowed.1 in cc
 no_command z cs rest none (line.Command c) more allowed e =
-    let same = allowed.1 in
-    let zone : allowed.0.zone ≡ z = cc in
-    none allowed.2 c more (subst (λ (w : ZoneLine). IsCommandOf w c) zone allowed.3) e
+    let trace = same_trace allowed.0 (record { zone = z; commands = cs }) (sym allowed.1) in
+    none allowed.2 c more (subst (λ (t : Trace). IsNextCommand t.zone t.commands c) trace allowed.3) e
 
 pub bad_first : (text : List ℕ) → NoZoneLine text → IsBadLine text 1
 bad_first text none = record {
@@ -94,7 +94,7 @@ header_text z text second third rest e f g =
     e ∙ ap (λ (bytes : List ℕ). line_text (line.Zone z) ++ bytes) (two line.Workers line.Lists second third rest f g)
     ∙ sym (append_assoc (line_text (line.Zone z)) (text_of (line.Workers ∷ line.Lists ∷ [])) rest)
 
-pub bad_command : (z : ZoneLine) (cs : List Command) (text rest : List ℕ) (n : ℕ) → text ≡ text_of (lines_with z cs) ++ rest → IsBeginning (lines_with z cs) → n ≡ HEADER_LINES + length cs + 1 → (rest ≡ [] → ⊥) → (length (lines_with z cs) < MOST_LINES → NoCommandLine z rest) → IsBadLine text n
+pub bad_command : (z : ZoneLine) (cs : List Command) (text rest : List ℕ) (n : ℕ) → text ≡ text_of (lines_with z cs) ++ rest → IsBeginning (lines_with z cs) → n ≡ HEADER_LINES + length cs + 1 → (rest ≡ [] → ⊥) → (length (lines_with z cs) < MOST_LINES → NoCommandLine z cs rest) → IsBadLine text n
 bad_command z cs text rest n e begins count more none = record {
   before = lines_with z cs;
   allowed = begins;

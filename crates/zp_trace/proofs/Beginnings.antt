@@ -7,10 +7,11 @@ use Rattle.std.specs.List.{All, AllByRecursion}
 use Rattle.zp_trace.specs.declared.bounds.TheConstants.{HEADER_LINES, MOST_LINES}
 use Rattle.zp_trace.specs.declared.line.ZoneLine.{ZoneLine}
 use Rattle.zp_trace.specs.declared.line.Command.{Command}
+use Rattle.zp_trace.specs.declared.trace.Trace.{Trace}
 use Rattle.zp_trace.specs.Lines.{Line}
 use Rattle.zp_trace.specs.Lines as line
 use Rattle.zp_trace.specs.Spelling.{line_text, text_of, header_of}
-use Rattle.zp_trace.specs.Grammar.{IsZoneLine, IsCommandOf, IsAllowedAfter, IsBeginning, lines_of}
+use Rattle.zp_trace.specs.Grammar.{IsZoneLine, IsCommandOf, IsNextCommand, IsAllowedAfter, IsBeginning, lines_of}
 
 -- nothing ends in something
 pub no_end : (before after : List Line) (l : Line) → [] ≡ before ++ (l ∷ after) → ⊥
@@ -51,6 +52,22 @@ begin_workers z is = begin_more (line.Zone z ∷ []) line.Workers (begin_zone z 
 pub begin_header : (z : ZoneLine) → IsZoneLine z → IsBeginning (header_of z)
 begin_header z is = begin_more (line.Zone z ∷ line.Workers ∷ []) line.Lists (begin_workers z is) (z, refl)
 
+-- lines are those of one trace at most
+same_commands : (cs ds : List Command) → map line.Command cs ≡ map line.Command ds → cs ≡ ds
+same_commands [] [] e = refl
+same_commands [] (d ∷ ds) e = cc
+same_commands (c ∷ cs) [] e = cc
+same_commands (c ∷ cs) (d ∷ ds) e =
+    let first : c ≡ d = cc in
+    let rest = same_commands cs ds cc in
+    cc
+
+pub same_trace : (t u : Trace) → lines_of t ≡ lines_of u → t ≡ u
+same_trace t u e =
+    let zone : t.zone ≡ u.zone = cc in
+    let commands = same_commands t.commands u.commands cc in
+    λ i. record { zone = zone i; commands = commands i }
+
 -- the lines of a zone and its commands
 abbrev pub lines_with : ZoneLine → List Command → List Line
 lines_with z cs = lines_of (record { zone = z; commands = cs })
@@ -76,7 +93,7 @@ step_parts z cs new c whole rest after more e f =
     ∙ ap (λ (ds : List Command). text_of (lines_with z ds) ++ after) (sym more)
 
 -- and of the lines
-pub step_allowed : (z : ZoneLine) (cs new : List Command) (c : Command) → new ≡ cs ++ (c ∷ []) → IsBeginning (lines_with z cs) → length (lines_with z cs) < MOST_LINES → IsCommandOf z c → IsBeginning (lines_with z new)
+pub step_allowed : (z : ZoneLine) (cs new : List Command) (c : Command) → new ≡ cs ++ (c ∷ []) → IsBeginning (lines_with z cs) → length (lines_with z cs) < MOST_LINES → IsNextCommand z cs c → IsBeginning (lines_with z new)
 step_allowed z cs new c more begins few is =
     subst (λ (ds : List Command). IsBeginning (lines_with z ds)) (sym more) (subst IsBeginning (sym (lines_more z cs c)) (begin_more (lines_with z cs) (line.Command c) begins (record { zone = z; commands = cs }, refl, few, is)))
 
@@ -90,7 +107,7 @@ each_after z before (c ∷ cs) begins =
     let p = begins (line.Zone z ∷ before) (line.Command c) (map line.Command cs) refl in
     let same = p.1 in
     let zone : p.0.zone ≡ z = cc in
-    (subst (λ (w : ZoneLine). IsCommandOf w c) zone p.3, each_after z (before ++ (line.Command c ∷ [])) cs (subst IsBeginning (sym (append_assoc (line.Zone z ∷ before) (line.Command c ∷ []) (map line.Command cs))) begins))
+    (subst (λ (w : ZoneLine). IsCommandOf w c) zone p.3.0, each_after z (before ++ (line.Command c ∷ [])) cs (subst IsBeginning (sym (append_assoc (line.Zone z ∷ before) (line.Command c ∷ []) (map line.Command cs))) begins))
 
 pub each_command : (z : ZoneLine) (cs : List Command) → IsBeginning (lines_with z cs) → All (IsCommandOf z) cs
 each_command z cs begins =

@@ -1,14 +1,16 @@
 -- Of the lines that may stand next, a text begins with one at most.
-use Rattle.std.proofs.Common.{ℕ, ◌≡◌, List, [], ◌∷◌, ◌++◌, map, refl, sym, ap, subst, ◌∙◌, arith, append_assoc}
+use Rattle.std.proofs.Common.{ℕ, ◌≡◌, List, [], ◌∷◌, ◌++◌, map, get_or, refl, sym, ap, subst, ◌∙◌, arith, append_assoc}
 use Rattle.std.specs.Fmt.{decimal}
+use Rattle.zp_model.specs.declared.migrate_type.MigrateType.{MigrateType}
+use Rattle.zp_model.specs.declared.migrate_type.MigrateType.TheVariants.{Unmovable, Reclaimable, Movable}
 use Rattle.zp_trace.specs.declared.line.ZoneLine.{ZoneLine}
 use Rattle.zp_trace.specs.declared.line.Call.{Call}
-use Rattle.zp_trace.specs.declared.line.Call.TheVariants.{Info, Alloc}
+use Rattle.zp_trace.specs.declared.line.Call.TheVariants.{Info, Alloc, Free}
 use Rattle.zp_trace.specs.declared.line.Command.{Command}
 use Rattle.zp_trace.specs.Lines.{Line}
 use Rattle.zp_trace.specs.Lines as line
 use Rattle.zp_trace.specs.declared.trace.Trace.{Trace}
-use Rattle.zp_trace.specs.Spelling.{line_feed, joined, AreWords, line_words, line_text, zone_words, call_words, command_words}
+use Rattle.zp_trace.specs.Spelling.{line_feed, joined, AreWords, line_words, line_text, zone_words, kind_word, call_words, command_words}
 use Rattle.zp_trace.specs.Grammar.{IsZoneLine, IsCallOf, IsCommandOf, IsAllowedAfter, IsBeginning, lines_of}
 use Rattle.zp_trace.proofs.LineWords.{zone_are_words, workers_are_words, lists_are_words, command_are_words}
 use Rattle.zp_trace.proofs.Numbers.{same_number}
@@ -24,19 +26,42 @@ same_zone z w p q e =
     let pages = same_number (decimal z.pages) z.pages w.pages (omega (arith, p.2.1)) (omega (arith, q.2.1)) refl pages_text in
     λ i. record { name = name i; base = base i; pages = pages i }
 
+-- the types have different first letters
+first_letter : (k j : MigrateType) → kind_word k ≡ kind_word j → get_or (kind_word k) 0 0 ≡ get_or (kind_word j) 0 0
+first_letter k j e = ap (λ (w : List ℕ). get_or w 0 0) e
+
+same_kind : (k j : MigrateType) → kind_word k ≡ kind_word j → k ≡ j
+same_kind Unmovable Unmovable e = refl
+same_kind Unmovable Reclaimable e = absurd (omega (arith, first_letter Unmovable Reclaimable e))
+same_kind Unmovable Movable e = absurd (omega (arith, first_letter Unmovable Movable e))
+same_kind Reclaimable Unmovable e = absurd (omega (arith, first_letter Reclaimable Unmovable e))
+same_kind Reclaimable Reclaimable e = refl
+same_kind Reclaimable Movable e = absurd (omega (arith, first_letter Reclaimable Movable e))
+same_kind Movable Unmovable e = absurd (omega (arith, first_letter Movable Unmovable e))
+same_kind Movable Reclaimable e = absurd (omega (arith, first_letter Movable Reclaimable e))
+same_kind Movable Movable e = refl
+
 same_call : (z : ZoneLine) (a b : Call) → IsCallOf z a → IsCallOf z b → call_words a ≡ call_words b → a ≡ b
 same_call z Info Info p q e = refl
 same_call z Info (Alloc label order kind zone) p q e = cc
+same_call z Info (Free label) p q e = cc
 same_call z (Alloc label order kind zone) Info p q e = cc
+same_call z (Alloc label order kind zone) (Free m) p q e = cc
+same_call z (Free label) Info p q e = cc
+same_call z (Free label) (Alloc m i j r) p q e = cc
+same_call z (Free label) (Free m) p q e =
+    let same : label ≡ m = cc in
+    cc
 same_call z (Alloc l o k n) (Alloc m i j r) p q e =
     let label : l ≡ m = cc in
     let order_text : decimal o ≡ decimal i = cc in
     let order = same_number (decimal o) o i (omega (arith, p.1)) (omega (arith, q.1)) refl order_text in
-    let kind : k ≡ j = p.2 ∙ sym q.2 in
+    let kind_text : kind_word k ≡ kind_word j = cc in
+    let kind = same_kind k j kind_text in
     let zone : n ≡ r = cc in
     cc
 
-same_command : (z : ZoneLine) (c d : Command) → IsCommandOf z c → IsCommandOf z d → command_words c ≡ command_words d → c ≡ d
+pub same_command : (z : ZoneLine) (c d : Command) → IsCommandOf z c → IsCommandOf z d → command_words c ≡ command_words d → c ≡ d
 same_command z c d p q e =
     let worker_text : decimal c.worker ≡ decimal d.worker = cc in
     let worker = same_number (decimal c.worker) c.worker d.worker (omega (arith, p.0)) (omega (arith, q.0)) refl worker_text in
@@ -65,7 +90,7 @@ same_line before (line.Command c) (line.Command d) p q e =
     let a = p.1 in
     let b = q.1 in
     let zone : q.0.zone ≡ p.0.zone = cc in
-    ap (λ (f : Command). line.Command f) (same_command p.0.zone c d p.3 (subst (λ (z : ZoneLine). IsCommandOf z d) zone q.3) e)
+    ap (λ (f : Command). line.Command f) (same_command p.0.zone c d p.3.0 (subst (λ (z : ZoneLine). IsCommandOf z d) zone q.3.0) e)
 
 -- the zone line of a beginning has its names and numbers in range
 first_zone : (before : List Line) (t : Trace) → IsBeginning before → before ≡ lines_of t → IsZoneLine t.zone
@@ -76,7 +101,7 @@ allowed_are_words before (line.Zone z) begins p = zone_are_words z p.1
 allowed_are_words before line.Workers begins p = workers_are_words
 allowed_are_words before line.Lists begins p = lists_are_words
 allowed_are_words before (line.Command c) begins p =
-    command_are_words p.0.zone c (first_zone before p.0 begins p.1).0 p.3
+    command_are_words p.0.zone c (first_zone before p.0 begins p.1).0 p.3.0
 
 pub next_unique : (before : List Line) (l m : Line) (x y : List ℕ) → IsBeginning before → IsAllowedAfter before l → IsAllowedAfter before m → line_text l ++ x ≡ line_text m ++ y → (l ≡ m) × (x ≡ y)
 next_unique before l m x y begins p q e =

@@ -1,12 +1,11 @@
 -- A text is read in one way: as the one trace that it writes, or up to its one bad line.
-use Rattle.std.proofs.Common.{ℕ, ◌≡◌, ◌⊎◌, inl, inr, List, [], ◌∷◌, ◌++◌, map, length, length-append, refl, sym, ap, subst, ◌∙◌, arith, append_assoc}
+use Rattle.std.proofs.Common.{ℕ, ◌≡◌, ◌⊎◌, inl, inr, List, [], ◌∷◌, ◌++◌, length, length-append, refl, sym, ap, subst, ◌∙◌, arith, append_assoc}
 use Rattle.std.proofs.lemmas.List.{append-nil}
-use Rattle.zp_trace.specs.declared.line.Command.{Command}
 use Rattle.zp_trace.specs.Lines.{Line}
-use Rattle.zp_trace.specs.Lines as line
 use Rattle.zp_trace.specs.declared.trace.Trace.{Trace}
 use Rattle.zp_trace.specs.Spelling.{line_feed, joined, line_words, line_text, text_of}
 use Rattle.zp_trace.specs.Grammar.{IsAllowedAfter, IsBeginning, IsTraceText, IsBadLine, lines_of}
+use Rattle.zp_trace.proofs.Beginnings.{same_trace}
 use Rattle.zp_trace.proofs.NextLine.{next_unique}
 
 -- one of two runs of lines goes on from the other
@@ -40,21 +39,6 @@ no_text l ls x e =
     e ∙ append_assoc (line_text l) (text_of ls) x ∙ append_assoc (joined (line_words l)) (line_feed ∷ []) (text_of ls ++ x)
     in
     omega (arith, ap length front, length-append (joined (line_words l)) (line_feed ∷ (text_of ls ++ x)))
-
-same_commands : (cs ds : List Command) → map line.Command cs ≡ map line.Command ds → cs ≡ ds
-same_commands [] [] e = refl
-same_commands [] (d ∷ ds) e = cc
-same_commands (c ∷ cs) [] e = cc
-same_commands (c ∷ cs) (d ∷ ds) e =
-    let first : c ≡ d = cc in
-    let rest = same_commands cs ds cc in
-    cc
-
-same_trace : (t u : Trace) → lines_of t ≡ lines_of u → t ≡ u
-same_trace t u e =
-    let zone : t.zone ≡ u.zone = cc in
-    let commands = same_commands t.commands u.commands cc in
-    λ i. record { zone = zone i; commands = commands i }
 
 -- what goes on with nothing left is the same
 ends : (ls ms : List Line) (x y : List ℕ) → x ≡ [] → GoesOn ls ms x y → (ms ≡ ls) × (y ≡ [])

@@ -9,6 +9,11 @@ pub at_none : {T : Type 0} (r : Option T) {P : Type 0} → P → IfNone r P
 at_none None p = p
 at_none (Some x) p = tt
 
+-- and what follows from it
+pub none_weaker : {T : Type 0} (r : Option T) {P Q : Type 0} → (P → Q) → IfNone r P → IfNone r Q
+none_weaker None f p = f p
+none_weaker (Some x) f p = tt
+
 -- the word at a place, of words that are spelled so
 pub word_at : (ws : List (Bor (List ℕ))) (d : Bor (List ℕ)) (i : ℕ) (words : List (List ℕ)) → spelled ws ≡ words → i < length ws → (get_or ws i d).now ≡ get_or words i []
 word_at ws d i words e inside =

@@ -1,12 +1,10 @@
 -- Which lines may stand after which, what the text of a trace is, and which line of a text is its bad line.
-use Rattle.std.specs.Prelude.{ℕ, ◌+◌, ◌%◌, ◌≡◌, ◌<◌, ◌≤◌, List, [], ◌∷◌, ◌++◌, length, map}
+use Rattle.std.specs.Prelude.{ℕ, ◌+◌, ◌%◌, ◌≡◌, ◌<◌, ◌≤◌, List, [], ◌∷◌, ◌++◌, length, map, Any, Option, Some, None}
 use Rattle.zp_model.specs.declared.constants.TheConstants.{LARGEST_ORDER, MAX_PAGES, BASE_LIMIT, PAGEBLOCK_PAGES}
-use Rattle.zp_model.specs.declared.migrate_type.MigrateType.{MigrateType}
-use Rattle.zp_model.specs.declared.migrate_type.MigrateType.TheVariants.{Movable}
 use Rattle.zp_trace.specs.declared.bounds.TheConstants.{MOST_LINES, WORKERS}
 use Rattle.zp_trace.specs.declared.line.ZoneLine.{ZoneLine}
 use Rattle.zp_trace.specs.declared.line.Call.{Call}
-use Rattle.zp_trace.specs.declared.line.Call.TheVariants.{Info, Alloc}
+use Rattle.zp_trace.specs.declared.line.Call.TheVariants.{Info, Alloc, Free}
 use Rattle.zp_trace.specs.declared.line.Command.{Command}
 use Rattle.zp_trace.specs.Lines.{Line}
 use Rattle.zp_trace.specs.Lines as line
@@ -20,9 +18,6 @@ IsBase base = (base % PAGEBLOCK_PAGES ≡ 0) × (base ≤ BASE_LIMIT)
 abbrev pub IsPages : ℕ → Type 0
 IsPages pages = (0 < pages) × (pages ≤ MAX_PAGES)
 
-abbrev pub IsKind : MigrateType → Type 0
-IsKind kind = kind ≡ Movable
-
 abbrev pub IsZoneLine : ZoneLine → Type 0
 IsZoneLine z = IsName z.name × IsBase z.base × IsPages z.pages
 
@@ -30,10 +25,31 @@ IsZoneLine z = IsName z.name × IsBase z.base × IsPages z.pages
 abbrev pub IsCallOf : ZoneLine → Call → Type 0
 IsCallOf z Info = Unit {0}
 IsCallOf z (Alloc label order kind zone) =
-    IsName label × (order ≤ LARGEST_ORDER) × IsKind kind × (zone ≡ z.name)
+    IsName label × (order ≤ LARGEST_ORDER) × (zone ≡ z.name)
+IsCallOf z (Free label) = IsName label
 
 abbrev pub IsCommandOf : ZoneLine → Command → Type 0
 IsCommandOf z c = (c.worker < WORKERS) × IsCallOf z c.call
+
+-- the label that a call binds to the block that it is answered
+abbrev pub bound_label : Call → Option (List ℕ)
+bound_label Info = None
+bound_label (Alloc label order kind zone) = Some label
+bound_label (Free label) = None
+
+-- the command binds this label of this worker, if it is answered a block
+abbrev pub Binds : ℕ → List ℕ → Command → Type 0
+Binds worker label c = (c.worker ≡ worker) × (bound_label c.call ≡ Some label)
+
+-- the label that the call frees by stands in an earlier command of the same worker that binds it
+abbrev pub HasLabel : List Command → ℕ → Call → Type 0
+HasLabel before worker Info = Unit {0}
+HasLabel before worker (Alloc label order kind zone) = Unit {0}
+HasLabel before worker (Free label) = Any (Binds worker label) before
+
+-- a command that may stand after these in a trace of this zone
+abbrev pub IsNextCommand : ZoneLine → List Command → Command → Type 0
+IsNextCommand z before c = IsCommandOf z c × HasLabel before c.worker c.call
 
 -- the lines that write a trace
 abbrev pub lines_of : Trace → List Line
@@ -45,7 +61,7 @@ IsAllowedAfter before (line.Zone z) = (before ≡ []) × IsZoneLine z
 IsAllowedAfter before line.Workers = (z : ZoneLine) × (before ≡ line.Zone z ∷ [])
 IsAllowedAfter before line.Lists = (z : ZoneLine) × (before ≡ line.Zone z ∷ line.Workers ∷ [])
 IsAllowedAfter before (line.Command c) =
-    (t : Trace) × (before ≡ lines_of t) × (length before < MOST_LINES) × IsCommandOf t.zone c
+    (t : Trace) × (before ≡ lines_of t) × (length before < MOST_LINES) × IsNextCommand t.zone t.commands c
 
 -- each line may stand after those before it
 abbrev pub IsBeginning : List Line → Type 0

@@ -1,13 +1,13 @@
 //! The forms of lines, from their words.
-ghost use Rattle.std.specs.Prelude.{◌≡◌, ◌<◌, ◌≤◌, ◌↔◌, ℕ, IsTrue, IfSome, IfNone};
+ghost use Rattle.std.specs.Prelude.{◌≡◌, ◌<◌, ◌≤◌, ◌↔◌, List, ℕ, IsTrue, IfSome, IfNone};
 ghost use Rattle.std.specs.Fmt.{decimal};
 ghost use Rattle.zp_model.specs.declared.migrate_type.MigrateType.{MigrateType};
 ghost use Rattle.zp_trace.specs.declared.line.ZoneLine.{ZoneLine};
 ghost use Rattle.zp_trace.specs.declared.line.Call.{Call};
-ghost use Rattle.zp_trace.specs.declared.line.Call.TheVariants.{Info};
+ghost use Rattle.zp_trace.specs.declared.line.Call.TheVariants.{Info, Alloc, Free};
 ghost use Rattle.zp_trace.specs.declared.line.Command.{Command};
 ghost use Rattle.zp_trace.specs.Spelling.{spelled, zone_words, call_words, command_words, kind_word, workers_words, lists_words};
-ghost use Rattle.zp_trace.specs.Grammar.{IsBase, IsPages, IsKind, IsZoneLine, IsCallOf, IsCommandOf};
+ghost use Rattle.zp_trace.specs.Grammar.{IsBase, IsPages, IsZoneLine, IsCallOf, IsCommandOf};
 
 use crate::bounds::WORKERS;
 use crate::line::{Call, Command, ZoneLine};
@@ -81,10 +81,14 @@ fn order_of(word: &[u8]) -> Option<Order>
 }
 
 fn kind_of(word: &[u8]) -> Option<MigrateType>
-    ensures some { IfSome result (λ kind. IsKind kind × (word.now ≡ kind_word kind)) }
-    ensures none { IfNone result ((kind : MigrateType) → IsKind kind → word.now ≡ kind_word kind → ⊥) }
+    ensures some { IfSome result (λ kind. word.now ≡ kind_word kind) }
+    ensures none { IfNone result ((kind : MigrateType) → word.now ≡ kind_word kind → ⊥) }
 {
-    if is_text(word, "M") {
+    if is_text(word, "U") {
+        Some(MigrateType::Unmovable)
+    } else if is_text(word, "R") {
+        Some(MigrateType::Reclaimable)
+    } else if is_text(word, "M") {
         Some(MigrateType::Movable)
     } else {
         None
@@ -142,7 +146,8 @@ fn is_info(words: &[&[u8]]) -> bool
 /// The alloc of such words in this zone.
 fn alloc_of(zone: &ZoneLine, words: &[&[u8]]) -> Option<Call>
     ensures some { IfSome result (λ call. IsCallOf zone.now call × (spelled words.now ≡ call_words call)) }
-    ensures none { IfNone result ((call : Call) → IsCallOf zone.now call → spelled words.now ≡ call_words call → call ≡ Info) }
+    ensures none { IfNone result ((label : List ℕ) (order : ℕ) (kind : MigrateType) (name : List ℕ)
+        → IsCallOf zone.now (Alloc label order kind name) → spelled words.now ≡ call_words (Alloc label order kind name) → ⊥) }
 {
     let [keyword, label, order, kind, zone_name, mark] = words else {
         return None;
@@ -164,6 +169,21 @@ fn alloc_of(zone: &ZoneLine, words: &[&[u8]]) -> Option<Call>
     })
 }
 
+/// The free of such words.
+fn free_of(words: &[&[u8]]) -> Option<Call>
+    ensures some { IfSome result (λ call. (zone : ZoneLine) → IsCallOf zone call × (spelled words.now ≡ call_words call)) }
+    ensures none { IfNone result ((zone : ZoneLine) (label : List ℕ) → IsCallOf zone (Free label) → spelled words.now ≡ call_words (Free label) → ⊥) }
+{
+    let [keyword, label] = words else {
+        return None;
+    };
+    if !is_text(keyword, "free") {
+        return None;
+    }
+    let label = Name::new(label)?;
+    Some(Call::Free { label })
+}
+
 /// What such words ask for in a trace of this zone.
 fn call_of(zone: &ZoneLine, words: &[&[u8]]) -> Option<Call>
     ensures some { IfSome result (λ call. IsCallOf zone.now call × (spelled words.now ≡ call_words call)) }
@@ -172,7 +192,10 @@ fn call_of(zone: &ZoneLine, words: &[&[u8]]) -> Option<Call>
     if is_info(words) {
         return Some(Call::Info);
     }
-    alloc_of(zone, words)
+    if let Some(call) = alloc_of(zone, words) {
+        return Some(call);
+    }
+    free_of(words)
 }
 
 /// The command of such words in a trace of this zone.

@@ -7,6 +7,7 @@
 mod bounds;
 mod forms;
 mod grammar_law;
+mod labels;
 mod line;
 mod number;
 mod parser;

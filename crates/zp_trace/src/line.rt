@@ -23,6 +23,10 @@ pub enum Call {
         kind: MigrateType,
         zone: Name,
     },
+    /// The block that this label of the worker is bound to, given back.
+    Free {
+        label: Name,
+    },
 }
 
 /// One worker line: who asks, and for what.

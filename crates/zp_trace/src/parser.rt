@@ -5,10 +5,11 @@ ghost use Rattle.zp_trace.specs.declared.line.Command.{Command};
 ghost use Rattle.zp_trace.specs.Lines as line;
 ghost use Rattle.zp_trace.specs.declared.trace.TraceFault.TheVariants as fault;
 ghost use Rattle.zp_trace.specs.Spelling.{line_text, text_of, header_of};
-ghost use Rattle.zp_trace.specs.Grammar.{IsZoneLine, IsCommandOf, IsTraceText, IsBadLine};
+ghost use Rattle.zp_trace.specs.Grammar.{IsZoneLine, IsCommandOf, IsNextCommand, IsTraceText, IsBadLine};
 
 use crate::bounds::{HEADER_LINES, MOST_LINES};
 use crate::forms::{command_of, is_lists, is_workers, zone_of};
+use crate::labels::has_label;
 use crate::line::{Command, ZoneLine};
 use crate::trace::{Commands, Trace, TraceFault};
 use crate::words::first_line;
@@ -42,15 +43,23 @@ fn after_lists(text: &[u8]) -> Option<&[u8]>
     if is_lists(&words) { Some(rest) } else { None }
 }
 
-/// The worker line at the front of a text, and the text after it.
-fn command_line<'a>(zone: &ZoneLine, text: &'a [u8]) -> Option<(Command, &'a [u8])>
+/// The worker line at the front of a text, which may stand after these commands, and the text after it.
+fn command_line<'a>(
+    zone: &ZoneLine,
+    before: &[Command],
+    text: &'a [u8],
+) -> Option<(Command, &'a [u8])>
     requires { IsZoneLine zone.now }
-    ensures some { IfSome result (λ x. IsCommandOf zone.now x.0 × (text.now ≡ line_text (line.Command x.0) ++ x.1.now)) }
-    ensures none { IfNone result ((c : Command) (more : List ℕ) → IsCommandOf zone.now c → text.now ≡ line_text (line.Command c) ++ more → ⊥) }
+    ensures some { IfSome result (λ x. IsNextCommand zone.now before.now x.0 × (text.now ≡ line_text (line.Command x.0) ++ x.1.now)) }
+    ensures none { IfNone result ((c : Command) (more : List ℕ) → IsNextCommand zone.now before.now c → text.now ≡ line_text (line.Command c) ++ more → ⊥) }
 {
     let (words, rest) = first_line(text)?;
     let command = command_of(zone, &words)?;
-    Some((command, rest))
+    if has_label(before, &command) {
+        Some((command, rest))
+    } else {
+        None
+    }
 }
 
 /// The commands after the header.
@@ -67,7 +76,7 @@ fn parse_commands(alloc: Global, zone: &ZoneLine, text: &[u8]) -> Result<Command
         if lines == MOST_LINES {
             return Err(TraceFault::BadLine(lines as u32 + 1));
         }
-        let Some((command, after)) = command_line(zone, rest) else {
+        let Some((command, after)) = command_line(zone, commands.as_slice(), rest) else {
             return Err(TraceFault::BadLine(lines as u32 + 1));
         };
         commands.push(command)?;

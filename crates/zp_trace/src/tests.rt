@@ -1,7 +1,7 @@
 //! Texts, and what parsing them answers.
 use super::*;
 use std::test::*;
-use zp_model::MigrateType;
+use zp_model::{MigrateType, Name};
 
 /// The number of the bad line, 0 for a good trace, and 9999 for want of memory.
 fn bad_line(rt: &HostRuntime, text: &str) -> u32 {
@@ -20,7 +20,8 @@ fn bad_after_header(rt: &HostRuntime, rest: &str) -> Result<u32, Fail> {
 
 #[test]
 fn a_trace_says_what_its_text_writes(rt: HostRuntime) -> Result<(), Fail> {
-    let text = "zone DMA 1024 13 0\nworkers 1\nlists 0 0\n0 info\n0 alloc a 2 M DMA any\n";
+    let text =
+        "zone DMA 1024 13 0\nworkers 1\nlists 0 0\n0 info\n0 alloc a 2 R DMA any\n0 free a\n";
     let trace = parse_trace(rt.alloc(), text.as_bytes())
         .ok()
         .ok_or("the text is a trace")?;
@@ -28,7 +29,10 @@ fn a_trace_says_what_its_text_writes(rt: HostRuntime) -> Result<(), Fail> {
     assert_eq!(rt; trace.zone.base, 1024);
     assert_eq!(rt; trace.zone.pages, 13);
     let commands = trace.commands.as_slice();
-    assert_eq!(rt; commands.len(), 2);
+    assert_eq!(rt; commands.len(), 3);
+    let label = Name::new(b"a").ok_or("a is a label")?;
+    assert!(rt; commands[0].call == Call::Info);
+    assert!(rt; commands[2].call == Call::Free { label });
     for command in commands {
         assert_eq!(rt; command.worker.number(), 0);
         if let Call::Alloc {
@@ -40,7 +44,7 @@ fn a_trace_says_what_its_text_writes(rt: HostRuntime) -> Result<(), Fail> {
         {
             assert_eq!(rt; label.as_str(), "a");
             assert_eq!(rt; order.number(), 2);
-            assert!(rt; kind == MigrateType::Movable);
+            assert!(rt; kind == MigrateType::Reclaimable);
             assert!(rt; zone == trace.zone.name);
         }
     }
@@ -75,6 +79,9 @@ fn good_traces(rt: HostRuntime) -> Result<(), Fail> {
         "0 info\n",
         "0 alloc a 0 M DMA any\n0 info\n",
         "0 alloc 1aZ9abcd 10 M DMA any\n",
+        "0 alloc a 0 U DMA any\n0 alloc b 1 R DMA any\n",
+        "0 alloc a 0 M DMA any\n0 free a\n0 free a\n",
+        "0 alloc a 0 M DMA any\n0 alloc abcd1234 0 M DMA any\n0 info\n0 free abcd1234\n",
     ] {
         assert_eq!(rt; bad_after_header(&rt, rest)?, 0, "of {rest}");
     }
@@ -147,13 +154,24 @@ fn bad_commands(rt: HostRuntime) -> Result<(), Fail> {
         ("00 info\n", 4),
         ("0 inf\n", 4),
         ("0 free a\n", 4),
+        ("0 free a\n0 alloc a 0 M DMA any\n", 4),
+        ("0 alloc a 0 M DMA any\n0 free b\n", 5),
+        ("0 alloc a 0 M DMA any\n0 free A\n", 5),
+        ("0 alloc a 0 M DMA any\n0 free aa\n", 5),
+        ("0 alloc a 0 M DMA any\n0 free\n", 5),
+        ("0 alloc a 0 M DMA any\n0 free a a\n", 5),
+        ("0 alloc a 0 M DMA any\n0 fre a\n", 5),
+        ("0 alloc a 0 M DMA any\n1 free a\n", 5),
+        ("0 alloc a 0 M DMA any\n0 free a\n0 free a\n0 free b\n", 7),
         ("0 drain\n", 4),
         ("lists 0 0\n", 4),
         ("0 alloc a 11 M DMA any\n", 4),
         ("0 alloc a 256 M DMA any\n", 4),
         ("0 alloc a 4294967296 M DMA any\n", 4),
         ("0 alloc a 00 M DMA any\n", 4),
-        ("0 alloc a 0 U DMA any\n", 4),
+        ("0 alloc a 0 u DMA any\n", 4),
+        ("0 alloc a 0 I DMA any\n", 4),
+        ("0 alloc a 0 UR DMA any\n", 4),
         ("0 alloc a 0 m DMA any\n", 4),
         ("0 alloc a 0 M DMB any\n", 4),
         ("0 alloc a 0 M dma any\n", 4),

@@ -1,0 +1,44 @@
+//! The labels of workers, and the blocks that they are bound to.
+ghost use Rattle.std.specs.Prelude.{◌≡◌, ◌<◌, ◌≤◌, length, vec_capacity};
+ghost use Rattle.zp_model.specs.declared.request.Reply.TheVariants.{Page};
+ghost use Rattle.zp_replay.specs.Labels.{names, bound_to, bind};
+
+use zp_model::{Name, Order, PageNo, Worker};
+
+/// A label of a worker, and the block that it was bound to.
+#[derive(Clone, Copy, PartialEq, Eq, Debug, Drop)]
+pub struct Binding {
+    pub worker: Worker,
+    pub label: Name,
+    /// The block's first page.
+    pub page: PageNo,
+    pub order: Order,
+}
+
+/// Whether a binding is of this label of this worker.
+fn names(binding: &Binding, worker: Worker, label: Name) -> bool
+    ensures { result ≡ names worker label binding.now }
+{
+    binding.worker == worker && binding.label.as_bytes() == label.as_bytes()
+}
+
+/// The block that a label is bound to. Bindings stand in the order in which they were made.
+pub fn bound_to(bindings: &[Binding], worker: Worker, label: Name) -> Option<Binding>
+    ensures { result ≡ bound_to bindings.now worker label }
+{
+    bindings
+        .iter()
+        .rev()
+        .copied()
+        .find(|binding| names(binding, worker, label))
+}
+
+/// Binds a label anew.
+pub fn bind(bindings: &mut Vec<Binding>, binding: Binding)
+    requires { length bindings.old.items < vec_capacity bindings.old }
+    ensures bound { bindings.new.items ≡ bind bindings.old.items binding.worker binding.label binding.order (Page binding.page) }
+    ensures room { vec_capacity bindings.old ≤ vec_capacity bindings.new }
+{
+    // There is room, so this takes no memory.
+    let _ = bindings.push(binding);
+}

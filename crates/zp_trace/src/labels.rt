@@ -1,0 +1,40 @@
+//! Which labels are bound by the commands so far.
+ghost use Rattle.std.specs.Prelude.{◌≡◌, ◌↔◌, Any, IsTrue};
+ghost use Rattle.zp_trace.specs.Grammar.{bound_label, Binds, HasLabel};
+
+use crate::line::{Call, Command};
+use zp_model::{Name, Worker};
+
+/// The label that a call binds to the block that it is answered.
+fn bound_label(call: &Call) -> Option<Name>
+    ensures { result ≡ bound_label call.now }
+{
+    match call {
+        Call::Alloc { label, .. } => Some(*label),
+        Call::Info | Call::Free { .. } => None,
+    }
+}
+
+/// Whether a command binds this label of this worker, if it is answered a block.
+fn binds(command: &Command, worker: Worker, label: Name) -> bool
+    ensures { IsTrue result ↔ Binds worker label command.now }
+{
+    command.worker == worker && bound_label(&command.call) == Some(label)
+}
+
+/// Whether one of the commands does.
+fn is_bound(before: &[Command], worker: Worker, label: Name) -> bool
+    ensures { IsTrue result ↔ Any (Binds worker label) before.now }
+{
+    before.iter().any(|command| binds(command, worker, label))
+}
+
+/// Whether the label that a command frees by stands in one of those before it.
+pub fn has_label(before: &[Command], command: &Command) -> bool
+    ensures { IsTrue result ↔ HasLabel before.now command.now.worker command.now.call }
+{
+    match command.call {
+        Call::Free { label } => is_bound(before, command.worker, label),
+        Call::Info | Call::Alloc { .. } => true,
+    }
+}
