@@ -1,12 +1,2 @@
-pub mod Stack
-pub mod Stacks
-pub mod Sound
-pub mod Split
-pub mod Join
-pub mod Given
-pub mod Held
-pub mod Listed
-pub mod Opened
-pub mod Counted
-pub mod Choices
-pub mod Retyped
+pub mod FreeLists
+pub use Rattle.zp_frames.specs.Given

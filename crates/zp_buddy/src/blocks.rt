@@ -1,24 +1,15 @@
 //! Splitting and joining blocks over the page states and the lists.
-ghost use Rattle.std.specs.Prelude.{◌≡◌, ◌≢◌, ◌<◌, ◌≤◌, ◌+◌, ◌%◌, ◌^◌, ◌↔◌, ℕ, [], false, length, min, IsTrue, Some};
-ghost use Rattle.zp_model.specs.Block.{has, size};
-ghost use Rattle.zp_model.specs.BlockSet.{cover};
-ghost use Rattle.zp_model.specs.Rows.{list_at, state_at, IsOn, IsLoose};
-ghost use Rattle.zp_model.specs.Area.{list_number, lists_count, kind_at};
+ghost use Rattle.std.specs.Prelude.{◌≡◌, ◌<◌, ◌≤◌, ◌+◌, ◌^◌, ℕ, length};
+ghost use Rattle.zp_model.specs.Rows.{IsOn, IsLoose};
+ghost use Rattle.zp_model.specs.Area.{list_number, lists_count};
 ghost use Rattle.zp_model.specs.Frames.{with_area};
-ghost use Rattle.zp_model.specs.Take.{leave, give};
-ghost use Rattle.zp_buddy.specs.Split.{IsSplit};
-ghost use Rattle.zp_buddy.specs.Sound.{IsSound, area_of, frames_of, blocks_of};
+ghost use Rattle.zp_model.specs.Take.{leave};
+ghost use Rattle.zp_frames.specs.Split.{IsSplit};
+ghost use Rattle.zp_frames.specs.Sound.{IsSound, frames_of};
 
-use crate::lists::Lists;
-use zp_model::{MigrateType, Order, PageAt, State, TYPES};
-
-/// The number of the free list of an order and a type.
-pub fn list_of(order: Order, kind: MigrateType) -> usize
-    ensures number { result ≡ list_number order kind }
-    ensures within { result < lists_count }
-{
-    TYPES * usize::from(order.number()) + kind.number()
-}
+use zp_frames::list_of;
+use zp_links::Lists;
+use zp_model::{MigrateType, Order, PageAt, State};
 
 /// Frees and lists the high halves that splitting the block at `head` from order `from` down to order `to` leaves.
 pub fn split(lists: &mut Lists, head: PageAt, from: Order, to: Order, kind: MigrateType)

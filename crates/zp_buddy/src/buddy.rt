@@ -1,28 +1,29 @@
 //! The buddy allocator of one zone.
-ghost use Rattle.std.specs.Prelude.{◌≡◌, ◌≢◌, ◌<◌, ◌≤◌, ◌+◌, ◌*◌, ◌^◌, ◌↔◌, ℕ, false, length, slice_set, IfOk, IsTrue};
+ghost use Rattle.std.specs.Prelude.{ℕ, ◌≡◌, ◌<◌, ◌≤◌, ◌++◌, ◌^◌, ◌↔◌, false, length, slice_get, slice_set, IfOk, IfSome, IsTrue};
 ghost use Rattle.zp_model.specs.Block.{has, size};
-ghost use Rattle.zp_model.specs.Info.{counts, blocks_of_order};
-ghost use Rattle.zp_model.specs.Rows.{state_at};
+ghost use Rattle.zp_model.specs.Info.{counts};
+ghost use Rattle.zp_model.specs.Rows.{IsLoose, IsOn, after, front, list_at, state_at};
 ghost use Rattle.zp_model.specs.Frames.{frames_opening, with_area, IsNote, IsFramed, IsClear};
 ghost use Rattle.zp_model.specs.MigrateType.{types_count};
-ghost use Rattle.zp_model.specs.Area.{lists_count};
+ghost use Rattle.zp_model.specs.Area.{list_number, lists_count, free_list};
 ghost use Rattle.zp_model.specs.Take.{take_answer, take_after};
-ghost use Rattle.zp_buddy.specs.Given.{given};
-ghost use Rattle.zp_buddy.specs.Listed.{blocks_listed_of};
+ghost use Rattle.zp_frames.specs.Given.{given};
+ghost use Rattle.zp_frames.specs.Listed.{blocks_listed_of};
 
 use crate::choices::choose;
 use crate::clear::{is_block, is_clear_run};
 use crate::joins::join;
-use crate::lists::Lists;
 use crate::opening::list_all_pages;
-use crate::pageblocks::{pageblock_of, pages_in_each};
 use crate::takes::take_chosen;
 use std::alloc::{AllocError, Global};
 use std::marker::Model;
+use zp_frames::{list_of, pageblock_of, pages_in_each};
+use zp_links::Lists;
 use zp_model::{
     Counts, LARGEST_ORDER, MAX_PAGES, MigrateType, ORDERS, Order, PAGEBLOCK_PAGES, PageAt, State,
     TYPES,
 };
+use zp_table::{PageEntry, PageTable};
 
 /// The free blocks of a zone, what is noted of its other pages, and further lists of those pages. Contracts see the plain
 /// free area with these.
@@ -37,8 +38,8 @@ pub struct Buddy {
 
 impl Model for Buddy {
     ghost use Rattle.zp_model.specs.Frames.{Frames};
-    ghost use Rattle.zp_buddy.specs.Sound.{frames_of};
-    ghost use Rattle.zp_buddy.specs.Held.{IsHeld};
+    ghost use Rattle.zp_frames.specs.Sound.{frames_of};
+    ghost use Rattle.zp_frames.specs.Held.{IsHeld};
 
     ghost Value = { Frames };
 
@@ -60,7 +61,8 @@ impl Buddy {
             pages.div_ceil(PAGEBLOCK_PAGES) as usize,
         )?;
         let free_in = pages_in_each(alloc, pages)?;
-        let mut lists = Lists::new(alloc, pages, TYPES * ORDERS + side)?;
+        let table = PageTable::new(alloc, pages)?;
+        let mut lists = Lists::new(alloc, table, TYPES * ORDERS + side)?;
         list_all_pages(&mut lists);
         Ok(Buddy {
             lists,
@@ -125,6 +127,43 @@ impl Buddy {
         ensures { result ≡ state_at self.now.states at }
     {
         self.lists.state(at)
+    }
+
+    /// What the page table has of a page: its note, and its neighbours in its list, be it a free list or a further one.
+    pub fn entry(&self, at: PageAt) -> PageEntry
+        requires { at < length self.now.states }
+        ensures state { result.state ≡ state_at self.now.states at }
+        ensures next { let ls = self.now.area.lists ++ self.now.sides in
+            (r : ℕ) → IsOn ls r at → result.forward ≡ after at (list_at ls r) }
+        ensures previous { let ls = self.now.area.lists ++ self.now.sides in
+            (r p : ℕ) → IsOn ls r p → after p (list_at ls r) ≡ Some at → result.back ≡ Some p }
+        ensures first { let ls = self.now.area.lists ++ self.now.sides in
+            (r : ℕ) → slice_get (list_at ls r) 0 ≡ Some at → result.back ≡ None }
+        ensures loose { let ls = self.now.area.lists ++ self.now.sides in
+            IsLoose ls at → (result.back ≡ None) × (result.forward ≡ None) }
+    {
+        PageEntry {
+            state: self.lists.state(at),
+            back: self.lists.back(at),
+            forward: self.lists.forward(at),
+        }
+    }
+
+    /// The block in front of the free list of an order and a type.
+    pub fn front(&self, order: Order, kind: MigrateType) -> Option<PageAt>
+        ensures answer { result ≡ front (free_list self.now.area order kind) }
+        ensures on { IfSome result (λ at. IsOn self.now.area.lists (list_number order kind) at) }
+    {
+        self.lists.front(list_of(order, kind))
+    }
+
+    /// The block after this one on the free list of an order and a type.
+    pub fn after(&self, order: Order, kind: MigrateType, at: PageAt) -> Option<PageAt>
+        requires { IsOn self.now.area.lists (list_number order kind) at }
+        ensures answer { result ≡ after at (free_list self.now.area order kind) }
+        ensures on { IfSome result (λ next. IsOn self.now.area.lists (list_number order kind) next) }
+    {
+        self.lists.after(list_of(order, kind), at)
     }
 
     /// How many free pages there are.

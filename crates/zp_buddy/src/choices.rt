@@ -1,45 +1,16 @@
 //! Which free block a request takes: one of its own type's, one of a pageblock that it claims, or one that it borrows.
-ghost use Rattle.std.specs.Prelude.{◌≡◌, ◌≢◌, ◌<◌, ◌≤◌, ◌||◌, not, leb, length, IfSome, Contains};
+ghost use Rattle.std.specs.Prelude.{◌≡◌, ◌≢◌, ◌<◌, ◌≤◌, length, IfSome, Contains};
 ghost use Rattle.std.specs.List.{find};
-ghost use Rattle.zp_model.specs.declared.migrate_type.MigrateType.TheVariants.{Movable};
-ghost use Rattle.zp_model.specs.MigrateType.{foreign, same_type};
 ghost use Rattle.zp_model.specs.BlockSet.{first_of, orders_from};
 ghost use Rattle.zp_model.specs.Rows.{list_at};
 ghost use Rattle.zp_model.specs.Area.{lists_count, pageblocks_of};
 ghost use Rattle.zp_model.specs.Choose.{own, claim, borrow};
-ghost use Rattle.zp_buddy.specs.Counted.{IsCounted};
-ghost use Rattle.zp_buddy.specs.Choices.{free_area, front_of_order, is_half_free, half_free_of_order, claimable_of_order, IsFoundAs, IsChosen};
+ghost use Rattle.zp_frames.specs.Counted.{IsCounted};
+ghost use Rattle.zp_frames.specs.Choices.{free_area, front_of_order, is_half_free, half_free_of_order, claimable_of_order, IsFoundAs, IsChosen};
 
-use crate::blocks::list_of;
-use crate::lists::Lists;
-use crate::pageblocks::pageblock_of;
-use zp_model::{CLAIM_PAGES, LEAST_MOVABLE_CLAIM, MigrateType, Order, PageAt};
-
-/// A free block on its list: its head, its order and the type of the list.
-#[derive(Clone, Copy, PartialEq, Eq, Debug, Drop)]
-pub struct FreeBlock {
-    pub head: PageAt,
-    pub order: Order,
-    pub kind: MigrateType,
-}
-
-/// The block that a request takes, and whether it claims the block's pageblock first.
-#[derive(Clone, Copy, PartialEq, Eq, Debug, Drop)]
-pub struct Choice {
-    pub block: FreeBlock,
-    pub claims: bool,
-}
-
-/// The types that a request for this type may take from besides its own, in the order in which it looks at them.
-fn foreign(kind: MigrateType) -> [MigrateType; 2]
-    ensures { result ≡ foreign kind }
-{
-    match kind {
-        MigrateType::Unmovable => [MigrateType::Reclaimable, MigrateType::Movable],
-        MigrateType::Reclaimable => [MigrateType::Unmovable, MigrateType::Movable],
-        MigrateType::Movable => [MigrateType::Reclaimable, MigrateType::Unmovable],
-    }
-}
+use zp_frames::{Choice, FreeBlock, foreign, list_of, may_claim, pageblock_of};
+use zp_links::Lists;
+use zp_model::{CLAIM_PAGES, MigrateType, Order, PageAt};
 
 /// The block in front of the first list of this order and of one of these types that isn't empty.
 fn front_of(lists: &Lists, order: Order, kinds: &[MigrateType]) -> Option<FreeBlock>
@@ -130,13 +101,6 @@ fn half_free_of(
         }
     }
     None
-}
-
-/// Whether a request for this type may claim by a block of this order at all.
-fn may_claim(order: Order, kind: MigrateType) -> bool
-    ensures { result ≡ (leb LEAST_MOVABLE_CLAIM order || not (same_type kind Movable)) }
-{
-    order.number() >= LEAST_MOVABLE_CLAIM || kind != MigrateType::Movable
 }
 
 /// The first block of this order and of another type that may be claimed.

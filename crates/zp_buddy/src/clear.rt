@@ -1,15 +1,17 @@
 //! Whether a block may come back: no page of it is free or on a list past the free ones.
-ghost use Rattle.std.specs.Prelude.{◌≡◌, ◌<◌, ◌≤◌, ◌+◌, ◌^◌, ◌↔◌, ℕ, true, length, drop, IsTrue};
-ghost use Rattle.zp_model.specs.Block.{has, head, IsBlock};
+ghost use Rattle.std.specs.Prelude.{◌≡◌, ◌<◌, ◌≤◌, ◌+◌, ◌^◌, ◌↔◌, ℕ, true, false, length, drop, IsTrue};
+ghost use Rattle.zp_model.specs.Block.{has, IsBlock};
 ghost use Rattle.zp_model.specs.BlockSet.{cover};
 ghost use Rattle.zp_model.specs.Rows.{stands_in, list_at};
 ghost use Rattle.zp_model.specs.Area.{lists_count};
-ghost use Rattle.zp_buddy.specs.Given.{IsClearRun};
-ghost use Rattle.zp_buddy.specs.Sound.{blocks_of};
+ghost use Rattle.zp_frames.specs.Given.{IsClearRun};
+ghost use Rattle.zp_frames.specs.Sound.{blocks_of};
+ghost use Rattle.zp_buddy.specs.FreeLists.{HoldsFreePages};
 
 use crate::joins::is_free_block;
-use crate::lists::Lists;
-use zp_model::{ORDERS, Order, PageAt, TYPES};
+use zp_frames::head_of;
+use zp_links::Lists;
+use zp_model::{Order, PageAt};
 
 /// Whether there is a block of this order at `at`.
 pub fn is_block(lists: &Lists, at: PageAt, order: Order) -> bool
@@ -20,7 +22,8 @@ pub fn is_block(lists: &Lists, at: PageAt, order: Order) -> bool
 
 /// Whether no page of the run is free or on a list past the free ones.
 pub fn is_clear_run(lists: &Lists, at: PageAt, order: Order) -> bool
-    requires { at + 2 ^ order ≤ length lists.now.states }
+    requires inside { at + 2 ^ order ≤ length lists.now.states }
+    requires listed { HoldsFreePages lists.now.states lists.now.lists }
     ensures { IsTrue result ↔ IsClearRun lists.now.states lists.now.lists at order }
 {
     let _pages = lists.pages();
@@ -50,21 +53,12 @@ fn is_free_page(lists: &Lists, at: PageAt) -> bool
     }
 }
 
-/// The head of the aligned run of this order that a page lies in.
-fn head_of(at: PageAt, order: Order) -> PageAt
-    ensures { result ≡ head at order }
-{
-    PageAt::at(at.number() / order.pages() * order.pages())
-}
-
-/// Whether a page is on a list past the free ones.
+/// Whether a page that is not free is on a list past the free ones: on any list, as no free list has it.
 fn is_aside(lists: &Lists, at: PageAt) -> bool
+    requires page { at < length lists.now.states }
+    requires used { has (cover (blocks_of lists.now.states)) at ≡ false }
+    requires listed { HoldsFreePages lists.now.states lists.now.lists }
     ensures { IsTrue result ↔ ((r : ℕ) × (stands_in at (list_at (drop lists_count lists.now.lists) r) ≡ true)) }
 {
-    'lists: for list in TYPES * ORDERS..lists.count() {
-        if lists.is_on(list, at) {
-            return true;
-        }
-    }
-    false
+    lists.on_any(at)
 }

@@ -1,47 +1,23 @@
 //! Joining a block that comes back with its free buddies.
-ghost use Rattle.std.specs.Prelude.{◌≡◌, ◌<◌, ◌+◌, ◌/◌, ◌%◌, ◌^◌, ◌↔◌, length, min, IsTrue};
+ghost use Rattle.std.specs.Prelude.{◌≡◌, ◌+◌, ◌^◌, ◌↔◌, length, IsTrue};
 ghost use Rattle.zp_model.specs.declared.state.State.TheVariants.{Free};
 ghost use Rattle.zp_model.specs.Block.{size};
 ghost use Rattle.zp_model.specs.BlockSet.{cover};
 ghost use Rattle.zp_model.specs.Rows.{state_at};
-ghost use Rattle.zp_model.specs.Area.{pageblocks_of, kind_at};
+ghost use Rattle.zp_model.specs.Area.{pageblocks_of};
 ghost use Rattle.zp_model.specs.Frames.{IsClear};
-ghost use Rattle.zp_buddy.specs.Join.{IsBuddy};
-ghost use Rattle.zp_buddy.specs.Given.{given};
-ghost use Rattle.zp_buddy.specs.Sound.{IsSound, frames_of, blocks_of};
+ghost use Rattle.zp_frames.specs.Given.{given};
+ghost use Rattle.zp_frames.specs.Sound.{IsSound, frames_of, blocks_of};
 
-use crate::blocks::list_of;
-use crate::lists::Lists;
-use zp_model::{LARGEST_ORDER, MigrateType, Order, PAGEBLOCK_PAGES, PageAt, State};
-
-/// The head of the other half of the block's double.
-fn buddy_of(head: PageAt, order: Order) -> PageAt
-    requires aligned { head % 2 ^ order ≡ 0 }
-    requires below { order < LARGEST_ORDER }
-    ensures { IsBuddy head order result (min head result) }
-{
-    let at = head.number();
-    let pages = order.pages();
-    if at % (2 * pages) == 0 {
-        PageAt::at(at + pages)
-    } else {
-        PageAt::at(at - pages)
-    }
-}
+use zp_frames::{buddy_of, kind_of, list_of};
+use zp_links::Lists;
+use zp_model::{LARGEST_ORDER, MigrateType, Order, PageAt, State};
 
 /// Whether a free block of this order starts at `at`.
 pub fn is_free_block(lists: &Lists, at: PageAt, order: Order) -> bool
     ensures { IsTrue result ↔ (state_at lists.now.states at ≡ Free order) }
 {
     at.index() < lists.pages() && lists.state(at) == State::Free(order)
-}
-
-/// The type of the page's pageblock.
-pub fn kind_of(kinds: &[MigrateType], at: PageAt) -> MigrateType
-    requires { at / PAGEBLOCK_PAGES < length kinds.now }
-    ensures { result ≡ kind_at kinds.now at }
-{
-    kinds[at.index() / PAGEBLOCK_PAGES as usize]
 }
 
 /// Joins a block that comes back with its free buddies as far as that goes, and lists the joined block.

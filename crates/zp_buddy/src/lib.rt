@@ -1,4 +1,5 @@
-//! The buddy allocator of one zone: takes and gives blocks of its free pages.
+//! The buddy allocator of one zone: takes and gives blocks of its free pages. Its lists are linked through the page table,
+//! so that a page comes off its list with no search.
 #![tactic(auto)]
 
 mod blocks;
@@ -6,11 +7,9 @@ mod buddy;
 mod choices;
 mod clear;
 mod joins;
-mod lists;
 mod opening;
-mod page_stack;
-mod pageblocks;
 mod retypes;
 mod takes;
 
 pub use buddy::Buddy;
+pub use zp_table::PageEntry;

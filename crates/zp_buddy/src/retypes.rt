@@ -6,11 +6,11 @@ ghost use Rattle.zp_model.specs.Rows.{state_at, IsOn};
 ghost use Rattle.zp_model.specs.Area.{list_number, lists_count, pageblocks_of};
 ghost use Rattle.zp_model.specs.Frames.{with_area};
 ghost use Rattle.zp_model.specs.Take.{retype};
-ghost use Rattle.zp_buddy.specs.Retyped.{moved};
-ghost use Rattle.zp_buddy.specs.Sound.{IsSound, frames_of};
+ghost use Rattle.zp_frames.specs.Retyped.{moved};
+ghost use Rattle.zp_frames.specs.Sound.{IsSound, frames_of};
 
-use crate::blocks::list_of;
-use crate::lists::Lists;
+use zp_frames::list_of;
+use zp_links::Lists;
 use zp_model::{MigrateType, PAGEBLOCK_PAGES, PageAt, State};
 
 /// Moves the free block that starts at a page, if one does, to the front of the list of another type.

@@ -3,14 +3,13 @@ ghost use Rattle.std.specs.Prelude.{◌≡◌, ◌≢◌, true, length, Some};
 ghost use Rattle.zp_model.specs.Area.{pageblocks_of};
 ghost use Rattle.zp_model.specs.Frames.{with_area};
 ghost use Rattle.zp_model.specs.Take.{taken};
-ghost use Rattle.zp_buddy.specs.Choices.{IsListedBlock};
-ghost use Rattle.zp_buddy.specs.Sound.{IsSound, frames_of};
+ghost use Rattle.zp_frames.specs.Choices.{IsListedBlock};
+ghost use Rattle.zp_frames.specs.Sound.{IsSound, frames_of};
 
 use crate::blocks::take_block;
-use crate::choices::{Choice, FreeBlock};
-use crate::lists::Lists;
-use crate::pageblocks::pageblock_of;
 use crate::retypes::retype;
+use zp_frames::{Choice, FreeBlock, pageblock_of};
+use zp_links::Lists;
 use zp_model::{MigrateType, Order, PageAt};
 
 /// Takes the low run of order `order` of the chosen block, and answers its head. A pageblock that is claimed gets the request's type first.

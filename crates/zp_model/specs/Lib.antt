@@ -10,6 +10,7 @@ pub mod Zone
 pub mod Mark
 pub mod Info
 pub mod Naming
+pub mod Bounds
 pub mod Refused
 pub mod Step
 pub mod Run

@@ -5,3 +5,6 @@ pub mod Outputs
 pub mod ShortLines
 pub mod Limits
 pub mod Endings
+pub mod SerialFlag
+pub mod CommandLine
+pub mod Schedules

@@ -3,3 +3,5 @@ pub mod Replies
 pub mod Output
 pub mod Replaying
 pub mod Asked
+pub mod Words
+pub mod Devices

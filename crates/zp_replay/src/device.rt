@@ -1,5 +1,8 @@
-//! Readers and writers over the streams of std. No clause knows the bytes of a device; how often it failed, contracts know.
-ghost use Rattle.std.specs.Prelude.{◌≡◌, ◌<◌, ◌+◌, None, Err};
+//! Readers and writers over the streams of std. A replay's clauses do not know the bytes of a device; those of one call know
+//! what its stream tells of them. How often it failed, contracts know.
+ghost use Rattle.std.specs.Prelude.{◌≡◌, ◌<◌, ◌+◌, None, Err, IfOk, OnOk, OnErr};
+ghost use Rattle.std.specs.Io.KnownBytes.{ReadConsumes, WriteAppends};
+ghost use Rattle.zp_zone.specs.Streams.{Fills, Takes};
 
 use crate::ending::{Ending, ReplayFault};
 use crate::failures::Failures;
@@ -21,7 +24,10 @@ pub struct Source<S: Read, L: Ledger> {
 }
 
 impl<S: Read, L: Ledger> Source<S, L> {
-    pub fn new(stream: S, failures: Failures<L>) -> Source<S, L> {
+    pub fn new(stream: S, failures: Failures<L>) -> Source<S, L>
+        ensures stream { result.stream ≡ stream }
+        ensures failures { result.failures ≡ failures }
+    {
         Source { stream, failures }
     }
 }
@@ -31,7 +37,15 @@ impl<S: Read, L: Ledger> Reader for Source<S, L> {
 
     ghost failures = { λ s. s.failures };
 
-    fn read(&mut self, buffer: &mut [u8]) -> Result<usize, ReadFault> {
+    fn read(&mut self, buffer: &mut [u8]) -> Result<usize, ReadFault>
+        ensures given { IfOk result (λ n. Fills buffer.old buffer.new n None None) }
+        ensures calm { OnOk result (self.new.failures ≡ self.old.failures) }
+        ensures fault { OnErr result (self.new.failures ≡ self.old.failures + 1) }
+
+        // What the stream gave, as far as it tells, and a failed call gives nothing.
+        ensures bytes { ReadConsumes (S.remaining self.old.stream) (S.remaining self.new.stream) result buffer.new }
+        ensures kept { OnErr result (buffer.new ≡ buffer.old) }
+    {
         let mut chunk = [0; CHUNK];
         let room = buffer.len().min(CHUNK);
         let Ok(count) = self.stream.read(&mut chunk[..room]) else {
@@ -51,7 +65,10 @@ pub struct Sink<S: Write, L: Ledger> {
 }
 
 impl<S: Write, L: Ledger> Sink<S, L> {
-    pub fn new(stream: S, failures: Failures<L>) -> Sink<S, L> {
+    pub fn new(stream: S, failures: Failures<L>) -> Sink<S, L>
+        ensures stream { result.stream ≡ stream }
+        ensures failures { result.failures ≡ failures }
+    {
         Sink { stream, failures }
     }
 }
@@ -61,7 +78,14 @@ impl<S: Write, L: Ledger> Writer for Sink<S, L> {
 
     ghost failures = { λ s. s.failures };
 
-    fn write(&mut self, piece: &[u8]) -> Result<usize, WriteFault> {
+    fn write(&mut self, piece: &[u8]) -> Result<usize, WriteFault>
+        ensures taken { IfOk result (λ n. Takes piece.now n None None) }
+        ensures calm { OnOk result (self.new.failures ≡ self.old.failures) }
+        ensures fault { OnErr result (self.new.failures ≡ self.old.failures + 1) }
+
+        // What the stream took, as far as it tells.
+        ensures bytes { WriteAppends (S.contents self.old.stream) (S.contents self.new.stream) result piece.now }
+    {
         match self.stream.write(piece) {
             Ok(count) if count > 0 || piece.is_empty() => Ok(count),
             _ => {

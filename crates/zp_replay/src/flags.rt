@@ -1,5 +1,6 @@
 //! The command line.
-ghost use Rattle.std.specs.Prelude.{◌≡◌, false, codes, Any, Err, IfOk};
+ghost use Rattle.std.specs.Prelude.{◌≡◌, ◌≢◌, ◌⊎◌, map, codes, All, Any, Err};
+ghost use Rattle.zp_replay.specs.Words.{flags_of};
 
 use clap::error::ErrorKind;
 use clap::{Arg, ArgAction, Command};
@@ -40,7 +41,7 @@ impl From<AllocError> for FlagFault {
 /// The flags that the words after the program's name set. Each may stand more than once.
 pub fn read_flags<S: AsStr>(alloc: Global, words: &[S]) -> Result<Flags, FlagFault>
     ensures dashes { Any (λ w. S.text w ≡ codes "--") words.now → result ≡ Err FlagFault.Unknown }
-    ensures journal { IfOk result (λ flags. flags.journal ≡ false) }
+    ensures read { (result ≡ flags_of (map S.text words.now)) ⊎ (result ≡ Err FlagFault.Memory) }
 {
     if words.iter().any(|word| word.as_str() == "--") {
         return Err(FlagFault::Unknown);
@@ -50,7 +51,8 @@ pub fn read_flags<S: AsStr>(alloc: Global, words: &[S]) -> Result<Flags, FlagFau
 
 /// The flags, where no word ends them.
 fn parse_flags<S: AsStr>(alloc: Global, words: &[S]) -> Result<Flags, FlagFault>
-    ensures { IfOk result (λ flags. flags.journal ≡ false) }
+    requires { All (λ w. S.text w ≢ codes "--") words.now }
+    ensures { (result ≡ flags_of (map S.text words.now)) ⊎ (result ≡ Err FlagFault.Memory) }
 {
     let serial = Arg::new(alloc, "serial")
         .long("serial")

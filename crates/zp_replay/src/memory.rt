@@ -1,8 +1,11 @@
 //! A reader and a writer in memory, which give and take their bytes in small pieces and can fail at a call.
-ghost use Rattle.std.specs.Prelude.{◌≡◌, ◌<◌, Some};
+ghost use Rattle.std.specs.Prelude.{◌≡◌, ◌<◌, ◌+◌, ◌==◌, ℕ, [], Some, None, true, false, length, is_err, IfOk, OnOk, OnErr};
+ghost use Rattle.zp_zone.specs.Streams.{Fills, Takes};
+ghost use Rattle.zp_replay.specs.Devices.{is_due, after_call, after_calls, Gives, Keeps, failed_reader, failed_writer};
 
 use crate::failures::Failures;
 use std::alloc::Global;
+use std::marker::Model;
 use std::sync::ledger::Ledger;
 use zp_zone::{ReadFault, Reader, WriteFault, Writer};
 
@@ -12,17 +15,36 @@ pub struct Schedule {
     left: Option<usize>,
 }
 
+impl Model for Schedule {
+    ghost use Rattle.std.specs.Prelude.{Option, ℕ};
+
+    ghost Value = { Option ℕ };
+
+    ghost view = { λ s. s.left };
+
+    ghost inverse = { λ calls. record { left = calls } };
+}
+
 impl Schedule {
-    pub fn never() -> Schedule {
+    pub fn never() -> Schedule
+        ensures never { result ≡ None }
+        ensures due { (k : ℕ) → is_due (after_calls k result) ≡ false }
+    {
         Schedule { left: None }
     }
 
-    pub fn after(calls: usize) -> Schedule {
+    pub fn after(calls: usize) -> Schedule
+        ensures after { result ≡ Some calls }
+        ensures due { (k : ℕ) → is_due (after_calls k result) ≡ (k == calls) }
+    {
         Schedule { left: Some(calls) }
     }
 
     /// Whether this call fails.
-    fn is_due(&mut self) -> bool {
+    fn is_due(&mut self) -> bool
+        ensures due { result ≡ is_due self.old }
+        ensures left { self.new ≡ after_call self.old }
+    {
         match self.left {
             Some(0) => {
                 self.left = None;
@@ -44,7 +66,17 @@ pub struct SliceReader<'a, L: Ledger> {
     piece: usize,
     schedule: Schedule,
     failures: Failures<L>,
-    ghost some: { 0 < piece },
+}
+
+impl<'a, L: Ledger> Model for SliceReader<'a, L> {
+    ghost use Rattle.std.specs.Prelude.{◌<◌};
+    ghost use Rattle.zp_replay.specs.Devices.{MemoryReader};
+
+    ghost Value = { MemoryReader };
+
+    ghost view = { λ r. record { rest = r.rest.now; piece = r.piece; schedule = r.schedule; failures = r.failures } };
+
+    ghost invariant = { λ r. 0 < r.piece };
 }
 
 impl<'a, L: Ledger> SliceReader<'a, L> {
@@ -56,7 +88,7 @@ impl<'a, L: Ledger> SliceReader<'a, L> {
         failures: Failures<L>,
     ) -> SliceReader<'a, L>
         requires { 0 < piece }
-        ensures { result.rest.now ≡ bytes.entry.now }
+        ensures { result ≡ record { rest = bytes.entry.now; piece = piece; schedule = schedule; failures = failures } }
     {
         SliceReader {
             rest: bytes,
@@ -68,18 +100,27 @@ impl<'a, L: Ledger> SliceReader<'a, L> {
 
     /// The bytes that it has left.
     pub fn rest(&self) -> &'a [u8]
-        ensures { result.now ≡ self.now.rest.now }
+        ensures { result.now ≡ self.now.rest }
     {
         self.rest
     }
 }
 
 impl<'a, L: Ledger> Reader for SliceReader<'a, L> {
-    ghost remaining = { λ r. Some r.rest.now };
+    ghost remaining = { λ r. Some r.rest };
 
     ghost failures = { λ r. r.failures };
 
-    fn read(&mut self, buffer: &mut [u8]) -> Result<usize, ReadFault> {
+    fn read(&mut self, buffer: &mut [u8]) -> Result<usize, ReadFault>
+        ensures given { IfOk result (λ n. Fills buffer.old buffer.new n (Some self.old.rest) (Some self.new.rest)) }
+        ensures calm { OnOk result (self.new.failures ≡ self.old.failures) }
+        ensures fault { OnErr result ((Some self.new.rest ≡ Some self.old.rest) × (self.new.failures ≡ self.old.failures + 1)) }
+
+        // The bytes are those in front, and it fails where it is due and nowhere else.
+        ensures due { is_err result ≡ is_due self.old.schedule }
+        ensures gives { IfOk result (Gives self.old self.new buffer.old buffer.new) }
+        ensures failed { OnErr result ((self.new ≡ failed_reader self.old) × (buffer.new ≡ buffer.old)) }
+    {
         if self.schedule.is_due() {
             self.failures.add();
             return Err(ReadFault);
@@ -99,7 +140,17 @@ pub struct VecWriter<L: Ledger> {
     piece: usize,
     schedule: Schedule,
     failures: Failures<L>,
-    ghost some: { 0 < piece },
+}
+
+impl<L: Ledger> Model for VecWriter<L> {
+    ghost use Rattle.std.specs.Prelude.{◌<◌};
+    ghost use Rattle.zp_replay.specs.Devices.{MemoryWriter};
+
+    ghost Value = { MemoryWriter };
+
+    ghost view = { λ w. record { bytes = w.bytes.items; piece = w.piece; schedule = w.schedule; failures = w.failures } };
+
+    ghost invariant = { λ w. 0 < w.piece };
 }
 
 impl<L: Ledger> VecWriter<L> {
@@ -111,6 +162,7 @@ impl<L: Ledger> VecWriter<L> {
         failures: Failures<L>,
     ) -> VecWriter<L>
         requires { 0 < piece }
+        ensures { result ≡ record { bytes = []; piece = piece; schedule = schedule; failures = failures } }
     {
         VecWriter {
             bytes: Vec::new(alloc),
@@ -122,7 +174,7 @@ impl<L: Ledger> VecWriter<L> {
 
     /// All that it took.
     pub fn into_bytes(self) -> Vec<u8>
-        ensures { result.items ≡ self.bytes.items }
+        ensures { result.items ≡ self.bytes }
     {
         let VecWriter { bytes, .. } = self;
         bytes
@@ -130,12 +182,21 @@ impl<L: Ledger> VecWriter<L> {
 }
 
 impl<L: Ledger> Writer for VecWriter<L> {
-    ghost contents = { λ w. Some w.bytes.items };
+    ghost contents = { λ w. Some w.bytes };
 
     ghost failures = { λ w. w.failures };
 
     /// Fails where there is no memory for the bytes, too.
-    fn write(&mut self, piece: &[u8]) -> Result<usize, WriteFault> {
+    fn write(&mut self, piece: &[u8]) -> Result<usize, WriteFault>
+        ensures taken { IfOk result (λ n. Takes piece.now n (Some self.old.bytes) (Some self.new.bytes)) }
+        ensures calm { OnOk result (self.new.failures ≡ self.old.failures) }
+        ensures fault { OnErr result ((Some self.new.bytes ≡ Some self.old.bytes) × (self.new.failures ≡ self.old.failures + 1)) }
+
+        // The bytes come to the end, and it fails where it is due.
+        ensures due { OnOk result (is_due self.old.schedule ≡ false) }
+        ensures keeps { IfOk result (Keeps self.old self.new piece.now) }
+        ensures failed { OnErr result (self.new ≡ failed_writer self.old) }
+    {
         let count = self.piece.min(piece.len());
         if self.schedule.is_due() || self.bytes.extend_from_slice(&piece[..count]).is_err() {
             self.failures.add();

@@ -1,6 +1,6 @@
 -- Which lines may stand after which, what the text of a trace is, and which line of a text is its bad line.
-use Rattle.std.specs.Prelude.{ℕ, ◌+◌, ◌%◌, ◌≡◌, ◌<◌, ◌≤◌, List, [], ◌∷◌, ◌++◌, length, map, Any, Option, Some, None}
-use Rattle.zp_model.specs.declared.constants.TheConstants.{LARGEST_ORDER, MAX_PAGES, BASE_LIMIT, PAGEBLOCK_PAGES}
+use Rattle.std.specs.Prelude.{ℕ, ◌+◌, ◌≡◌, ◌<◌, ◌≤◌, List, [], ◌∷◌, ◌++◌, length, map, Any, Option, Some, None}
+use Rattle.zp_model.specs.declared.constants.TheConstants.{LARGEST_ORDER}
 use Rattle.zp_trace.specs.declared.bounds.TheConstants.{MOST_LINES, WORKERS}
 use Rattle.zp_trace.specs.declared.line.ZoneLine.{ZoneLine}
 use Rattle.zp_trace.specs.declared.line.Call.{Call}
@@ -9,14 +9,9 @@ use Rattle.zp_trace.specs.declared.line.Command.{Command}
 use Rattle.zp_trace.specs.Lines.{Line}
 use Rattle.zp_trace.specs.Lines as line
 use Rattle.zp_trace.specs.declared.trace.Trace.{Trace}
+use Rattle.zp_model.specs.Bounds.{IsBase, IsPages}
 use Rattle.zp_model.specs.Naming.{IsName}
 use Rattle.zp_trace.specs.Spelling.{line_text, text_of, header_of}
-
-abbrev pub IsBase : ℕ → Type 0
-IsBase base = (base % PAGEBLOCK_PAGES ≡ 0) × (base ≤ BASE_LIMIT)
-
-abbrev pub IsPages : ℕ → Type 0
-IsPages pages = (0 < pages) × (pages ≤ MAX_PAGES)
 
 abbrev pub IsZoneLine : ZoneLine → Type 0
 IsZoneLine z = IsName z.name × IsBase z.base × IsPages z.pages

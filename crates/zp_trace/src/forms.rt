@@ -2,12 +2,13 @@
 ghost use Rattle.std.specs.Prelude.{◌≡◌, ◌<◌, ◌≤◌, ◌↔◌, List, ℕ, IsTrue, IfSome, IfNone};
 ghost use Rattle.std.specs.Fmt.{decimal};
 ghost use Rattle.zp_model.specs.declared.migrate_type.MigrateType.{MigrateType};
+ghost use Rattle.zp_model.specs.Bounds.{IsBase, IsPages};
 ghost use Rattle.zp_trace.specs.declared.line.ZoneLine.{ZoneLine};
 ghost use Rattle.zp_trace.specs.declared.line.Call.{Call};
 ghost use Rattle.zp_trace.specs.declared.line.Call.TheVariants.{Info, Alloc, Free};
 ghost use Rattle.zp_trace.specs.declared.line.Command.{Command};
 ghost use Rattle.zp_trace.specs.Spelling.{spelled, zone_words, call_words, command_words, kind_word, workers_words, lists_words};
-ghost use Rattle.zp_trace.specs.Grammar.{IsBase, IsPages, IsZoneLine, IsCallOf, IsCommandOf};
+ghost use Rattle.zp_trace.specs.Grammar.{IsZoneLine, IsCallOf, IsCommandOf};
 
 use crate::bounds::WORKERS;
 use crate::line::{Call, Command, ZoneLine};

@@ -23,9 +23,13 @@ pub length-restated : (free : List Bool) (s : List State) → length (restated f
 unfolding restated
 length-restated free s = length-map-range_with_len (λ h. restate (get_or (max_blocks free) h None) (state_at s h)) 0 (length s)
 
-state-restated : (free : List Bool) (s : List State) (g : ℕ) → g < length s → state_at (restated free s) g ≡ restate (get_or (max_blocks free) g None) (state_at s g)
+pub state-restated : (free : List Bool) (s : List State) (g : ℕ) → g < length s → state_at (restated free s) g ≡ restate (get_or (max_blocks free) g None) (state_at s g)
 unfolding restated
 state-restated free s g lt = get_or-map-range_with_len (λ h. restate (get_or (max_blocks free) h None) (state_at s h)) 0 (length s) g g Tail lt (omega arith)
+
+-- the head of a maximal block is in the set
+pub head_free : (u : List Bool) (g k : ℕ) → is_max largest_order u g k ≡ true → has u g ≡ true
+head_free u g k m = (is_max-to largest_order u g k m).inside g (omega arith) (omega (arith, pow_pos k))
 
 holding-restate : (s : State) → holding_of (restate None s) ≡ holding_of s
 holding-restate Tail = refl
@@ -50,9 +54,7 @@ holdings_stay free s f =
     each : (free : List Bool) (s : List State) → ((g : ℕ) → has free g ≡ true → holding_of (state_at s g) ≡ None) → (g : ℕ) (o : Option ℕ) →
         get_or (max_blocks free) g None ≡ o → holding_of (restate o (state_at s g)) ≡ holding_of (state_at s g)
     each free s f g None e = holding-restate (state_at s g)
-    each free s f g (Some k) e =
-        let m : is_max largest_order free g k ≡ true = max_blocks-to free g k e in
-        sym (f g ((is_max-to largest_order free g k m).inside g (omega arith) (omega (arith, pow_pos k))))
+    each free s f g (Some k) e = sym (f g (head_free free g k (max_blocks-to free g k e)))
 
 map_same : {X Y : Type 0} (f g : X → Y) (d : X) (xs : List X) → ((i : ℕ) → i < length xs → f (get_or xs i d) ≡ g (get_or xs i d)) → map f xs ≡ map g xs
 map_same f g d xs e =
@@ -67,6 +69,12 @@ pub stands_at : (xs : List ℕ) (i d : ℕ) → i < length xs → stands_in (get
 stands_at [] i d lt = absurd (omega arith)
 stands_at (x ∷ xs) zero d lt = stands_first x xs
 stands_at (x ∷ xs) (suc i) d lt = stands_later (get_or xs i d) x xs (stands_at xs i d (omega arith))
+
+pub posted-head : (h : ℕ) (s : State) → (posted_block h s).head ≡ h
+posted-head h Tail = refl
+posted-head h (Free k) = refl
+posted-head h (Out k t w) = refl
+posted-head h (Posted k t w) = refl
 
 -- the posted blocks of lists whose pages keep their notes
 abbrev pub posted_of : List State → List (List ℕ) → List (List PostedBlock)
@@ -89,9 +97,6 @@ note_stays f free g x off was =
           get_or_past (restated free f.states) g Tail (omega arith) ∙ sym (get_or_past f.states g Tail ge)
     ]
   where
-    head_free : (u : List Bool) (g k : ℕ) → is_max largest_order u g k ≡ true → has u g ≡ true
-    head_free u g k m = (is_max-to largest_order u g k m).inside g (omega arith) (omega (arith, pow_pos k))
-
     each : (f : Frames) (free : List Bool) (g : ℕ) → IsFramed f → has free g ≡ false → has f.area.free g ≡ false → (o : Option ℕ) → get_or (max_blocks free) g None ≡ o →
         (s : State) → state_at f.states g ≡ s → restate o (state_at f.states g) ≡ state_at f.states g
     each f free g x off was (Some k) e s es = absurd (both_ways _ off (head_free free g k (max_blocks-to free g k e)))

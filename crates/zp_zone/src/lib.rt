@@ -12,6 +12,7 @@ pub use info::write_counts;
 pub use seat::Seat;
 pub use streams::{ReadFault, Reader, WriteFault, Writer, write_all};
 pub use zone::Zone;
+pub use zp_buddy::PageEntry;
 
 #[cfg(test)]
 mod tests;

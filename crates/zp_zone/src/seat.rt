@@ -1,7 +1,6 @@
 //! Seats.
-ghost use Rattle.std.specs.Prelude.{◌≡◌, ◌<◌, ◌≤◌, ℕ, IfOk, map};
-ghost use Rattle.std.specs.List.{range_with_len};
-ghost use Rattle.zp_zone.specs.NamedZone.{Right};
+ghost use Rattle.std.specs.Prelude.{◌≡◌, ◌≤◌, IfOk};
+ghost use Rattle.zp_zone.specs.NamedZone.{seats_of};
 
 use std::alloc::{AllocError, Global};
 use std::marker::Model;
@@ -48,7 +47,7 @@ impl Seat {
 /// The seats of a zone, one for each worker in order.
 pub fn seats(alloc: Global, base: u32, pages: u32, workers: u32) -> Result<Vec<Seat>, AllocError>
     requires { workers ≤ MAX_WORKERS }
-    ensures { IfOk result (λ v. v.items ≡ map (λ n. let s : Right = record { worker = n; base = base; pages = pages } in s) (range_with_len 0 workers)) }
+    ensures { IfOk result (λ v. v.items ≡ seats_of base pages workers) }
 {
     let mut seats = Vec::with_capacity(alloc, workers as usize)?;
     'crew: for number in 0..workers {

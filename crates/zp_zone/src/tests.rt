@@ -5,7 +5,7 @@ use super::*;
 use arrayvec::ArrayVec;
 use std::process::Abort;
 use std::test::*;
-use zp_model::{Counts, Level};
+use zp_model::{Counts, Level, Mark, MigrateType, Order, PageAt, PageNo, State};
 
 fn config(name: &str, base: u32, pages: u32, min: u32) -> ZoneConfig<'_> {
     ZoneConfig {
@@ -67,6 +67,48 @@ fn a_new_zone_has_all_its_pages_and_its_seats(rt: HostRuntime) -> Result<(), Fai
         assert_eq!(rt; seat.pages(), 4109);
     }
     Ok(())
+}
+
+/// Compares the entry of a page, where the zone has the page, with the state and the neighbours that it has to have.
+fn expect_entry(
+    rt: &impl Abort,
+    zone: &Zone,
+    page: u32,
+    state: &State,
+    back: Option<u32>,
+    forward: Option<u32>,
+) {
+    let Some(entry) = zone.entry(PageNo::new(page)) else {
+        assert!(rt; false, "the zone has the page");
+        return;
+    };
+    assert!(rt; entry.state == *state);
+    assert!(rt; entry.back.map(PageAt::number) == back);
+    assert!(rt; entry.forward.map(PageAt::number) == forward);
+}
+
+#[test]
+fn entries_tell_heads_tails_and_neighbours(rt: HostRuntime) {
+    let config = config("Normal", 1024, 3072, 0);
+    let Ok((mut zone, mut seats)) = Zone::new(rt.alloc(), config, 1) else {
+        assert!(rt; false, "the zone can be made");
+        return;
+    };
+    let free = State::Free(Order::largest());
+    expect_entry(&rt, &zone, 1024, &free, Some(1024), None);
+    expect_entry(&rt, &zone, 2048, &free, Some(2048), Some(0));
+    expect_entry(&rt, &zone, 3072, &free, None, Some(1024));
+    expect_entry(&rt, &zone, 1025, &State::Tail, None, None);
+    expect_entry(&rt, &zone, 4095, &State::Tail, None, None);
+    assert!(rt; zone.entry(PageNo::new(1023)).is_none());
+    assert!(rt; zone.entry(PageNo::new(4096)).is_none());
+    assert_eq!(rt; seats.len(), 1);
+    let seat = &mut seats[0];
+    let out = State::Out(Order::largest(), MigrateType::Movable, seat.worker());
+    let page = zone.alloc(seat, Order::largest(), MigrateType::Movable, Mark::Any);
+    assert!(rt; page == Ok(PageNo::new(3072)));
+    expect_entry(&rt, &zone, 3072, &out, None, None);
+    expect_entry(&rt, &zone, 2048, &free, None, Some(0));
 }
 
 /// The most bytes of an info line.

@@ -1,5 +1,5 @@
 //! A zone.
-ghost use Rattle.std.specs.Prelude.{◌≡◌, ◌<◌, ◌≤◌, ◌+◌, ℕ, length, IfOk, IfErr, IfSome, IfNone, OnOk, OnErr, IsTrue, ◌-◌};
+ghost use Rattle.std.specs.Prelude.{◌≡◌, ◌<◌, ◌≤◌, ◌+◌, ℕ, length, IfOk, IfErr, IfSome, IfNone, IsSome, OnOk, OnErr, IsTrue, ◌↔◌, ◌-◌};
 ghost use Rattle.zp_model.specs.Zone.{zone_opening, is_of};
 ghost use Rattle.zp_zone.specs.Kept.{holding_of};
 ghost use Rattle.zp_model.specs.Mark.{level, level_of, is_above};
@@ -7,8 +7,9 @@ ghost use Rattle.zp_model.specs.Info.{counts, info_line};
 ghost use Rattle.zp_model.specs.Step.{alloc, freed};
 ghost use Rattle.zp_model.specs.Run.{is_out};
 ghost use Rattle.zp_model.specs.Lawful.{IsLawful};
-ghost use Rattle.zp_zone.specs.NamedZone.{IsSeatOf, page_reply};
-ghost use Rattle.zp_zone.specs.Making.{wanted, IsGood, IsWhy, seats_of};
+ghost use Rattle.zp_model.specs.Described.{IsDescribedAt};
+ghost use Rattle.zp_zone.specs.NamedZone.{IsSeatOf, IsPageOf, page_reply, seats_of};
+ghost use Rattle.zp_zone.specs.Making.{wanted, IsGood, IsWhy};
 ghost use Rattle.zp_zone.specs.Streams.{IsWritten, IsBegun};
 
 use crate::config::{ZoneConfig, checked_name};
@@ -17,7 +18,7 @@ use crate::seat::{Seat, seats};
 use crate::streams::{WriteFault, Writer};
 use std::alloc::Global;
 use std::marker::Model;
-use zp_buddy::Buddy;
+use zp_buddy::{Buddy, PageEntry};
 use zp_model::{
     Counts, Level, MAX_PAGES, Mark, MigrateType, Name, Order, PageAt, PageNo, Refused, State,
     Worker,
@@ -54,7 +55,7 @@ impl Zone {
         ensures good { OnOk result (IsGood (wanted config.entry.name.now config.entry.base config.entry.pages config.entry.min workers)) }
         ensures why { IfErr result (IsWhy (wanted config.entry.name.now config.entry.base config.entry.pages config.entry.min workers)) }
         ensures zone { IfOk result (λ z. z.0 ≡ record { name = config.entry.name.now; plain = zone_opening config.entry.base config.entry.pages config.entry.min workers }) }
-        ensures seats { IfOk result (λ z. z.1.items ≡ seats_of (wanted config.entry.name.now config.entry.base config.entry.pages config.entry.min workers)) }
+        ensures seats { IfOk result (λ z. z.1.items ≡ seats_of config.entry.base config.entry.pages workers) }
     {
         let name = checked_name(config, workers)?;
         let Ok(buddy) = Buddy::new(alloc, config.pages, workers as usize) else {
@@ -119,6 +120,15 @@ impl Zone {
         let _worker = seat.worker();
         let at = PageAt::at(page.number() - self.base);
         self.buddy.give(at, order);
+    }
+
+    /// The entry of a page, where the zone has the page. The entries of all pages describe the zone, each zone.
+    pub fn entry(&self, page: PageNo) -> Option<PageEntry>
+        ensures when { IsSome result ↔ IsPageOf self.now.plain page }
+        ensures described { IfSome result (λ e. IsDescribedAt self.now.plain (page - self.now.plain.base) e.state e.back e.forward) }
+    {
+        let at = place_of(page, self.base, self.buddy.pages())?;
+        Some(self.buddy.entry(at))
     }
 
     /// How many free blocks of each order there are, and how many free pages. Each zone is lawful.

@@ -169,3 +169,28 @@ fn joins_stop(rt: HostRuntime) -> Result<(), Fail> {
     expect_taken(&rt, &mut buddy, 10, MOVABLE, &[0, 1024]);
     Ok(())
 }
+
+/// The page table's entry of a page of the zone.
+fn entry_of(rt: &impl Abort, buddy: &Buddy, page: u32) -> PageEntry {
+    let at = PageAt::new(page).expect(rt, "no page");
+    assert!(rt; at.number() < buddy.pages());
+    buddy.entry(at)
+}
+
+#[test]
+fn entries_link_the_lists(rt: HostRuntime) -> Result<(), Fail> {
+    let buddy = Buddy::new(rt.alloc(), 3072, 0)?;
+    // The blocks of a new zone are listed from the lowest page on, so the highest is in front.
+    let front = entry_of(&rt, &buddy, 2048);
+    assert_eq!(rt; front.state, State::Free(Order::largest()));
+    assert_eq!(rt; front.back, None);
+    assert_eq!(rt; front.forward, PageAt::new(1024));
+    let middle = entry_of(&rt, &buddy, 1024);
+    assert_eq!(rt; middle.back, PageAt::new(2048));
+    assert_eq!(rt; middle.forward, PageAt::new(0));
+    let inner = entry_of(&rt, &buddy, 1025);
+    assert_eq!(rt; inner.state, State::Tail);
+    assert_eq!(rt; inner.back, None);
+    assert_eq!(rt; inner.forward, None);
+    Ok(())
+}

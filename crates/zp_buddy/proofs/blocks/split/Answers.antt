@@ -2,8 +2,8 @@ use Rattle.std.proofs.Common.{◌≡◌, ◌<◌, ◌≤◌, ◌+◌, ◌^◌, �
 use Rattle.std.proofs.lemmas.Nat.{pow_below}
 use Rattle.zp_model.specs.Rows.{Rows, IsLoose}
 use Rattle.zp_model.specs.Area.{lists_count}
-use Rattle.zp_buddy.specs.Split.{IsSplit}
-use Rattle.zp_buddy.proofs.Halves.{split_turn, split_loose}
+use Rattle.zp_frames.specs.Split.{IsSplit}
+use Rattle.zp_frames.proofs.Halves.{split_turn, split_loose}
 use Rattle.zp_buddy.proofs.blocks.split.Goals as goal
 
 pub at-high-requires : goal.at-high-requires

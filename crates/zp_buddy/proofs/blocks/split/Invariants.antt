@@ -1,5 +1,5 @@
 use Rattle.std.proofs.Common.{◌≤◌}
-use Rattle.zp_buddy.specs.Split.{IsSplit}
+use Rattle.zp_frames.specs.Split.{IsSplit}
 use Rattle.zp_buddy.proofs.blocks.split.Given as goal
 
 -- the halves of the orders from `order` on are listed

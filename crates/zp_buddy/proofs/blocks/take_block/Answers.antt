@@ -2,8 +2,8 @@ use Rattle.std.proofs.Common.{◌≡◌, ◌≤◌, ◌+◌, ◌^◌, length, ar
 use Rattle.std.proofs.lemmas.Nat.{pow_pos}
 use Rattle.zp_model.specs.Block.{largest_order}
 use Rattle.zp_model.specs.Rows.{Rows, IsOn}
-use Rattle.zp_buddy.proofs.Taken.{block_inside, taken_sound}
-use Rattle.zp_buddy.proofs.TakenFrames.{make_taken, removed_inside, taken_frames}
+use Rattle.zp_frames.proofs.Taken.{block_inside, taken_sound}
+use Rattle.zp_frames.proofs.TakenFrames.{make_taken, removed_inside, taken_frames}
 use Rattle.zp_buddy.proofs.blocks.take_block.Goals as goal
 
 pub remove-requires : goal.remove-requires

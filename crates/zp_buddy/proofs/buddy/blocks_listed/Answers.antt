@@ -1,8 +1,8 @@
 use Rattle.std.proofs.Common.{◌≡◌, ◌≤◌, ◌+◌, ◌*◌, length, arith, ap}
 use Rattle.zp_model.specs.Rows.{list_at}
-use Rattle.zp_buddy.specs.Listed.{blocks_listed_of}
-use Rattle.zp_buddy.proofs.RowEdits.{length-list-le}
-use Rattle.zp_buddy.proofs.BlocksListed.{sums-more}
+use Rattle.zp_frames.specs.Listed.{blocks_listed_of}
+use Rattle.zp_frames.proofs.RowEdits.{length-list-le}
+use Rattle.zp_frames.proofs.BlocksListed.{sums-more}
 use Rattle.zp_buddy.proofs.buddy.blocks_listed.Goals as goal
 
 pub overflow_add-blocks : goal.overflow_add-blocks

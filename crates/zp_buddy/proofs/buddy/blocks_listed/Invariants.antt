@@ -1,5 +1,5 @@
 use Rattle.std.proofs.Common.{◌≡◌, ◌≤◌, ◌*◌}
-use Rattle.zp_buddy.specs.Listed.{blocks_listed_of}
+use Rattle.zp_frames.specs.Listed.{blocks_listed_of}
 use Rattle.zp_buddy.proofs.buddy.blocks_listed.Given as goal
 
 abbrev pub invariant-types : goal.invariant-types

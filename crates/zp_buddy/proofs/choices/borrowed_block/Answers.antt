@@ -1,8 +1,8 @@
 use Rattle.std.proofs.Common.{ℕ, Option, List, subst}
 use Rattle.zp_model.specs.declared.migrate_type.MigrateType.{MigrateType}
 use Rattle.zp_model.specs.BlockSet.{first_of, orders_from}
-use Rattle.zp_buddy.specs.Choices.{IsFoundAs, front_of_order}
-use Rattle.zp_buddy.proofs.Finders.{borrow_fronts}
+use Rattle.zp_frames.specs.Choices.{IsFoundAs, front_of_order}
+use Rattle.zp_frames.proofs.Finders.{borrow_fronts}
 use Rattle.zp_buddy.proofs.choices.borrowed_block.Goals as goal
 
 pub returns : goal.returns

@@ -1,8 +1,8 @@
 use Rattle.std.proofs.Common.{Option, None, subst, sym}
 use Rattle.std.proofs.lemmas.Bool.{false≢true}
-use Rattle.zp_buddy.specs.declared.choices.Choice.{Choice}
-use Rattle.zp_buddy.specs.Choices.{free_area, IsChosen}
-use Rattle.zp_buddy.proofs.Finders.{choose_own, choose_claim, choose_borrow}
+use Rattle.zp_frames.specs.declared.choices.Choice.{Choice}
+use Rattle.zp_frames.specs.Choices.{free_area, IsChosen}
+use Rattle.zp_frames.proofs.Finders.{choose_own, choose_claim, choose_borrow}
 use Rattle.zp_buddy.proofs.choices.choose.Goals as goal
 
 pub returns-in-Some : goal.returns-in-Some

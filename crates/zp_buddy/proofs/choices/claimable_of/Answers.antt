@@ -1,8 +1,8 @@
 use Rattle.std.proofs.Common.{ℕ, ◌≤◌, Option, List, arith, sym, ◌∙◌, subst}
 use Rattle.zp_model.specs.declared.migrate_type.MigrateType.{MigrateType}
 use Rattle.zp_model.specs.Block.{largest_order}
-use Rattle.zp_buddy.specs.Choices.{free_area, IsFoundAs, half_free_of_order}
-use Rattle.zp_buddy.proofs.Finders.{claim_by_counts, claim_never}
+use Rattle.zp_frames.specs.Choices.{free_area, IsFoundAs, half_free_of_order}
+use Rattle.zp_frames.proofs.Finders.{claim_by_counts, claim_never}
 use Rattle.zp_buddy.proofs.choices.claimable_of.Goals as goal
 
 pub returns-then-may_claim-clause-found : goal.returns-then-may_claim-clause-found

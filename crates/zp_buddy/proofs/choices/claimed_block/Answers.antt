@@ -1,8 +1,8 @@
 use Rattle.std.proofs.Common.{◌≡◌, ◌≢◌, ◌≤◌, ◌+◌, ℕ, arith, inl, inr, subst, sym, ◌∙◌, None}
 use Rattle.std.proofs.lemmas.Bool.{eqb-true, eq-eqb, cases_lt, both_ways}
 use Rattle.zp_model.specs.Block.{largest_order}
-use Rattle.zp_buddy.specs.Choices.{free_area, claimable_of_order, IsListedBlock}
-use Rattle.zp_buddy.proofs.Finders.{claim_some, claim_none}
+use Rattle.zp_frames.specs.Choices.{free_area, claimable_of_order, IsListedBlock}
+use Rattle.zp_frames.proofs.Finders.{claim_some, claim_none}
 use Rattle.zp_buddy.proofs.choices.claimed_block.Goals as goal
 
 pub returns-in-Some-clause-found : goal.returns-in-Some-clause-found

@@ -1,6 +1,6 @@
 use Rattle.std.proofs.Common.{◌≡◌, ◌≤◌, ◌<◌, ℕ, None}
 use Rattle.zp_model.specs.Block.{largest_order}
-use Rattle.zp_buddy.specs.Choices.{free_area, claimable_of_order}
+use Rattle.zp_frames.specs.Choices.{free_area, claimable_of_order}
 use Rattle.zp_buddy.proofs.choices.claimed_block.Given as goal
 
 -- no block of an order above `found` may be claimed

@@ -1,8 +1,8 @@
 use Rattle.std.proofs.Common.{◌≡◌, ◌≤◌, ◌+◌, ◌-◌, ℕ, arith, inl, inr, subst, sym, ◌∙◌, None}
 use Rattle.std.proofs.lemmas.Bool.{eqb-true, cases_lt}
 use Rattle.zp_model.specs.Block.{largest_order}
-use Rattle.zp_buddy.specs.Choices.{front_of_order, IsListedBlock}
-use Rattle.zp_buddy.proofs.FirstFound.{first_none, first_some}
+use Rattle.zp_frames.specs.Choices.{front_of_order, IsListedBlock}
+use Rattle.zp_frames.proofs.FirstFound.{first_none, first_some}
 use Rattle.zp_buddy.proofs.choices.first_front.Goals as goal
 
 pub returns-in-Some : goal.returns-in-Some

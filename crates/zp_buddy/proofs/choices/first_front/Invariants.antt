@@ -1,6 +1,6 @@
 use Rattle.std.proofs.Common.{◌≡◌, ◌≤◌, ◌<◌, ◌-◌, ℕ, None}
 use Rattle.zp_model.specs.Block.{largest_order}
-use Rattle.zp_buddy.specs.Choices.{front_of_order}
+use Rattle.zp_frames.specs.Choices.{front_of_order}
 use Rattle.zp_buddy.proofs.choices.first_front.Given as goal
 
 -- the lists of the orders before `found` are empty

@@ -1,5 +1,5 @@
 use Rattle.std.proofs.Common.{◌≡◌, drop}
-use Rattle.zp_buddy.specs.Choices.{front_of_order}
+use Rattle.zp_frames.specs.Choices.{front_of_order}
 use Rattle.zp_buddy.proofs.choices.front_of.Given as goal
 
 -- what is looked for is of one of the types from the index on

@@ -3,9 +3,9 @@ use Rattle.std.specs.List.{find, slice_index_or}
 use Rattle.zp_model.specs.declared.migrate_type.MigrateType.TheVariants.{Unmovable}
 use Rattle.zp_model.specs.Rows.{list_at}
 use Rattle.zp_model.specs.Area.{list_number}
-use Rattle.zp_buddy.specs.Choices.{is_half_free}
-use Rattle.zp_buddy.proofs.FirstFound.{first_drop}
-use Rattle.zp_buddy.proofs.Walks.{found_stands}
+use Rattle.zp_frames.specs.Choices.{is_half_free}
+use Rattle.zp_frames.proofs.FirstFound.{first_drop}
+use Rattle.zp_frames.proofs.Walks.{found_stands}
 use Rattle.zp_buddy.proofs.choices.half_free_of.Goals as goal
 
 pub returns-in-Some-clause-found : goal.returns-in-Some-clause-found

@@ -2,8 +2,8 @@ use Rattle.std.proofs.Common.{◌≡◌, ◌<◌, ◌≤◌, length, ℕ, sym, �
 use Rattle.std.specs.List.{find}
 use Rattle.std.proofs.lemmas.Bool.{le-leb, lt-leb}
 use Rattle.zp_model.specs.Rows.{list_at, after}
-use Rattle.zp_buddy.specs.Choices.{is_half_free}
-use Rattle.zp_buddy.proofs.Walks.{list_from, IsNext, walk_found, walk_on, walk_less, next_after}
+use Rattle.zp_frames.specs.Choices.{is_half_free}
+use Rattle.zp_frames.proofs.Walks.{list_from, IsNext, walk_found, walk_on, walk_less, next_after}
 use Rattle.zp_buddy.proofs.choices.half_free_on.Goals as goal
 
 pub returns-then-free_in-pageblock_of-ge-CLAIM_PAGES :

@@ -1,8 +1,8 @@
 use Rattle.std.proofs.Common.{◌≡◌, length}
 use Rattle.std.specs.List.{find}
 use Rattle.zp_model.specs.Rows.{list_at}
-use Rattle.zp_buddy.specs.Choices.{is_half_free}
-use Rattle.zp_buddy.proofs.Walks.{list_from, IsNext}
+use Rattle.zp_frames.specs.Choices.{is_half_free}
+use Rattle.zp_frames.proofs.Walks.{list_from, IsNext}
 use Rattle.zp_buddy.proofs.choices.half_free_on.Given as goal
 
 -- what is looked for stands from the next page on

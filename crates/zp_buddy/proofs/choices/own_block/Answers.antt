@@ -1,6 +1,6 @@
 use Rattle.std.proofs.Common.{ℕ, Option, subst}
-use Rattle.zp_buddy.specs.Choices.{IsFoundAs}
-use Rattle.zp_buddy.proofs.Finders.{own_fronts}
+use Rattle.zp_frames.specs.Choices.{IsFoundAs}
+use Rattle.zp_frames.proofs.Finders.{own_fronts}
 use Rattle.zp_buddy.proofs.choices.own_block.Goals as goal
 
 pub returns : goal.returns

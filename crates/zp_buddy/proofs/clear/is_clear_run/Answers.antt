@@ -1,6 +1,6 @@
 use Rattle.std.proofs.Common.{ℕ, ◌≡◌, ◌^◌, arith, refl, subst, inl, inr}
 use Rattle.std.proofs.lemmas.Bool.{both_ways, false≢true, false_from_ne_true, cases_lt}
-use Rattle.zp_buddy.specs.Given.{IsClearPage}
+use Rattle.zp_frames.specs.Given.{IsClearPage}
 use Rattle.zp_buddy.proofs.clear.is_clear_run.Goals as goal
 use Rattle.zp_buddy.proofs.clear.is_clear_run.Goals.{then-is_free_page-via-then-is_free_page, then-is_free_page-via-else-is_free_page+then-is_aside}
 

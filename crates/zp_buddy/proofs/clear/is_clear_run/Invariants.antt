@@ -1,5 +1,5 @@
 use Rattle.std.proofs.Common.{ℕ, ◌≤◌, ◌<◌}
-use Rattle.zp_buddy.specs.Given.{IsClearPage}
+use Rattle.zp_frames.specs.Given.{IsClearPage}
 use Rattle.zp_buddy.proofs.clear.is_clear_run.Given as goal
 
 -- no page before `i` is free or on a further list

@@ -3,7 +3,7 @@ use Rattle.std.proofs.lemmas.Bool.{both_ways, false≢true, eqb-true, eq-eqb, ca
 use Rattle.zp_model.specs.declared.state.State.TheVariants.{Free}
 use Rattle.zp_model.specs.Block.{head, largest_order}
 use Rattle.zp_model.specs.Rows.{state_at}
-use Rattle.zp_buddy.proofs.ClearRuns.{free_some, free_none}
+use Rattle.zp_frames.proofs.ClearRuns.{free_some, free_none}
 use Rattle.zp_buddy.proofs.clear.is_free_page.Goals as goal
 
 pub returns-then-is_free_block : goal.returns-then-is_free_block

@@ -3,10 +3,10 @@ use Rattle.std.proofs.lemmas.Bool.{both_ways}
 use Rattle.zp_model.specs.Block.{largest_order}
 use Rattle.zp_model.specs.Rows.{Rows, IsOn, IsLoose}
 use Rattle.zp_model.specs.Area.{pageblocks_of}
-use Rattle.zp_buddy.specs.Join.{IsBuddy}
-use Rattle.zp_buddy.proofs.Joining.{buddy_on, joining_none, joining_step, joining_place}
-use Rattle.zp_buddy.proofs.Ending.{IsEnded, ended_loose, stops}
-use Rattle.zp_buddy.proofs.GivenBack.{IsGiven, clear_below, made_back, make_given}
+use Rattle.zp_frames.specs.Join.{IsBuddy}
+use Rattle.zp_frames.proofs.Joining.{buddy_on, joining_none, joining_step, joining_place}
+use Rattle.zp_frames.proofs.Ending.{IsEnded, ended_loose, stops}
+use Rattle.zp_frames.proofs.GivenBack.{IsGiven, clear_below, made_back, make_given}
 use Rattle.zp_buddy.proofs.joins.join.Goals as goal
 use Rattle.zp_buddy.proofs.joins.join.Goals.{else-joins-test, then-joins-test+then-not-is_free_block}
 

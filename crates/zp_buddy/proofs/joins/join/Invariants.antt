@@ -1,5 +1,5 @@
 use Rattle.std.proofs.Common.{◌-◌}
-use Rattle.zp_buddy.proofs.Joining.{IsJoining}
+use Rattle.zp_frames.proofs.Joining.{IsJoining}
 use Rattle.zp_buddy.proofs.joins.join.Given as goal
 
 -- the block that came back has grown to the one of order `joined` at `head`

@@ -5,8 +5,8 @@ use Rattle.zp_model.specs.Block.{largest_order, is_max}
 use Rattle.zp_model.specs.Rows.{Rows, IsLoose}
 use Rattle.zp_model.specs.Area.{lists_count}
 use Rattle.zp_model.proofs.Heads.{two, aligned_down}
-use Rattle.zp_buddy.specs.Opened.{all_pages}
-use Rattle.zp_buddy.proofs.AllPages.{fits_max, opened_loose, opened_turn}
+use Rattle.zp_frames.specs.Opened.{all_pages}
+use Rattle.zp_frames.proofs.AllPages.{fits_max, opened_loose, opened_turn}
 use Rattle.zp_buddy.proofs.opening.list_all_pages.Goals as goal
 
 pub push_front-requires-clause-loose : goal.push_front-requires-clause-loose
@@ -19,7 +19,7 @@ pub heads-preserved : goal.heads-preserved
 heads-preserved c =
     let i = c.heads.invariant in
     let n : ℕ = length c.args.lists.now.states in
-    let pages : c.pages-pages.result ≡ length c.args.lists.now.states = c.pages-pages.ensures.pages in
+    let pages : c.pages-pages.result ≡ length c.args.lists.now.states = c.pages-pages.ensures.same in
     let below : c.heads.at < length c.args.lists.now.states = omega arith in
     let inside : c.heads.at ≤ length c.args.lists.now.states = i.inside in
     let within : c.fitting-order.result ≤ c.heads.order = c.fitting-order.ensures.within in

@@ -1,6 +1,6 @@
 use Rattle.std.proofs.Common.{◌≡◌, ◌≤◌, ◌<◌, ◌-◌, ◌%◌, ◌^◌, ◌⊎◌, length}
 use Rattle.zp_model.specs.Block.{largest_order}
-use Rattle.zp_buddy.specs.Opened.{IsOpenedTo}
+use Rattle.zp_frames.specs.Opened.{IsOpenedTo}
 use Rattle.zp_buddy.proofs.opening.list_all_pages.Given as goal
 
 abbrev pub invariant-heads : goal.invariant-heads

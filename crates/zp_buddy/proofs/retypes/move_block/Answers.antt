@@ -1,6 +1,6 @@
 use Rattle.std.proofs.Common.{ℕ, sym, subst, ◌∙◌}
 use Rattle.zp_model.specs.Rows.{Rows, IsOn, IsLoose}
-use Rattle.zp_buddy.proofs.Retyping.{removed_loose}
+use Rattle.zp_frames.proofs.Retyping.{removed_loose}
 use Rattle.zp_buddy.proofs.retypes.move_block.Goals as goal
 
 pub push_front-requires-clause-loose : goal.push_front-requires-clause-loose

@@ -4,10 +4,10 @@ use Rattle.zp_model.specs.declared.state.State.{State}
 use Rattle.zp_model.specs.declared.state.State.TheVariants.{Free}
 use Rattle.zp_model.specs.Rows.{IsOn, state_at}
 use Rattle.zp_model.specs.Area.{list_number}
-use Rattle.zp_buddy.specs.Sound.{IsSound, frames_of}
-use Rattle.zp_buddy.specs.Retyped.{moved}
-use Rattle.zp_buddy.proofs.Retyping.{IsRetyping, retyping_none, retyping_more, looking_on}
-use Rattle.zp_buddy.proofs.RetypedFrames.{IsRetyped, looking, retyped_sound, retyped_frames}
+use Rattle.zp_frames.specs.Sound.{IsSound, frames_of}
+use Rattle.zp_frames.specs.Retyped.{moved}
+use Rattle.zp_frames.proofs.Retyping.{IsRetyping, retyping_none, retyping_more, looking_on}
+use Rattle.zp_frames.proofs.RetypedFrames.{IsRetyped, looking, retyped_sound, retyped_frames}
 use Rattle.zp_buddy.proofs.retypes.retype.Goals as goal
 
 pub pages-init : goal.pages-init

@@ -1,5 +1,5 @@
 use Rattle.std.proofs.Common.{◌≡◌}
-use Rattle.zp_buddy.proofs.Retyping.{IsRetyping}
+use Rattle.zp_frames.proofs.Retyping.{IsRetyping}
 use Rattle.zp_buddy.proofs.retypes.retype.Given as goal
 
 -- the free blocks before page `i` are moved

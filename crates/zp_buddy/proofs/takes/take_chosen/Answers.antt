@@ -2,8 +2,8 @@ use Rattle.std.proofs.Common.{ap, sym, ◌∙◌}
 use Rattle.std.proofs.lemmas.Bool.{not-true, not-false}
 use Rattle.zp_model.specs.Frames.{with_area}
 use Rattle.zp_model.specs.Take.{leave}
-use Rattle.zp_buddy.specs.Sound.{frames_of}
-use Rattle.zp_buddy.proofs.TakenChosen.{taken_plain, taken_claimed, listed_now}
+use Rattle.zp_frames.specs.Sound.{frames_of}
+use Rattle.zp_frames.proofs.TakenChosen.{taken_plain, taken_claimed, listed_now}
 use Rattle.zp_buddy.proofs.takes.take_chosen.Goals as goal
 
 -- what taking a block leaves, over the types as they are behind the reference

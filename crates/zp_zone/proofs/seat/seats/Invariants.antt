@@ -1,7 +1,6 @@
-use Rattle.std.proofs.Common.{◌≡◌, map}
-use Rattle.std.specs.List.{range_with_len}
-use Rattle.zp_zone.specs.NamedZone.{Right}
+use Rattle.std.proofs.Common.{◌≡◌}
+use Rattle.zp_zone.specs.NamedZone.{seats_of}
 use Rattle.zp_zone.proofs.seat.seats.Given as goal
 
 abbrev pub invariant-crew : goal.invariant-crew
-invariant-crew l = l.seats.items ≡ map (λ n. let s : Right = record { worker = n; base = l.base; pages = l.pages } in s) (range_with_len 0 l.number)
+invariant-crew l = l.seats.items ≡ seats_of l.base l.pages l.number

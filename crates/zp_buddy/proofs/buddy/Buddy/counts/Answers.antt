@@ -5,8 +5,8 @@ use Rattle.zp_model.specs.declared.counts.Counts.{Counts}
 use Rattle.zp_model.specs.Info.{counts, blocks_of_order}
 use Rattle.zp_model.specs.BlockSet.{cover}
 use Rattle.zp_model.specs.Frames.{Frames}
-use Rattle.zp_buddy.specs.Sound.{blocks_of}
-use Rattle.zp_buddy.proofs.BlocksListed.{blocks_listed}
+use Rattle.zp_frames.specs.Sound.{blocks_of}
+use Rattle.zp_frames.proofs.BlocksListed.{blocks_listed}
 use Rattle.zp_buddy.proofs.buddy.Buddy.counts.Goals as goal
 
 pub orders-preserved : goal.orders-preserved

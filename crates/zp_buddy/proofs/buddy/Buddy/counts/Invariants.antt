@@ -1,6 +1,6 @@
 use Rattle.std.proofs.Common.{ℕ, ◌≡◌, ◌<◌, get_or, length}
 use Rattle.zp_model.specs.MigrateType.{types_count}
-use Rattle.zp_buddy.specs.Listed.{blocks_listed_of}
+use Rattle.zp_frames.specs.Listed.{blocks_listed_of}
 use Rattle.zp_buddy.proofs.buddy.Buddy.counts.Given as goal
 
 abbrev pub invariant-orders : goal.invariant-orders

@@ -4,10 +4,10 @@ use Rattle.zp_model.specs.declared.migrate_type.MigrateType.{MigrateType}
 use Rattle.zp_model.specs.Frames.{Frames, IsClear}
 use Rattle.zp_model.specs.Block.{size}
 use Rattle.zp_model.specs.BlockSet.{cover}
-use Rattle.zp_buddy.specs.Sound.{IsSound, blocks_of, frames_of}
-use Rattle.zp_buddy.specs.Held.{IsHeld}
-use Rattle.zp_buddy.proofs.HeldCounts.{IsMore, given_more, read_at, held_more}
-use Rattle.zp_buddy.proofs.GivenBack.{size-le}
+use Rattle.zp_frames.specs.Sound.{IsSound, blocks_of, frames_of}
+use Rattle.zp_frames.specs.Held.{IsHeld}
+use Rattle.zp_frames.proofs.HeldCounts.{IsMore, given_more, read_at, held_more}
+use Rattle.zp_frames.proofs.GivenBack.{size-le}
 use Rattle.zp_buddy.proofs.buddy.Buddy.give.Goals as goal
 
 pub overflow_add-self : goal.overflow_add-self

@@ -3,9 +3,9 @@ use Rattle.zp_model.specs.Block.{has}
 use Rattle.zp_model.specs.BlockSet.{cover}
 use Rattle.zp_model.specs.Rows.{Rows}
 use Rattle.zp_model.specs.Frames.{Frames}
-use Rattle.zp_buddy.specs.Sound.{blocks_of, frames_of}
-use Rattle.zp_buddy.specs.Held.{IsHeld}
-use Rattle.zp_buddy.proofs.Noting.{held_noted, frames_noted}
+use Rattle.zp_frames.specs.Sound.{blocks_of, frames_of}
+use Rattle.zp_frames.specs.Held.{IsHeld}
+use Rattle.zp_frames.proofs.Noting.{held_noted, frames_noted}
 use Rattle.zp_buddy.proofs.buddy.Buddy.hold.Goals as goal
 
 pub invariant_of-self : goal.invariant_of-self

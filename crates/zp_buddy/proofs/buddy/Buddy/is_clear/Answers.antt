@@ -1,7 +1,8 @@
 use Rattle.std.proofs.Common.{sym, subst}
 use Rattle.std.proofs.lemmas.Bool.{both_ways}
 use Rattle.zp_model.specs.Frames.{Frames, IsClear}
-use Rattle.zp_buddy.proofs.ClearRuns.{clear_from, clear_block, clear_run}
+use Rattle.zp_frames.proofs.ClearRuns.{clear_from, clear_block, clear_run}
+use Rattle.zp_buddy.proofs.OnAny.{sound_holds}
 use Rattle.zp_buddy.proofs.buddy.Buddy.is_clear.Goals as goal
 
 pub returns-then-is_block : goal.returns-then-is_block
@@ -15,3 +16,6 @@ pub returns-else-is_block : goal.returns-else-is_block
 returns-else-is_block c =
     let P : Frames → Type 0 = λ f. IsClear f c.args.at c.args.order in
     (λ t. absurd (both_ways _ c.if-is_block.false t), λ x. c.is_block.ensures.1 (clear_block _ _ _ _ _ (subst P (sym c.self.view_is) x)))
+
+pub is_clear_run-requires-clause-listed : goal.is_clear_run-requires-clause-listed
+is_clear_run-requires-clause-listed c = sound_holds _ _ _ c.self.invariant.sound

@@ -1,6 +1,6 @@
 use Rattle.std.proofs.Common.{subst}
 use Rattle.zp_model.specs.Frames.{Frames, IsFramed}
-use Rattle.zp_buddy.proofs.Framed.{framed}
+use Rattle.zp_frames.proofs.Framed.{framed}
 use Rattle.zp_buddy.proofs.buddy.Buddy.pages.Goals as goal
 
 pub returns-clause-framed : goal.returns-clause-framed

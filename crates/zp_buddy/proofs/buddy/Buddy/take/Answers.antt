@@ -2,10 +2,10 @@ use Rattle.std.proofs.Common.{ℕ, ◌≡◌, ◌≤◌, ◌<◌, ◌-◌, ◌/�
 use Rattle.zp_model.specs.declared.constants.TheConstants.{PAGEBLOCK_PAGES}
 use Rattle.zp_model.specs.Frames.{Frames, with_area}
 use Rattle.zp_model.specs.Take.{taken}
-use Rattle.zp_buddy.specs.Choices.{chosen_of}
-use Rattle.zp_buddy.specs.Held.{IsHeld}
-use Rattle.zp_buddy.proofs.HeldCounts.{IsLess, taken_less, read_at, held_less}
-use Rattle.zp_buddy.proofs.TakenWhole.{answer_none, after_none, answer_some, after_some}
+use Rattle.zp_frames.specs.Choices.{chosen_of}
+use Rattle.zp_frames.specs.Held.{IsHeld}
+use Rattle.zp_frames.proofs.HeldCounts.{IsLess, taken_less, read_at, held_less}
+use Rattle.zp_frames.proofs.TakenWhole.{answer_none, after_none, answer_some, after_some}
 use Rattle.zp_buddy.proofs.buddy.Buddy.take.Goals as goal
 
 pub returns-in_err-chosen-clause-answer : goal.returns-in_err-chosen-clause-answer

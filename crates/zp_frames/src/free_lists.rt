@@ -1,0 +1,13 @@
+//! The numbers of the free lists.
+ghost use Rattle.std.specs.Prelude.{◌≡◌, ◌<◌};
+ghost use Rattle.zp_model.specs.Area.{list_number, lists_count};
+
+use zp_model::{MigrateType, Order, TYPES};
+
+/// The number of the free list of an order and a type.
+pub fn list_of(order: Order, kind: MigrateType) -> usize
+    ensures number { result ≡ list_number order kind }
+    ensures within { result < lists_count }
+{
+    TYPES * usize::from(order.number()) + kind.number()
+}

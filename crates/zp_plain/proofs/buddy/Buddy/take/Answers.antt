@@ -1,0 +1,68 @@
+use Rattle.std.proofs.Common.{ℕ, ◌≡◌, ◌≤◌, ◌<◌, ◌-◌, ◌/◌, ◌^◌, arith, refl, ap, sym, subst, ◌∙◌, Some, length, set, slice_index}
+use Rattle.zp_model.specs.declared.constants.TheConstants.{PAGEBLOCK_PAGES}
+use Rattle.zp_model.specs.Frames.{Frames, with_area}
+use Rattle.zp_model.specs.Take.{taken}
+use Rattle.zp_frames.specs.Choices.{chosen_of}
+use Rattle.zp_frames.specs.Held.{IsHeld}
+use Rattle.zp_frames.proofs.HeldCounts.{IsLess, taken_less, read_at, held_less}
+use Rattle.zp_frames.proofs.TakenWhole.{answer_none, after_none, answer_some, after_some}
+use Rattle.zp_plain.proofs.buddy.Buddy.take.Goals as goal
+
+pub returns-in_err-chosen-clause-answer : goal.returns-in_err-chosen-clause-answer
+returns-in_err-chosen-clause-answer c = c.from_residual.ensures ∙ answer_none _ _ _ _ _ c.self.view_is c.in_err-chosen.ensures
+
+pub returns-in_err-chosen-clause-after : goal.returns-in_err-chosen-clause-after
+returns-in_err-chosen-clause-after c = after_none _ _ _ _ _ c.self.invariant.sound c.self.view_is c.in_err-chosen.ensures
+
+pub overflow_sub-self : goal.overflow_sub-self
+overflow_sub-self c =
+    let x : IsLess c.self.inside.lists.states c.self.inside.free_in.items c.self.inside.free c.in_ok-chosen.chosen.block.head c.args.order c.take_chosen-head.new.lists.states =
+    taken_less _ _ _ _ _ _ _ _ _ _ _ c.in_ok-chosen.chosen c.self.invariant.sound c.self.invariant.each c.self.invariant.counted c.in_ok-chosen.ensures.1 refl
+    c.take_chosen-head.ensures.pages c.take_chosen-head.ensures.after in
+    let m : 2 ^ c.args.order ≤ c.self.inside.free = x.total in
+    let p : c.pages.result ≡ 2 ^ c.args.order = c.pages.ensures.pages in
+    omega arith
+
+pub index_mut-requires : goal.index_mut-requires
+index_mut-requires c =
+    let x : IsLess c.self.inside.lists.states c.self.inside.free_in.items c.self.inside.free c.in_ok-chosen.chosen.block.head c.args.order c.take_chosen-head.new.lists.states =
+    taken_less _ _ _ _ _ _ _ _ _ _ _ c.in_ok-chosen.chosen c.self.invariant.sound c.self.invariant.each c.self.invariant.counted c.in_ok-chosen.ensures.1 refl
+    c.take_chosen-head.ensures.pages c.take_chosen-head.ensures.after in
+    let e : c.pageblock_of.result ≡ c.in_ok-chosen.chosen.block.head / PAGEBLOCK_PAGES = c.pageblock_of.ensures ∙ ap (λ q. q / PAGEBLOCK_PAGES) c.take_chosen-head.ensures.answer in
+    let lt : c.in_ok-chosen.chosen.block.head / PAGEBLOCK_PAGES < length c.self.inside.free_in.items = x.pageblock in
+    omega (arith, c.self.inside.free_in.ok.0)
+
+pub returns-clause-answer : goal.returns-clause-answer
+returns-clause-answer c =
+    ap (λ q. Some q) c.take_chosen-head.ensures.answer ∙ answer_some _ _ _ _ _ c.in_ok-chosen.chosen c.self.view_is c.in_ok-chosen.ensures.0
+
+pub returns-clause-after : goal.returns-clause-after
+returns-clause-after c =
+    c.take_chosen-head.ensures.after
+    ∙ ap (λ (f : Frames). with_area f (taken f.area c.args.order c.args.kind (Some (chosen_of c.in_ok-chosen.chosen)))) c.self.view_is
+    ∙ after_some _ _ _ _ _ c.in_ok-chosen.chosen c.self.view_is c.in_ok-chosen.ensures.0
+
+pub invariant_of-self : goal.invariant_of-self
+invariant_of-self c =
+    let x : IsLess c.self.inside.lists.states c.self.inside.free_in.items c.self.inside.free c.in_ok-chosen.chosen.block.head c.args.order c.take_chosen-head.new.lists.states =
+    taken_less _ _ _ _ _ _ _ _ _ _ _ c.in_ok-chosen.chosen c.self.invariant.sound c.self.invariant.each c.self.invariant.counted c.in_ok-chosen.ensures.1 refl
+    c.take_chosen-head.ensures.pages c.take_chosen-head.ensures.after in
+    let e : c.pageblock_of.result ≡ c.in_ok-chosen.chosen.block.head / PAGEBLOCK_PAGES = c.pageblock_of.ensures ∙ ap (λ q. q / PAGEBLOCK_PAGES) c.take_chosen-head.ensures.answer in
+    let p : c.pages.result ≡ c.pages-2.result = c.pages.ensures.pages ∙ sym c.pages-2.ensures.pages in
+    let P : ℕ → Type 0 = λ q. IsHeld c.take_chosen-head.new.lists c.take_chosen-head.new.kinds.items (c.self.inside.free - q)
+    (set c.self.inside.free_in.items c.pageblock_of.result (c.index_mut.result.now - c.pages-2.result)) in
+    subst P (sym p)
+    (held_less c.self.inside.lists c.take_chosen-head.new.lists _ _ _ _ _ _ _ _ _ c.self.invariant x c.take_chosen-head.ensures.sound c.take_chosen-head.ensures.pages
+    c.take_chosen-head.ensures.typed e c.index_mut.ensures.value c.pages-2.ensures.pages)
+
+pub overflow_sub-index_mut : goal.overflow_sub-index_mut
+overflow_sub-index_mut c =
+    let x : IsLess c.self.inside.lists.states c.self.inside.free_in.items c.self.inside.free c.in_ok-chosen.chosen.block.head c.args.order c.take_chosen-head.new.lists.states =
+    taken_less _ _ _ _ _ _ _ _ _ _ _ c.in_ok-chosen.chosen c.self.invariant.sound c.self.invariant.each c.self.invariant.counted c.in_ok-chosen.ensures.1 refl
+    c.take_chosen-head.ensures.pages c.take_chosen-head.ensures.after in
+    let e : c.pageblock_of.result ≡ c.in_ok-chosen.chosen.block.head / PAGEBLOCK_PAGES = c.pageblock_of.ensures ∙ ap (λ q. q / PAGEBLOCK_PAGES) c.take_chosen-head.ensures.answer in
+    let r : c.index_mut.result.now ≡ slice_index c.self.inside.free_in.items (c.in_ok-chosen.chosen.block.head / PAGEBLOCK_PAGES) =
+    read_at _ _ _ _ x.pageblock e c.index_mut.ensures.value in
+    let m : 2 ^ c.args.order ≤ slice_index c.self.inside.free_in.items (c.in_ok-chosen.chosen.block.head / PAGEBLOCK_PAGES) = x.most in
+    let p : c.pages-2.result ≡ 2 ^ c.args.order = c.pages-2.ensures.pages in
+    omega arith

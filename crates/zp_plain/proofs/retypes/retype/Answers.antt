@@ -1,0 +1,51 @@
+use Rattle.std.proofs.Common.{ℕ, ◌≡◌, ◌+◌, ◌*◌, arith, refl, sym, ◌∙◌, ap, subst, min, length, List, slice_set}
+use Rattle.zp_model.specs.declared.constants.TheConstants.{PAGEBLOCK_PAGES}
+use Rattle.zp_model.specs.declared.state.State.{State}
+use Rattle.zp_model.specs.declared.state.State.TheVariants.{Free}
+use Rattle.zp_model.specs.Rows.{IsOn, state_at}
+use Rattle.zp_model.specs.Area.{list_number}
+use Rattle.zp_frames.specs.Sound.{IsSound, frames_of}
+use Rattle.zp_frames.specs.Retyped.{moved}
+use Rattle.zp_frames.proofs.Retyping.{IsRetyping, retyping_none, retyping_more, looking_on}
+use Rattle.zp_frames.proofs.RetypedFrames.{IsRetyped, looking, retyped_sound, retyped_frames}
+use Rattle.zp_plain.proofs.retypes.retype.Goals as goal
+
+pub pages-init : goal.pages-init
+pages-init c = record { states = refl; moved = retyping_none _ _ _ _ _ c.requires.sound }
+
+pub move_block-requires-clause-listed : goal.move_block-requires-clause-listed
+move_block-requires-clause-listed c =
+    let i = c.pages.invariant in
+    let x = looking c.args.pageblock c.pages.i c.index-from.result.now c.args.kind _ _ _ c.requires.sound c.requires.pageblock (omega arith) (omega arith)
+    c.index-from.ensures c.requires.other in
+    λ k e.
+    let P : ℕ → Type 0 = λ q. IsOn c.pages.lists.lists (list_number k c.index-from.result.now) q in
+    let f : state_at c.args.lists.now.states c.pages.i ≡ Free k =
+    ap (λ q. state_at q c.pages.i) (sym i.states) ∙ ap (λ q. state_at c.pages.lists.states q) (sym c.at.ensures) ∙ e in
+    subst P (sym c.at.ensures) (looking_on _ _ k _ _ _ _ _ _ x i.moved f)
+
+pub pages-preserved : goal.pages-preserved
+pages-preserved c =
+    let i = c.pages.invariant in
+    let x = looking c.args.pageblock c.pages.i c.index-from.result.now c.args.kind _ _ _ c.requires.sound c.requires.pageblock (omega arith) (omega arith)
+    c.index-from.ensures c.requires.other in
+    let e : c.move_block.new.lists ≡ moved c.pages.lists c.pages.i c.index-from.result.now c.args.kind (state_at c.pages.lists.states c.pages.i) =
+    c.move_block.ensures
+    ∙ ap (λ q. moved c.pages.lists q c.index-from.result.now c.args.kind (state_at c.pages.lists.states q)) c.at.ensures in
+    let y = retyping_more _ _ _ _ _ _ _ _ _ x i.states i.moved e in
+    record { states = y.0; moved = y.1 }
+
+pub returns : goal.returns
+returns c =
+    let i = c.pages.invariant in
+    let P : ℕ → Type 0 = λ q. IsRetyping (c.args.pageblock * PAGEBLOCK_PAGES) q c.args.kind c.args.lists.now.states c.args.kinds.now.items c.args.lists.now.lists c.pages.lists.lists in
+    let last : c.pages.i ≡ min (length c.args.lists.now.states) (c.args.pageblock * PAGEBLOCK_PAGES + PAGEBLOCK_PAGES) = omega arith in
+    let x : IsRetyped c.args.pageblock c.args.kind c.args.lists.now.states c.args.kinds.now.items c.args.lists.now.lists c.pages.lists.lists =
+    record { sound = c.requires.sound; pageblock = c.requires.pageblock; moved = subst P last i.moved } in
+    let Q : List State → Type 0 = λ q. IsSound q (slice_set c.args.kinds.now.items c.args.pageblock c.args.kind) c.pages.lists.lists in
+    record {
+      sound = subst Q (sym i.states) (retyped_sound _ _ _ _ _ _ x);
+      kinds = refl;
+      states = i.states;
+      after = ap (λ q. frames_of q (slice_set c.args.kinds.now.items c.args.pageblock c.args.kind) c.pages.lists.lists) i.states ∙ retyped_frames _ _ _ _ _ _ x;
+    }

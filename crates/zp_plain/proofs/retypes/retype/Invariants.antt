@@ -1,0 +1,10 @@
+use Rattle.std.proofs.Common.{◌≡◌}
+use Rattle.zp_frames.proofs.Retyping.{IsRetyping}
+use Rattle.zp_plain.proofs.retypes.retype.Given as goal
+
+-- the free blocks before page `i` are moved
+abbrev pub invariant-pages : goal.invariant-pages
+invariant-pages l = record {
+  states : l.lists.states ≡ l.initial.lists.states;
+  moved : IsRetyping l.first l.i l.kind l.initial.lists.states l.kinds.items l.initial.lists.lists l.lists.lists;
+}

@@ -1,0 +1,3 @@
+pub mod Stack
+pub mod Stacks
+pub use Rattle.zp_frames.specs.Given

@@ -1,0 +1,184 @@
+//! The buddy allocator of one zone.
+ghost use Rattle.std.specs.Prelude.{◌≡◌, ◌<◌, ◌≤◌, ◌^◌, ◌↔◌, false, length, slice_set, IfOk, IfSome, IsTrue};
+ghost use Rattle.zp_model.specs.Block.{has, size};
+ghost use Rattle.zp_model.specs.Info.{counts};
+ghost use Rattle.zp_model.specs.Rows.{IsOn, after, front, state_at};
+ghost use Rattle.zp_model.specs.Frames.{frames_opening, with_area, IsNote, IsFramed, IsClear};
+ghost use Rattle.zp_model.specs.MigrateType.{types_count};
+ghost use Rattle.zp_model.specs.Area.{list_number, lists_count, free_list};
+ghost use Rattle.zp_model.specs.Take.{take_answer, take_after};
+ghost use Rattle.zp_frames.specs.Given.{given};
+ghost use Rattle.zp_frames.specs.Listed.{blocks_listed_of};
+
+use crate::choices::choose;
+use crate::clear::{is_block, is_clear_run};
+use crate::joins::join;
+use crate::lists::Lists;
+use crate::opening::list_all_pages;
+use crate::takes::take_chosen;
+use std::alloc::{AllocError, Global};
+use std::marker::Model;
+use zp_frames::{list_of, pageblock_of, pages_in_each};
+use zp_model::{
+    Counts, LARGEST_ORDER, MAX_PAGES, MigrateType, ORDERS, Order, PAGEBLOCK_PAGES, PageAt, State,
+    TYPES,
+};
+
+/// The free blocks of a zone, what is noted of its other pages, and further lists of those pages. Contracts see the plain
+/// free area with these.
+#[derive(Drop)]
+pub struct Buddy {
+    lists: Lists,
+    kinds: Vec<MigrateType>,
+    free: u32,
+    /// How many pages of each pageblock are free.
+    free_in: Vec<u32>,
+}
+
+impl Model for Buddy {
+    ghost use Rattle.zp_model.specs.Frames.{Frames};
+    ghost use Rattle.zp_frames.specs.Sound.{frames_of};
+    ghost use Rattle.zp_frames.specs.Held.{IsHeld};
+
+    ghost Value = { Frames };
+
+    ghost view = { λ b. frames_of b.lists.states b.kinds.items b.lists.lists };
+
+    ghost invariant = { λ b. IsHeld b.lists b.kinds.items b.free b.free_in.items };
+}
+
+impl Buddy {
+    /// A zone of so many pages, all free, with so many empty further lists.
+    pub fn new(alloc: Global, pages: u32, side: usize) -> Result<Buddy, AllocError>
+        requires pages { pages ≤ MAX_PAGES }
+        requires side { side < 2 ^ 32 }
+        ensures { IfOk result (λ b. b ≡ frames_opening pages side) }
+    {
+        let kinds = Vec::from_elem(
+            alloc,
+            MigrateType::Movable,
+            pages.div_ceil(PAGEBLOCK_PAGES) as usize,
+        )?;
+        let free_in = pages_in_each(alloc, pages)?;
+        let mut lists = Lists::new(alloc, pages, TYPES * ORDERS + side)?;
+        list_all_pages(&mut lists);
+        Ok(Buddy {
+            lists,
+            kinds,
+            free: pages,
+            free_in,
+        })
+    }
+
+    /// Takes a block of this order for this type: the smallest of its own lists that serves; or else the largest of another
+    /// type whose pageblock it may claim, which then gets the type; or else the smallest of another type.
+    pub fn take(&mut self, order: Order, kind: MigrateType) -> Option<PageAt>
+        ensures answer { result ≡ take_answer self.old.area order kind }
+        ensures after { self.new ≡ with_area self.old (take_after self.old.area order kind) }
+    {
+        let chosen = choose(&self.lists, &self.free_in, order, kind)?;
+        let head = take_chosen(&mut self.lists, &mut self.kinds, chosen, order, kind);
+        self.free -= order.pages();
+        self.free_in[pageblock_of(head)] -= order.pages();
+        Some(head)
+    }
+
+    /// Whether this is a block of which no page is free or on a further list.
+    pub fn is_clear(&self, at: PageAt, order: Order) -> bool
+        ensures { IsTrue result ↔ IsClear self.now at order }
+    {
+        is_block(&self.lists, at, order) && is_clear_run(&self.lists, at, order)
+    }
+
+    /// Gives back a block, joined with its free buddies.
+    pub fn give(&mut self, at: PageAt, order: Order)
+        requires { IsClear self.old at order }
+        ensures { self.new ≡ given self.old at order }
+    {
+        join(&mut self.lists, &self.kinds, at, order);
+        self.free += order.pages();
+        self.free_in[pageblock_of(at)] += order.pages();
+    }
+
+    /// How many pages the zone has. The frames of a buddy allocator note as free what is free.
+    pub fn pages(&self) -> u32
+        ensures pages { result ≡ length self.now.states }
+        ensures within { result ≤ MAX_PAGES }
+        ensures framed { IsFramed self.now }
+    {
+        self.lists.pages() as u32
+    }
+
+    /// Notes what a page that is not free holds.
+    pub fn hold(&mut self, at: PageAt, state: State)
+        requires page { at < length self.old.states }
+        requires used { has self.old.area.free at ≡ false }
+        requires note { IsNote state }
+        ensures { self.new ≡ record self.old { states = slice_set self.old.states at state } }
+    {
+        self.lists.set_state(at, state);
+    }
+
+    /// What is noted of a page.
+    pub fn holding(&self, at: PageAt) -> State
+        requires { at < length self.now.states }
+        ensures { result ≡ state_at self.now.states at }
+    {
+        self.lists.state(at)
+    }
+
+    /// The block in front of the free list of an order and a type.
+    pub fn front(&self, order: Order, kind: MigrateType) -> Option<PageAt>
+        ensures answer { result ≡ front (free_list self.now.area order kind) }
+        ensures on { IfSome result (λ at. IsOn self.now.area.lists (list_number order kind) at) }
+    {
+        self.lists.front(list_of(order, kind))
+    }
+
+    /// The block after this one on the free list of an order and a type.
+    pub fn after(&self, order: Order, kind: MigrateType, at: PageAt) -> Option<PageAt>
+        requires { IsOn self.now.area.lists (list_number order kind) at }
+        ensures answer { result ≡ after at (free_list self.now.area order kind) }
+        ensures on { IfSome result (λ next. IsOn self.now.area.lists (list_number order kind) next) }
+    {
+        self.lists.after(list_of(order, kind), at)
+    }
+
+    /// How many free pages there are.
+    pub fn free_pages(&self) -> u32
+        ensures { result ≡ size self.now.area.free }
+    {
+        self.free
+    }
+
+    /// How many free blocks of each order there are, and how many free pages.
+    pub fn counts(&self) -> Counts
+        ensures { result ≡ counts self.now.area.free }
+    {
+        let mut by_order = [0u32; ORDERS];
+        'orders: for k in 0..ORDERS {
+            by_order[k] = blocks_listed(&self.lists, k);
+        }
+        Counts {
+            by_order,
+            free: self.free,
+        }
+    }
+}
+
+/// How many blocks of an order the free lists hold, over all types.
+fn blocks_listed(lists: &Lists, order: usize) -> u32
+    requires order { order ≤ LARGEST_ORDER }
+    requires table { lists_count ≤ length lists.now.lists }
+    ensures { result ≡ blocks_listed_of lists.now.lists order types_count }
+{
+    let _pages = lists.pages();
+    let mut blocks = 0;
+    'types: for kind in 0..TYPES {
+        blocks += lists.len(TYPES * order + kind);
+    }
+    blocks
+}
+
+#[cfg(test)]
+mod tests;

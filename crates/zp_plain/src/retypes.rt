@@ -1,0 +1,49 @@
+//! Giving a pageblock another type.
+ghost use Rattle.std.specs.Prelude.{◌≡◌, ◌≢◌, ◌<◌, ◌≤◌, ℕ, length, slice_index_or, slice_set};
+ghost use Rattle.zp_model.specs.declared.state.State.TheVariants.{Free};
+ghost use Rattle.zp_model.specs.declared.migrate_type.MigrateType.TheVariants.{Movable};
+ghost use Rattle.zp_model.specs.Rows.{state_at, IsOn};
+ghost use Rattle.zp_model.specs.Area.{list_number, lists_count, pageblocks_of};
+ghost use Rattle.zp_model.specs.Frames.{with_area};
+ghost use Rattle.zp_model.specs.Take.{retype};
+ghost use Rattle.zp_frames.specs.Retyped.{moved};
+ghost use Rattle.zp_frames.specs.Sound.{IsSound, frames_of};
+
+use crate::lists::Lists;
+use zp_frames::list_of;
+use zp_model::{MigrateType, PAGEBLOCK_PAGES, PageAt, State};
+
+/// Moves the free block that starts at a page, if one does, to the front of the list of another type.
+fn move_block(lists: &mut Lists, at: PageAt, from: MigrateType, to: MigrateType)
+    requires page { at < length lists.old.states }
+    requires table { lists_count ≤ length lists.old.lists }
+    requires listed { (k : ℕ) → state_at lists.old.states at ≡ Free k → IsOn lists.old.lists (list_number k from) at }
+    ensures { lists.new ≡ moved lists.old at from to (state_at lists.old.states at) }
+{
+    let _pages = lists.pages();
+    if let State::Free(order) = lists.state(at) {
+        lists.remove(list_of(order, from), at);
+        lists.push_front(list_of(order, to), at);
+    }
+}
+
+/// Gives a pageblock another type, and moves its free blocks to the lists of that type, the lowest first.
+pub fn retype(lists: &mut Lists, kinds: &mut Vec<MigrateType>, pageblock: usize, kind: MigrateType)
+    requires typed { length kinds.old.items ≡ pageblocks_of (length lists.old.states) }
+    requires pageblock { pageblock < length kinds.old.items }
+    requires other { kind ≢ slice_index_or kinds.old.items pageblock Movable }
+    requires sound { IsSound lists.old.states kinds.old.items lists.old.lists }
+    ensures sound { IsSound lists.new.states kinds.new.items lists.new.lists }
+    ensures kinds { kinds.new.items ≡ slice_set kinds.old.items pageblock kind }
+    ensures states { lists.new.states ≡ lists.old.states }
+    ensures after { let old = frames_of lists.old.states kinds.old.items lists.old.lists in
+        frames_of lists.new.states kinds.new.items lists.new.lists ≡ with_area old (retype old.area pageblock kind) }
+{
+    let from = kinds[pageblock];
+    let first = pageblock * PAGEBLOCK_PAGES as usize;
+    let end = lists.pages().min(first + PAGEBLOCK_PAGES as usize);
+    'pages: for i in first..end {
+        move_block(lists, PageAt::at(i as u32), from, kind);
+    }
+    kinds[pageblock] = kind;
+}

@@ -1,0 +1,114 @@
+//! The two allocators side by side.
+ghost use Rattle.std.specs.Prelude.{◌≡◌, ◌≤◌, IfSome};
+ghost use Rattle.zp_model.specs.declared.constants.TheConstants.{MAX_PAGES};
+
+use std::alloc::{AllocError, Global};
+use std::process::Abort;
+use zp_model::{MAX_PAGES, MigrateType, ORDERS, Order, PageAt};
+
+/// The allocator over linked lists, and the one over vectors, after the same requests.
+#[derive(Drop)]
+pub struct Pair {
+    buddy: zp_buddy::Buddy,
+    plain: zp_plain::Buddy,
+}
+
+impl Pair {
+    pub fn new(alloc: Global, pages: u32) -> Result<Pair, AllocError>
+        requires { pages ≤ MAX_PAGES }
+    {
+        Ok(Pair {
+            buddy: zp_buddy::Buddy::new(alloc, pages, 0)?,
+            plain: zp_plain::Buddy::new(alloc, pages, 0)?,
+        })
+    }
+
+    /// Takes a block from both.
+    pub fn take(&mut self, rt: &impl Abort, order: Order, kind: MigrateType) -> Option<PageAt> {
+        let head = self.buddy.take(order, kind);
+        assert_eq!(rt; head, self.plain.take(order, kind));
+        head
+    }
+
+    /// Gives a block back to both, where it may come back.
+    pub fn give(&mut self, rt: &impl Abort, at: PageAt, order: Order) -> bool {
+        let clear = self.buddy.is_clear(at, order);
+        let plain_clear = self.plain.is_clear(at, order);
+        assert_eq!(rt; clear, plain_clear);
+        if clear && plain_clear {
+            self.buddy.give(at, order);
+            self.plain.give(at, order);
+        }
+        clear
+    }
+
+    /// Takes the first so many pages, and gives back every second of them.
+    pub fn punch(&mut self, rt: &impl Abort, pages: u32) {
+        for _ in 0..pages {
+            let _ = self.take(rt, Order::zero(), MigrateType::Movable);
+        }
+        for number in 0..pages / 2 {
+            if let Some(at) = PageAt::new(2 * number) {
+                let _ = self.give(rt, at, Order::zero());
+            }
+        }
+    }
+
+    /// Takes a page from the linked lists, and gives it back.
+    pub fn take_and_give_linked(&mut self) {
+        if let Some(at) = self.buddy.take(Order::zero(), MigrateType::Movable) {
+            if self.buddy.is_clear(at, Order::zero()) {
+                self.buddy.give(at, Order::zero());
+            }
+        }
+    }
+
+    /// Takes a page from the vectors, and gives it back.
+    pub fn take_and_give_plain(&mut self) {
+        if let Some(at) = self.plain.take(Order::zero(), MigrateType::Movable) {
+            if self.plain.is_clear(at, Order::zero()) {
+                self.plain.give(at, Order::zero());
+            }
+        }
+    }
+
+    /// Compares the counts.
+    pub fn compare_counts(&self, rt: &impl Abort) {
+        assert_eq!(rt; self.buddy.free_pages(), self.plain.free_pages());
+        let counts = self.buddy.counts();
+        let plain_counts = self.plain.counts();
+        assert_eq!(rt; counts.free, plain_counts.free);
+        assert!(rt; counts.by_order.as_slice() == plain_counts.by_order.as_slice());
+    }
+
+    /// Compares each free list, block by block.
+    pub fn compare_lists(&self, rt: &impl Abort) {
+        for number in 0..ORDERS as u8 {
+            let order = Order::new(number).expect(rt, "no order");
+            for kind in [
+                MigrateType::Unmovable,
+                MigrateType::Reclaimable,
+                MigrateType::Movable,
+            ] {
+                assert!(rt; self.is_same_list(order, kind), "order {number}");
+            }
+        }
+    }
+
+    fn is_same_list(&self, order: Order, kind: MigrateType) -> bool {
+        let mut head = self.buddy.front(order, kind);
+        let mut plain_head = self.plain.front(order, kind);
+        // No list has more blocks than a zone has pages.
+        'blocks: for _ in 0..=MAX_PAGES {
+            if head != plain_head {
+                return false;
+            }
+            let (Some(at), Some(plain_at)) = (head, plain_head) else {
+                return true;
+            };
+            head = self.buddy.after(order, kind, at);
+            plain_head = self.plain.after(order, kind, plain_at);
+        }
+        false
+    }
+}
