@@ -17,7 +17,8 @@ fn main(rt: HostRuntime) -> ExitCode {
         let status = if fault == FlagFault::Memory { 1 } else { 2 };
         return fail(&rt, fault, status);
     }
-    match replay_streams(rt.alloc(), rt.stdin(), rt.stdout()) {
+    let (_input, _output, ending) = replay_streams(rt.alloc(), rt.stdin(), rt.stdout());
+    match ending {
         Ok(Ending::Good) => ExitCode::SUCCESS,
         Ok(Ending::BadLine(_)) => ExitCode::FAILURE,
         Err(fault) => fail(&rt, fault, 1),

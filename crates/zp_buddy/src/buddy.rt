@@ -3,6 +3,7 @@ ghost use Rattle.std.specs.Prelude.{ℕ, ◌≡◌, ◌<◌, ◌≤◌, ◌++◌
 ghost use Rattle.zp_model.specs.Block.{has, size};
 ghost use Rattle.zp_model.specs.Info.{counts};
 ghost use Rattle.zp_model.specs.Rows.{IsLoose, IsOn, after, front, list_at, state_at};
+ghost use Rattle.zp_model.specs.Described.{IsLinkedAt};
 ghost use Rattle.zp_model.specs.Frames.{frames_opening, with_area, IsNote, IsFramed, IsClear};
 ghost use Rattle.zp_model.specs.MigrateType.{types_count};
 ghost use Rattle.zp_model.specs.Area.{list_number, lists_count, free_list};
@@ -37,6 +38,7 @@ pub struct Buddy {
 }
 
 impl Model for Buddy {
+    ghost use Rattle.zp_model.specs.Described.{IsLinkedAt};
     ghost use Rattle.zp_model.specs.Frames.{Frames};
     ghost use Rattle.zp_frames.specs.Sound.{frames_of};
     ghost use Rattle.zp_frames.specs.Held.{IsHeld};
@@ -133,14 +135,7 @@ impl Buddy {
     pub fn entry(&self, at: PageAt) -> PageEntry
         requires { at < length self.now.states }
         ensures state { result.state ≡ state_at self.now.states at }
-        ensures next { let ls = self.now.area.lists ++ self.now.sides in
-            (r : ℕ) → IsOn ls r at → result.forward ≡ after at (list_at ls r) }
-        ensures previous { let ls = self.now.area.lists ++ self.now.sides in
-            (r p : ℕ) → IsOn ls r p → after p (list_at ls r) ≡ Some at → result.back ≡ Some p }
-        ensures first { let ls = self.now.area.lists ++ self.now.sides in
-            (r : ℕ) → slice_get (list_at ls r) 0 ≡ Some at → result.back ≡ None }
-        ensures loose { let ls = self.now.area.lists ++ self.now.sides in
-            IsLoose ls at → (result.back ≡ None) × (result.forward ≡ None) }
+        ensures linked { IsLinkedAt (self.now.area.lists ++ self.now.sides) at result.back result.forward }
     {
         PageEntry {
             state: self.lists.state(at),

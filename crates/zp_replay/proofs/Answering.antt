@@ -1,6 +1,5 @@
 -- Answers to commands one after another, and what is written of them.
 use Rattle.std.proofs.Common.{ℕ, ◌+◌, ◌≡◌, ◌<◌, ◌≤◌, List, [], ◌∷◌, ◌++◌, length, take, drop, get_or, Option, refl, sym, ap, inl, inr, ◌∙◌, append_assoc, arith, length-append}
-use Rattle.std.specs.Option.{option_map}
 use Rattle.std.proofs.Math.Seq.{take-append_seam}
 use Rattle.std.proofs.lemmas.List.{append-nil, take_more, take_all, take-append-le, take-append-drop}
 use Rattle.std.proofs.lemmas.Bool.{cases_lt}
@@ -13,7 +12,7 @@ use Rattle.zp_trace.specs.declared.line.Call.{Call}
 use Rattle.zp_trace.specs.declared.line.Call.TheVariants.{Info, Alloc, Free}
 use Rattle.zp_trace.specs.declared.line.Command.{Command}
 use Rattle.zp_zone.specs.Streams.{IsWritten, IsBegun}
-use Rattle.zp_zone.proofs.Written.{written-then, begun-then}
+use Rattle.zp_zone.proofs.Written.{written-same, written-then, begun-then}
 use Rattle.zp_replay.specs.declared.bindings.Binding.{Binding}
 use Rattle.zp_replay.specs.Labels.{bind}
 use Rattle.zp_replay.specs.Replies.{Standing, answer_to, answer, answers}
@@ -48,19 +47,18 @@ text-more z now cs i c lt is e =
 
 pub written_more : (z now : Standing) (cs : List Command) (i : ℕ) (c : Command) (x y w : Option (List ℕ)) → i < length cs → c ≡ get_or cs i c → now ≡ (answers z (take i cs)).left → IsWritten x y (answers z (take i cs)).text → IsWritten y w (answer now c).text → IsWritten x w (answers z (take (i + 1) cs)).text
 written_more z now cs i c x y w lt is e f g =
-    written-then x y w (answers z (take i cs)).text (answer now c).text f g
-    ∙ ap (λ (q : List ℕ). option_map (λ b. b ++ q) x) (text-more z now cs i c lt is e)
+    written-same x w _ _ (text-more z now cs i c lt is e) (written-then x y w (answers z (take i cs)).text (answer now c).text f g)
 
 -- a beginning of a text is one of a longer text, and of an equal one
 pub begun-longer : (x y : Option (List ℕ)) (a b : List ℕ) → IsBegun x y a → IsBegun x y (a ++ b)
 begun-longer x y a b f =
     elim (cases_lt (length a) f.0) [
-      | inl less ↦ (length a, f.1 ∙ ap (λ (q : List ℕ). option_map (λ z. z ++ q) x) (take_all f.0 a (omega arith) ∙ sym (take-append_seam a b)))
-      | inr most ↦ (f.0, f.1 ∙ ap (λ (q : List ℕ). option_map (λ z. z ++ q) x) (sym (take-append-le f.0 a b most)))
+      | inl less ↦ (length a, written-same x y _ _ (take_all f.0 a (omega arith) ∙ sym (take-append_seam a b)) f.1)
+      | inr most ↦ (f.0, written-same x y _ _ (sym (take-append-le f.0 a b most)) f.1)
     ]
 
 pub begun-same : (x y : Option (List ℕ)) (a b : List ℕ) → a ≡ b → IsBegun x y a → IsBegun x y b
-begun-same x y a b e f = (f.0, f.1 ∙ ap (λ (q : List ℕ). option_map (λ z. z ++ take f.0 q) x) e)
+begun-same x y a b e f = (f.0, written-same x y _ _ (ap (λ (q : List ℕ). take f.0 q) e) f.1)
 
 text-all : (z : Standing) (cs : List Command) (i : ℕ) → (answers z (take i cs)).text ++ (answers (answers z (take i cs)).left (drop i cs)).text ≡ (answers z cs).text
 text-all z cs i =

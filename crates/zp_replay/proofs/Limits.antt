@@ -1,5 +1,5 @@
 -- What the bytes up to the limit say of the whole text.
-use Rattle.std.proofs.Common.{ℕ, ◌≡◌, ◌≤◌, ◌<◌, inl, inr, List, [], ◌++◌, length, take, drop, Option, None, Some, refl, sym, ap, subst, ◌∙◌, append_assoc, arith, length-append}
+use Rattle.std.proofs.Common.{ℕ, ◌≡◌, ◌≤◌, ◌<◌, inl, inr, List, [], ◌++◌, length, take, drop, Option, None, Some, sym, ap, subst, ◌∙◌, append_assoc, arith, length-append}
 use Rattle.std.proofs.Math.Seq.{take-append_seam}
 use Rattle.std.proofs.lemmas.Bool.{cases_lt}
 use Rattle.std.proofs.lemmas.List.{append-nil, take-append-le, take-append-drop}
@@ -42,10 +42,11 @@ bad-longer text more n long is =
 
 -- a good text was read whole
 pub all-good : (old new : Option (List ℕ)) (text : List ℕ) (t : Trace) → IsRead old new text → IsTraceText text t → IsAllOf old text
-all-good old None text t read is = subst (λ (had : Option (List ℕ)). IsAllOf had text) (sym read.front) tt
-all-good old (Some rest) text t read is =
+all-good None new text t read is = tt
+all-good (Some had) None text t read is = absurd read.front
+all-good (Some had) (Some rest) text t read is =
     let none : rest ≡ [] = read.end (good_short text t is) in
-    subst (λ (had : Option (List ℕ)). IsAllOf had text) (sym read.front) (ap (λ (q : List ℕ). text ++ q) none ∙ append-nil text)
+    read.front ∙ ap (λ (q : List ℕ). text ++ q) none ∙ append-nil text
 
 -- a text that the reader had, with the bad line of what was read
 pub record IsBadAll (had : Option (List ℕ)) (n : ℕ) : Type 0 where
@@ -54,11 +55,11 @@ pub record IsBadAll (had : Option (List ℕ)) (n : ℕ) : Type 0 where
   pub grammar : IsBadLine text n
 
 pub all-bad : (old new : Option (List ℕ)) (text : List ℕ) (n : ℕ) → IsRead old new text → IsBadLine text n → IsBadAll old n
-all-bad old None text n read is =
-    record { text = text; all = subst (λ (had : Option (List ℕ)). IsAllOf had text) (sym read.front) tt; grammar = is }
-all-bad old (Some rest) text n read is = record {
+all-bad None new text n read is = record { text = text; all = tt; grammar = is }
+all-bad (Some had) None text n read is = absurd read.front
+all-bad (Some had) (Some rest) text n read is = record {
   text = text ++ rest;
-  all = subst (λ (had : Option (List ℕ)). IsAllOf had (text ++ rest)) (sym read.front) refl;
+  all = read.front;
   grammar = elim (cases_lt (length text) INPUT_LIMIT) [
     | inl less ↦ subst (λ (q : List ℕ). IsBadLine q n) (sym (append-nil text) ∙ ap (λ (q : List ℕ). text ++ q) (sym (read.end less))) is
     | inr full ↦ bad-longer text rest n full is

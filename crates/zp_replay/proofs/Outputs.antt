@@ -1,12 +1,11 @@
 -- The parts of the output one after another.
 use Rattle.std.proofs.Common.{ℕ, ◌≡◌, List, ◌++◌, Option, Result, Ok, Err, OnErr, All, refl, ap, ◌∙◌}
-use Rattle.std.specs.Option.{option_map}
 use Rattle.zp_trace.specs.declared.line.Command.{Command}
 use Rattle.zp_trace.specs.declared.trace.Trace.{Trace}
 use Rattle.zp_trace.specs.Grammar.{IsBeginning, lines_of}
 use Rattle.zp_trace.proofs.Beginnings.{each_command}
 use Rattle.zp_zone.specs.Streams.{IsWritten, IsBegun}
-use Rattle.zp_zone.proofs.Written.{written-then, begun-then}
+use Rattle.zp_zone.proofs.Written.{written-same, written-then, begun-then}
 use Rattle.zp_replay.specs.Asked.{IsCommand}
 use Rattle.zp_replay.specs.Replies.{Standing, answers, info_of}
 use Rattle.zp_replay.specs.Output.{output, opened, total_of}
@@ -26,8 +25,7 @@ output-is t start now cs e d f =
 
 pub written-output : (t : Trace) (start now : Standing) (cs : List Command) (x y w : Option (List ℕ)) → start ≡ opened t.zone → cs ≡ t.commands → now ≡ (answers start cs).left → IsWritten x y (answers start cs).text → IsWritten y w (total_of now.zone ++ info_of now.zone) → IsWritten x w (output t)
 written-output t start now cs x y w e d f g h =
-    written-then x y w (answers start cs).text (total_of now.zone ++ info_of now.zone) g h
-    ∙ ap (λ (q : List ℕ). option_map (λ b. b ++ q) x) (output-is t start now cs e d f)
+    written-same x w _ _ (output-is t start now cs e d f) (written-then x y w (answers start cs).text (total_of now.zone ++ info_of now.zone) g h)
 
 pub begun-answers : (t : Trace) (start : Standing) (cs : List Command) (x y : Option (List ℕ)) → start ≡ opened t.zone → cs ≡ t.commands → IsBegun x y (answers start cs).text → IsBegun x y (output t)
 begun-answers t start cs x y e d f =

@@ -1,16 +1,18 @@
 -- One read after another, and what a full buffer says.
-use Rattle.std.proofs.Common.{ℕ, ◌+◌, ◌≡◌, ◌≤◌, List, ◌++◌, length, take, Option, None, Some, sym, ap, ◌∙◌, append_assoc, arith, length-append, length-take-le}
-use Rattle.std.specs.Option.{option_map}
+use Rattle.std.proofs.Common.{ℕ, ◌+◌, ◌≡◌, ◌≤◌, List, ◌++◌, length, take, Option, None, Some, sym, ap, subst, ◌∙◌, append_assoc, arith, length-append, length-take-le}
+use Rattle.std.specs.Io.KnownBytes.{Consumes}
 use Rattle.std.proofs.Math.Seq.{take-append-add, take-append_seam}
 use Rattle.std.proofs.lemmas.List.{take-append-le}
 use borrow.Rule.Slice.PartMut.{put_mid, post_of}
 use Rattle.zp_replay.specs.declared.input.TheConstants.{INPUT_LIMIT}
 use Rattle.zp_replay.specs.Replaying.{IsFilled, IsRead}
 
-pub read-then : (a b c : Option (List ℕ)) (x y z : List ℕ) → a ≡ option_map (λ r. x ++ r) b → b ≡ option_map (λ r. y ++ r) c → z ≡ x ++ y → a ≡ option_map (λ r. z ++ r) c
-read-then a b None x y z e f g = e ∙ ap (λ q. option_map (λ r. x ++ r) q) f
-read-then a b (Some w) x y z e f g =
-    e ∙ ap (λ q. option_map (λ r. x ++ r) q) f ∙ ap (λ q. Some q) (sym (append_assoc x y w)) ∙ ap (λ q. Some (q ++ w)) (sym g)
+pub read-then : (a b c : Option (List ℕ)) (x y z : List ℕ) → Consumes a b x → Consumes b c y → z ≡ x ++ y → Consumes a c z
+read-then None b c x y z e f g = tt
+read-then (Some u) None c x y z e f g = absurd e
+read-then (Some u) (Some v) None x y z e f g = absurd f
+read-then (Some u) (Some v) (Some w) x y z e f g =
+    e ∙ ap (λ q. x ++ q) f ∙ sym (append_assoc x y w) ∙ ap (λ q. q ++ w) (sym g)
 
 -- the front of a buffer, where n bytes were read into the part from `at` on
 pub take-part : (at n k : ℕ) (buffer piece : List ℕ) → at ≤ length buffer → n ≤ length piece → take (at + n) (put_mid at k buffer piece) ≡ take at buffer ++ take n piece
@@ -32,7 +34,7 @@ read-filled old new buffer text n f size e =
     let within : n ≤ length buffer = f.within in
     record {
       within = omega arith;
-      front = f.front ∙ ap (λ (q : List ℕ). option_map (λ rest. q ++ rest) new) (sym e);
+      front = subst (λ (q : List ℕ). Consumes old new q) (sym e) f.front;
       end = λ less. f.end (omega arith);
     }
 

@@ -44,7 +44,7 @@ pub record MemoryWriter : Type 0 where
   pub failures : ℕ
 
 -- a write took the first n bytes of a piece
-pub record Keeps (old new : MemoryWriter) (piece : List ℕ) (n : ℕ) : Type 0 where
+pub record Stores (old new : MemoryWriter) (piece : List ℕ) (n : ℕ) : Type 0 where
   pub count : n ≡ min old.piece (length piece)
   pub writer : new ≡ record old { bytes = old.bytes ++ take n piece; schedule = after_call old.schedule }
 

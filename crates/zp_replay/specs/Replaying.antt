@@ -1,6 +1,6 @@
 -- What a replay has read and written when it ends.
-use Rattle.std.specs.Prelude.{ℕ, ◌≡◌, ◌≤◌, ◌<◌, ◌⊎◌, List, [], ◌++◌, length, take, Option, IfSome}
-use Rattle.std.specs.Option.{option_map}
+use Rattle.std.specs.Prelude.{ℕ, ◌≡◌, ◌≤◌, ◌<◌, ◌⊎◌, List, length, take, Option, IfSome}
+use Rattle.std.specs.Io.KnownBytes.{Consumes, IsAtEnd}
 use Rattle.zp_trace.specs.declared.trace.Trace.{Trace}
 use Rattle.zp_trace.specs.Grammar.{IsTraceText, IsBadLine}
 use Rattle.zp_zone.specs.Streams.{IsWritten, IsBegun}
@@ -10,14 +10,14 @@ use Rattle.zp_replay.specs.Output.{output, bad_line}
 -- the first n bytes of a buffer were read, n below its length only where the reader has none left
 pub record IsFilled (old new : Option (List ℕ)) (buffer : List ℕ) (n : ℕ) : Type 0 where
   pub within : n ≤ length buffer
-  pub front : old ≡ option_map (λ rest. take n buffer ++ rest) new
-  pub end : n < length buffer → IfSome new (λ rest. rest ≡ [])
+  pub front : Consumes old new (take n buffer)
+  pub end : n < length buffer → IsAtEnd new
 
 -- these bytes were read, to the reader's end or up to the limit
 pub record IsRead (old new : Option (List ℕ)) (text : List ℕ) : Type 0 where
   pub within : length text ≤ INPUT_LIMIT
-  pub front : old ≡ option_map (λ rest. text ++ rest) new
-  pub end : length text < INPUT_LIMIT → IfSome new (λ rest. rest ≡ [])
+  pub front : Consumes old new text
+  pub end : length text < INPUT_LIMIT → IsAtEnd new
 
 -- this text is all that the reader had left, where it tells that
 abbrev pub IsAllOf : Option (List ℕ) → List ℕ → Type 0

@@ -1,8 +1,9 @@
-//! Readers and writers over the streams of std. A replay's clauses do not know the bytes of a device; those of one call know
-//! what its stream tells of them. How often it failed, contracts know.
-ghost use Rattle.std.specs.Prelude.{◌≡◌, ◌<◌, ◌+◌, None, Err, IfOk, OnOk, OnErr};
-ghost use Rattle.std.specs.Io.KnownBytes.{ReadConsumes, WriteAppends};
+//! Readers and writers over the streams of std. What a stream tells of its bytes, as one in memory does and a terminal does not,
+//! the device tells; how often it failed, contracts know.
+ghost use Rattle.std.specs.Prelude.{◌≡◌, ◌<◌, ◌+◌, ℕ, Ok, Err, IfOk, OnOk, OnErr};
+ghost use Rattle.std.specs.Io.KnownBytes.{Keeps};
 ghost use Rattle.zp_zone.specs.Streams.{Fills, Takes};
+ghost use Rattle.zp_replay.specs.Replaying.{IsReplayed, IsRefusedAt, IsCutShort};
 
 use crate::ending::{Ending, ReplayFault};
 use crate::failures::Failures;
@@ -30,20 +31,27 @@ impl<S: Read, L: Ledger> Source<S, L> {
     {
         Source { stream, failures }
     }
+
+    /// The stream, as the reads have left it.
+    pub fn into_stream(self) -> S
+        ensures { result ≡ self.stream }
+    {
+        let Source { stream, .. } = self;
+        stream
+    }
 }
 
 impl<S: Read, L: Ledger> Reader for Source<S, L> {
-    ghost remaining = { λ _. None };
+    ghost remaining = { λ s. S.remaining s.stream };
 
     ghost failures = { λ s. s.failures };
 
     fn read(&mut self, buffer: &mut [u8]) -> Result<usize, ReadFault>
-        ensures given { IfOk result (λ n. Fills buffer.old buffer.new n None None) }
+        ensures given { IfOk result (λ n. Fills buffer.old buffer.new n (S.remaining self.old.stream) (S.remaining self.new.stream)) }
         ensures calm { OnOk result (self.new.failures ≡ self.old.failures) }
-        ensures fault { OnErr result (self.new.failures ≡ self.old.failures + 1) }
+        ensures fault { OnErr result (Keeps (S.remaining self.old.stream) (S.remaining self.new.stream) × (self.new.failures ≡ self.old.failures + 1)) }
 
-        // What the stream gave, as far as it tells, and a failed call gives nothing.
-        ensures bytes { ReadConsumes (S.remaining self.old.stream) (S.remaining self.new.stream) result buffer.new }
+        // A failed call gives nothing.
         ensures kept { OnErr result (buffer.new ≡ buffer.old) }
     {
         let mut chunk = [0; CHUNK];
@@ -71,21 +79,22 @@ impl<S: Write, L: Ledger> Sink<S, L> {
     {
         Sink { stream, failures }
     }
+
+    /// The stream, as the writes have left it.
+    pub fn into_stream(self) -> S
+        ensures { result ≡ self.stream }
+    {
+        let Sink { stream, .. } = self;
+        stream
+    }
 }
 
 impl<S: Write, L: Ledger> Writer for Sink<S, L> {
-    ghost contents = { λ _. None };
+    ghost contents = { λ s. S.contents s.stream };
 
     ghost failures = { λ s. s.failures };
 
-    fn write(&mut self, piece: &[u8]) -> Result<usize, WriteFault>
-        ensures taken { IfOk result (λ n. Takes piece.now n None None) }
-        ensures calm { OnOk result (self.new.failures ≡ self.old.failures) }
-        ensures fault { OnErr result (self.new.failures ≡ self.old.failures + 1) }
-
-        // What the stream took, as far as it tells.
-        ensures bytes { WriteAppends (S.contents self.old.stream) (S.contents self.new.stream) result piece.now }
-    {
+    fn write(&mut self, piece: &[u8]) -> Result<usize, WriteFault> {
         match self.stream.write(piece) {
             Ok(count) if count > 0 || piece.is_empty() => Ok(count),
             _ => {
@@ -96,13 +105,19 @@ impl<S: Write, L: Ledger> Writer for Sink<S, L> {
     }
 }
 
-/// Replays a trace from one stream onto another.
+/// Replays a trace from one stream onto another, and gives both back. What is read and written, where the streams tell it, is
+/// what `replay_serial` promises.
 pub fn replay_streams<I: Read + Drop, O: Write + Drop>(
     alloc: Global,
     input: I,
     output: O,
-) -> Result<Ending, ReplayFault>
-    ensures { result ≡ Err ReplayFault.NoThread → ⊥ }
+) -> (I, O, Result<Ending, ReplayFault>)
+    ensures good { result.2 ≡ Ok Ending.Good → IsReplayed (I.remaining input) (O.contents output) (O.contents result.1) }
+    ensures bad { (n : ℕ) → result.2 ≡ Ok (Ending.BadLine n) → IsRefusedAt (I.remaining input) (O.contents output) (O.contents result.1) n }
+    ensures unread { result.2 ≡ Err ReplayFault.Read → O.contents result.1 ≡ O.contents output }
+    ensures unmade { result.2 ≡ Err ReplayFault.Memory → O.contents result.1 ≡ O.contents output }
+    ensures begun { result.2 ≡ Err ReplayFault.Write → IsCutShort (I.remaining input) (O.contents output) (O.contents result.1) }
+    ensures no_thread { result.2 ≡ Err ReplayFault.NoThread → ⊥ }
 {
     counted::<I, O, Brand, Brand>(alloc, input, Blank::new(1), output, Blank::new(1))
 }
@@ -114,14 +129,20 @@ fn counted<I: Read + Drop, O: Write + Drop, K: Ledger, L: Ledger>(
     reads: Blank,
     output: O,
     writes: Blank,
-) -> Result<Ending, ReplayFault>
+) -> (I, O, Result<Ending, ReplayFault>)
     requires read_name { reads.name ≡ K.name }
     requires read_parts { (reads.parts ≡ K.parts) × (0 < reads.parts) }
     requires write_name { writes.name ≡ L.name }
     requires write_parts { (writes.parts ≡ L.parts) × (0 < writes.parts) }
-    ensures { result ≡ Err ReplayFault.NoThread → ⊥ }
+    ensures good { result.2 ≡ Ok Ending.Good → IsReplayed (I.remaining input) (O.contents output) (O.contents result.1) }
+    ensures bad { (n : ℕ) → result.2 ≡ Ok (Ending.BadLine n) → IsRefusedAt (I.remaining input) (O.contents output) (O.contents result.1) n }
+    ensures unread { result.2 ≡ Err ReplayFault.Read → O.contents result.1 ≡ O.contents output }
+    ensures unmade { result.2 ≡ Err ReplayFault.Memory → O.contents result.1 ≡ O.contents output }
+    ensures begun { result.2 ≡ Err ReplayFault.Write → IsCutShort (I.remaining input) (O.contents output) (O.contents result.1) }
+    ensures no_thread { result.2 ≡ Err ReplayFault.NoThread → ⊥ }
 {
     let mut source = Source::new(input, Failures::<K>::new(reads));
     let mut sink = Sink::new(output, Failures::<L>::new(writes));
-    replay_serial(alloc, &mut source, &mut sink)
+    let ending = replay_serial(alloc, &mut source, &mut sink);
+    (source.into_stream(), sink.into_stream(), ending)
 }

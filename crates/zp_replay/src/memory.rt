@@ -1,7 +1,8 @@
 //! A reader and a writer in memory, which give and take their bytes in small pieces and can fail at a call.
 ghost use Rattle.std.specs.Prelude.{◌≡◌, ◌<◌, ◌+◌, ◌==◌, ℕ, [], Some, None, true, false, length, is_err, IfOk, OnOk, OnErr};
+ghost use Rattle.std.specs.Io.KnownBytes.{Keeps};
 ghost use Rattle.zp_zone.specs.Streams.{Fills, Takes};
-ghost use Rattle.zp_replay.specs.Devices.{is_due, after_call, after_calls, Gives, Keeps, failed_reader, failed_writer};
+ghost use Rattle.zp_replay.specs.Devices.{is_due, after_call, after_calls, Gives, Stores, failed_reader, failed_writer};
 
 use crate::failures::Failures;
 use std::alloc::Global;
@@ -114,7 +115,7 @@ impl<'a, L: Ledger> Reader for SliceReader<'a, L> {
     fn read(&mut self, buffer: &mut [u8]) -> Result<usize, ReadFault>
         ensures given { IfOk result (λ n. Fills buffer.old buffer.new n (Some self.old.rest) (Some self.new.rest)) }
         ensures calm { OnOk result (self.new.failures ≡ self.old.failures) }
-        ensures fault { OnErr result ((Some self.new.rest ≡ Some self.old.rest) × (self.new.failures ≡ self.old.failures + 1)) }
+        ensures fault { OnErr result (Keeps (Some self.old.rest) (Some self.new.rest) × (self.new.failures ≡ self.old.failures + 1)) }
 
         // The bytes are those in front, and it fails where it is due and nowhere else.
         ensures due { is_err result ≡ is_due self.old.schedule }
@@ -190,11 +191,11 @@ impl<L: Ledger> Writer for VecWriter<L> {
     fn write(&mut self, piece: &[u8]) -> Result<usize, WriteFault>
         ensures taken { IfOk result (λ n. Takes piece.now n (Some self.old.bytes) (Some self.new.bytes)) }
         ensures calm { OnOk result (self.new.failures ≡ self.old.failures) }
-        ensures fault { OnErr result ((Some self.new.bytes ≡ Some self.old.bytes) × (self.new.failures ≡ self.old.failures + 1)) }
+        ensures fault { OnErr result (Keeps (Some self.old.bytes) (Some self.new.bytes) × (self.new.failures ≡ self.old.failures + 1)) }
 
         // The bytes come to the end, and it fails where it is due.
         ensures due { OnOk result (is_due self.old.schedule ≡ false) }
-        ensures keeps { IfOk result (Keeps self.old self.new piece.now) }
+        ensures stores { IfOk result (Stores self.old self.new piece.now) }
         ensures failed { OnErr result (self.new ≡ failed_writer self.old) }
     {
         let count = self.piece.min(piece.len());

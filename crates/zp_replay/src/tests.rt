@@ -297,6 +297,15 @@ fn failing_writes_leave_a_beginning(rt: HostRuntime) {
 }
 
 #[test]
+fn streams_of_std_are_replayed(rt: HostRuntime) {
+    let output = Vec::new(rt.alloc());
+    let (rest, written, ending) = device::replay_streams(rt.alloc(), INFO_TRACE.as_bytes(), output);
+    assert!(rt; ending == Ok(Ending::Good));
+    assert!(rt; rest.is_empty());
+    assert!(rt; written.as_slice() == INFO_OUTPUT.as_bytes());
+}
+
+#[test]
 fn flags_are_read(rt: HostRuntime) {
     let none: [&str; 0] = [];
     let flags = read_flags(rt.alloc(), &none);

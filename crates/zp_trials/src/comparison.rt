@@ -49,6 +49,7 @@ fn compare_steps(rt: &(impl Abort + AllocGlobal), pages: u32, steps: &[Step]) ->
         }
         pair.compare_counts(rt);
         pair.compare_lists(rt);
+        pair.compare_notes(rt);
     }
     Ok(())
 }
@@ -157,11 +158,15 @@ fn compare_at_random(
             );
         }
         pair.compare_counts(rt);
+        if let Some(at) = PageAt::new(random.next_u32() % pages.max(1)) {
+            pair.compare_clear(rt, at, order_below(random.next_u32(), orders));
+        }
         if number % every.max(1) == 0 {
             pair.compare_lists(rt);
         }
     }
     pair.compare_lists(rt);
+    pair.compare_notes(rt);
     Ok(())
 }
 

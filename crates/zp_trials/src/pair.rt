@@ -42,6 +42,22 @@ impl Pair {
         clear
     }
 
+    /// Asks both whether a block may come back.
+    pub fn compare_clear(&self, rt: &impl Abort, at: PageAt, order: Order) {
+        let clear = self.buddy.is_clear(at, order);
+        assert_eq!(rt; clear, self.plain.is_clear(at, order));
+    }
+
+    /// Compares what is noted of each page.
+    pub fn compare_notes(&self, rt: &impl Abort) {
+        assert_eq!(rt; self.buddy.pages(), self.plain.pages());
+        for number in 0..self.buddy.pages().min(self.plain.pages()) {
+            let at = PageAt::at(number);
+            let note = self.buddy.holding(at);
+            assert!(rt; note == self.plain.holding(at), "page {number}");
+        }
+    }
+
     /// Takes the first so many pages, and gives back every second of them.
     pub fn punch(&mut self, rt: &impl Abort, pages: u32) {
         for _ in 0..pages {

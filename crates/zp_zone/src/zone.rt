@@ -122,7 +122,7 @@ impl Zone {
         self.buddy.give(at, order);
     }
 
-    /// The entry of a page, where the zone has the page. The entries of all pages describe the zone, each zone.
+    /// The entry of a page, where the zone has the page. In each zone the entries of all pages describe the plain zone.
     pub fn entry(&self, page: PageNo) -> Option<PageEntry>
         ensures when { IsSome result ↔ IsPageOf self.now.plain page }
         ensures described { IfSome result (λ e. IsDescribedAt self.now.plain (page - self.now.plain.base) e.state e.back e.forward) }

@@ -1,5 +1,5 @@
-use Rattle.std.proofs.Common.{ℕ, ◌≡◌, ◌-◌, ◌++◌, subst}
-use Rattle.zp_model.specs.Described.{IsLinkedAt, IsDescribedAt}
+use Rattle.std.proofs.Common.{ℕ, ◌≡◌, ◌-◌, subst}
+use Rattle.zp_model.specs.Described.{IsDescribedAt}
 use Rattle.zp_zone.specs.NamedZone.{NamedZone}
 use Rattle.zp_zone.specs.Kept.{plain_of}
 use Rattle.zp_zone.proofs.Described.{entry_described}
@@ -9,10 +9,8 @@ pub returns-clause-described : goal.returns-clause-described
 returns-clause-described c =
     let f = c.self.inside.buddy in
     let at : c.in_ok-at.at ≡ c.args.page - c.self.inside.base = c.in_ok-at.ensures.some.1 in
-    let linked : IsLinkedAt (f.area.lists ++ f.sides) c.in_ok-at.at c.entry.result.back c.entry.result.forward =
-    record { next = c.entry.ensures.next; previous = c.entry.ensures.previous; first = c.entry.ensures.first; loose = c.entry.ensures.loose } in
     let described : IsDescribedAt (plain_of f c.self.inside.base c.self.inside.min) c.in_ok-at.at c.entry.result.state c.entry.result.back c.entry.result.forward =
-    entry_described f c.self.inside.base c.self.inside.min c.in_ok-at.at _ _ _ c.pages.ensures.framed c.self.invariant.posted c.entry.ensures.state linked in
+    entry_described f c.self.inside.base c.self.inside.min c.in_ok-at.at _ _ _ c.pages.ensures.framed c.self.invariant.posted c.entry.ensures.state c.entry.ensures.linked in
     let P : ℕ → Type 0 = λ h. IsDescribedAt (plain_of f c.self.inside.base c.self.inside.min) h c.entry.result.state c.entry.result.back c.entry.result.forward in
     let Q : NamedZone → Type 0 = λ z. IsDescribedAt z.plain (c.args.page - z.plain.base) c.entry.result.state c.entry.result.back c.entry.result.forward in
     subst Q c.self.view_is (subst P at described)
