@@ -1,4 +1,6 @@
 //! Splitting and joining blocks over the page states and the lists.
+//!
+//! In Linux: `del_page_from_free_list` and `expand`.
 ghost use Rattle.std.specs.Prelude.{◌≡◌, ◌<◌, ◌≤◌, ◌+◌, ◌^◌, ℕ, length};
 ghost use Rattle.zp_model.specs.Rows.{IsOn, IsLoose};
 ghost use Rattle.zp_model.specs.Area.{list_number, lists_count};

@@ -1,4 +1,6 @@
 //! Which free block a request takes: one of its own type's, one of a pageblock that it claims, or one that it borrows.
+//!
+//! In Linux: `__rmqueue_smallest`, and `find_suitable_fallback` with `__rmqueue_fallback`.
 ghost use Rattle.std.specs.Prelude.{◌≡◌, ◌≢◌, ◌<◌, ◌≤◌, length, IfSome, Contains};
 ghost use Rattle.std.specs.List.{find};
 ghost use Rattle.zp_model.specs.BlockSet.{first_of, orders_from};

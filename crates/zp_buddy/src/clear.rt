@@ -1,4 +1,6 @@
 //! Whether a block may come back: no page of it is free or on a list past the free ones.
+//!
+//! In Linux: `free_pages_check`.
 ghost use Rattle.std.specs.Prelude.{◌≡◌, ◌<◌, ◌≤◌, ◌+◌, ◌^◌, ◌↔◌, ℕ, true, false, length, drop, IsTrue};
 ghost use Rattle.zp_model.specs.Block.{has, IsBlock};
 ghost use Rattle.zp_model.specs.BlockSet.{cover};

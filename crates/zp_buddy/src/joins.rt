@@ -1,4 +1,6 @@
 //! Joining a block that comes back with its free buddies.
+//!
+//! In Linux: `__free_one_page`, with `page_is_buddy`.
 ghost use Rattle.std.specs.Prelude.{◌≡◌, ◌+◌, ◌^◌, ◌↔◌, length, IsTrue};
 ghost use Rattle.zp_model.specs.declared.state.State.TheVariants.{Free};
 ghost use Rattle.zp_model.specs.Block.{size};

@@ -1,4 +1,6 @@
 //! Giving a pageblock another type.
+//!
+//! In Linux: `move_freepages_block` and `set_pageblock_migratetype`.
 ghost use Rattle.std.specs.Prelude.{◌≡◌, ◌≢◌, ◌<◌, ◌≤◌, ℕ, length, slice_index_or, slice_set};
 ghost use Rattle.zp_model.specs.declared.state.State.TheVariants.{Free};
 ghost use Rattle.zp_model.specs.declared.migrate_type.MigrateType.TheVariants.{Movable};

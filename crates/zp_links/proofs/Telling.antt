@@ -1,12 +1,11 @@
 -- What the links and the ends tell of the lists that they spell.
-use Rattle.std.proofs.Common.{ℕ, zero, suc, ◌≡◌, ◌<◌, ◌≤◌, inl, inr, refl, sym, ◌∙◌, ap, subst, arith, Bool, true, false, List, length, get_or, Option, Some, None, is_some, slice_get, replicate}
-use Rattle.std.proofs.lemmas.Bool.{cases_lt}
-use Rattle.std.proofs.lemmas.List.{length-replicate, get_or_default, get_or_past, get_or-replicate}
+use Rattle.std.proofs.Common.{ℕ, zero, suc, ◌≡◌, ◌<◌, ◌≤◌, inl, inr, refl, sym, ◌∙◌, ap, subst, arith, Bool, true, false, List, length, get_or, Option, Some, None, is_some, slice_get}
+use Rattle.std.proofs.lemmas.Bool.{cases_lt, false_from_ne_true}
+use Rattle.std.proofs.lemmas.List.{get_or_default, get_or_past}
 use Rattle.zp_model.specs.Rows.{Rows, list_at, IsOn, IsLoose, IsRow, after}
 use Rattle.zp_table.specs.declared.entry.PageEntry.{PageEntry}
 use Rattle.zp_links.specs.declared.ends.Ends.{Ends}
-use Rattle.zp_links.specs.Linked.{back_at, forward_at, At, spelled, ends_at, no_ends, IsLinked, IsUnlinked, MayStand}
-use Rattle.zp_table.specs.Entries.{entry_at, blank}
+use Rattle.zp_links.specs.Linked.{back_at, forward_at, At, spelled, ends_at, no_ends, IsLinked, MayStand}
 use Rattle.zp_links.proofs.Places.{distinct, get_some, get_within}
 use Rattle.zp_links.proofs.Standing.{Stands, stands, on, nowhere, loose, on_or_loose, after_is}
 use Rattle.zp_links.proofs.Writes.{value, linked_in, pages_in, may_stand, before_stands}
@@ -121,8 +120,6 @@ front_within es i r p l none e = elim (cases_lt r i) [
       cc
 ]
 
--- a new table has no links
-pub blank_is_unlinked : (n : ℕ) → IsUnlinked (replicate n blank)
-blank_is_unlinked n p l =
-    let same : entry_at (replicate n blank) p ≡ blank = get_or-replicate n p blank blank (omega (arith, length-replicate n blank)) in
-    (ap (λ (e : PageEntry). e.back) same, ap (λ (e : PageEntry). e.forward) same)
+-- a page with no entry stands nowhere
+pub past_loose : (t : List PageEntry) (es : List Ends) (ls : List (List ℕ)) → IsLinked t es ls → (p : ℕ) → length t ≤ p → IsLoose ls p
+past_loose t es ls x p past r = false_from_ne_true _ (λ o. let lt : p < length t = within t es ls x r p o in let bad : ⊥ = omega arith in bad)

@@ -16,10 +16,6 @@ back_at t p = (entry_at t p).back
 abbrev pub forward_at : List PageEntry → ℕ → Option ℕ
 forward_at t p = (entry_at t p).forward
 
--- no page has a link
-abbrev pub IsUnlinked : List PageEntry → Type 0
-IsUnlinked t = (p : ℕ) → p < length t → (back_at t p ≡ None) × (forward_at t p ≡ None)
-
 -- a neighbour, if there is one, has an entry
 abbrev pub MayStand : Option ℕ → ℕ → Type 0
 MayStand None n = Unit {0}
