@@ -43,8 +43,8 @@ impl Lists {
         // the table is no longer than a zone can be, which the lists rely on
         let _pages = table.len();
         let empty = Ends {
-            front: None,
-            back: None,
+            first: None,
+            last: None,
             len: 0,
         };
         let ends = Vec::from_elem(alloc, empty, count)?;
@@ -61,12 +61,12 @@ impl Lists {
         ensures others { StandAsBefore at self.old.lists self.new.lists }
     {
         let ends = self.ends[list];
-        self.table.set_links(at, None, ends.front);
-        set_back_of(&mut self.table, ends.front, Some(at));
-        let back = end_where(ends.front, Some(at), ends.back);
+        self.table.set_links(at, None, ends.first);
+        set_back_of(&mut self.table, ends.first, Some(at));
+        let last = end_where(ends.first, Some(at), ends.last);
         self.ends[list] = Ends {
-            front: Some(at),
-            back,
+            first: Some(at),
+            last,
             len: ends.len + 1,
         };
     }
@@ -81,12 +81,12 @@ impl Lists {
         ensures others { StandAsBefore at self.old.lists self.new.lists }
     {
         let ends = self.ends[list];
-        self.table.set_links(at, ends.back, None);
-        set_forward_of(&mut self.table, ends.back, Some(at));
-        let front = end_where(ends.back, Some(at), ends.front);
+        self.table.set_links(at, ends.last, None);
+        set_forward_of(&mut self.table, ends.last, Some(at));
+        let first = end_where(ends.last, Some(at), ends.first);
         self.ends[list] = Ends {
-            front,
-            back: Some(at),
+            first,
+            last: Some(at),
             len: ends.len + 1,
         };
     }
@@ -103,11 +103,11 @@ impl Lists {
         set_forward_of(&mut self.table, entry.back, entry.forward);
         self.table.set_links(at, None, None);
         let ends = self.ends[list];
-        let front = end_where(entry.back, entry.forward, ends.front);
-        let back = end_where(entry.forward, entry.back, ends.back);
+        let first = end_where(entry.back, entry.forward, ends.first);
+        let last = end_where(entry.forward, entry.back, ends.last);
         self.ends[list] = Ends {
-            front,
-            back,
+            first,
+            last,
             len: ends.len - 1,
         };
     }
@@ -122,7 +122,7 @@ impl Lists {
         ensures others { IfSome result (λ at. StandAsBefore at self.old.lists self.new.lists) }
     {
         let ends = self.ends[list];
-        match ends.front {
+        match ends.first {
             None => None,
             Some(at) => {
                 self.remove(list, at);
@@ -137,7 +137,7 @@ impl Lists {
         ensures answer { result ≡ front (list_at self.now.lists list) }
         ensures on { IfSome result (IsOn self.now.lists list) }
     {
-        self.ends[list].front
+        self.ends[list].first
     }
 
     /// The page after a page of a list.
@@ -166,7 +166,7 @@ impl Lists {
         ensures { IsTrue result ↔ IsOn self.now.lists list at }
     {
         let ends = self.ends[list];
-        let mut next = ends.front;
+        let mut next = ends.first;
         for _place in 0..ends.len {
             match next {
                 None => return false,

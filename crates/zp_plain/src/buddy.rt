@@ -179,6 +179,7 @@ fn blocks_listed(lists: &Lists, order: usize) -> u32
     requires table { lists_count ≤ length lists.now.lists }
     ensures { result ≡ blocks_listed_of lists.now.lists order types_count }
 {
+    // a clause of this call says that no page stands twice and each is one of the zone's
     let _pages = lists.pages();
     let mut blocks = 0;
     'types: for kind in 0..TYPES {

@@ -13,7 +13,7 @@ overflow_add-ends c =
 pub invariant_of-self : goal.invariant_of-self
 invariant_of-self c =
     let xs = list_at c.args.self.now.lists c.args.list in
-    push_linked c.args.self.now c.args.list (length xs) c.args.at c.self.inside.table _ _ c.set_forward_of.new.table c.self.inside.ends.items c.index-ends.result.now _ c.index-ends.result.now.back None (record {
+    push_linked c.args.self.now c.args.list (length xs) c.args.at c.self.inside.table _ _ c.set_forward_of.new.table c.self.inside.ends.items c.index-ends.result.now _ c.index-ends.result.now.last None (record {
       view = c.self.view_is;
       linked = c.self.invariant;
       list = c.requires.list;
@@ -26,7 +26,7 @@ invariant_of-self c =
       first = c.set_links.ensures;
       second = refl;
       third = c.set_forward_of.ensures;
-      front = c.end_where-front.ensures;
+      front = c.end_where-first.ensures;
       back = refl;
       count = refl;
     })
@@ -34,7 +34,7 @@ invariant_of-self c =
 pub returns-clause-after : goal.returns-clause-after
 returns-clause-after c =
     let xs = list_at c.args.self.now.lists c.args.list in
-    push_end c.args.self.now c.args.list c.args.at _ (push_value c.args.self.now c.args.list (length xs) c.args.at c.self.inside.table _ _ c.set_forward_of.new.table c.self.inside.ends.items c.index-ends.result.now _ c.index-ends.result.now.back None (record {
+    push_end c.args.self.now c.args.list c.args.at _ (push_value c.args.self.now c.args.list (length xs) c.args.at c.self.inside.table _ _ c.set_forward_of.new.table c.self.inside.ends.items c.index-ends.result.now _ c.index-ends.result.now.last None (record {
       view = c.self.view_is;
       linked = c.self.invariant;
       list = c.requires.list;
@@ -47,7 +47,7 @@ returns-clause-after c =
       first = c.set_links.ensures;
       second = refl;
       third = c.set_forward_of.ensures;
-      front = c.end_where-front.ensures;
+      front = c.end_where-first.ensures;
       back = refl;
       count = refl;
     }))

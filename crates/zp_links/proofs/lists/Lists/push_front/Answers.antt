@@ -11,7 +11,7 @@ overflow_add-ends c =
 
 pub invariant_of-self : goal.invariant_of-self
 invariant_of-self c =
-    push_linked c.args.self.now c.args.list 0 c.args.at c.self.inside.table _ _ c.set_back_of.new.table c.self.inside.ends.items c.index-ends.result.now _ None c.index-ends.result.now.front (record {
+    push_linked c.args.self.now c.args.list 0 c.args.at c.self.inside.table _ _ c.set_back_of.new.table c.self.inside.ends.items c.index-ends.result.now _ None c.index-ends.result.now.first (record {
       view = c.self.view_is;
       linked = c.self.invariant;
       list = c.requires.list;
@@ -25,13 +25,13 @@ invariant_of-self c =
       second = c.set_back_of.ensures;
       third = refl;
       front = refl;
-      back = c.end_where-back.ensures;
+      back = c.end_where-last.ensures;
       count = refl;
     })
 
 pub returns-clause-after : goal.returns-clause-after
 returns-clause-after c =
-    push_value c.args.self.now c.args.list 0 c.args.at c.self.inside.table _ _ c.set_back_of.new.table c.self.inside.ends.items c.index-ends.result.now _ None c.index-ends.result.now.front (record {
+    push_value c.args.self.now c.args.list 0 c.args.at c.self.inside.table _ _ c.set_back_of.new.table c.self.inside.ends.items c.index-ends.result.now _ None c.index-ends.result.now.first (record {
       view = c.self.view_is;
       linked = c.self.invariant;
       list = c.requires.list;
@@ -45,7 +45,7 @@ returns-clause-after c =
       second = c.set_back_of.ensures;
       third = refl;
       front = refl;
-      back = c.end_where-back.ensures;
+      back = c.end_where-last.ensures;
       count = refl;
     })
 

@@ -43,8 +43,8 @@ invariant_of-self c =
       second = c.set_forward_of.ensures;
       third = c.set_links.ensures;
       read = c.index-ends.ensures;
-      front = c.end_where-front.ensures;
-      back = c.end_where-back.ensures;
+      front = c.end_where-first.ensures;
+      back = c.end_where-last.ensures;
       count = refl;
     })
 
@@ -59,8 +59,8 @@ returns-clause-after c =
       second = c.set_forward_of.ensures;
       third = c.set_links.ensures;
       read = c.index-ends.ensures;
-      front = c.end_where-front.ensures;
-      back = c.end_where-back.ensures;
+      front = c.end_where-first.ensures;
+      back = c.end_where-last.ensures;
       count = refl;
     })
 
