@@ -1,5 +1,5 @@
 //! A replay under way.
-ghost use Rattle.std.specs.Prelude.{◌≡◌, ◌<◌, ◌≤◌, ◌+◌, ◌++◌, [], length, vec_capacity, IfOk, OnOk, OnErr, All};
+ghost use Rattle.std.specs.Prelude.{◌≡◌, ◌<◌, ◌≤◌, ◌+◌, ◌++◌, [], length, vec_capacity, IfOk, IfErr, OnOk, OnErr, All};
 ghost use Rattle.zp_model.specs.declared.constants.TheConstants.{LONGEST_NAME};
 ghost use Rattle.zp_model.specs.declared.mark.Mark.TheVariants.{Any};
 ghost use Rattle.zp_model.specs.declared.request.Request.TheVariants as request;
@@ -39,6 +39,7 @@ impl Replay {
     /// The zone that the line declares, with all its pages free, and room for so many bindings.
     pub fn new(alloc: Global, line: &ZoneLine, labels: usize) -> Result<Replay, Refused>
         requires { IsZoneLine line.now }
+        ensures why { IfErr result (λ r. r ≡ Refused.Memory) }
         ensures zone { IfOk result (λ r. r.zone ≡ declared_zone line.now) }
         ensures unbound { IfOk result (λ r. r.bindings.items ≡ []) }
         ensures room { IfOk result (λ r. labels ≤ vec_capacity r.bindings) }
@@ -86,7 +87,7 @@ impl Replay {
         requires command { IsCommand command.now }
         requires room { length self.old.bindings.items < vec_capacity self.old.bindings }
         ensures left { standing self.new.zone self.new.bindings.items ≡ (answer (standing self.old.zone self.old.bindings.items) command.now).left }
-        ensures room { vec_capacity self.old.bindings ≤ vec_capacity self.new.bindings }
+        ensures room { vec_capacity self.new.bindings ≡ vec_capacity self.old.bindings }
         ensures ok { OnOk result (IsWritten (W.contents writer.old) (W.contents writer.new) (answer (standing self.old.zone self.old.bindings.items) command.now).text) }
         ensures calm { OnOk result (W.failures writer.new ≡ W.failures writer.old) }
         ensures err { OnErr result (IsBegun (W.contents writer.old) (W.contents writer.new) (answer (standing self.old.zone self.old.bindings.items) command.now).text) }
@@ -124,7 +125,7 @@ impl Replay {
         ensures reply { page_reply result ≡ (step self.old.zone.plain worker (request.Alloc order kind Any)).reply }
         ensures zone { self.new.zone ≡ record self.old.zone { plain = (step self.old.zone.plain worker (request.Alloc order kind Any)).zone } }
         ensures bound { self.new.bindings.items ≡ bind self.old.bindings.items worker label order (page_reply result) }
-        ensures room { vec_capacity self.old.bindings ≤ vec_capacity self.new.bindings }
+        ensures room { vec_capacity self.new.bindings ≡ vec_capacity self.old.bindings }
     {
         let seat = &mut self.seats[usize::from(worker.number())];
         let page = self.zone.alloc(seat, order, kind, Mark::Any)?;
