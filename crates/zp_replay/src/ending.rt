@@ -6,7 +6,7 @@ use std::alloc::AllocError;
 use std::error::Error;
 use std::fmt;
 use std::fmt::{Display, Formatter};
-use zp_zone::{ReadFault, WriteFault};
+use zp_zone::WriteFault;
 
 /// What was replayed.
 #[derive(Clone, Copy, PartialEq, Eq, Debug, Drop)]
@@ -55,16 +55,6 @@ impl From<AllocError> for ReplayFault {
 
     fn from(_e: AllocError) -> ReplayFault {
         ReplayFault::Memory
-    }
-}
-
-impl From<ReadFault> for ReplayFault {
-    ghost use Rattle.zp_replay.specs.declared.ending.ReplayFault.TheVariants.{Read};
-
-    ghost from_gives = { λ _ e. e ≡ Read };
-
-    fn from(_e: ReadFault) -> ReplayFault {
-        ReplayFault::Read
     }
 }
 

@@ -36,7 +36,9 @@ pub fn read_input<R: Reader>(alloc: Global, reader: &mut R) -> Result<Vec<u8>, R
     ensures only { (result ≡ Err ReplayFault.Write → ⊥) × (result ≡ Err ReplayFault.NoThread → ⊥) }
 {
     let mut text = vec![in alloc; 0; INPUT_LIMIT]?;
-    let count = fill(reader, &mut text)?;
+    let Ok(count) = fill(reader, &mut text) else {
+        return Err(ReplayFault::Read);
+    };
     text.truncate(count);
     Ok(text)
 }
