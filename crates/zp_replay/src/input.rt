@@ -1,9 +1,9 @@
 //! Reading the input.
-ghost use Rattle.std.specs.Prelude.{◌≡◌, ◌≢◌, ◌<◌, Err, length, IfOk, OnOk, OnErr};
+ghost use Rattle.std.specs.Prelude.{◌≡◌, ◌≢◌, ◌<◌, Err, length, vec_len, IfOk, OnOk, OnErr};
 ghost use Rattle.zp_replay.specs.Replaying.{IsFilled, IsRead, IsReadWithin};
 
 use crate::ending::ReplayFault;
-use std::alloc::Global;
+use std::alloc::{AllocError, Global};
 use zp_zone::{ReadFault, Reader};
 
 /// The most bytes that are read. No good trace has so many: what is longer has its bad line among them.
@@ -27,6 +27,13 @@ fn fill<R: Reader>(reader: &mut R, buffer: &mut [u8]) -> Result<usize, ReadFault
     Ok(at)
 }
 
+/// A buffer of so many bytes.
+fn buffer(alloc: Global, bytes: usize) -> Result<Vec<u8>, AllocError>
+    ensures { IfOk result (λ buffer. vec_len buffer ≡ bytes) }
+{
+    vec![in alloc; 0; bytes]
+}
+
 /// All that the reader has left, or the first `INPUT_LIMIT` bytes of it.
 pub fn read_input<R: Reader>(alloc: Global, reader: &mut R) -> Result<Vec<u8>, ReplayFault>
     ensures ok { IfOk result (λ text. IsRead (R.remaining reader.old) (R.remaining reader.new) text.items) }
@@ -35,7 +42,7 @@ pub fn read_input<R: Reader>(alloc: Global, reader: &mut R) -> Result<Vec<u8>, R
     ensures failed { result ≡ Err ReplayFault.Read → R.failures reader.old < R.failures reader.new }
     ensures only { (result ≡ Err ReplayFault.Write → ⊥) × (result ≡ Err ReplayFault.NoThread → ⊥) }
 {
-    let mut text = vec![in alloc; 0; INPUT_LIMIT]?;
+    let mut text = buffer(alloc, INPUT_LIMIT)?;
     let Ok(count) = fill(reader, &mut text) else {
         return Err(ReplayFault::Read);
     };
