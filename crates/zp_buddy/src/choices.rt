@@ -1,4 +1,6 @@
 //! Which free block a request takes: one of its own type's, one of a pageblock that it claims, or one that it borrows.
+//!
+//! In Linux: `__rmqueue_smallest`, and `find_suitable_fallback` with `__rmqueue_fallback`.
 ghost use Rattle.std.specs.Prelude.{◌≡◌, ◌≢◌, ◌<◌, ◌≤◌, length, IfSome, Contains};
 ghost use Rattle.std.specs.List.{find};
 ghost use Rattle.zp_model.specs.BlockSet.{first_of, orders_from};
@@ -68,6 +70,7 @@ fn half_free_on(lists: &Lists, free_in: &[u32], list: usize) -> Option<PageAt>
     requires counted { length free_in.now ≡ pageblocks_of (length lists.now.states) }
     ensures { result ≡ find (is_half_free free_in.now) (list_at lists.now.lists list) }
 {
+    // a clause of this call says that no page stands twice and each is one of the zone's
     let _pages = lists.pages();
     let mut next = lists.front(list);
     'heads: while let Some(head) = next {

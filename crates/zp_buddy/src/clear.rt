@@ -1,4 +1,6 @@
 //! Whether a block may come back: no page of it is free or on a list past the free ones.
+//!
+//! In Linux: `free_pages_check`.
 ghost use Rattle.std.specs.Prelude.{◌≡◌, ◌<◌, ◌≤◌, ◌+◌, ◌^◌, ◌↔◌, ℕ, true, false, length, drop, IsTrue};
 ghost use Rattle.zp_model.specs.Block.{has, IsBlock};
 ghost use Rattle.zp_model.specs.BlockSet.{cover};
@@ -26,6 +28,7 @@ pub fn is_clear_run(lists: &Lists, at: PageAt, order: Order) -> bool
     requires listed { HoldsFreePages lists.now.states lists.now.lists }
     ensures { IsTrue result ↔ IsClearRun lists.now.states lists.now.lists at order }
 {
+    // a clause of this call says that no page stands twice and each is one of the zone's
     let _pages = lists.pages();
     'pages: for i in at.number()..at.number() + order.pages() {
         let page = PageAt::at(i);

@@ -1,4 +1,6 @@
 //! The opening of a zone: all pages free.
+//!
+//! In Linux: `memmap_init` and `memblock_free_all`.
 ghost use Rattle.std.specs.Prelude.{◌≡◌, ◌≤◌, length};
 ghost use Rattle.zp_model.specs.Area.{lists_count};
 ghost use Rattle.zp_frames.specs.Opened.{IsOpenedTo};

@@ -1,4 +1,6 @@
 //! Taking the block that was chosen.
+//!
+//! In Linux: `steal_suitable_fallback`, then `expand`.
 ghost use Rattle.std.specs.Prelude.{◌≡◌, ◌≢◌, true, length, Some};
 ghost use Rattle.zp_model.specs.Area.{pageblocks_of};
 ghost use Rattle.zp_model.specs.Frames.{with_area};

@@ -24,3 +24,4 @@ pub mod Joining
 pub mod Ending
 pub mod GivenBack
 pub mod ClearRuns
+pub mod ClearAfter

@@ -1,4 +1,6 @@
 //! What a request may take: a block of a free list, and which types and orders it looks at.
+//!
+//! In Linux: the table `fallbacks`, and `can_steal_fallback`.
 ghost use Rattle.std.specs.Prelude.{◌≡◌, ◌||◌, not, leb};
 ghost use Rattle.zp_model.specs.declared.migrate_type.MigrateType.TheVariants.{Movable};
 ghost use Rattle.zp_model.specs.MigrateType.{foreign, same_type};

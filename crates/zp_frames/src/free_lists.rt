@@ -1,4 +1,6 @@
 //! The numbers of the free lists.
+//!
+//! In Linux: `free_area[order].free_list[migratetype]`.
 ghost use Rattle.std.specs.Prelude.{◌≡◌, ◌<◌};
 ghost use Rattle.zp_model.specs.Area.{list_number, lists_count};
 

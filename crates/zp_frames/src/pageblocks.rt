@@ -1,4 +1,6 @@
 //! The pageblocks of a zone: which one a page lies in, its type, and how many pages each has.
+//!
+//! In Linux: `get_pageblock_migratetype`.
 ghost use Rattle.std.specs.Prelude.{◌≡◌, ◌<◌, ◌≤◌, ◌*◌, ◌-◌, ◌/◌, length, map, min, IfOk};
 ghost use Rattle.std.specs.List.{range_with_len};
 ghost use Rattle.zp_model.specs.Area.{pageblocks_of, kind_at};

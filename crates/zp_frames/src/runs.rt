@@ -1,4 +1,6 @@
 //! Aligned runs of pages: the one around a page, the other half of its double, and how large one may be.
+//!
+//! In Linux: `__find_buddy_pfn`.
 ghost use Rattle.std.specs.Prelude.{◌≡◌, ◌<◌, ◌≤◌, ◌+◌, ◌%◌, ◌^◌, min};
 ghost use Rattle.zp_model.specs.Block.{head};
 ghost use Rattle.zp_frames.specs.Join.{IsBuddy};

@@ -20,3 +20,4 @@ pub mod Moves
 pub mod StepMoves
 pub mod TakingBack
 pub mod Replaying
+pub mod StaysOut

@@ -37,7 +37,7 @@ unfolding times_posted
 none-posted zero i = refl
 none-posted (suc n) i = sum_by-cons (λ ps. count_posted ps i) [] (replicate n []) ∙ rw (none-posted n i) (omega arith)
 
-free-opening : (pages : ℕ) → (opening pages).free ≡ replicate pages true
+pub free-opening : (pages : ℕ) → (opening pages).free ≡ replicate pages true
 unfolding opening
 free-opening pages =
     free-settle (record { free = replicate pages true; kinds = replicate (pageblocks_of pages) Movable; lists = replicate lists_count [] })

@@ -14,11 +14,11 @@ use Rattle.zp_links.proofs.Places.{cut, cut-below, cut-above, length-cut, put, p
 -- the lists that a linked table and its ends spell are the lists
 pub spelled_is : (t : List PageEntry) (es : List Ends) (ls : List (List ℕ)) → IsLinked t es ls → spelled t es ≡ ls
 spelled_is t es ls x =
-    let n : length (spelled t es) ≡ length es = length-map es (λ (e : Ends). walk e.len t e.front) in
+    let n : length (spelled t es) ≡ length es = length-map es (λ (e : Ends). walk e.len t e.first) in
     ext_get_or [] (spelled t es) ls (n ∙ sym x.rows) (λ r below.
-    get_or-map (λ (e : Ends). walk e.len t e.front) es r no_ends
-    ∙ ap (λ (m : ℕ). walk m t (ends_at es r).front) (x.count r)
-    ∙ walk_is (list_at ls r) t (ends_at es r).front (x.front r) (λ k p e. x.after r k p e))
+    get_or-map (λ (e : Ends). walk e.len t e.first) es r no_ends
+    ∙ ap (λ (m : ℕ). walk m t (ends_at es r).first) (x.count r)
+    ∙ walk_is (list_at ls r) t (ends_at es r).first (x.front r) (λ k p e. x.after r k p e))
 
 -- so what is proved of the lists holds of those spelled
 pub linked_spelled : (t : List PageEntry) (es : List Ends) (ls : List (List ℕ)) → IsLinked t es ls → IsLinked t es (spelled t es)
@@ -39,8 +39,8 @@ at_other ls r r' xs k p ne e = ap (λ (q : List ℕ). slice_get q k) (sym (row_o
 
 -- the table and the ends of one list spell it
 pub record RowLinked (t : List PageEntry) (e : Ends) (xs : List ℕ) : Type 0 where
-  pub front : e.front ≡ slice_get xs 0
-  pub back : e.back ≡ before xs (length xs)
+  pub front : e.first ≡ slice_get xs 0
+  pub back : e.last ≡ before xs (length xs)
   pub count : e.len ≡ length xs
   pub inside : (k p : ℕ) → slice_get xs k ≡ Some p → p < length t
   pub after : (k p : ℕ) → slice_get xs k ≡ Some p → forward_at t p ≡ slice_get xs (suc k)
@@ -170,8 +170,8 @@ pub record IsInserted (r i p : ℕ) (t t' : List PageEntry) (es es' : List Ends)
   pub forwards : (q : ℕ) → q ≢ p → (before (list_at ls r) i ≡ Some q → ⊥) → forward_at t' q ≡ forward_at t q
   pub rows : length es' ≡ length es
   pub list : r < length ls
-  pub front : (ends_at es' r).front ≡ end_if (before (list_at ls r) i) (Some p) (ends_at es r).front
-  pub last : (ends_at es' r).back ≡ end_if (slice_get (list_at ls r) i) (Some p) (ends_at es r).back
+  pub front : (ends_at es' r).first ≡ end_if (before (list_at ls r) i) (Some p) (ends_at es r).first
+  pub last : (ends_at es' r).last ≡ end_if (slice_get (list_at ls r) i) (Some p) (ends_at es r).last
   pub count : (ends_at es' r).len ≡ (ends_at es r).len + 1
   pub others : (r' : ℕ) → r' ≢ r → ends_at es' r' ≡ ends_at es r'
 
@@ -221,8 +221,8 @@ inserted_here r i p t t' es es' ls x y =
     let xs : List ℕ = list_at ls r in
     let ys : List ℕ = put (list_at ls r) i p in
     record {
-      front = y.front ∙ front-put xs i p (ends_at es r).front y.place (x.front r);
-      back = y.last ∙ back-put xs i p (ends_at es r).back y.place (x.back r);
+      front = y.front ∙ front-put xs i p (ends_at es r).first y.place (x.front r);
+      back = y.last ∙ back-put xs i p (ends_at es r).last y.place (x.back r);
       count = omega (arith, y.count, x.count r, length-put xs i p);
       inside = λ k q e. elim (stood_put xs i p k q y.place e) [
         | inl w ↦ omega (arith, y.here, y.table)
@@ -302,8 +302,8 @@ pub record IsRemoved (r i p : ℕ) (t t' : List PageEntry) (es es' : List Ends) 
   pub forwards : (q : ℕ) → q ≢ p → (before (list_at ls r) i ≡ Some q → ⊥) → forward_at t' q ≡ forward_at t q
   pub rows : length es' ≡ length es
   pub list : r < length ls
-  pub front : (ends_at es' r).front ≡ end_if (before (list_at ls r) i) (slice_get (list_at ls r) (suc i)) (ends_at es r).front
-  pub last : (ends_at es' r).back ≡ end_if (slice_get (list_at ls r) (suc i)) (before (list_at ls r) i) (ends_at es r).back
+  pub front : (ends_at es' r).first ≡ end_if (before (list_at ls r) i) (slice_get (list_at ls r) (suc i)) (ends_at es r).first
+  pub last : (ends_at es' r).last ≡ end_if (slice_get (list_at ls r) (suc i)) (before (list_at ls r) i) (ends_at es r).last
   pub count : (ends_at es' r).len + 1 ≡ (ends_at es r).len
   pub others : (r' : ℕ) → r' ≢ r → ends_at es' r' ≡ ends_at es r'
 
@@ -359,8 +359,8 @@ removed_here r i p t t' es es' ls x y =
     let xs : List ℕ = list_at ls r in
     let l : i < length xs = get_within xs i p y.here in
     record {
-      front = y.front ∙ front-cut xs i (ends_at es r).front l (x.front r);
-      back = y.last ∙ back-cut xs i (ends_at es r).back l (x.back r);
+      front = y.front ∙ front-cut xs i (ends_at es r).first l (x.front r);
+      back = y.last ∙ back-cut xs i (ends_at es r).last l (x.back r);
       count = omega (arith, y.count, x.count r, length-cut xs i l);
       inside = λ k q e. elim (cases_lt k i) [
         | inl lt ↦ omega (arith, x.inside r k q (sym (cut-below xs i k lt) ∙ e), y.table)
@@ -457,8 +457,8 @@ empty t n m b =
     record {
       rows = length-replicate n [] ∙ sym (length-replicate n no_ends);
       pages = m;
-      front = λ r. ap (λ (e : Ends). e.front) (ends r) ∙ ap (λ (xs : List ℕ). slice_get xs 0) (sym (none r));
-      back = λ r. ap (λ (e : Ends). e.back) (ends r) ∙ ap (λ (xs : List ℕ). before xs (length xs)) (sym (none r));
+      front = λ r. ap (λ (e : Ends). e.first) (ends r) ∙ ap (λ (xs : List ℕ). slice_get xs 0) (sym (none r));
+      back = λ r. ap (λ (e : Ends). e.last) (ends r) ∙ ap (λ (xs : List ℕ). before xs (length xs)) (sym (none r));
       count = λ r. ap (λ (e : Ends). e.len) (ends r) ∙ ap (λ (xs : List ℕ). length xs) (sym (none r));
       inside = λ r k p e. absurd (no r k p e);
       after = λ r k p e. absurd (no r k p e);

@@ -1,12 +1,11 @@
 -- What the links and the ends tell of the lists that they spell.
-use Rattle.std.proofs.Common.{ℕ, zero, suc, ◌≡◌, ◌<◌, ◌≤◌, inl, inr, refl, sym, ◌∙◌, ap, subst, arith, Bool, true, false, List, length, get_or, Option, Some, None, is_some, slice_get, replicate}
-use Rattle.std.proofs.lemmas.Bool.{cases_lt}
-use Rattle.std.proofs.lemmas.List.{length-replicate, get_or_default, get_or_past, get_or-replicate}
+use Rattle.std.proofs.Common.{ℕ, zero, suc, ◌≡◌, ◌<◌, ◌≤◌, inl, inr, refl, sym, ◌∙◌, ap, subst, arith, Bool, true, false, List, length, get_or, Option, Some, None, is_some, slice_get}
+use Rattle.std.proofs.lemmas.Bool.{cases_lt, false_from_ne_true}
+use Rattle.std.proofs.lemmas.List.{get_or_default, get_or_past}
 use Rattle.zp_model.specs.Rows.{Rows, list_at, IsOn, IsLoose, IsRow, after}
 use Rattle.zp_table.specs.declared.entry.PageEntry.{PageEntry}
 use Rattle.zp_links.specs.declared.ends.Ends.{Ends}
-use Rattle.zp_links.specs.Linked.{back_at, forward_at, At, spelled, ends_at, no_ends, IsLinked, IsUnlinked, MayStand}
-use Rattle.zp_table.specs.Entries.{entry_at, blank}
+use Rattle.zp_links.specs.Linked.{back_at, forward_at, At, spelled, ends_at, no_ends, IsLinked, MayStand}
 use Rattle.zp_links.proofs.Places.{distinct, get_some, get_within}
 use Rattle.zp_links.proofs.Standing.{Stands, stands, on, nowhere, loose, on_or_loose, after_is}
 use Rattle.zp_links.proofs.Writes.{value, linked_in, pages_in, may_stand, before_stands}
@@ -65,10 +64,10 @@ on_with_back t es ls x p q e = elim (on_or_loose ls p) [
   | inr none ↦ let bad : Some q ≡ None = sym e ∙ (unlinked t es ls x p none).0 in absurd cc
 ]
 
-pub on_front : (t : List PageEntry) (es : List Ends) (ls : List (List ℕ)) → IsLinked t es ls → (r p : ℕ) → (ends_at es r).front ≡ Some p → IsOn ls r p
+pub on_front : (t : List PageEntry) (es : List Ends) (ls : List (List ℕ)) → IsLinked t es ls → (r p : ℕ) → (ends_at es r).first ≡ Some p → IsOn ls r p
 on_front t es ls x r p e = on ls r 0 p (sym (x.front r) ∙ e)
 
-stands_nowhere : (t : List PageEntry) (es : List Ends) (ls : List (List ℕ)) → IsLinked t es ls → (p : ℕ) → back_at t p ≡ None → ((r : ℕ) → (ends_at es r).front ≡ Some p → ⊥) →
+stands_nowhere : (t : List PageEntry) (es : List Ends) (ls : List (List ℕ)) → IsLinked t es ls → (p : ℕ) → back_at t p ≡ None → ((r : ℕ) → (ends_at es r).first ≡ Some p → ⊥) →
     (r k : ℕ) → At ls r k p → ⊥
 stands_nowhere t es ls x p none differs r zero e = differs r (x.front r ∙ e)
 stands_nowhere t es ls x p none differs r (suc k) e =
@@ -77,7 +76,7 @@ stands_nowhere t es ls x p none differs r (suc k) e =
     let bad : None ≡ Some w.0 = sym none ∙ x.first r (suc k) p e ∙ w.1 in
     cc
 
-pub loose_without : (t : List PageEntry) (es : List Ends) (ls : List (List ℕ)) → IsLinked t es ls → (p : ℕ) → back_at t p ≡ None → ((r : ℕ) → (ends_at es r).front ≡ Some p → ⊥) → IsLoose ls p
+pub loose_without : (t : List PageEntry) (es : List Ends) (ls : List (List ℕ)) → IsLinked t es ls → (p : ℕ) → back_at t p ≡ None → ((r : ℕ) → (ends_at es r).first ≡ Some p → ⊥) → IsLoose ls p
 loose_without t es ls x p none differs = loose ls p (stands_nowhere t es ls x p none differs)
 
 pub on_by_back : (t : List PageEntry) (es : List Ends) (ls : List (List ℕ)) → IsLinked t es ls → (p : ℕ) (o : Option ℕ) → o ≡ back_at t p → is_some o ≡ true → (r : ℕ) × IsOn ls r p
@@ -90,18 +89,18 @@ no_back (Some q) b e h = absurd cc
 
 -- whether a page with no page before it is a front tells whether it is on a list
 pub loose_by_front : (t : List PageEntry) (es d : List Ends) (ls : List (List ℕ)) → IsLinked t es ls → d ≡ es → (p : ℕ) → back_at t p ≡ None → (b : Bool) →
-    (((r : ℕ) × ((ends_at d r).front ≡ Some p)) → b ≡ true) → b ≡ false → IsLoose ls p
+    (((r : ℕ) × ((ends_at d r).first ≡ Some p)) → b ≡ true) → b ≡ false → IsLoose ls p
 loose_by_front t es d ls x same p none b found e =
     loose_without t es ls x p none (λ r f.
-    let shown : b ≡ true = found (r, ap (λ (z : List Ends). (ends_at z r).front) same ∙ f) in
+    let shown : b ≡ true = found (r, ap (λ (z : List Ends). (ends_at z r).first) same ∙ f) in
     let bad : true ≡ false = sym shown ∙ e in
     cc)
 
-pub on_by_front : (t : List PageEntry) (es d : List Ends) (ls : List (List ℕ)) → IsLinked t es ls → d ≡ es → (p : ℕ) → ((r : ℕ) × ((ends_at d r).front ≡ Some p)) → (r : ℕ) × IsOn ls r p
-on_by_front t es d ls x same p w = (w.0, on_front t es ls x w.0 p (sym (ap (λ (z : List Ends). (ends_at z w.0).front) same) ∙ w.1))
+pub on_by_front : (t : List PageEntry) (es d : List Ends) (ls : List (List ℕ)) → IsLinked t es ls → d ≡ es → (p : ℕ) → ((r : ℕ) × ((ends_at d r).first ≡ Some p)) → (r : ℕ) × IsOn ls r p
+on_by_front t es d ls x same p w = (w.0, on_front t es ls x w.0 p (sym (ap (λ (z : List Ends). (ends_at z w.0).first) same) ∙ w.1))
 
 pub front_where_on : (t : List PageEntry) (es d : List Ends) (ls : List (List ℕ)) → IsLinked t es ls → d ≡ es → (p : ℕ) → back_at t p ≡ None → (b : Bool) →
-    (((r : ℕ) × ((ends_at d r).front ≡ Some p)) → b ≡ true) → ((r : ℕ) × IsOn ls r p) → b ≡ true
+    (((r : ℕ) × ((ends_at d r).first ≡ Some p)) → b ≡ true) → ((r : ℕ) × IsOn ls r p) → b ≡ true
 front_where_on t es d ls x same p none true found w = refl
 front_where_on t es d ls x same p none false found w =
     let gone : IsLoose ls p = loose_by_front t es d ls x same p none false found refl in
@@ -109,20 +108,18 @@ front_where_on t es d ls x same p none false found w =
     absurd cc
 
 -- the ends that a loop reads
-pub front_read : (es : List Ends) (i : ℕ) (e : Ends) → i < length es → e ≡ get_or es i e → (ends_at es i).front ≡ e.front
-front_read es i e l h = ap (λ (d : Ends). d.front) (sym (h ∙ get_or_default es i e no_ends l))
+pub front_read : (es : List Ends) (i : ℕ) (e : Ends) → i < length es → e ≡ get_or es i e → (ends_at es i).first ≡ e.first
+front_read es i e l h = ap (λ (d : Ends). d.first) (sym (h ∙ get_or_default es i e no_ends l))
 
-pub front_within : (es : List Ends) (i r p : ℕ) → length es ≤ i → ((r : ℕ) → r < i → (ends_at es r).front ≡ Some p → ⊥) → (ends_at es r).front ≡ Some p → ⊥
+pub front_within : (es : List Ends) (i r p : ℕ) → length es ≤ i → ((r : ℕ) → r < i → (ends_at es r).first ≡ Some p → ⊥) → (ends_at es r).first ≡ Some p → ⊥
 front_within es i r p l none e = elim (cases_lt r i) [
   | inl lt ↦ none r lt e
   | inr past ↦
       let n : ends_at es r ≡ no_ends = get_or_past es r no_ends (omega arith) in
-      let bad : None ≡ Some p = sym (ap (λ (d : Ends). d.front) n) ∙ e in
+      let bad : None ≡ Some p = sym (ap (λ (d : Ends). d.first) n) ∙ e in
       cc
 ]
 
--- a new table has no links
-pub blank_is_unlinked : (n : ℕ) → IsUnlinked (replicate n blank)
-blank_is_unlinked n p l =
-    let same : entry_at (replicate n blank) p ≡ blank = get_or-replicate n p blank blank (omega (arith, length-replicate n blank)) in
-    (ap (λ (e : PageEntry). e.back) same, ap (λ (e : PageEntry). e.forward) same)
+-- a page with no entry stands nowhere
+pub past_loose : (t : List PageEntry) (es : List Ends) (ls : List (List ℕ)) → IsLinked t es ls → (p : ℕ) → length t ≤ p → IsLoose ls p
+past_loose t es ls x p past r = false_from_ne_true _ (λ o. let lt : p < length t = within t es ls x r p o in let bad : ⊥ = omega arith in bad)

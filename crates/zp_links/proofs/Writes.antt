@@ -110,12 +110,12 @@ pub read_ends : (w : Rows) (t : List PageEntry) (es : List Ends) (r : ℕ) (e : 
 read_ends w t es r e v x l h = h ∙ get_or_default es r e no_ends (omega (arith, lists_in w t es v x))
 
 pub front_of : (w : Rows) (t : List PageEntry) (es : List Ends) (r : ℕ) (e : Ends) → value t es ≡ w → IsLinked t es (spelled t es) → r < length w.lists → e ≡ get_or es r e →
-    e.front ≡ slice_get (list_at w.lists r) 0
-front_of w t es r e v x l h = ap (λ (d : Ends). d.front) (read_ends w t es r e v x l h) ∙ (linked_in w t es v x).front r
+    e.first ≡ slice_get (list_at w.lists r) 0
+front_of w t es r e v x l h = ap (λ (d : Ends). d.first) (read_ends w t es r e v x l h) ∙ (linked_in w t es v x).front r
 
 pub end_of : (w : Rows) (t : List PageEntry) (es : List Ends) (r : ℕ) (e : Ends) → value t es ≡ w → IsLinked t es (spelled t es) → r < length w.lists → e ≡ get_or es r e →
-    e.back ≡ before (list_at w.lists r) (length (list_at w.lists r))
-end_of w t es r e v x l h = ap (λ (d : Ends). d.back) (read_ends w t es r e v x l h) ∙ (linked_in w t es v x).back r
+    e.last ≡ before (list_at w.lists r) (length (list_at w.lists r))
+end_of w t es r e v x l h = ap (λ (d : Ends). d.last) (read_ends w t es r e v x l h) ∙ (linked_in w t es v x).back r
 
 pub count_of : (w : Rows) (t : List PageEntry) (es : List Ends) (r : ℕ) (e : Ends) → value t es ≡ w → IsLinked t es (spelled t es) → r < length w.lists → e ≡ get_or es r e →
     e.len ≡ length (list_at w.lists r)
@@ -139,7 +139,7 @@ before_stands t es ls x r i b e = may_stand b (length t) (λ q w.
 
 joined_inserts : (r i p : ℕ) (t : List PageEntry) (es : List Ends) (e d : Ends) (b f : Option ℕ) (ls : List (List ℕ)) → IsLinked t es ls → r < length ls → p < length t → StandsNowhere ls p →
     i ≤ length (list_at ls r) → b ≡ before (list_at ls r) i → f ≡ slice_get (list_at ls r) i → e ≡ ends_at es r →
-    d.front ≡ end_if b (Some p) e.front → d.back ≡ end_if f (Some p) e.back → d.len ≡ e.len + 1 → IsInserted r i p t (joined t p b f) es (set es r d) ls
+    d.first ≡ end_if b (Some p) e.first → d.last ≡ end_if f (Some p) e.last → d.len ≡ e.len + 1 → IsInserted r i p t (joined t p b f) es (set es r d) ls
 joined_inserts r i p t es e d b f ls x l here loose place previous next ee ef eb el =
     let t1 : List PageEntry = with_links_at t p b f in
     let t2 : List PageEntry = with_back_of t1 f (Some p) in
@@ -165,10 +165,10 @@ joined_inserts r i p t es e d b f ls x l here loose place previous next ee ef eb
       forwards = λ q ne other. forward_other t2 b (Some p) q (λ w. other (sym previous ∙ w)) ∙ back-forward t1 f (Some p) q mf ∙ ap forward_of (links_other t p q b f ne);
       rows = length-set es r d;
       list = l;
-      front = ap (λ (z : Ends). z.front) (get_or-set_same es r d no_ends re) ∙ ef ∙ ap (λ (o : Option ℕ). end_if o (Some p) e.front) previous
-          ∙ ap (λ (z : Ends). end_if (before (list_at ls r) i) (Some p) z.front) ee;
-      last = ap (λ (z : Ends). z.back) (get_or-set_same es r d no_ends re) ∙ eb ∙ ap (λ (o : Option ℕ). end_if o (Some p) e.back) next
-          ∙ ap (λ (z : Ends). end_if (slice_get (list_at ls r) i) (Some p) z.back) ee;
+      front = ap (λ (z : Ends). z.first) (get_or-set_same es r d no_ends re) ∙ ef ∙ ap (λ (o : Option ℕ). end_if o (Some p) e.first) previous
+          ∙ ap (λ (z : Ends). end_if (before (list_at ls r) i) (Some p) z.first) ee;
+      last = ap (λ (z : Ends). z.last) (get_or-set_same es r d no_ends re) ∙ eb ∙ ap (λ (o : Option ℕ). end_if o (Some p) e.last) next
+          ∙ ap (λ (z : Ends). end_if (slice_get (list_at ls r) i) (Some p) z.last) ee;
       count = ap (λ (z : Ends). z.len) (get_or-set_same es r d no_ends re) ∙ el ∙ ap (λ (z : Ends). z.len + 1) ee;
       others = λ r' ne. get_or-set_other es r r' d no_ends ne;
     }
@@ -187,8 +187,8 @@ pub record IsPushCode (w : Rows) (r i p : ℕ) (t t1 t2 t3 : List PageEntry) (es
   pub first : t1 ≡ with_links_at t p b f
   pub second : t2 ≡ with_back_of t1 f (Some p)
   pub third : t3 ≡ with_forward_of t2 b (Some p)
-  pub front : d.front ≡ end_if b (Some p) e.front
-  pub back : d.back ≡ end_if f (Some p) e.back
+  pub front : d.first ≡ end_if b (Some p) e.first
+  pub back : d.last ≡ end_if f (Some p) e.last
   pub count : d.len ≡ e.len + 1
 
 push_links : (w : Rows) (r i p : ℕ) (t t1 t2 t3 : List PageEntry) (es : List Ends) (e d : Ends) (b f : Option ℕ) → IsPushCode w r i p t t1 t2 t3 es e d b f →
@@ -235,7 +235,7 @@ closed t p b f = with_links_at (with_forward_of (with_back_of t f b) b f) p None
 
 closed_removes : (r i p : ℕ) (t : List PageEntry) (es : List Ends) (e d : Ends) (b f : Option ℕ) (ls : List (List ℕ)) → IsLinked t es ls → At ls r i p →
     b ≡ before (list_at ls r) i → f ≡ slice_get (list_at ls r) (suc i) → e ≡ ends_at es r →
-    d.front ≡ end_if b f e.front → d.back ≡ end_if f b e.back → d.len ≡ e.len - 1 → IsRemoved r i p t (closed t p b f) es (set es r d) ls
+    d.first ≡ end_if b f e.first → d.last ≡ end_if f b e.last → d.len ≡ e.len - 1 → IsRemoved r i p t (closed t p b f) es (set es r d) ls
 closed_removes r i p t es e d b f ls x at previous next ee ef eb el =
     let t1 : List PageEntry = with_back_of t f b in
     let t2 : List PageEntry = with_forward_of t1 b f in
@@ -267,10 +267,10 @@ closed_removes r i p t es e d b f ls x at previous next ee ef eb el =
       forwards = λ q ne other. f3 q ne ∙ forward_other t1 b f q (λ w. other (sym previous ∙ w)) ∙ back-forward t f b q mf;
       rows = length-set es r d;
       list = l;
-      front = ap (λ (z : Ends). z.front) (get_or-set_same es r d no_ends re) ∙ ef ∙ ap (λ (o : Option ℕ). end_if o f e.front) previous
-          ∙ ap (λ (o : Option ℕ). end_if (before (list_at ls r) i) o e.front) next ∙ ap (λ (z : Ends). end_if (before (list_at ls r) i) (slice_get (list_at ls r) (suc i)) z.front) ee;
-      last = ap (λ (z : Ends). z.back) (get_or-set_same es r d no_ends re) ∙ eb ∙ ap (λ (o : Option ℕ). end_if o b e.back) next
-          ∙ ap (λ (o : Option ℕ). end_if (slice_get (list_at ls r) (suc i)) o e.back) previous ∙ ap (λ (z : Ends). end_if (slice_get (list_at ls r) (suc i)) (before (list_at ls r) i) z.back) ee;
+      front = ap (λ (z : Ends). z.first) (get_or-set_same es r d no_ends re) ∙ ef ∙ ap (λ (o : Option ℕ). end_if o f e.first) previous
+          ∙ ap (λ (o : Option ℕ). end_if (before (list_at ls r) i) o e.first) next ∙ ap (λ (z : Ends). end_if (before (list_at ls r) i) (slice_get (list_at ls r) (suc i)) z.first) ee;
+      last = ap (λ (z : Ends). z.last) (get_or-set_same es r d no_ends re) ∙ eb ∙ ap (λ (o : Option ℕ). end_if o b e.last) next
+          ∙ ap (λ (o : Option ℕ). end_if (slice_get (list_at ls r) (suc i)) o e.last) previous ∙ ap (λ (z : Ends). end_if (slice_get (list_at ls r) (suc i)) (before (list_at ls r) i) z.last) ee;
       count =
           let c1 : (ends_at (set es r d) r).len ≡ e.len - 1 = ap (λ (z : Ends). z.len) (get_or-set_same es r d no_ends re) ∙ el in
           let c2 : e.len ≡ (ends_at es r).len = ap (λ (z : Ends). z.len) ee in
@@ -289,8 +289,8 @@ pub record IsRemoveCode (w : Rows) (r p : ℕ) (t t1 t2 t3 : List PageEntry) (es
   pub second : t2 ≡ with_forward_of t1 n.back n.forward
   pub third : t3 ≡ with_links_at t2 p None None
   pub read : e ≡ get_or es r e
-  pub front : d.front ≡ end_if n.back n.forward e.front
-  pub back : d.back ≡ end_if n.forward n.back e.back
+  pub front : d.first ≡ end_if n.back n.forward e.first
+  pub back : d.last ≡ end_if n.forward n.back e.last
   pub count : d.len ≡ e.len - 1
 
 -- the list without the page is the list cut at its place
@@ -322,7 +322,7 @@ remove_value w r p t t1 t2 t3 es n e d x =
     ∙ ap (λ (s : List PageEntry). map state_of s) x.first ∙ states-back t n.forward n.back ∙ ap (λ (z : Rows). z.states) x.view)
 
 -- the list without its front
-pub pop_after : (w : Rows) (r p : ℕ) (t : List PageEntry) (es : List Ends) (e : Ends) → value t es ≡ w → IsLinked t es (spelled t es) → r < length w.lists → e ≡ get_or es r e → e.front ≡ Some p →
+pub pop_after : (w : Rows) (r p : ℕ) (t : List PageEntry) (es : List Ends) (e : Ends) → value t es ≡ w → IsLinked t es (spelled t es) → r < length w.lists → e ≡ get_or es r e → e.first ≡ Some p →
     without_page p (list_at w.lists r) ≡ rest (list_at w.lists r)
 pop_after w r p t es e v x l h f =
     let at : At w.lists r 0 p = sym (front_of w t es r e v x l h) ∙ f in

@@ -16,10 +16,6 @@ back_at t p = (entry_at t p).back
 abbrev pub forward_at : List PageEntry → ℕ → Option ℕ
 forward_at t p = (entry_at t p).forward
 
--- no page has a link
-abbrev pub IsUnlinked : List PageEntry → Type 0
-IsUnlinked t = (p : ℕ) → p < length t → (back_at t p ≡ None) × (forward_at t p ≡ None)
-
 -- a neighbour, if there is one, has an entry
 abbrev pub MayStand : Option ℕ → ℕ → Type 0
 MayStand None n = Unit {0}
@@ -40,7 +36,7 @@ end_if None there other = there
 end_if (Some q) there other = other
 
 abbrev pub no_ends : Ends
-no_ends = record { front = None; back = None; len = 0 }
+no_ends = record { first = None; last = None; len = 0 }
 
 abbrev pub ends_at : List Ends → ℕ → Ends
 ends_at es r = slice_index_or es r no_ends
@@ -65,14 +61,14 @@ walk (suc n) t None = []
 walk (suc n) t (Some p) = p ∷ walk n t (forward_at t p)
 
 abbrev pub spelled : List PageEntry → List Ends → List (List ℕ)
-spelled t es = map (λ (e : Ends). walk e.len t e.front) es
+spelled t es = map (λ (e : Ends). walk e.len t e.first) es
 
 -- the table and the ends spell the lists
 pub record IsLinked (t : List PageEntry) (es : List Ends) (ls : List (List ℕ)) : Type 0 where
   pub rows : length ls ≡ length es
   pub pages : length t ≤ MAX_PAGES
-  pub front : (r : ℕ) → (ends_at es r).front ≡ slice_get (list_at ls r) 0
-  pub back : (r : ℕ) → (ends_at es r).back ≡ before (list_at ls r) (length (list_at ls r))
+  pub front : (r : ℕ) → (ends_at es r).first ≡ slice_get (list_at ls r) 0
+  pub back : (r : ℕ) → (ends_at es r).last ≡ before (list_at ls r) (length (list_at ls r))
   pub count : (r : ℕ) → (ends_at es r).len ≡ length (list_at ls r)
   pub inside : (r k p : ℕ) → At ls r k p → p < length t
   pub after : (r k p : ℕ) → At ls r k p → forward_at t p ≡ slice_get (list_at ls r) (suc k)

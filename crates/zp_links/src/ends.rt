@@ -7,8 +7,8 @@ use zp_model::PageAt;
 /// The first and the last page of a list, and its length.
 #[derive(Clone, Copy, Drop)]
 pub struct Ends {
-    pub front: Option<PageAt>,
-    pub back: Option<PageAt>,
+    pub first: Option<PageAt>,
+    pub last: Option<PageAt>,
     pub len: u32,
 }
 
@@ -28,10 +28,10 @@ pub fn end_where(
 
 /// Whether a page is the first one of a list.
 pub fn is_front(ends: &[Ends], at: PageAt) -> bool
-    ensures { IsTrue result ↔ ((r : ℕ) × ((ends_at ends.now r).front ≡ Some at)) }
+    ensures { IsTrue result ↔ ((r : ℕ) × ((ends_at ends.now r).first ≡ Some at)) }
 {
     for end in ends {
-        if let Some(page) = end.front {
+        if let Some(page) = end.first {
             if page == at {
                 return true;
             }

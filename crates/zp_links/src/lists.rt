@@ -1,8 +1,12 @@
 //! Lists of pages.
-ghost use Rattle.std.specs.Prelude.{◌≡◌, ◌<◌, ◌≤◌, ℕ, true, false, [], ◌∷◌, ◌++◌, length, map, replicate, slice_get, IfOk, IsTrue, ◌↔◌, None, Some};
+//!
+//! In Linux: `list_add`, `list_add_tail` and `list_del` on `page->lru`.
+ghost use Rattle.std.specs.Prelude.{◌≡◌, ◌<◌, ◌≤◌, ℕ, true, false, [], ◌∷◌, ◌++◌, length, map, replicate, slice_get, IfOk, IfSome, IsTrue, ◌↔◌, None, Some};
 ghost use Rattle.zp_model.specs.Rows.{Rows, list_at, state_at, IsOn, IsLoose, IsRow, with_list, with_state, without_page, front, rest, after};
 ghost use Rattle.zp_model.specs.declared.constants.TheConstants.{MAX_PAGES};
-ghost use Rattle.zp_links.specs.Linked.{IsUnlinked, states_of};
+ghost use Rattle.zp_table.specs.Entries.{IsUnlinked};
+ghost use Rattle.zp_links.specs.Linked.{states_of};
+ghost use Rattle.zp_links.specs.Moved.{StandAsBefore};
 
 use crate::ends::{Ends, end_where, is_front};
 use crate::neighbour::{set_back_of, set_forward_of};
@@ -33,13 +37,14 @@ impl Lists {
     /// So many empty lists over a table.
     pub fn new(alloc: Global, table: PageTable, count: usize) -> Result<Lists, AllocError>
         requires { IsUnlinked table }
-        ensures { IfOk result (λ l. l ≡ record { lists = replicate count []; states = states_of table }) }
+        ensures lists { IfOk result (λ l. l ≡ record { lists = replicate count []; states = states_of table }) }
+        ensures loose { IfOk result (λ l. (p : ℕ) → IsLoose l.lists p) }
     {
         // the table is no longer than a zone can be, which the lists rely on
         let _pages = table.len();
         let empty = Ends {
-            front: None,
-            back: None,
+            first: None,
+            last: None,
             len: 0,
         };
         let ends = Vec::from_elem(alloc, empty, count)?;
@@ -51,15 +56,17 @@ impl Lists {
         requires list { list < length self.old.lists }
         requires page { at < length self.old.states }
         requires loose { IsLoose self.old.lists at }
-        ensures { self.new ≡ with_list self.old list (at ∷ list_at self.old.lists list) }
+        ensures after { self.new ≡ with_list self.old list (at ∷ list_at self.old.lists list) }
+        ensures on { IsOn self.new.lists list at }
+        ensures others { StandAsBefore at self.old.lists self.new.lists }
     {
         let ends = self.ends[list];
-        self.table.set_links(at, None, ends.front);
-        set_back_of(&mut self.table, ends.front, Some(at));
-        let back = end_where(ends.front, Some(at), ends.back);
+        self.table.set_links(at, None, ends.first);
+        set_back_of(&mut self.table, ends.first, Some(at));
+        let last = end_where(ends.first, Some(at), ends.last);
         self.ends[list] = Ends {
-            front: Some(at),
-            back,
+            first: Some(at),
+            last,
             len: ends.len + 1,
         };
     }
@@ -69,15 +76,17 @@ impl Lists {
         requires list { list < length self.old.lists }
         requires page { at < length self.old.states }
         requires loose { IsLoose self.old.lists at }
-        ensures { self.new ≡ with_list self.old list (list_at self.old.lists list ++ at ∷ []) }
+        ensures after { self.new ≡ with_list self.old list (list_at self.old.lists list ++ at ∷ []) }
+        ensures on { IsOn self.new.lists list at }
+        ensures others { StandAsBefore at self.old.lists self.new.lists }
     {
         let ends = self.ends[list];
-        self.table.set_links(at, ends.back, None);
-        set_forward_of(&mut self.table, ends.back, Some(at));
-        let front = end_where(ends.back, Some(at), ends.front);
+        self.table.set_links(at, ends.last, None);
+        set_forward_of(&mut self.table, ends.last, Some(at));
+        let first = end_where(ends.last, Some(at), ends.first);
         self.ends[list] = Ends {
-            front,
-            back: Some(at),
+            first,
+            last: Some(at),
             len: ends.len + 1,
         };
     }
@@ -85,18 +94,20 @@ impl Lists {
     /// Takes a page out of its list. No search is made.
     pub fn remove(&mut self, list: usize, at: PageAt)
         requires { IsOn self.old.lists list at }
-        ensures { self.new ≡ with_list self.old list (without_page at (list_at self.old.lists list)) }
+        ensures after { self.new ≡ with_list self.old list (without_page at (list_at self.old.lists list)) }
+        ensures loose { IsLoose self.new.lists at }
+        ensures others { StandAsBefore at self.old.lists self.new.lists }
     {
         let entry = self.table.entry(at);
         set_back_of(&mut self.table, entry.forward, entry.back);
         set_forward_of(&mut self.table, entry.back, entry.forward);
         self.table.set_links(at, None, None);
         let ends = self.ends[list];
-        let front = end_where(entry.back, entry.forward, ends.front);
-        let back = end_where(entry.forward, entry.back, ends.back);
+        let first = end_where(entry.back, entry.forward, ends.first);
+        let last = end_where(entry.forward, entry.back, ends.last);
         self.ends[list] = Ends {
-            front,
-            back,
+            first,
+            last,
             len: ends.len - 1,
         };
     }
@@ -106,9 +117,12 @@ impl Lists {
         requires { list < length self.old.lists }
         ensures answer { result ≡ front (list_at self.old.lists list) }
         ensures after { self.new ≡ with_list self.old list (rest (list_at self.old.lists list)) }
+        ensures page { IfSome result (λ at. at < length self.new.states) }
+        ensures loose { IfSome result (IsLoose self.new.lists) }
+        ensures others { IfSome result (λ at. StandAsBefore at self.old.lists self.new.lists) }
     {
         let ends = self.ends[list];
-        match ends.front {
+        match ends.first {
             None => None,
             Some(at) => {
                 self.remove(list, at);
@@ -120,15 +134,17 @@ impl Lists {
     /// The page in front of a list.
     pub fn front(&self, list: usize) -> Option<PageAt>
         requires { list < length self.now.lists }
-        ensures { result ≡ front (list_at self.now.lists list) }
+        ensures answer { result ≡ front (list_at self.now.lists list) }
+        ensures on { IfSome result (IsOn self.now.lists list) }
     {
-        self.ends[list].front
+        self.ends[list].first
     }
 
     /// The page after a page of a list.
     pub fn after(&self, list: usize, at: PageAt) -> Option<PageAt>
         requires { IsOn self.now.lists list at }
-        ensures { result ≡ after at (list_at self.now.lists list) }
+        ensures answer { result ≡ after at (list_at self.now.lists list) }
+        ensures on { IfSome result (IsOn self.now.lists list) }
     {
         // the page's own link names it, whichever the list
         let _list = list;
@@ -150,7 +166,7 @@ impl Lists {
         ensures { IsTrue result ↔ IsOn self.now.lists list at }
     {
         let ends = self.ends[list];
-        let mut next = ends.front;
+        let mut next = ends.first;
         for _place in 0..ends.len {
             match next {
                 None => return false,
@@ -167,11 +183,13 @@ impl Lists {
 
     /// Whether a page stands on some list. The fronts of the lists are looked at, and no list is walked.
     pub fn on_any(&self, at: PageAt) -> bool
-        requires { at < length self.now.states }
         ensures on { IsTrue result ↔ ((r : ℕ) × IsOn self.now.lists r at) }
         ensures loose { result ≡ false → IsLoose self.now.lists at }
     {
-        // a page that no page stands before is a front, or on no list
+        // a page with no entry stands nowhere; one that no page stands before is a front, or on no list
+        if at.index() >= self.table.len() {
+            return false;
+        }
         let entry = self.table.entry(at);
         entry.back.is_some() || is_front(&self.ends, at)
     }

@@ -1,6 +1,7 @@
 -- Runs and legal histories: the zone that a list of entries leaves, and which lists a zone could have made.
 use Rattle.std.specs.Prelude.{ℕ, ◌-◌, ◌≡◌, ◌<◌, ◌&&◌, Bool, true, List, [], ◌∷◌, leb, ltb, not}
 use Rattle.std.specs.List.{list_all}
+use Rattle.zp_model.specs.declared.constants.TheConstants.{MAX_BATCH}
 use Rattle.zp_model.specs.declared.request.Entry.{Entry}
 use Rattle.zp_model.specs.declared.request.Request.{Request}
 use Rattle.zp_model.specs.declared.request.Request.TheVariants.{Alloc, AllocLow, Free, Post, Collect, Refill, Drain}
@@ -23,7 +24,7 @@ may_ask z w (AllocLow k) = true
 may_ask z w (Free p k) = is_out z w p k
 may_ask z w (Post p k to) = is_out z w p k && ltb to (workers_of z)
 may_ask z w Collect = true
-may_ask z w (Refill t m n) = leb 1 n && leb n 31
+may_ask z w (Refill t m n) = leb 1 n && leb n MAX_BATCH
 may_ask z w (Drain t ps) = list_all (λ p. is_out z w p 0) ps && is_distinct ps
 
 abbrev pub run : PlainZone → List Entry → PlainZone

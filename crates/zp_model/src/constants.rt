@@ -1,4 +1,6 @@
 //! The bounds of the allocator, each stated here and nowhere else.
+//!
+//! In Linux: `MAX_ORDER`, `pageblock_nr_pages`, `MIGRATE_PCPTYPES` and their like.
 
 /// The order of the largest block.
 pub const LARGEST_ORDER: u8 = 10;
@@ -30,5 +32,8 @@ pub const BASE_LIMIT: u32 = 16_777_216;
 /// The most bytes of a name.
 pub const LONGEST_NAME: usize = 8;
 
-/// The most pages of a list of pages in a request or a reply, as many as a worker's list can have.
+/// The most pages of one refill of a worker's list.
+pub const MAX_BATCH: usize = 31;
+
+/// The most pages of a worker's list, and so of the list of pages in a journal entry.
 pub const LONGEST_LIST: usize = 64;

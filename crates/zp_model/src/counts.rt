@@ -1,4 +1,6 @@
 //! Counts of free blocks.
+//!
+//! In Linux: `nr_free` of each `struct free_area`, and `NR_FREE_PAGES`.
 
 use crate::constants::ORDERS;
 

@@ -24,7 +24,7 @@ pub use block::Block;
 pub use blocks_law::{each_page_in_one_block, unjoined_blocks_are_maximal};
 pub use constants::{
     BASE_LIMIT, CLAIM_PAGES, LARGEST_ORDER, LEAST_MOVABLE_CLAIM, LONGEST_LIST, LONGEST_NAME,
-    MAX_PAGES, MAX_WORKERS, ORDERS, PAGEBLOCK_PAGES, TYPES,
+    MAX_BATCH, MAX_PAGES, MAX_WORKERS, ORDERS, PAGEBLOCK_PAGES, TYPES,
 };
 pub use counts::Counts;
 pub use mark::{Level, Mark};

@@ -1,4 +1,6 @@
 //! Marks that a request is held to, and levels that a zone is at.
+//!
+//! In Linux: `enum zone_watermarks`.
 
 /// The mark that the free pages have to stay above for a request to be met.
 #[derive(Clone, Copy, PartialEq, Eq, Debug, Drop)]

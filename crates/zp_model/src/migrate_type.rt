@@ -1,4 +1,6 @@
 //! Migrate types.
+//!
+//! In Linux: `enum migratetype`.
 ghost use Rattle.std.specs.Prelude.{◌≡◌, ◌<◌};
 ghost use Rattle.zp_model.specs.MigrateType.{type_number};
 

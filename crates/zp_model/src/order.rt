@@ -1,4 +1,6 @@
 //! Orders of blocks.
+//!
+//! In Linux: the `order` of `alloc_pages`.
 ghost use Rattle.std.specs.Prelude.{◌≡◌, ◌≤◌, ◌<◌, ◌^◌, ◌+◌, ℕ, IfSome, IsSome, ◌↔◌};
 
 use crate::constants::{LARGEST_ORDER, PAGEBLOCK_PAGES};

@@ -1,4 +1,6 @@
 //! Page numbers, counted from a zone's base and absolute.
+//!
+//! In Linux: a page frame number, `pfn`.
 ghost use Rattle.std.specs.Prelude.{◌≡◌, ◌<◌, ◌≤◌, ◌+◌, ◌-◌, ◌^◌, ℕ, IfSome, IsSome, ◌↔◌};
 
 use crate::constants::MAX_PAGES;

@@ -1,4 +1,4 @@
-//! Short lists of pages, as requests and replies hold them.
+//! Short lists of pages, as the entries of a journal keep them: the pages of a drain, and those that a refill got.
 ghost use Rattle.std.specs.Prelude.{◌≡◌, ◌<◌, ◌≤◌, List, [], ◌∷◌, ◌++◌, length, ℕ};
 
 use crate::constants::LONGEST_LIST;

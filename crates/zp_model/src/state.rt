@@ -1,4 +1,6 @@
 //! What is noted of a page.
+//!
+//! In Linux: `PageBuddy` and the order in `page_private`.
 
 use crate::{MigrateType, Order, Worker};
 

@@ -19,6 +19,7 @@ pub fn split(lists: &mut Lists, head: PageAt, from: Order, to: Order, kind: Migr
     requires loose { (j : ℕ) → to ≤ j → j < from → IsLoose lists.old.lists (head + 2 ^ j) }
     ensures { IsSplit head to from kind lists.old.states lists.new.states lists.old.lists lists.new.lists }
 {
+    // a clause of this call says that no page stands twice and each is one of the zone's
     let _pages = lists.pages();
     let mut order = from;
     'halves: while to.number() < order.number() {
@@ -46,6 +47,7 @@ pub fn take_block(
     ensures after { let old = frames_of lists.old.states kinds.now lists.old.lists in
         frames_of lists.new.states kinds.now lists.new.lists ≡ with_area old (leave old.area head order) }
 {
+    // the types are what the clauses speak of; the code has no need to read them
     let _kinds = kinds;
     lists.remove(list_of(found, kind), head);
     lists.set_state(head, State::Tail);

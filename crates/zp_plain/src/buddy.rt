@@ -1,5 +1,5 @@
 //! The buddy allocator of one zone.
-ghost use Rattle.std.specs.Prelude.{◌≡◌, ◌<◌, ◌≤◌, ◌^◌, ◌↔◌, false, length, slice_set, IfOk, IfSome, IsTrue};
+ghost use Rattle.std.specs.Prelude.{ℕ, ◌≡◌, ◌<◌, ◌≤◌, ◌^◌, ◌↔◌, false, length, slice_set, IfOk, IfSome, IsTrue};
 ghost use Rattle.zp_model.specs.Block.{has, size};
 ghost use Rattle.zp_model.specs.Info.{counts};
 ghost use Rattle.zp_model.specs.Rows.{IsOn, after, front, state_at};
@@ -75,6 +75,11 @@ impl Buddy {
     pub fn take(&mut self, order: Order, kind: MigrateType) -> Option<PageAt>
         ensures answer { result ≡ take_answer self.old.area order kind }
         ensures after { self.new ≡ with_area self.old (take_after self.old.area order kind) }
+
+        // What the calls after it can rest on.
+        ensures head { IfSome result (λ at. (at < length self.new.states) × (has self.new.area.free at ≡ false)) }
+        ensures clear { IfSome result (λ at. IsClear self.new at order) }
+        ensures kept { (h k : ℕ) → IsClear self.old h k → IsClear self.new h k }
     {
         let chosen = choose(&self.lists, &self.free_in, order, kind)?;
         let head = take_chosen(&mut self.lists, &mut self.kinds, chosen, order, kind);
@@ -114,7 +119,8 @@ impl Buddy {
         requires page { at < length self.old.states }
         requires used { has self.old.area.free at ≡ false }
         requires note { IsNote state }
-        ensures { self.new ≡ record self.old { states = slice_set self.old.states at state } }
+        ensures after { self.new ≡ record self.old { states = slice_set self.old.states at state } }
+        ensures kept { (h k : ℕ) → IsClear self.old h k → IsClear self.new h k }
     {
         self.lists.set_state(at, state);
     }
@@ -144,9 +150,10 @@ impl Buddy {
         self.lists.after(list_of(order, kind), at)
     }
 
-    /// How many free pages there are.
+    /// How many free pages there are. What is noted as free is free.
     pub fn free_pages(&self) -> u32
-        ensures { result ≡ size self.now.area.free }
+        ensures pages { result ≡ size self.now.area.free }
+        ensures framed { IsFramed self.now }
     {
         self.free
     }
@@ -172,6 +179,7 @@ fn blocks_listed(lists: &Lists, order: usize) -> u32
     requires table { lists_count ≤ length lists.now.lists }
     ensures { result ≡ blocks_listed_of lists.now.lists order types_count }
 {
+    // a clause of this call says that no page stands twice and each is one of the zone's
     let _pages = lists.pages();
     let mut blocks = 0;
     'types: for kind in 0..TYPES {

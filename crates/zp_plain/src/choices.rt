@@ -68,6 +68,7 @@ fn half_free_on(lists: &Lists, free_in: &[u32], list: usize) -> Option<PageAt>
     requires counted { length free_in.now ≡ pageblocks_of (length lists.now.states) }
     ensures { result ≡ find (is_half_free free_in.now) (list_at lists.now.lists list) }
 {
+    // a clause of this call says that no page stands twice and each is one of the zone's
     let _pages = lists.pages();
     let mut next = lists.front(list);
     'heads: while let Some(head) = next {

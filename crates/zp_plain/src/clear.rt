@@ -24,6 +24,7 @@ pub fn is_clear_run(lists: &Lists, at: PageAt, order: Order) -> bool
     requires { at + 2 ^ order ≤ length lists.now.states }
     ensures { IsTrue result ↔ IsClearRun lists.now.states lists.now.lists at order }
 {
+    // a clause of this call says that no page stands twice and each is one of the zone's
     let _pages = lists.pages();
     'pages: for i in at.number()..at.number() + order.pages() {
         let page = PageAt::at(i);

@@ -30,6 +30,7 @@ pub fn join(lists: &mut Lists, kinds: &[MigrateType], at: PageAt, order: Order)
     ensures size { size (cover (blocks_of lists.new.states)) ≡ size (cover (blocks_of lists.old.states)) + 2 ^ order }
     ensures after { frames_of lists.new.states kinds.now lists.new.lists ≡ given (frames_of lists.old.states kinds.now lists.old.lists) at order }
 {
+    // read once: a pageblock is as large as the largest block, so all that is joined lies in one
     let kind = kind_of(kinds, at);
     lists.set_state(at, State::Tail);
     let mut head = at;

@@ -63,7 +63,7 @@ impl PageStack {
         requires { length self.old.pages < self.old.room }
         ensures { self.new ≡ record self.old { pages = page ∷ self.old.pages } }
     {
-        let _ = self.pages.push(page);
+        self.pages.push_reserved(page);
     }
 
     pub fn pop_front(&mut self) -> Option<PageAt>

@@ -20,6 +20,7 @@ fn move_block(lists: &mut Lists, at: PageAt, from: MigrateType, to: MigrateType)
     requires listed { (k : ℕ) → state_at lists.old.states at ≡ Free k → IsOn lists.old.lists (list_number k from) at }
     ensures { lists.new ≡ moved lists.old at from to (state_at lists.old.states at) }
 {
+    // a clause of this call says that no page stands twice and each is one of the zone's
     let _pages = lists.pages();
     if let State::Free(order) = lists.state(at) {
         lists.remove(list_of(order, from), at);

@@ -1,5 +1,5 @@
 -- A table of page entries, and what each set leaves of it.
-use Rattle.std.specs.Prelude.{ℕ, List, Option, None, slice_index_or, slice_set}
+use Rattle.std.specs.Prelude.{ℕ, ◌≡◌, ◌<◌, List, length, Option, None, slice_index_or, slice_set}
 use Rattle.zp_model.specs.declared.state.State.{State}
 use Rattle.zp_model.specs.declared.state.State.TheVariants.{Tail}
 use Rattle.zp_table.specs.declared.entry.PageEntry.{PageEntry}
@@ -10,6 +10,10 @@ blank = record { state = Tail; back = None; forward = None }
 
 abbrev pub entry_at : List PageEntry → ℕ → PageEntry
 entry_at t p = slice_index_or t p blank
+
+-- no page has a link
+abbrev pub IsUnlinked : List PageEntry → Type 0
+IsUnlinked t = (p : ℕ) → p < length t → ((entry_at t p).back ≡ None) × ((entry_at t p).forward ≡ None)
 
 -- the table with another state, or other links, in the entry of page p
 abbrev pub with_state_at : List PageEntry → ℕ → State → List PageEntry

@@ -1,4 +1,6 @@
 //! The entry of a page.
+//!
+//! In Linux: `struct page`.
 
 use zp_model::{PageAt, State};
 

@@ -1,7 +1,9 @@
 //! The table of page entries.
+//!
+//! In Linux: `mem_map`, an array of `struct page`.
 ghost use Rattle.std.specs.Prelude.{◌≡◌, ◌<◌, ◌≤◌, length, replicate, IfOk};
 ghost use Rattle.zp_model.specs.declared.constants.TheConstants.{MAX_PAGES};
-ghost use Rattle.zp_table.specs.Entries.{blank, entry_at, with_state_at, with_links_at, with_back_at, with_forward_at};
+ghost use Rattle.zp_table.specs.Entries.{blank, entry_at, IsUnlinked, with_state_at, with_links_at, with_back_at, with_forward_at};
 
 use crate::entry::PageEntry;
 use std::alloc::{AllocError, Global};
@@ -30,7 +32,8 @@ impl PageTable {
     /// A table of so many blank entries.
     pub fn new(alloc: Global, pages: u32) -> Result<PageTable, AllocError>
         requires { pages ≤ MAX_PAGES }
-        ensures { IfOk result (λ t. t ≡ replicate pages blank) }
+        ensures table { IfOk result (λ t. t ≡ replicate pages blank) }
+        ensures unlinked { IfOk result IsUnlinked }
     {
         let blank = PageEntry {
             state: State::Tail,

@@ -6,3 +6,4 @@ pub mod AllocSteps
 pub mod OpeningZone
 pub mod Freed
 pub mod Described
+pub mod Callers

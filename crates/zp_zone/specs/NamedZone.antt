@@ -1,9 +1,13 @@
--- A zone as contracts see it: its name, and the plain zone.
-use Rattle.std.specs.Prelude.{ℕ, ◌≡◌, ◌<◌, ◌≤◌, ◌+◌, List, map, Result, Ok, Err}
+-- A zone and its seats as contracts see them, and what a call leaves of them for the calls after it (this profile).
+use Rattle.std.specs.Prelude.{ℕ, ◌≡◌, ◌≢◌, ◌<◌, ◌≤◌, ◌+◌, ◌-◌, List, map, Option, Result, Ok, Err, IsTrue, false}
 use Rattle.std.specs.List.{range_with_len}
+use Rattle.std.specs.Option.{option_map}
 use Rattle.zp_model.specs.declared.refused.Refused.{Refused}
 use Rattle.zp_model.specs.declared.request.Reply.{Reply}
+use Rattle.zp_model.specs.declared.state.State.{State}
 use Rattle.zp_model.specs.Zone.{PlainZone, pages_of, workers_of}
+use Rattle.zp_model.specs.Run.{is_out}
+use Rattle.zp_model.specs.Described.{IsDescribedAt}
 
 pub record NamedZone : Type 0 where
   pub name : List ℕ
@@ -26,9 +30,43 @@ pub record IsSeatOf (z : PlainZone) (s : Right) : Type 0 where
   pub base : s.base ≡ z.base
   pub pages : s.pages ≡ pages_of z
 
+-- the same worker's right in the same zone
+pub record IsSameRight (old new : Right) : Type 0 where
+  pub worker : new.worker ≡ old.worker
+  pub base : new.base ≡ old.base
+  pub pages : new.pages ≡ old.pages
+
+-- each seat of the zone is one of it still
+abbrev pub KeepsSeats : PlainZone → PlainZone → Type 0
+KeepsSeats before after = (s : Right) → IsSeatOf before s → IsSeatOf after s
+
+-- no block out starts at the absolute page
+abbrev pub IsFresh : PlainZone → ℕ → Type 0
+IsFresh z p = (w k : ℕ) → is_out z w p k ≡ false
+
+-- each block out is out still
+abbrev pub KeepsOut : PlainZone → PlainZone → Type 0
+KeepsOut before after = (w p k : ℕ) → IsTrue (is_out before w p k) → IsTrue (is_out after w p k)
+
+-- each block out at another page than this one
+abbrev pub KeepsOutBut : ℕ → PlainZone → PlainZone → Type 0
+KeepsOutBut page before after = (w p k : ℕ) → p ≢ page → IsTrue (is_out before w p k) → IsTrue (is_out after w p k)
+
 -- the absolute page p is one of this zone
 abbrev pub IsPageOf : PlainZone → ℕ → Type 0
 IsPageOf z p = (z.base ≤ p) × (p < z.base + pages_of z)
+
+-- a place of the zone as an absolute page
+abbrev pub absolute : PlainZone → Option ℕ → Option ℕ
+absolute z place = option_map (λ h. z.base + h) place
+
+-- what a zone tells of the absolute page p describes the zone: its state, and as absolute pages its neighbours on its one list
+pub record IsToldOf (z : PlainZone) (p : ℕ) (state : State) (back forward : Option ℕ) : Type 0 where
+  pub back_place : Option ℕ
+  pub forward_place : Option ℕ
+  pub back_at : back ≡ absolute z back_place
+  pub forward_at : forward ≡ absolute z forward_place
+  pub described : IsDescribedAt z (p - z.base) state back_place forward_place
 
 -- a request's answer as a reply of the plain zone
 abbrev pub page_reply : Result ℕ Refused → Reply

@@ -3,16 +3,17 @@
 
 mod config;
 mod info;
+mod page;
 mod seat;
 mod streams;
 mod zone;
 
 pub use config::ZoneConfig;
 pub use info::write_counts;
+pub use page::ZonePage;
 pub use seat::Seat;
 pub use streams::{ReadFault, Reader, WriteFault, Writer, write_all};
 pub use zone::Zone;
-pub use zp_buddy::PageEntry;
 
 #[cfg(test)]
 mod tests;

@@ -54,11 +54,11 @@ pub fn seats(alloc: Global, base: u32, pages: u32, workers: u32) -> Result<Vec<S
         let Some(worker) = Worker::new(number as u8) else {
             unreachable!()
         };
-        seats.push(Seat {
+        seats.push_reserved(Seat {
             worker,
             base,
             pages,
-        })?;
+        });
     }
     Ok(seats)
 }

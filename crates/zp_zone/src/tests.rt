@@ -1,11 +1,12 @@
 //! Zones that are made and refused, and info lines.
 ghost use Rattle.std.specs.Prelude.{ℕ, None};
+ghost use Rattle.zp_zone.specs.NamedZone.{IsSeatOf};
 
 use super::*;
 use arrayvec::ArrayVec;
 use std::process::Abort;
 use std::test::*;
-use zp_model::{Counts, Level, Mark, MigrateType, Order, PageAt, PageNo, State};
+use zp_model::{Counts, Level, Mark, MigrateType, Order, PageNo, State};
 
 fn config(name: &str, base: u32, pages: u32, min: u32) -> ZoneConfig<'_> {
     ZoneConfig {
@@ -83,8 +84,8 @@ fn expect_entry(
         return;
     };
     assert!(rt; entry.state == *state);
-    assert!(rt; entry.back.map(PageAt::number) == back);
-    assert!(rt; entry.forward.map(PageAt::number) == forward);
+    assert!(rt; entry.back.map(PageNo::number) == back);
+    assert!(rt; entry.forward.map(PageNo::number) == forward);
 }
 
 #[test]
@@ -95,9 +96,9 @@ fn entries_tell_heads_tails_and_neighbours(rt: HostRuntime) {
         return;
     };
     let free = State::Free(Order::largest());
-    expect_entry(&rt, &zone, 1024, &free, Some(1024), None);
-    expect_entry(&rt, &zone, 2048, &free, Some(2048), Some(0));
-    expect_entry(&rt, &zone, 3072, &free, None, Some(1024));
+    expect_entry(&rt, &zone, 1024, &free, Some(2048), None);
+    expect_entry(&rt, &zone, 2048, &free, Some(3072), Some(1024));
+    expect_entry(&rt, &zone, 3072, &free, None, Some(2048));
     expect_entry(&rt, &zone, 1025, &State::Tail, None, None);
     expect_entry(&rt, &zone, 4095, &State::Tail, None, None);
     assert!(rt; zone.entry(PageNo::new(1023)).is_none());
@@ -108,7 +109,96 @@ fn entries_tell_heads_tails_and_neighbours(rt: HostRuntime) {
     let page = zone.alloc(seat, Order::largest(), MigrateType::Movable, Mark::Any);
     assert!(rt; page == Ok(PageNo::new(3072)));
     expect_entry(&rt, &zone, 3072, &out, None, None);
-    expect_entry(&rt, &zone, 2048, &free, None, Some(0));
+    expect_entry(&rt, &zone, 2048, &free, None, Some(1024));
+}
+
+/// Takes single pages at a mark until one is refused: how many pages are free then.
+fn free_at_refusal(zone: &mut Zone, seat: &mut Seat, mark: Mark) -> u32
+    requires { IsSeatOf zone.old.plain seat.old }
+    ensures { IsSeatOf zone.new.plain seat.new }
+{
+    'pages: for _ in 0..64 {
+        let page = zone.alloc(seat, Order::zero(), MigrateType::Movable, mark);
+        if page.is_err() {
+            break;
+        }
+    }
+    zone.counts().free
+}
+
+/// Takes single pages while the zone is at its highest level: how many pages are free then.
+fn free_below_high(zone: &mut Zone, seat: &mut Seat) -> u32
+    requires { IsSeatOf zone.old.plain seat.old }
+    ensures { IsSeatOf zone.new.plain seat.new }
+{
+    'pages: for _ in 0..64 {
+        if zone.level() != Level::High {
+            break;
+        }
+        let _ = zone.alloc(seat, Order::zero(), MigrateType::Movable, Mark::Any);
+    }
+    zone.counts().free
+}
+
+/// The low mark is a quarter of the least mark above it, the high mark a half, both rounded down.
+#[test]
+fn marks_are_rounded_down(rt: HostRuntime) {
+    for (min, low, high) in [
+        (1, 1, 1),
+        (2, 2, 3),
+        (3, 3, 4),
+        (4, 5, 6),
+        (5, 6, 7),
+        (6, 7, 9),
+        (7, 8, 10),
+        (8, 10, 12),
+        (9, 11, 13),
+    ] {
+        let made = Zone::new(rt.alloc(), config("DMA", 0, 64, min), 1);
+        let Ok((mut zone, mut seats)) = made else {
+            assert!(rt; false, "the zone can be made");
+            return;
+        };
+        let seat = &mut seats[0];
+        assert_eq!(rt; free_below_high(&mut zone, seat), high, "of {min}");
+        assert_eq!(rt;
+            free_at_refusal(&mut zone, seat, Mark::Low),
+            low,
+            "of {min}"
+        );
+        assert_eq!(rt;
+            free_at_refusal(&mut zone, seat, Mark::Min),
+            min,
+            "of {min}"
+        );
+        assert_eq!(rt; free_at_refusal(&mut zone, seat, Mark::Any), 0, "of {min}");
+    }
+}
+
+/// The bounds, as numbers: what the clauses cite are these constants, so no clause would notice another number.
+#[test]
+fn the_bounds_are_those_of_the_rules(rt: HostRuntime) {
+    assert_eq!(rt; zp_model::LARGEST_ORDER, 10);
+    assert_eq!(rt; zp_model::ORDERS, 11);
+    assert_eq!(rt; zp_model::PAGEBLOCK_PAGES, 1_024);
+    assert_eq!(rt; zp_model::TYPES, 3);
+    assert_eq!(rt; zp_model::LEAST_MOVABLE_CLAIM, 5);
+    assert_eq!(rt; zp_model::CLAIM_PAGES, 512);
+    assert_eq!(rt; zp_model::MAX_PAGES, 65_536);
+    assert_eq!(rt; zp_model::MAX_WORKERS, 32);
+    assert_eq!(rt; zp_model::BASE_LIMIT, 16_777_216);
+    assert_eq!(rt; zp_model::LONGEST_NAME, 8);
+    assert_eq!(rt; zp_model::MAX_BATCH, 31);
+    assert_eq!(rt; zp_model::LONGEST_LIST, 64);
+}
+
+#[test]
+fn a_zone_tells_its_name_and_its_pages(rt: HostRuntime) -> Result<(), Fail> {
+    let made = Zone::new(rt.alloc(), config("Movable8", 1024, 4109, 16), 1);
+    let (zone, _seats) = made.ok().ok_or("the zone can be made")?;
+    assert_eq!(rt; zone.name(), "Movable8");
+    assert_eq!(rt; zone.pages(), 4109);
+    Ok(())
 }
 
 /// The most bytes of an info line.

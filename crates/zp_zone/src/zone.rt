@@ -1,27 +1,30 @@
 //! A zone.
-ghost use Rattle.std.specs.Prelude.{◌≡◌, ◌<◌, ◌≤◌, ◌+◌, ℕ, length, IfOk, IfErr, IfSome, IfNone, IsSome, OnOk, OnErr, IsTrue, ◌↔◌, ◌-◌};
-ghost use Rattle.zp_model.specs.Zone.{zone_opening, is_of};
+//!
+//! In Linux: `rmqueue`, `__free_pages_ok` and `zone_watermark_ok`.
+ghost use Rattle.std.specs.Prelude.{◌≡◌, ◌<◌, ◌≤◌, ◌+◌, ℕ, false, All, length, IfOk, IfErr, IfSome, IfNone, IsSome, OnOk, OnErr, IsTrue, ◌↔◌, ◌-◌};
+ghost use Rattle.std.specs.Option.{option_map};
+ghost use Rattle.zp_model.specs.Zone.{zone_opening, is_of, pages_of};
 ghost use Rattle.zp_zone.specs.Kept.{holding_of};
 ghost use Rattle.zp_model.specs.Mark.{level, level_of, is_above};
 ghost use Rattle.zp_model.specs.Info.{counts, info_line};
 ghost use Rattle.zp_model.specs.Step.{alloc, freed};
 ghost use Rattle.zp_model.specs.Run.{is_out};
 ghost use Rattle.zp_model.specs.Lawful.{IsLawful};
-ghost use Rattle.zp_model.specs.Described.{IsDescribedAt};
-ghost use Rattle.zp_zone.specs.NamedZone.{IsSeatOf, IsPageOf, page_reply, seats_of};
+ghost use Rattle.zp_zone.specs.NamedZone.{IsSeatOf, IsSameRight, KeepsSeats, KeepsOut, KeepsOutBut, IsFresh, IsPageOf, IsToldOf, page_reply, seats_of};
 ghost use Rattle.zp_zone.specs.Making.{wanted, IsGood, IsWhy};
 ghost use Rattle.zp_zone.specs.Streams.{IsWritten, IsBegun};
 
 use crate::config::{ZoneConfig, checked_name};
 use crate::info::write_counts;
+use crate::page::ZonePage;
 use crate::seat::{Seat, seats};
 use crate::streams::{WriteFault, Writer};
 use std::alloc::Global;
 use std::marker::Model;
-use zp_buddy::{Buddy, PageEntry};
+use zp_buddy::Buddy;
 use zp_model::{
-    Counts, Level, MAX_PAGES, Mark, MigrateType, Name, Order, PageAt, PageNo, Refused, State,
-    Worker,
+    BASE_LIMIT, Counts, LONGEST_NAME, Level, MAX_PAGES, Mark, MigrateType, Name, Order, PageAt,
+    PageNo, Refused, State, Worker,
 };
 
 /// A zone: pages that workers take and give back. Contracts see its name and the plain zone, which is always lawful.
@@ -56,6 +59,7 @@ impl Zone {
         ensures why { IfErr result (IsWhy (wanted config.entry.name.now config.entry.base config.entry.pages config.entry.min workers)) }
         ensures zone { IfOk result (λ z. z.0 ≡ record { name = config.entry.name.now; plain = zone_opening config.entry.base config.entry.pages config.entry.min workers }) }
         ensures seats { IfOk result (λ z. z.1.items ≡ seats_of config.entry.base config.entry.pages workers) }
+        ensures fits { IfOk result (λ z. All (IsSeatOf z.0.plain) z.1.items) }
     {
         let name = checked_name(config, workers)?;
         let Ok(buddy) = Buddy::new(alloc, config.pages, workers as usize) else {
@@ -84,9 +88,15 @@ impl Zone {
         requires seat { IsSeatOf self.old.plain seat.old }
         ensures reply { page_reply result ≡ (alloc self.old.plain seat.old.worker order kind mark).reply }
         ensures after { self.new ≡ record self.old { plain = (alloc self.old.plain seat.old.worker order kind mark).zone } }
-        ensures seat { seat.new ≡ seat.old }
+
+        // What the calls after it can rest on.
+        ensures seat { IsSameRight seat.old seat.new }
+        ensures fits { IsSeatOf self.new.plain seat.new }
+        ensures seats { KeepsSeats self.old.plain self.new.plain }
+        ensures out { IfOk result (λ page. IsTrue (is_out self.new.plain seat.new.worker page order)) }
+        ensures fresh { IfOk result (IsFresh self.old.plain) }
+        ensures kept { KeepsOut self.old.plain self.new.plain }
     {
-        let _pages = self.buddy.pages();
         if !is_above(self.min, self.buddy.free_pages(), order, mark) {
             return Err(Refused::BelowMark);
         }
@@ -114,21 +124,49 @@ impl Zone {
         requires seat { IsSeatOf self.old.plain seat.old }
         requires out { IsTrue (is_out self.old.plain seat.old.worker page order) }
         ensures after { self.new ≡ record self.old { plain = freed self.old.plain (page - self.old.plain.base) order } }
-        ensures seat { seat.new ≡ seat.old }
+
+        // What the calls after it can rest on.
+        ensures seat { IsSameRight seat.old seat.new }
+        ensures fits { IsSeatOf self.new.plain seat.new }
+        ensures seats { KeepsSeats self.old.plain self.new.plain }
+        ensures gone { IsFresh self.new.plain page }
+        ensures kept { KeepsOutBut page self.old.plain self.new.plain }
     {
+        // a clause of this call says that what is noted as free is free, which the next call rests on
         let _pages = self.buddy.pages();
-        let _worker = seat.worker();
         let at = PageAt::at(page.number() - self.base);
         self.buddy.give(at, order);
     }
 
-    /// The entry of a page, where the zone has the page. In each zone the entries of all pages describe the plain zone.
-    pub fn entry(&self, page: PageNo) -> Option<PageEntry>
+    /// The zone's name.
+    pub fn name(&self) -> &str
+        ensures name { result.now ≡ self.now.name }
+        ensures short { length result.now ≤ LONGEST_NAME }
+    {
+        self.name.as_str()
+    }
+
+    /// How many pages the zone has.
+    pub fn pages(&self) -> u32
+        ensures pages { result ≡ pages_of self.now.plain }
+        ensures within { result ≤ MAX_PAGES }
+    {
+        self.buddy.pages()
+    }
+
+    /// What the zone tells of an absolute page, where the page is one of its own. In each zone all of it describes the plain
+    /// zone.
+    pub fn entry(&self, page: PageNo) -> Option<ZonePage>
         ensures when { IsSome result ↔ IsPageOf self.now.plain page }
-        ensures described { IfSome result (λ e. IsDescribedAt self.now.plain (page - self.now.plain.base) e.state e.back e.forward) }
+        ensures described { IfSome result (λ e. IsToldOf self.now.plain page e.state e.back e.forward) }
     {
         let at = place_of(page, self.base, self.buddy.pages())?;
-        Some(self.buddy.entry(at))
+        let entry = self.buddy.entry(at);
+        Some(ZonePage {
+            state: entry.state,
+            back: absolute(self.base, entry.back),
+            forward: absolute(self.base, entry.forward),
+        })
     }
 
     /// How many free blocks of each order there are, and how many free pages. Each zone is lawful.
@@ -168,6 +206,14 @@ fn place_of(page: PageNo, base: u32, pages: u32) -> Option<PageAt>
         return None;
     }
     Some(PageAt::at(number - base))
+}
+
+/// A place of a zone as an absolute page.
+fn absolute(base: u32, place: Option<PageAt>) -> Option<PageNo>
+    requires { base ≤ BASE_LIMIT }
+    ensures { result ≡ option_map (λ h. base + h) place }
+{
+    place.map(|at| PageNo::new(base + at.number()))
 }
 
 /// Whether a page's state notes a block of this order that is out to this worker.

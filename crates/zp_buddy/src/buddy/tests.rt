@@ -3,6 +3,7 @@
 use super::*;
 use std::process::Abort;
 use std::test::Fail;
+use zp_model::Worker;
 
 const UNMOVABLE: MigrateType = MigrateType::Unmovable;
 
@@ -45,6 +46,20 @@ fn halve_lowest(rt: &impl Abort, buddy: &mut Buddy, order: u8) {
     if blocks == 1 {
         give(rt, buddy, order, 0);
     }
+}
+
+/// A caller as a user would write it: each call's condition is known from the calls before it.
+#[test]
+fn a_block_is_taken_noted_and_given_back(rt: HostRuntime) -> Result<(), Fail> {
+    let mut buddy = Buddy::new(rt.alloc(), 1024, 0)?;
+    let order = Order::zero();
+    let worker = Worker::new(0).ok_or("0 is a worker")?;
+    let first = buddy.take(order, MOVABLE).ok_or("there is a page")?;
+    buddy.hold(first, State::Out(order, MOVABLE, worker));
+    let _second = buddy.take(order, UNMOVABLE);
+    buddy.give(first, order);
+    assert_eq!(rt; buddy.free_pages(), 1023);
+    Ok(())
 }
 
 #[test]

@@ -95,6 +95,24 @@ fn two_lists_over_eight_pages(rt: HostRuntime) -> Result<(), Fail> {
     Ok(())
 }
 
+/// A queue as a user would write it: each call's condition is known from the calls before it.
+#[test]
+fn a_queue_of_two_pages(rt: HostRuntime) -> Result<(), Fail> {
+    let table = PageTable::new(rt.alloc(), 8)?;
+    let mut lists = Lists::new(rt.alloc(), table, 1)?;
+    let first = PageAt::at(3);
+    let second = PageAt::at(5);
+    lists.push_back(0, first);
+    lists.push_back(0, second);
+    lists.remove(0, first);
+    lists.push_front(0, first);
+    assert_eq!(rt; lists.after(0, first), Some(second));
+    assert_eq!(rt; lists.pop_front(0), Some(first));
+    assert_eq!(rt; lists.front(0), Some(second));
+    assert!(rt; !lists.on_any(PageAt::at(8)));
+    Ok(())
+}
+
 #[test]
 fn all_pages_from_the_front(rt: HostRuntime) -> Result<(), Fail> {
     let mut lists = empty_lists(rt.alloc(), MAX_PAGES, 1)?;

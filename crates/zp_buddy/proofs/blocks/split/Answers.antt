@@ -54,7 +54,7 @@ halves-preserved c =
     let m : length c.halves.lists.lists ≡ length c.args.lists.now.lists = i.0.table in
     let b : lists_count ≤ length c.args.lists.now.lists = c.requires.table in
     let d : c.list_of.result < lists_count = c.list_of.ensures.within in (
-      split_turn _ _ _ _ _ _ _ _ _ _ _ _ i.0 up i.2 eg c.list_of.ensures.number (omega arith) (omega arith) c.set_state.ensures c.push_front.ensures,
+      split_turn _ _ _ _ _ _ _ _ _ _ _ _ i.0 up i.2 eg c.list_of.ensures.number (omega arith) (omega arith) c.set_state.ensures c.push_front.ensures.after,
       omega arith,
       omega arith,
     )

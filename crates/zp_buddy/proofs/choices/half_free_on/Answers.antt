@@ -21,7 +21,7 @@ heads-smaller c =
     let lt : length (list_from (after c.in-Some.head xs) xs) < length (list_from c.heads.next xs) =
     walk_less c.heads.next c.in-Some.head xs (c.pages-pages.ensures.row.distinct c.args.list) c.heads.invariant.next c.in-Some.is in
     let P : Option ℕ → Type 0 = λ q. length (list_from q xs) < length (list_from c.heads.next xs) in
-    subst P (sym c.after-next.ensures) lt
+    subst P (sym c.after-next.ensures.answer) lt
 
 pub heads-preserved : goal.heads-preserved
 heads-preserved c =
@@ -34,6 +34,6 @@ heads-preserved c =
       rest =
           i.rest
           ∙ walk_on (is_half_free c.args.free_in.now) c.heads.next c.in-Some.head xs (c.pages-pages.ensures.row.distinct c.args.list) i.next c.in-Some.is t
-          ∙ ap (λ q. find (is_half_free c.args.free_in.now) (list_from q xs)) (sym c.after-next.ensures);
-      next = subst Q (sym c.after-next.ensures) (next_after c.in-Some.head xs);
+          ∙ ap (λ q. find (is_half_free c.args.free_in.now) (list_from q xs)) (sym c.after-next.ensures.answer);
+      next = subst Q (sym c.after-next.ensures.answer) (next_after c.in-Some.head xs);
     }

@@ -41,7 +41,7 @@ joins-preserved c =
     let Q : ℕ → Type 0 = λ q. IsBuddy c.joins.head c.joins.joined c.buddy_of-buddy.result q in
     joining_step _ _ _ _ _ _ _ _ _ _ _ _ _ _ _ (made_back _ _ _ _ _ c.requires.sound c.requires.clear c.set_state.ensures) (sym c.kind_of-kind.ensures) c.joins.invariant
     (subst Q e c.buddy_of-buddy.ensures) lt (c.is_free_block.ensures.0 c.if-not-is_free_block.false)
-    c.higher-joined.ensures c.list_of.ensures.number c.remove.ensures c.set_state-in-joins.ensures
+    c.higher-joined.ensures c.list_of.ensures.number c.remove.ensures.after c.set_state-in-joins.ensures
 
 pub set_state-requires-2 : goal.set_state-requires-2
 set_state-requires-2 c =
@@ -80,5 +80,5 @@ returns c =
     } in
     let y : IsGiven c.args.at c.args.order c.args.kinds.now c.args.lists.now c.push_front.new.self =
     make_given _ _ _ _ _ _ _ _ _ _ _ _ c.requires.sound c.requires.clear (sym c.kind_of-kind.ensures) c.set_state.ensures x (omega arith)
-    c.set_state-2.ensures c.list_of-2.ensures.number c.push_front.ensures in
+    c.set_state-2.ensures c.list_of-2.ensures.number c.push_front.ensures.after in
     record { sound = y.sound; pages = y.pages; size = y.size; after = y.after }

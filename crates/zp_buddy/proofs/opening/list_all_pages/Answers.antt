@@ -34,7 +34,7 @@ heads-preserved c =
     fits_max n c.heads.at c.heads.order c.fitting-order.result i.aligned i.order i.bound within (omega arith) most in
     let len : length c.heads.lists.lists ≡ length c.args.lists.now.lists = i.table in
     let tl : lists_count ≤ length c.args.lists.now.lists = c.requires.table in
-    let t = opened_turn _ _ _ _ _ _ _ _ _ i.opened below x c.at-head.ensures m c.list_of.ensures.number (omega arith) c.set_state.ensures c.push_front.ensures in
+    let t = opened_turn _ _ _ _ _ _ _ _ _ i.opened below x c.at-head.ensures m c.list_of.ensures.number (omega arith) c.set_state.ensures c.push_front.ensures.after in
     let al : c.heads.at % 2 ^ c.fitting-order.result ≡ 0 = aligned_down c.fitting-order.result c.heads.order c.heads.at within i.aligned in
     let le : c.heads.order ≤ largest_order = i.order in
     record {

@@ -6,7 +6,7 @@ use Rattle.zp_links.proofs.ends.is_front.Goals.{in-Some+else-eq, in_default}
 
 pub loop-end-preserved : goal.loop-end-preserved
 loop-end-preserved c = below_more _ _ c.loop-end.invariant (λ e.
-    let f : c.end-item.result.front ≡ Some c.args.at = sym (front_read c.args.ends.now c.loop-end.end-index c.end-item.result c.loop-end-test.true c.end-item.is) ∙ e in
+    let f : c.end-item.result.first ≡ Some c.args.at = sym (front_read c.args.ends.now c.loop-end.end-index c.end-item.result c.loop-end-test.true c.end-item.is) ∙ e in
     elim c.match-end.branch [
       | in-Some+else-eq w ↦
           let s : Some w.in-Some.page ≡ Some c.args.at = sym w.in-Some.is ∙ f in

@@ -11,7 +11,7 @@ after-requires c =
 
 pub returns-clause-answer : goal.returns-clause-answer
 returns-clause-answer c =
-    c.after.ensures ∙ ap (λ (xs : List ℕ). after c.args.at xs) (list_of_frames _ _ _ _ _ _ c.self.view_is c.list_of.ensures.number c.list_of.ensures.within)
+    c.after.ensures.answer ∙ ap (λ (xs : List ℕ). after c.args.at xs) (list_of_frames _ _ _ _ _ _ c.self.view_is c.list_of.ensures.number c.list_of.ensures.within)
 
 pub returns-clause-on : goal.returns-clause-on
 returns-clause-on c =

@@ -7,7 +7,7 @@ use Rattle.zp_buddy.proofs.buddy.Buddy.front.Goals as goal
 
 pub returns-clause-answer : goal.returns-clause-answer
 returns-clause-answer c =
-    c.front.ensures ∙ ap front (list_of_frames _ _ _ _ _ _ c.self.view_is c.list_of.ensures.number c.list_of.ensures.within)
+    c.front.ensures.answer ∙ ap front (list_of_frames _ _ _ _ _ _ c.self.view_is c.list_of.ensures.number c.list_of.ensures.within)
 
 pub returns-clause-on : goal.returns-clause-on
 returns-clause-on c =

@@ -19,8 +19,8 @@ round_up n = omega arith
 
 pub invariant_of-result : goal.invariant_of-result
 invariant_of-result c =
-    let n : length c.in_ok-lists.lists.states ≡ c.args.pages = ap (λ (w : Rows). length w.states) (blank_rows _ _ _ _ c.in_ok-table.ensures c.in_ok-lists.ensures) ∙ length-replicate c.args.pages Tail in
-    let m : length c.in_ok-lists.lists.lists ≡ lists_count + c.args.side = ap (λ (w : Rows). length w.lists) c.in_ok-lists.ensures ∙ length-replicate _ _ in
+    let n : length c.in_ok-lists.lists.states ≡ c.args.pages = ap (λ (w : Rows). length w.states) (blank_rows _ _ _ _ c.in_ok-table.ensures.table c.in_ok-lists.ensures.lists) ∙ length-replicate c.args.pages Tail in
+    let m : length c.in_ok-lists.lists.lists ≡ lists_count + c.args.side = ap (λ (w : Rows). length w.lists) c.in_ok-lists.ensures.lists ∙ length-replicate _ _ in
     let k : c.in_ok-kinds.kinds.items ≡ all_movable c.args.pages = c.in_ok-kinds.ensures.items_if_clones_equal (λ y e. search rules) ∙ ap (λ q. replicate q Movable) (c.div_ceil.ensures ∙ round_up c.args.pages) in
     let P : ℕ → Type 0 = λ q. IsOpenedTo q q c.list_all_pages.new.lists.states c.list_all_pages.new.lists.lists in
     let o : IsOpenedTo c.args.pages c.args.pages c.list_all_pages.new.lists.states c.list_all_pages.new.lists.lists = subst P n c.list_all_pages.ensures.opened in
@@ -36,8 +36,8 @@ invariant_of-result c =
 
 pub returns : goal.returns
 returns c =
-    let n : length c.in_ok-lists.lists.states ≡ c.args.pages = ap (λ (w : Rows). length w.states) (blank_rows _ _ _ _ c.in_ok-table.ensures c.in_ok-lists.ensures) ∙ length-replicate c.args.pages Tail in
-    let m : length c.in_ok-lists.lists.lists ≡ lists_count + c.args.side = ap (λ (w : Rows). length w.lists) c.in_ok-lists.ensures ∙ length-replicate _ _ in
+    let n : length c.in_ok-lists.lists.states ≡ c.args.pages = ap (λ (w : Rows). length w.states) (blank_rows _ _ _ _ c.in_ok-table.ensures.table c.in_ok-lists.ensures.lists) ∙ length-replicate c.args.pages Tail in
+    let m : length c.in_ok-lists.lists.lists ≡ lists_count + c.args.side = ap (λ (w : Rows). length w.lists) c.in_ok-lists.ensures.lists ∙ length-replicate _ _ in
     let k : c.in_ok-kinds.kinds.items ≡ all_movable c.args.pages = c.in_ok-kinds.ensures.items_if_clones_equal (λ y e. search rules) ∙ ap (λ q. replicate q Movable) (c.div_ceil.ensures ∙ round_up c.args.pages) in
     let P : ℕ → Type 0 = λ q. IsOpenedTo q q c.list_all_pages.new.lists.states c.list_all_pages.new.lists.lists in
     let o : IsOpenedTo c.args.pages c.args.pages c.list_all_pages.new.lists.states c.list_all_pages.new.lists.lists = subst P n c.list_all_pages.ensures.opened in
@@ -46,4 +46,4 @@ returns c =
     ∙ opened_frames _ _ _ _ o (omega arith)
 
 pub list_all_pages-requires-clause-bare : goal.list_all_pages-requires-clause-bare
-list_all_pages-requires-clause-bare c = blank_opened _ _ _ (blank_rows _ _ _ _ c.in_ok-table.ensures c.in_ok-lists.ensures)
+list_all_pages-requires-clause-bare c = blank_opened _ _ _ (blank_rows _ _ _ _ c.in_ok-table.ensures.table c.in_ok-lists.ensures.lists)

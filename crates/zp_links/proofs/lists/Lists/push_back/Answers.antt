@@ -2,6 +2,7 @@ use Rattle.std.proofs.Common.{◌≤◌, refl, arith, length, None}
 use Rattle.zp_model.specs.declared.constants.TheConstants.{MAX_PAGES}
 use Rattle.zp_model.specs.Rows.{list_at}
 use Rattle.zp_links.proofs.Writes.{push_linked, push_value, push_end, past_end, count_fits, end_of}
+use Rattle.zp_links.proofs.Moving.{queued}
 use Rattle.zp_links.proofs.lists.Lists.push_back.Goals as goal
 
 pub overflow_add-ends : goal.overflow_add-ends
@@ -12,7 +13,7 @@ overflow_add-ends c =
 pub invariant_of-self : goal.invariant_of-self
 invariant_of-self c =
     let xs = list_at c.args.self.now.lists c.args.list in
-    push_linked c.args.self.now c.args.list (length xs) c.args.at c.self.inside.table _ _ c.set_forward_of.new.table c.self.inside.ends.items c.index-ends.result.now _ c.index-ends.result.now.back None (record {
+    push_linked c.args.self.now c.args.list (length xs) c.args.at c.self.inside.table _ _ c.set_forward_of.new.table c.self.inside.ends.items c.index-ends.result.now _ c.index-ends.result.now.last None (record {
       view = c.self.view_is;
       linked = c.self.invariant;
       list = c.requires.list;
@@ -25,15 +26,15 @@ invariant_of-self c =
       first = c.set_links.ensures;
       second = refl;
       third = c.set_forward_of.ensures;
-      front = c.end_where-front.ensures;
+      front = c.end_where-first.ensures;
       back = refl;
       count = refl;
     })
 
-pub returns : goal.returns
-returns c =
+pub returns-clause-after : goal.returns-clause-after
+returns-clause-after c =
     let xs = list_at c.args.self.now.lists c.args.list in
-    push_end c.args.self.now c.args.list c.args.at _ (push_value c.args.self.now c.args.list (length xs) c.args.at c.self.inside.table _ _ c.set_forward_of.new.table c.self.inside.ends.items c.index-ends.result.now _ c.index-ends.result.now.back None (record {
+    push_end c.args.self.now c.args.list c.args.at _ (push_value c.args.self.now c.args.list (length xs) c.args.at c.self.inside.table _ _ c.set_forward_of.new.table c.self.inside.ends.items c.index-ends.result.now _ c.index-ends.result.now.last None (record {
       view = c.self.view_is;
       linked = c.self.invariant;
       list = c.requires.list;
@@ -46,7 +47,13 @@ returns c =
       first = c.set_links.ensures;
       second = refl;
       third = c.set_forward_of.ensures;
-      front = c.end_where-front.ensures;
+      front = c.end_where-first.ensures;
       back = refl;
       count = refl;
     }))
+
+pub returns-clause-on : goal.returns-clause-on
+returns-clause-on c = (queued c.args.self.now _ c.args.list c.args.at c.requires.list (returns-clause-after c)).0
+
+pub returns-clause-others : goal.returns-clause-others
+returns-clause-others c = (queued c.args.self.now _ c.args.list c.args.at c.requires.list (returns-clause-after c)).1

@@ -1,6 +1,7 @@
 use Rattle.std.proofs.Common.{◌≤◌, refl, arith, None}
 use Rattle.zp_model.specs.declared.constants.TheConstants.{MAX_PAGES}
 use Rattle.zp_links.proofs.Writes.{push_linked, push_value, count_fits, front_of}
+use Rattle.zp_links.proofs.Moving.{pushed}
 use Rattle.zp_links.proofs.lists.Lists.push_front.Goals as goal
 
 pub overflow_add-ends : goal.overflow_add-ends
@@ -10,7 +11,7 @@ overflow_add-ends c =
 
 pub invariant_of-self : goal.invariant_of-self
 invariant_of-self c =
-    push_linked c.args.self.now c.args.list 0 c.args.at c.self.inside.table _ _ c.set_back_of.new.table c.self.inside.ends.items c.index-ends.result.now _ None c.index-ends.result.now.front (record {
+    push_linked c.args.self.now c.args.list 0 c.args.at c.self.inside.table _ _ c.set_back_of.new.table c.self.inside.ends.items c.index-ends.result.now _ None c.index-ends.result.now.first (record {
       view = c.self.view_is;
       linked = c.self.invariant;
       list = c.requires.list;
@@ -24,13 +25,13 @@ invariant_of-self c =
       second = c.set_back_of.ensures;
       third = refl;
       front = refl;
-      back = c.end_where-back.ensures;
+      back = c.end_where-last.ensures;
       count = refl;
     })
 
-pub returns : goal.returns
-returns c =
-    push_value c.args.self.now c.args.list 0 c.args.at c.self.inside.table _ _ c.set_back_of.new.table c.self.inside.ends.items c.index-ends.result.now _ None c.index-ends.result.now.front (record {
+pub returns-clause-after : goal.returns-clause-after
+returns-clause-after c =
+    push_value c.args.self.now c.args.list 0 c.args.at c.self.inside.table _ _ c.set_back_of.new.table c.self.inside.ends.items c.index-ends.result.now _ None c.index-ends.result.now.first (record {
       view = c.self.view_is;
       linked = c.self.invariant;
       list = c.requires.list;
@@ -44,6 +45,12 @@ returns c =
       second = c.set_back_of.ensures;
       third = refl;
       front = refl;
-      back = c.end_where-back.ensures;
+      back = c.end_where-last.ensures;
       count = refl;
     })
+
+pub returns-clause-on : goal.returns-clause-on
+returns-clause-on c = (pushed c.args.self.now _ c.args.list c.args.at c.requires.list (returns-clause-after c)).0
+
+pub returns-clause-others : goal.returns-clause-others
+returns-clause-others c = (pushed c.args.self.now _ c.args.list c.args.at c.requires.list (returns-clause-after c)).1

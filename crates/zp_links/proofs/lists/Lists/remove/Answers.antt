@@ -2,7 +2,8 @@ use Rattle.std.proofs.Common.{◌≡◌, ◌<◌, ℕ, arith, ap, sym, ◌∙◌
 use Rattle.zp_table.specs.declared.entry.PageEntry.{PageEntry}
 use Rattle.zp_links.specs.Linked.{MayStand}
 use Rattle.zp_links.proofs.Writes.{linked_in, remove_linked, remove_value, length-back, length-forward}
-use Rattle.zp_links.proofs.Telling.{within, next_stands, previous_stands}
+use Rattle.zp_links.proofs.Telling.{within, next_stands, previous_stands, row_in}
+use Rattle.zp_links.proofs.Moving.{taken_off}
 use Rattle.zp_links.proofs.lists.Lists.remove.Goals as goal
 
 pub entry-entry-requires : goal.entry-entry-requires
@@ -42,13 +43,13 @@ invariant_of-self c =
       second = c.set_forward_of.ensures;
       third = c.set_links.ensures;
       read = c.index-ends.ensures;
-      front = c.end_where-front.ensures;
-      back = c.end_where-back.ensures;
+      front = c.end_where-first.ensures;
+      back = c.end_where-last.ensures;
       count = refl;
     })
 
-pub returns : goal.returns
-returns c =
+pub returns-clause-after : goal.returns-clause-after
+returns-clause-after c =
     remove_value c.args.self.now c.args.list c.args.at c.self.inside.table _ _ c.set_links.new.self c.self.inside.ends.items c.entry-entry.result c.index-ends.result.now _ (record {
       view = c.self.view_is;
       linked = c.self.invariant;
@@ -58,7 +59,15 @@ returns c =
       second = c.set_forward_of.ensures;
       third = c.set_links.ensures;
       read = c.index-ends.ensures;
-      front = c.end_where-front.ensures;
-      back = c.end_where-back.ensures;
+      front = c.end_where-first.ensures;
+      back = c.end_where-last.ensures;
       count = refl;
     })
+
+pub returns-clause-loose : goal.returns-clause-loose
+returns-clause-loose c =
+    (taken_off c.args.self.now _ _ c.args.list c.args.at (row_in _ _ _ c.self.view_is c.self.invariant) c.requires (returns-clause-after c)).0
+
+pub returns-clause-others : goal.returns-clause-others
+returns-clause-others c =
+    (taken_off c.args.self.now _ _ c.args.list c.args.at (row_in _ _ _ c.self.view_is c.self.invariant) c.requires (returns-clause-after c)).1

@@ -1,11 +1,14 @@
-use Rattle.std.proofs.Common.{ℕ, ◌≡◌, ◌≤◌, ◌<◌, ◌-◌, ◌/◌, ◌^◌, arith, refl, ap, sym, subst, ◌∙◌, Some, length, set, slice_index}
+use Rattle.std.proofs.Common.{ℕ, ◌+◌, ◌≡◌, ◌≤◌, ◌<◌, ◌-◌, ◌/◌, ◌^◌, arith, refl, ap, sym, subst, ◌∙◌, Some, length, set, slice_index}
 use Rattle.zp_model.specs.declared.constants.TheConstants.{PAGEBLOCK_PAGES}
-use Rattle.zp_model.specs.Frames.{Frames, with_area}
+use Rattle.std.proofs.lemmas.Nat.{pow_pos}
+use Rattle.zp_model.specs.Frames.{Frames, IsClear, with_area}
 use Rattle.zp_model.specs.Take.{taken}
 use Rattle.zp_frames.specs.Choices.{chosen_of}
+use Rattle.zp_frames.specs.Sound.{frames_of}
 use Rattle.zp_frames.specs.Held.{IsHeld}
-use Rattle.zp_frames.proofs.HeldCounts.{IsLess, taken_less, read_at, held_less}
+use Rattle.zp_frames.proofs.HeldCounts.{IsLess, taken_less, read_at, held_less, listed_run}
 use Rattle.zp_frames.proofs.TakenWhole.{answer_none, after_none, answer_some, after_some}
+use Rattle.zp_frames.proofs.ClearAfter.{taken_may_return, taken_leaves_clear}
 use Rattle.zp_plain.proofs.buddy.Buddy.take.Goals as goal
 
 pub returns-in_err-chosen-clause-answer : goal.returns-in_err-chosen-clause-answer
@@ -66,3 +69,25 @@ overflow_sub-index_mut c =
     let m : 2 ^ c.args.order ≤ slice_index c.self.inside.free_in.items (c.in_ok-chosen.chosen.block.head / PAGEBLOCK_PAGES) = x.most in
     let p : c.pages-2.result ≡ 2 ^ c.args.order = c.pages-2.ensures.pages in
     omega arith
+
+pub returns-clause-clear : goal.returns-clause-clear
+returns-clause-clear c =
+    let run = listed_run _ _ _ _ c.in_ok-chosen.chosen.block c.self.invariant.sound c.in_ok-chosen.ensures.1 in
+    let left = c.take_chosen-head.ensures.after ∙ ap (λ (f : Frames). with_area f (taken f.area c.args.order c.args.kind (Some (chosen_of c.in_ok-chosen.chosen)))) c.self.view_is in
+    let P : ℕ → Type 0 = λ h. IsClear (frames_of c.take_chosen-head.new.lists.states c.take_chosen-head.new.kinds.items c.take_chosen-head.new.lists.lists) h c.args.order in
+    subst P (sym c.take_chosen-head.ensures.answer)
+    (taken_may_return c.args.self.now _ _ _ c.args.order c.args.kind c.in_ok-chosen.chosen c.self.invariant.sound c.self.view_is run left)
+
+pub returns-clause-kept : goal.returns-clause-kept
+returns-clause-kept c =
+    let left = c.take_chosen-head.ensures.after ∙ ap (λ (f : Frames). with_area f (taken f.area c.args.order c.args.kind (Some (chosen_of c.in_ok-chosen.chosen)))) c.self.view_is in
+    taken_leaves_clear c.args.self.now _ c.args.order c.args.kind c.in_ok-chosen.chosen left
+
+pub returns-clause-head : goal.returns-clause-head
+returns-clause-head c =
+    let run = listed_run _ _ _ _ c.in_ok-chosen.chosen.block c.self.invariant.sound c.in_ok-chosen.ensures.1 in
+    let inside : c.in_ok-chosen.chosen.block.head + 2 ^ c.args.order ≤ length c.self.inside.lists.states = run.inside in
+    let some : 0 < 2 ^ c.args.order = pow_pos c.args.order in
+    let same : c.take_chosen-head.result ≡ c.in_ok-chosen.chosen.block.head = c.take_chosen-head.ensures.answer in
+    let pages : length c.take_chosen-head.new.lists.states ≡ length c.self.inside.lists.states = c.take_chosen-head.ensures.pages in
+    (omega arith, (returns-clause-clear c).free c.take_chosen-head.result (omega arith) (omega arith))

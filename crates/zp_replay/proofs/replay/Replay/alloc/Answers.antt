@@ -4,7 +4,7 @@ use Rattle.zp_model.specs.Zone.{PlainZone}
 use Rattle.zp_laws.specs.FreePages.{IsSameZone}
 use Rattle.zp_laws.proofs.Sameness.{alloc-same}
 use Rattle.zp_zone.specs.NamedZone.{NamedZone}
-use Rattle.zp_replay.proofs.Seating.{seats-back}
+use Rattle.zp_replay.proofs.Seating.{same_right, seats-back}
 use Rattle.zp_replay.proofs.replay.Replay.alloc.Goals as goal
 
 pub invariant_of-self : goal.invariant_of-self
@@ -20,7 +20,7 @@ invariant_of-self c =
       short = old.short;
       sized = same.pages ∙ old.sized;
       crew = same.workers ∙ old.crew;
-      seated = seats-back old.zone.plain _ old.seats.items c.from.result seat _ same c.alloc.ensures.seat c.index_mut-seat.ensures.value old.seated;
+      seated = seats-back old.zone.plain _ old.seats.items c.from.result seat _ same (same_right _ _ c.alloc.ensures.seat) c.index_mut-seat.ensures.value old.seated;
     }
 
 pub invariant_of-self-2 : goal.invariant_of-self-2
@@ -36,5 +36,5 @@ invariant_of-self-2 c =
       short = old.short;
       sized = same.pages ∙ old.sized;
       crew = same.workers ∙ old.crew;
-      seated = seats-back old.zone.plain _ old.seats.items c.from.result seat _ same c.alloc.ensures.seat c.index_mut-seat.ensures.value old.seated;
+      seated = seats-back old.zone.plain _ old.seats.items c.from.result seat _ same (same_right _ _ c.alloc.ensures.seat) c.index_mut-seat.ensures.value old.seated;
     }

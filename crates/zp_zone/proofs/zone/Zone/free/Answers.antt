@@ -9,6 +9,7 @@ use Rattle.zp_zone.specs.Kept.{plain_of, IsKept}
 use Rattle.zp_zone.proofs.Allocated.{IsAsked}
 use Rattle.zp_zone.proofs.AllocSteps.{named}
 use Rattle.zp_zone.proofs.Freed.{held_clear, plain-given, given_kept}
+use Rattle.zp_zone.proofs.Callers.{freed_seats, freed_gone, freed_kept}
 use Rattle.zp_zone.proofs.zone.Zone.free.Goals as goal
 
 -- the block that the zone, by its fields, has out
@@ -50,3 +51,16 @@ returns-clause-after c =
     let left : c.give.new.self ≡ given c.self.inside.buddy (c.args.page - c.self.inside.base) c.args.order = c.give.ensures ∙ ap (λ n. given c.self.inside.buddy n c.args.order) e in
     ap (λ f. named c.self.inside.name (plain_of f c.self.inside.base c.self.inside.min)) left
     ∙ given_in c.args.self.now c.self.inside.name c.self.inside.buddy c.self.inside.base c.self.inside.min c.args.seat.now.worker c.args.page c.args.order c.self.view_is c.requires.out asked
+
+pub returns-clause-fits : goal.returns-clause-fits
+returns-clause-fits c = freed_seats c.args.self.now.plain _ _ _ (ap (λ (n : NamedZone). n.plain) (returns-clause-after c)) c.args.seat.now c.requires.seat
+
+pub returns-clause-seats : goal.returns-clause-seats
+returns-clause-seats c = freed_seats c.args.self.now.plain _ _ _ (ap (λ (n : NamedZone). n.plain) (returns-clause-after c))
+
+pub returns-clause-gone : goal.returns-clause-gone
+returns-clause-gone c = freed_gone c.args.self.now.plain _ _ _ (ap (λ (n : NamedZone). n.plain) (returns-clause-after c))
+
+pub returns-clause-kept : goal.returns-clause-kept
+returns-clause-kept c =
+    freed_kept c.args.self.now.plain _ _ _ _ c.requires.out (ap (λ (n : NamedZone). n.plain) (returns-clause-after c))

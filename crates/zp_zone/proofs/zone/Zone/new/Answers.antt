@@ -5,6 +5,8 @@ use Rattle.zp_zone.specs.Kept.{plain_of, IsKept}
 use Rattle.zp_zone.specs.Making.{wanted, IsGood}
 use Rattle.zp_zone.proofs.AllocSteps.{named}
 use Rattle.zp_zone.proofs.OpeningZone.{plain-opening, opening_kept}
+use Rattle.zp_zone.specs.NamedZone.{NamedZone}
+use Rattle.zp_zone.proofs.Callers.{seats_fit}
 use Rattle.zp_zone.proofs.zone.Zone.new.Goals as goal
 
 pub invariant_of-zone : goal.invariant_of-zone
@@ -20,3 +22,7 @@ returns-clause-zone c =
     ap (λ (f : Frames). named c.in_ok-name.name (plain_of f c.args.config.base c.args.config.min)) c.in-Ok.ensures
     ∙ ap (λ z. named c.in_ok-name.name z) (plain-opening c.args.config.base c.args.config.pages c.args.config.min c.args.workers)
     ∙ ap (λ q. named q (zone_opening c.args.config.base c.args.config.pages c.args.config.min c.args.workers)) c.in_ok-name.ensures.ok
+
+pub returns-clause-fits : goal.returns-clause-fits
+returns-clause-fits c =
+    seats_fit _ _ c.args.config.base c.args.config.pages c.args.config.min c.args.workers (ap (λ (n : NamedZone). n.plain) (returns-clause-zone c)) c.in-Ok-seats.ensures

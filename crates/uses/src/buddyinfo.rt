@@ -1,0 +1,24 @@
+//! Counts and the info line.
+
+use zp_model::Level;
+use zp_zone::{WriteFault, Writer, Zone};
+
+/// What a monitor wants to know of a zone.
+#[derive(Clone, Copy, PartialEq, Eq, Debug, Drop)]
+pub struct Memory {
+    pub free_pages: u32,
+    /// How many blocks of the largest order are free.
+    pub largest_blocks: u32,
+    pub level: Level,
+}
+
+/// Writes the zone's info line, and answers what it says in short.
+pub fn show<W: Writer>(zone: &Zone, writer: &mut W) -> Result<Memory, WriteFault> {
+    zone.write_info(writer)?;
+    let counts = zone.counts();
+    Ok(Memory {
+        free_pages: counts.free,
+        largest_blocks: counts.by_order[10],
+        level: zone.level(),
+    })
+}

@@ -1,0 +1,18 @@
+//! Callers of the zone allocator, as a user would write them. Each is proved from the contracts of the calls that it makes:
+//! there is no proof file here, and where one were wanted, a contract below would say too little.
+#![tactic(auto)]
+
+mod buddyinfo;
+mod first_page;
+mod huge_page;
+mod page_pool;
+mod two_pages;
+
+pub use buddyinfo::{Memory, show};
+pub use first_page::one_page;
+pub use huge_page::{Run, give_run, take_huge_page};
+pub use page_pool::PagePool;
+pub use two_pages::take_two;
+
+#[cfg(test)]
+mod tests;

@@ -1,0 +1,93 @@
+//! The callers, run.
+ghost use Rattle.std.specs.Prelude.{ℕ, None};
+ghost use Rattle.zp_zone.specs.NamedZone.{IsSeatOf};
+
+use super::*;
+use arrayvec::ArrayVec;
+use std::test::*;
+use zp_model::{Level, Order, PageNo};
+use zp_zone::{WriteFault, Writer, Zone, ZoneConfig};
+
+const DMA: ZoneConfig<'static> = ZoneConfig {
+    name: "DMA",
+    base: 0,
+    pages: 1024,
+    min: 511,
+};
+
+#[test]
+fn one_page_is_taken_and_given_back(rt: HostRuntime) {
+    assert!(rt; one_page(rt.alloc()) == Ok(4096));
+}
+
+#[test]
+fn a_pool_gives_pages_and_takes_its_own_back(rt: HostRuntime) -> Result<(), Fail> {
+    let made = PagePool::new(rt.alloc(), DMA);
+    let mut pool = made.ok().ok_or("the pool can be made")?;
+    let page = pool.take().ok_or("there is a page")?;
+    assert!(rt; page == PageNo::new(0));
+    assert_eq!(rt; pool.free_pages(), 1023);
+    assert!(rt; !pool.put(PageNo::new(1)));
+    assert!(rt; pool.put(page));
+    assert!(rt; !pool.put(page));
+    assert_eq!(rt; pool.free_pages(), 1024);
+    Ok(())
+}
+
+#[test]
+fn a_huge_page_is_whole_or_single(rt: HostRuntime) -> Result<(), Fail> {
+    let made = Zone::new(rt.alloc(), ZoneConfig { min: 200, ..DMA }, 1);
+    let (mut zone, mut seats) = made.ok().ok_or("the zone can be made")?;
+    let huge = Order::new(9).ok_or("9 is an order")?;
+    let seat = &mut seats[0];
+    let whole = take_huge_page(&mut zone, seat, huge)
+        .ok()
+        .ok_or("a run is free")?;
+    assert!(rt; whole.order == huge);
+    let single = take_huge_page(&mut zone, seat, huge)
+        .ok()
+        .ok_or("a page is free")?;
+    assert!(rt; single.order == Order::zero());
+    assert_eq!(rt; zone.counts().free, 511);
+    give_run(&mut zone, seat, single);
+    assert_eq!(rt; zone.counts().free, 512);
+    assert!(rt; take_two(&mut zone, seat).is_ok());
+    assert_eq!(rt; zone.counts().free, 512);
+    Ok(())
+}
+
+/// Keeps the bytes that it is given.
+#[derive(Drop)]
+struct Kept {
+    bytes: ArrayVec<u8, 160>,
+}
+
+impl Writer for Kept {
+    ghost contents = { λ w. None };
+
+    ghost failures = { λ w. 0 };
+
+    fn write(&mut self, piece: &[u8]) -> Result<usize, WriteFault> {
+        for byte in piece {
+            let _ = self.bytes.try_push(*byte);
+        }
+        Ok(piece.len())
+    }
+}
+
+#[test]
+fn a_zone_is_shown(rt: HostRuntime) -> Result<(), Fail> {
+    let made = Zone::new(rt.alloc(), DMA, 1);
+    let (zone, _seats) = made.ok().ok_or("the zone can be made")?;
+    let mut writer = Kept {
+        bytes: ArrayVec::new(),
+    };
+    let memory = show(&zone, &mut writer).ok().ok_or("the writer takes all")?;
+    assert_eq!(rt; memory.free_pages, 1024);
+    assert_eq!(rt; memory.largest_blocks, 1);
+    assert!(rt; memory.level == Level::High);
+    let line =
+        "Node 0, zone      DMA      0      0      0      0      0      0      0      0      0      0      1 \n";
+    assert!(rt; writer.bytes.as_slice() == line.as_bytes());
+    Ok(())
+}

@@ -1,0 +1,121 @@
+-- Which blocks are out when one went out or came back: that one, and the others as they were.
+use Rattle.std.proofs.Common.{ℕ, ◌+◌, ◌-◌, ◌^◌, ◌≡◌, ◌≤◌, ◌<◌, ◌&&◌, inl, inr, refl, sym, ◌∙◌, ap, arith, Bool, true, false, cond, length, set, Option, Some, None}
+use Rattle.std.proofs.lemmas.Nat.{pow_pos}
+use Rattle.std.proofs.lemmas.Bool.{cases_lt, and_from, and_right, le-leb, eq-eqb, false≢true, false_from_ne_true}
+use Rattle.std.proofs.lemmas.List.{length-set, get_or-set_same, get_or-set_other, get_or_past}
+use Rattle.std.specs.Prelude.{leb}
+use Rattle.zp_model.specs.declared.migrate_type.MigrateType.{MigrateType}
+use Rattle.zp_model.specs.declared.mark.Mark.{Mark}
+use Rattle.zp_model.specs.declared.refused.Refused.TheVariants.{BelowMark}
+use Rattle.zp_model.specs.declared.request.Reply.TheVariants as Reply
+use Rattle.zp_model.specs.Block.{IsBlock}
+use Rattle.zp_model.specs.Area.{Area}
+use Rattle.zp_model.specs.Choose.{Chosen, choose}
+use Rattle.zp_model.specs.Take.{taken, give}
+use Rattle.zp_model.specs.Mark.{passes}
+use Rattle.zp_model.specs.Zone.{PlainZone, Holding, holding_at, is_of, pages_of, hand_out}
+use Rattle.zp_model.specs.Step.{alloc, alloc_chosen, refuse, freed}
+use Rattle.zp_model.specs.Run.{is_out}
+use Rattle.zp_model.specs.Lawful.{IsLawful}
+use Rattle.zp_laws.specs.Found.{IsFound}
+use Rattle.zp_laws.proofs.Choosing.{choose_found, found_block, found_free}
+use Rattle.zp_laws.proofs.Keeping.{free-not_out}
+use Rattle.zp_laws.proofs.Held.{out-to}
+
+-- what is out at another page stays out when the holding of a page changes
+out-at_other : (z : PlainZone) (a : Area) (h : ℕ) (v : Option Holding) (w p k : ℕ) → (p - z.base ≡ h → ⊥) → is_out z w p k ≡ true →
+    is_out (record z { area = a; out = set z.out h v }) w p k ≡ true
+out-at_other z a h v w p k ne e = ap (λ (o : Option Holding). leb z.base p && is_of w k o) (get_or-set_other z.out h (p - z.base) v None ne) ∙ e
+
+-- a block that goes out is out
+out-handed : (z : PlainZone) (a : Area) (h k : ℕ) (t : MigrateType) (w p : ℕ) → h < length z.out → p ≡ z.base + h → is_out (hand_out (record z { area = a }) h k t w) w p k ≡ true
+out-handed z a h k t w p lt e =
+    let x : Option Holding = Some (record { order = k; kind = t; worker = w }) in
+    let place : p - z.base ≡ h = omega arith in
+    let low : z.base ≤ p = omega arith in
+    let here : holding_at (set z.out h x) (p - z.base) ≡ x = ap (λ n. holding_at (set z.out h x) n) place ∙ get_or-set_same z.out h x None lt in
+    and_from _ _ (le-leb z.base p low) (ap (λ (o : Option Holding). is_of w k o) here ∙ and_from _ _ (eq-eqb k k refl) (eq-eqb w w refl))
+
+-- no block out starts at a page where none did
+not_out-where_none : (z : PlainZone) (w p k h : ℕ) → holding_at z.out h ≡ None → is_out z w p k ≡ true → p - z.base ≡ h → ⊥
+not_out-where_none z w p k h none e same =
+    let held = (out-to z w p k e).1 in
+    false≢true (ap (λ (o : Option Holding). is_of w k o) (sym none) ∙ ap (λ n. is_of w k (holding_at z.out n)) (sym same) ∙ held)
+
+-- the block chosen starts at a page of the zone where none was out
+chosen_place : (z : PlainZone) (k : ℕ) (t : MigrateType) (c : Chosen) → choose z.area k t ≡ Some c → IsLawful z → (c.head < length z.out) × (holding_at z.out c.head ≡ None)
+chosen_place z k t c e l =
+    let f : IsFound z.area.free k c.head = choose_found z.area k t c l.lists e in
+    let b : IsBlock (pages_of z) c.head k = found_block z.area.free k c.head f in
+    let room : c.head + 2 ^ k ≤ pages_of z = b.inside in
+    let some : 0 < 2 ^ k = pow_pos k in
+    let places : length z.out ≡ pages_of z = l.places in
+    (omega arith, free-not_out z c.head l (omega arith) (found_free z.area.free k c.head f c.head (omega arith) (omega arith)))
+
+chosen-kept : (z : PlainZone) (w k : ℕ) (t : MigrateType) (o : Option Chosen) → choose z.area k t ≡ o → IsLawful z → (v p j : ℕ) → is_out z v p j ≡ true →
+    is_out (alloc_chosen z w k t o).zone v p j ≡ true
+chosen-kept z w k t None e l v p j q = q
+chosen-kept z w k t (Some c) e l v p j q =
+    let place = chosen_place z k t c e l in
+    out-at_other z (taken z.area k t (Some c)) c.head (Some (record { order = k; kind = t; worker = w })) v p j (not_out-where_none z v p j c.head place.1 q) q
+
+-- handing out a block leaves the others out
+pub alloc-kept : (z : PlainZone) (w k : ℕ) (t : MigrateType) (m : Mark) → IsLawful z → (v p j : ℕ) → is_out z v p j ≡ true → is_out (alloc z w k t m).zone v p j ≡ true
+unfolding alloc
+alloc-kept z w k t m l v p j q = go (passes z k m)
+  where
+    go : (b : Bool) → is_out (cond b (alloc_chosen z w k t (choose z.area k t)) (refuse z BelowMark)).zone v p j ≡ true
+    go true = chosen-kept z w k t (choose z.area k t) refl l v p j q
+    go false = q
+
+chosen-out : (z : PlainZone) (w k : ℕ) (t : MigrateType) (o : Option Chosen) → choose z.area k t ≡ o → IsLawful z → (p : ℕ) → Reply.Page p ≡ (alloc_chosen z w k t o).reply →
+    is_out (alloc_chosen z w k t o).zone w p k ≡ true
+chosen-out z w k t None e l p r = cc
+chosen-out z w k t (Some c) e l p r =
+    let same : p ≡ z.base + c.head = cc in
+    out-handed z (taken z.area k t (Some c)) c.head k t w p (chosen_place z k t c e l).0 same
+
+-- the block that is answered is out
+pub alloc-out : (z : PlainZone) (w k : ℕ) (t : MigrateType) (m : Mark) → IsLawful z → (p : ℕ) → Reply.Page p ≡ (alloc z w k t m).reply → is_out (alloc z w k t m).zone w p k ≡ true
+unfolding alloc
+alloc-out z w k t m l p r = go (passes z k m) r
+  where
+    go : (b : Bool) → Reply.Page p ≡ (cond b (alloc_chosen z w k t (choose z.area k t)) (refuse z BelowMark)).reply →
+        is_out (cond b (alloc_chosen z w k t (choose z.area k t)) (refuse z BelowMark)).zone w p k ≡ true
+    go true r = chosen-out z w k t (choose z.area k t) refl l p r
+    go false r = cc
+
+chosen-fresh : (z : PlainZone) (w k : ℕ) (t : MigrateType) (o : Option Chosen) → choose z.area k t ≡ o → IsLawful z → (p : ℕ) → Reply.Page p ≡ (alloc_chosen z w k t o).reply →
+    (v j : ℕ) → is_out z v p j ≡ false
+chosen-fresh z w k t None e l p r v j = cc
+chosen-fresh z w k t (Some c) e l p r v j =
+    let same : p ≡ z.base + c.head = cc in
+    let place : p - z.base ≡ c.head = omega arith in
+    false_from_ne_true _ (λ on. not_out-where_none z v p j c.head (chosen_place z k t c e l).1 on place)
+
+-- and was not out before
+pub alloc-fresh : (z : PlainZone) (w k : ℕ) (t : MigrateType) (m : Mark) → IsLawful z → (p : ℕ) → Reply.Page p ≡ (alloc z w k t m).reply → (v j : ℕ) → is_out z v p j ≡ false
+unfolding alloc
+alloc-fresh z w k t m l p r v j = go (passes z k m) r
+  where
+    go : (b : Bool) → Reply.Page p ≡ (cond b (alloc_chosen z w k t (choose z.area k t)) (refuse z BelowMark)).reply → is_out z v p j ≡ false
+    go true r = chosen-fresh z w k t (choose z.area k t) refl l p r v j
+    go false r = cc
+
+-- what comes back is out no more
+pub freed-gone : (z : PlainZone) (a k w j : ℕ) → is_out (freed z (a - z.base) k) w a j ≡ false
+freed-gone z a k w j = and_right _ _ (ap (λ (o : Option Holding). is_of w j o) none)
+  where
+    none : holding_at (set z.out (a - z.base) None) (a - z.base) ≡ None
+    none = elim (cases_lt (a - z.base) (length z.out)) [
+      | inl lt ↦ get_or-set_same z.out (a - z.base) None None lt
+      | inr ge ↦
+          let n : length (set z.out (a - z.base) None) ≡ length z.out = length-set z.out (a - z.base) None in
+          get_or_past (set z.out (a - z.base) None) (a - z.base) None (omega arith)
+    ]
+
+-- and the others stay out
+pub freed-kept : (z : PlainZone) (a k : ℕ) → z.base ≤ a → (w p j : ℕ) → (p ≡ a → ⊥) → is_out z w p j ≡ true → is_out (freed z (a - z.base) k) w p j ≡ true
+freed-kept z a k le w p j ne e =
+    let low : z.base ≤ p = (out-to z w p j e).0 in
+    out-at_other z (give z.area (a - z.base) k) (a - z.base) None w p j (λ same. ne (omega arith)) e
