@@ -1,28 +1,27 @@
 //! `zonereplay [--serial]`: reads a trace on standard input and writes its output on standard output.
 //!
-//! It ends with 0 after a good trace; with 1 after a bad one, whose bad line it names on standard output, and where memory
-//! was wanting or a stream failed; with 2 where a word is no flag.
+//! What it says on standard error as it ends, and with which status, is what `Exit` and `exit_status` of `zp_replay` say.
 #![tactic(auto)]
 
+ghost use Rattle.std.specs.Prelude.{◌≡◌, ◌<◌};
+
 use std::env;
-use std::fmt::Display;
 use std::io::ErrorKind;
+use std::marker::Brand;
 use std::process::ExitCode;
 use std::rt::Env;
-use zp_replay::device::replay_streams;
-use zp_replay::{Ending, FlagFault, Flags, read_flags};
+use std::sync::ledger::{Blank, Ledger};
+use zp_replay::device::{Sink, Source};
+use zp_replay::{Exit, Failures, FlagFault, Flags, exit_status, read_flags, replay_serial};
 
 fn main(rt: HostRuntime) -> ExitCode {
-    if let Err(fault) = own_flags(&rt) {
-        let status = if fault == FlagFault::Memory { 1 } else { 2 };
-        return fail(&rt, fault, status);
-    }
-    let (_input, _output, ending) = replay_streams(rt.alloc(), rt.stdin(), rt.stdout());
-    match ending {
-        Ok(Ending::Good) => ExitCode::SUCCESS,
-        Ok(Ending::BadLine(_)) => ExitCode::FAILURE,
-        Err(fault) => fail(&rt, fault, 1),
-    }
+    let exit = match own_flags(&rt) {
+        Ok(_) => replay_own_streams::<Brand, Brand>(&rt, Blank::new(1), Blank::new(1)),
+        Err(fault) => Exit::Refused(fault),
+    };
+    // There is nobody left to tell that standard error failed.
+    let _ = rt.eprint(exit);
+    ExitCode::from(exit_status(exit))
 }
 
 /// The flags that the program was started with. A word that is no text is no flag.
@@ -36,9 +35,17 @@ fn own_flags(rt: &(impl Env + AllocGlobal)) -> Result<Flags, FlagFault> {
     read_flags(rt.alloc(), words.as_slice())
 }
 
-/// Says why on standard error.
-fn fail<D: Display + Drop>(rt: &impl Eprint, fault: D, status: u8) -> ExitCode {
-    // There is nobody left to tell that standard error failed.
-    let _ = rt.eprintln(fault);
-    ExitCode::from(status)
+/// Replays a trace from standard input onto standard output, with a ledger of the failures of each.
+fn replay_own_streams<K: Ledger, L: Ledger>(rt: &HostRuntime, reads: Blank, writes: Blank) -> Exit
+    requires read_name { reads.name ≡ K.name }
+    requires read_parts { (reads.parts ≡ K.parts) × (0 < reads.parts) }
+    requires write_name { writes.name ≡ L.name }
+    requires write_parts { (writes.parts ≡ L.parts) × (0 < writes.parts) }
+{
+    let mut source = Source::new(rt.stdin(), Failures::<K>::new(reads));
+    let mut sink = Sink::new(rt.stdout(), Failures::<L>::new(writes));
+    match replay_serial(rt.alloc(), &mut source, &mut sink) {
+        Ok(ending) => Exit::Replayed(ending),
+        Err(fault) => Exit::Broken(fault),
+    }
 }

@@ -5,22 +5,22 @@ use Rattle.zp_trace.specs.Grammar.{IsTraceText, IsBadLine}
 use Rattle.zp_zone.specs.Streams.{IsWritten, IsBegun}
 use Rattle.zp_replay.specs.Output.{output, bad_line}
 use Rattle.zp_replay.specs.Replaying.{IsRead, IsReplayed, IsRefusedAt, IsCutShort}
-use Rattle.zp_replay.proofs.Limits.{all-good, all-bad}
+use Rattle.zp_replay.proofs.Limits.{good-input, bad-input}
 
-pub replayed : (had left x y : Option (List ℕ)) (text : List ℕ) (t : Trace) → IsRead had left text → IsTraceText text t → IsWritten x y (output t) → IsReplayed had x y
+pub replayed : (had left x y : Option (List ℕ)) (text : List ℕ) (t : Trace) → IsRead had left text → IsTraceText text t → IsWritten x y (output t) → IsReplayed had left x y
 replayed had left x y text t read is written =
-    record { text = text; all = all-good had left text t read is; trace = t; grammar = is; written = written }
+    record { text = text; input = good-input had left text t read is; trace = t; grammar = is; written = written }
 
-pub refused : (had left x y : Option (List ℕ)) (text : List ℕ) (n : ℕ) → IsRead had left text → IsBadLine text n → IsWritten x y (bad_line n) → IsRefusedAt had x y n
+pub refused : (had left x y : Option (List ℕ)) (text : List ℕ) (n : ℕ) → IsRead had left text → IsBadLine text n → IsWritten x y (bad_line n) → IsRefusedAt had left x y n
 refused had left x y text n read is written =
-    let whole = all-bad had left text n read is in
-    record { text = whole.text; all = whole.all; grammar = whole.grammar; written = written }
+    let whole = bad-input had left text n read is in
+    record { text = whole.text; input = whole.input; grammar = whole.grammar; written = written }
 
-pub good-cut : (had left x y : Option (List ℕ)) (text : List ℕ) (t : Trace) → IsRead had left text → IsTraceText text t → IsBegun x y (output t) → IsCutShort had x y
+pub good-cut : (had left x y : Option (List ℕ)) (text : List ℕ) (t : Trace) → IsRead had left text → IsTraceText text t → IsBegun x y (output t) → IsCutShort had left x y
 good-cut had left x y text t read is begun =
-    record { text = text; all = all-good had left text t read is; written = inl (t, is, begun) }
+    record { text = text; input = good-input had left text t read is; written = inl (t, is, begun) }
 
-pub bad-cut : (had left x y : Option (List ℕ)) (text : List ℕ) (n : ℕ) → IsRead had left text → IsBadLine text n → IsBegun x y (bad_line n) → IsCutShort had x y
+pub bad-cut : (had left x y : Option (List ℕ)) (text : List ℕ) (n : ℕ) → IsRead had left text → IsBadLine text n → IsBegun x y (bad_line n) → IsCutShort had left x y
 bad-cut had left x y text n read is begun =
-    let whole = all-bad had left text n read is in
-    record { text = whole.text; all = whole.all; written = inr (n, whole.grammar, begun) }
+    let whole = bad-input had left text n read is in
+    record { text = whole.text; input = whole.input; written = inr (n, whole.grammar, begun) }

@@ -2,12 +2,12 @@
 use Rattle.std.proofs.Common.{ℕ, ◌≡◌, ◌≤◌, ◌<◌, inl, inr, List, [], ◌++◌, length, take, drop, Option, None, Some, sym, ap, subst, ◌∙◌, append_assoc, arith, length-append}
 use Rattle.std.proofs.Math.Seq.{take-append_seam}
 use Rattle.std.proofs.lemmas.Bool.{cases_lt}
-use Rattle.std.proofs.lemmas.List.{append-nil, take-append-le, take-append-drop}
+use Rattle.std.proofs.lemmas.List.{append-nil, take-append-le, take-append-drop, take_all}
 use Rattle.zp_trace.specs.declared.trace.Trace.{Trace}
 use Rattle.zp_trace.specs.Spelling.{line_text, text_of}
 use Rattle.zp_trace.specs.Grammar.{IsTraceText, IsBadLine, lines_of}
 use Rattle.zp_replay.specs.declared.input.TheConstants.{INPUT_LIMIT}
-use Rattle.zp_replay.specs.Replaying.{IsRead, IsAllOf}
+use Rattle.zp_replay.specs.Replaying.{IsRead, IsInput}
 use Rattle.zp_replay.proofs.ShortLines.{allowed_short, beginning_short}
 
 -- the text of a trace lies within the limit
@@ -40,26 +40,46 @@ bad-longer text more n long is =
       unfinished = λ empty. absurd (omega (arith, ap length empty, length-append rest more));
     }
 
--- a good text was read whole
-pub all-good : (old new : Option (List ℕ)) (text : List ℕ) (t : Trace) → IsRead old new text → IsTraceText text t → IsAllOf old text
-all-good None new text t read is = tt
-all-good (Some had) None text t read is = absurd read.front
-all-good (Some had) (Some rest) text t read is =
-    let none : rest ≡ [] = read.end (good_short text t is) in
-    read.front ∙ ap (λ (q : List ℕ). text ++ q) none ∙ append-nil text
+-- what was read of a text within the limit
+within-limit : (text : List ℕ) → length text ≤ INPUT_LIMIT → take INPUT_LIMIT text ≡ text
+within-limit text short = take_all INPUT_LIMIT text short
 
--- a text that the reader had, with the bad line of what was read
-pub record IsBadAll (had : Option (List ℕ)) (n : ℕ) : Type 0 where
+-- a good text was read whole
+pub good-input : (old new : Option (List ℕ)) (text : List ℕ) (t : Trace) → IsRead old new text → IsTraceText text t → IsInput old new text
+good-input None new text t read is = record { all = tt; read = tt }
+good-input (Some had) None text t read is = absurd read.front
+good-input (Some had) (Some rest) text t read is =
+    let none : rest ≡ [] = read.end (good_short text t is) in
+    record {
+      all = read.front ∙ ap (λ (q : List ℕ). text ++ q) none ∙ append-nil text;
+      read = read.front ∙ ap (λ (q : List ℕ). q ++ rest) (sym (within-limit text read.within));
+    }
+
+-- an input with the bad line of what was read of it
+pub record IsBadInput (had left : Option (List ℕ)) (n : ℕ) : Type 0 where
   pub text : List ℕ
-  pub all : IsAllOf had text
+  pub input : IsInput had left text
   pub grammar : IsBadLine text n
 
-pub all-bad : (old new : Option (List ℕ)) (text : List ℕ) (n : ℕ) → IsRead old new text → IsBadLine text n → IsBadAll old n
-all-bad None new text n read is = record { text = text; all = tt; grammar = is }
-all-bad (Some had) None text n read is = absurd read.front
-all-bad (Some had) (Some rest) text n read is = record {
+-- what was read is the front of the input
+front-input : (text rest : List ℕ) → length text ≤ INPUT_LIMIT → (length text < INPUT_LIMIT → rest ≡ []) → take INPUT_LIMIT (text ++ rest) ≡ text
+front-input text rest within end =
+    elim (cases_lt (length text) INPUT_LIMIT) [
+      | inl less ↦ ap (λ (q : List ℕ). take INPUT_LIMIT (text ++ q)) (end less) ∙ ap (λ (q : List ℕ). take INPUT_LIMIT q) (append-nil text) ∙ within-limit text within
+      | inr full ↦
+          let size : INPUT_LIMIT ≡ length text = omega arith in
+          ap (λ (n : ℕ). take n (text ++ rest)) size ∙ take-append_seam text rest
+    ]
+
+pub bad-input : (old new : Option (List ℕ)) (text : List ℕ) (n : ℕ) → IsRead old new text → IsBadLine text n → IsBadInput old new n
+bad-input None new text n read is = record { text = text; input = record { all = tt; read = tt }; grammar = is }
+bad-input (Some had) None text n read is = absurd read.front
+bad-input (Some had) (Some rest) text n read is = record {
   text = text ++ rest;
-  all = read.front;
+  input = record {
+    all = read.front;
+    read = read.front ∙ ap (λ (q : List ℕ). q ++ rest) (sym (front-input text rest read.within read.end));
+  };
   grammar = elim (cases_lt (length text) INPUT_LIMIT) [
     | inl less ↦ subst (λ (q : List ℕ). IsBadLine q n) (sym (append-nil text) ∙ ap (λ (q : List ℕ). text ++ q) (sym (read.end less))) is
     | inr full ↦ bad-longer text rest n full is

@@ -5,3 +5,5 @@ pub mod Replaying
 pub mod Asked
 pub mod Words
 pub mod Devices
+pub mod Faults
+pub mod Exits

@@ -1,5 +1,5 @@
 //! The labels of workers, and the blocks that they are bound to.
-ghost use Rattle.std.specs.Prelude.{◌≡◌, ◌<◌, ◌≤◌, length, vec_capacity};
+ghost use Rattle.std.specs.Prelude.{◌≡◌, ◌<◌, length, vec_capacity};
 ghost use Rattle.zp_model.specs.declared.request.Reply.TheVariants.{Page};
 ghost use Rattle.zp_replay.specs.Labels.{names, bound_to, bind};
 
@@ -37,8 +37,7 @@ pub fn bound_to(bindings: &[Binding], worker: Worker, label: Name) -> Option<Bin
 pub fn bind(bindings: &mut Vec<Binding>, binding: Binding)
     requires { length bindings.old.items < vec_capacity bindings.old }
     ensures bound { bindings.new.items ≡ bind bindings.old.items binding.worker binding.label binding.order (Page binding.page) }
-    ensures room { vec_capacity bindings.old ≤ vec_capacity bindings.new }
+    ensures room { vec_capacity bindings.new ≡ vec_capacity bindings.old }
 {
-    // There is room, so this takes no memory.
-    let _ = bindings.push(binding);
+    bindings.push_reserved(binding);
 }

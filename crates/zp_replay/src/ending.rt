@@ -3,8 +3,10 @@
 ghost use Rattle.std.specs.Prelude.{◌≡◌};
 
 use std::alloc::AllocError;
-use thiserror::Error;
-use zp_zone::{ReadFault, WriteFault};
+use std::error::Error;
+use std::fmt;
+use std::fmt::{Display, Formatter};
+use zp_zone::WriteFault;
 
 /// What was replayed.
 #[derive(Clone, Copy, PartialEq, Eq, Debug, Drop)]
@@ -16,17 +18,35 @@ pub enum Ending {
 }
 
 /// Why a replay broke off.
-#[derive(Clone, Copy, PartialEq, Eq, Debug, Drop, Error)]
+#[derive(Clone, Copy, PartialEq, Eq, Debug, Drop)]
 pub enum ReplayFault {
-    #[error("zonereplay: no memory")]
+    /// There is no memory.
     Memory,
-    #[error("zonereplay: cannot read")]
+    /// The reader failed.
     Read,
-    #[error("zonereplay: cannot write")]
+    /// The writer failed.
     Write,
-    #[error("zonereplay: no thread")]
+    /// A thread could not be started.
     NoThread,
 }
+
+impl Display for ReplayFault {
+    ghost use Rattle.std.specs.Prelude.{Some};
+    ghost use Rattle.zp_replay.specs.Faults.{replay_message};
+
+    ghost output = { λ fault. Some (replay_message fault) };
+
+    fn fmt<W: fmt::Write>(&self, f: &mut Formatter<W>) -> fmt::Result {
+        f.write_str(match self {
+            ReplayFault::Memory => "zonereplay: no memory",
+            ReplayFault::Read => "zonereplay: cannot read",
+            ReplayFault::Write => "zonereplay: cannot write",
+            ReplayFault::NoThread => "zonereplay: no thread",
+        })
+    }
+}
+
+impl Error for ReplayFault {}
 
 impl From<AllocError> for ReplayFault {
     ghost use Rattle.zp_replay.specs.declared.ending.ReplayFault.TheVariants.{Memory};
@@ -35,16 +55,6 @@ impl From<AllocError> for ReplayFault {
 
     fn from(_e: AllocError) -> ReplayFault {
         ReplayFault::Memory
-    }
-}
-
-impl From<ReadFault> for ReplayFault {
-    ghost use Rattle.zp_replay.specs.declared.ending.ReplayFault.TheVariants.{Read};
-
-    ghost from_gives = { λ _ e. e ≡ Read };
-
-    fn from(_e: ReadFault) -> ReplayFault {
-        ReplayFault::Read
     }
 }
 

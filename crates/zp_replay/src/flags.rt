@@ -6,7 +6,9 @@ use clap::error::ErrorKind;
 use clap::{Arg, ArgAction, Command};
 use std::alloc::{AllocError, Global};
 use std::convert::AsStr;
-use thiserror::Error;
+use std::error::Error;
+use std::fmt;
+use std::fmt::{Display, Formatter};
 
 /// What was asked for.
 #[derive(Clone, Copy, PartialEq, Eq, Debug, Drop)]
@@ -18,15 +20,32 @@ pub struct Flags {
 }
 
 /// Why the words are no flags.
-#[derive(Clone, Copy, PartialEq, Eq, Debug, Drop, Error)]
+#[derive(Clone, Copy, PartialEq, Eq, Debug, Drop)]
 pub enum FlagFault {
-    #[error("zonereplay: unknown argument")]
+    /// A word is no flag.
     Unknown,
-    #[error("zonereplay: --journal needs threads")]
+    /// `--journal` stands with `--serial`.
     NeedsThreads,
-    #[error("zonereplay: no memory")]
+    /// There is no memory.
     Memory,
 }
+
+impl Display for FlagFault {
+    ghost use Rattle.std.specs.Prelude.{Some};
+    ghost use Rattle.zp_replay.specs.Faults.{flag_message};
+
+    ghost output = { λ fault. Some (flag_message fault) };
+
+    fn fmt<W: fmt::Write>(&self, f: &mut Formatter<W>) -> fmt::Result {
+        f.write_str(match self {
+            FlagFault::Unknown => "zonereplay: unknown argument",
+            FlagFault::NeedsThreads => "zonereplay: --journal needs threads",
+            FlagFault::Memory => "zonereplay: no memory",
+        })
+    }
+}
+
+impl Error for FlagFault {}
 
 impl From<AllocError> for FlagFault {
     ghost use Rattle.zp_replay.specs.declared.flags.FlagFault.TheVariants.{Memory};

@@ -7,6 +7,7 @@
 mod bindings;
 pub mod device;
 mod ending;
+mod exit;
 mod failures;
 mod flags;
 mod input;
@@ -16,10 +17,12 @@ mod replay;
 mod serial;
 
 pub use ending::{Ending, ReplayFault};
+pub use exit::{Exit, exit_status};
 pub use failures::Failures;
 pub use flags::{FlagFault, Flags, read_flags};
 pub use input::INPUT_LIMIT;
 pub use serial::replay_serial;
+pub use zp_trace::{Trace, TraceFault, parse_trace};
 
 #[cfg(test)]
 mod tests;

@@ -1,15 +1,14 @@
 //! A replay under way.
-ghost use Rattle.std.specs.Prelude.{◌≡◌, ◌<◌, ◌≤◌, ◌+◌, ◌++◌, [], length, vec_capacity, IfOk, OnOk, OnErr, All};
-ghost use Rattle.zp_model.specs.declared.constants.TheConstants.{LONGEST_NAME};
+ghost use Rattle.std.specs.Prelude.{◌≡◌, ◌<◌, ◌≤◌, ◌+◌, ◌++◌, [], length, vec_capacity, IfOk, IfErr, OnOk, OnErr, All};
+ghost use Rattle.std.specs.List.{range_with_len};
 ghost use Rattle.zp_model.specs.declared.mark.Mark.TheVariants.{Any};
 ghost use Rattle.zp_model.specs.declared.request.Request.TheVariants as request;
-ghost use Rattle.zp_model.specs.Zone.{pages_of, workers_of};
 ghost use Rattle.zp_model.specs.Step.{step};
 ghost use Rattle.zp_trace.specs.declared.bounds.TheConstants.{WORKERS};
 ghost use Rattle.zp_trace.specs.Grammar.{IsZoneLine};
-ghost use Rattle.zp_zone.specs.NamedZone.{page_reply};
+ghost use Rattle.zp_zone.specs.NamedZone.{IsSeatOf, page_reply};
 ghost use Rattle.zp_zone.specs.Streams.{IsWritten, IsBegun};
-ghost use Rattle.zp_replay.specs.Asked.{IsCommand, seats_for};
+ghost use Rattle.zp_replay.specs.Asked.{IsCommand, workers_at};
 ghost use Rattle.zp_replay.specs.Labels.{bound_to, bind};
 ghost use Rattle.zp_replay.specs.Replies.{standing, answer, answers, free_of, freed_reply, info_of};
 ghost use Rattle.zp_replay.specs.Output.{declared_zone, totals, total_of};
@@ -17,28 +16,25 @@ ghost use Rattle.zp_replay.specs.Output.{declared_zone, totals, total_of};
 use crate::bindings::{Binding, bind, bound_to};
 use crate::lines::{Line, Totals, freed_line, reply_line, total_line};
 use std::alloc::Global;
-use zp_model::{LONGEST_NAME, Mark, MigrateType, Name, Order, PageNo, Refused, Worker};
+use zp_model::{Mark, MigrateType, Name, Order, PageNo, Refused, Worker};
 use zp_trace::{Call, Command, WORKERS, ZoneLine};
 use zp_zone::{Seat, WriteFault, Writer, Zone, ZoneConfig, write_all};
 
 /// The zone of a trace as the commands so far left it, with the seats of its workers and the bindings of their labels.
 #[derive(Drop)]
 pub struct Replay {
-    line: ZoneLine,
     zone: Zone,
     seats: Vec<Seat>,
     bindings: Vec<Binding>,
-    ghost named: { zone.name ≡ line.name },
-    ghost short: { length line.name ≤ LONGEST_NAME },
-    ghost sized: { pages_of zone.plain ≡ line.pages },
-    ghost crew: { workers_of zone.plain ≡ WORKERS },
-    ghost seated: { seats.items ≡ seats_for zone.plain },
+    ghost fit: { All (IsSeatOf zone.plain) seats.items },
+    ghost crew: { workers_at seats.items ≡ range_with_len 0 WORKERS },
 }
 
 impl Replay {
     /// The zone that the line declares, with all its pages free, and room for so many bindings.
     pub fn new(alloc: Global, line: &ZoneLine, labels: usize) -> Result<Replay, Refused>
         requires { IsZoneLine line.now }
+        ensures why { IfErr result (λ r. r ≡ Refused.Memory) }
         ensures zone { IfOk result (λ r. r.zone ≡ declared_zone line.now) }
         ensures unbound { IfOk result (λ r. r.bindings.items ≡ []) }
         ensures room { IfOk result (λ r. labels ≤ vec_capacity r.bindings) }
@@ -54,7 +50,6 @@ impl Replay {
             return Err(Refused::Memory);
         };
         Ok(Replay {
-            line: *line,
             zone,
             seats,
             bindings,
@@ -86,7 +81,7 @@ impl Replay {
         requires command { IsCommand command.now }
         requires room { length self.old.bindings.items < vec_capacity self.old.bindings }
         ensures left { standing self.new.zone self.new.bindings.items ≡ (answer (standing self.old.zone self.old.bindings.items) command.now).left }
-        ensures room { vec_capacity self.old.bindings ≤ vec_capacity self.new.bindings }
+        ensures room { vec_capacity self.new.bindings ≡ vec_capacity self.old.bindings }
         ensures ok { OnOk result (IsWritten (W.contents writer.old) (W.contents writer.new) (answer (standing self.old.zone self.old.bindings.items) command.now).text) }
         ensures calm { OnOk result (W.failures writer.new ≡ W.failures writer.old) }
         ensures err { OnErr result (IsBegun (W.contents writer.old) (W.contents writer.new) (answer (standing self.old.zone self.old.bindings.items) command.now).text) }
@@ -124,7 +119,7 @@ impl Replay {
         ensures reply { page_reply result ≡ (step self.old.zone.plain worker (request.Alloc order kind Any)).reply }
         ensures zone { self.new.zone ≡ record self.old.zone { plain = (step self.old.zone.plain worker (request.Alloc order kind Any)).zone } }
         ensures bound { self.new.bindings.items ≡ bind self.old.bindings.items worker label order (page_reply result) }
-        ensures room { vec_capacity self.old.bindings ≤ vec_capacity self.new.bindings }
+        ensures room { vec_capacity self.new.bindings ≡ vec_capacity self.old.bindings }
     {
         let seat = &mut self.seats[usize::from(worker.number())];
         let page = self.zone.alloc(seat, order, kind, Mark::Any)?;
@@ -166,15 +161,15 @@ impl Replay {
             free,
             posted: 0,
             cached: 0,
-            lent: self.line.pages - free,
+            lent: self.zone.pages() - free,
         }
     }
 
     fn total(&self) -> Line
         ensures { result.bytes ≡ total_of self.now.zone }
     {
-        let name = self.line.name.as_str();
-        total_line(name, self.line.pages, &self.totals(), self.zone.level())
+        let name = self.zone.name();
+        total_line(name, self.zone.pages(), &self.totals(), self.zone.level())
     }
 
     /// Writes the total line and the info line.

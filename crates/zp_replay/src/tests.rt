@@ -1,6 +1,7 @@
 //! Traces in and output out, with devices that give and take small pieces or fail, and the words of the command line.
 ghost use Rattle.std.specs.Prelude.{◌≡◌, ◌<◌};
 
+use super::device::{Sink, Source};
 use super::memory::{Schedule, SliceReader, VecWriter};
 use super::*;
 use std::marker::Brand;
@@ -130,6 +131,17 @@ total DMA pages 4096 free 4093 posted 0 cached 0 lent 3 level high\n\
 Node 0, zone      DMA      1      2      2      2      2      2      2      2      2      2      2 \n",
         ),
         (
+            "zone DMA 0 4096 0\nworkers 1\nlists 0 0\n\
+0 alloc a 0 U DMA any\n0 alloc b 0 M DMA any\n0 alloc c 0 U DMA any\n\
+0 info\n0 free a\n0 free a\n0 free c\n0 info\n0 free b\n",
+            "0: page 3072\n0: page 2048\n0: page 3073\n\
+Node 0, zone      DMA      1      2      2      2      2      2      2      2      2      2      2 \n\
+0: freed\n0: refused 20\n0: freed\n\
+Node 0, zone      DMA      1      1      1      1      1      1      1      1      1      1      3 \n\
+0: freed\ntotal DMA pages 4096 free 4096 posted 0 cached 0 lent 0 level high\n\
+Node 0, zone      DMA      0      0      0      0      0      0      0      0      0      0      4 \n",
+        ),
+        (
             "zone DMA 0 8 0\nworkers 1\nlists 0 0\n0 alloc a 0 U DMA any\n0 alloc b 0 M DMA any\n0 alloc c 1 U DMA any\n\
 0 free a\n0 free c\n0 info\n0 free b\n",
             "0: page 0\n0: page 1\n0: page 2\n0: freed\n0: freed\n\
@@ -238,13 +250,88 @@ fn bad_traces_write_their_bad_line(rt: HostRuntime) -> Result<(), Fail> {
     Ok(())
 }
 
+/// The last text within each bound of a trace, and the first beyond it.
 #[test]
-fn long_texts_stay_unread_past_the_limit(rt: HostRuntime) -> Result<(), Fail> {
+fn bounds_are_these_numbers(rt: HostRuntime) {
+    for (text, ending) in [
+        // A name has at most 8 bytes.
+        ("zone Normal32 0 1 0\nworkers 1\nlists 0 0\n", Ending::Good),
+        (
+            "zone Normal321 0 1 0\nworkers 1\nlists 0 0\n",
+            Ending::BadLine(1),
+        ),
+        // A base is a multiple of 1,024, and at most 16,777,216.
+        ("zone A 1024 1 0\nworkers 1\nlists 0 0\n", Ending::Good),
+        ("zone A 512 1 0\nworkers 1\nlists 0 0\n", Ending::BadLine(1)),
+        ("zone A 16777216 1 0\nworkers 1\nlists 0 0\n", Ending::Good),
+        (
+            "zone A 16778240 1 0\nworkers 1\nlists 0 0\n",
+            Ending::BadLine(1),
+        ),
+        // A zone has 1 to 65,536 pages.
+        ("zone A 0 0 0\nworkers 1\nlists 0 0\n", Ending::BadLine(1)),
+        ("zone A 0 65536 0\nworkers 1\nlists 0 0\n", Ending::Good),
+        (
+            "zone A 0 65537 0\nworkers 1\nlists 0 0\n",
+            Ending::BadLine(1),
+        ),
+        // There is 1 worker.
+        ("zone A 0 1 0\nworkers 0\nlists 0 0\n", Ending::BadLine(2)),
+        ("zone A 0 1 0\nworkers 2\nlists 0 0\n", Ending::BadLine(2)),
+        (
+            "zone A 0 1 0\nworkers 1\nlists 0 0\n1 info\n",
+            Ending::BadLine(4),
+        ),
+        // The largest order is 10, and a label has at most 8 bytes.
+        (
+            "zone A 0 1 0\nworkers 1\nlists 0 0\n0 alloc a 10 M A any\n",
+            Ending::Good,
+        ),
+        (
+            "zone A 0 1 0\nworkers 1\nlists 0 0\n0 alloc a 11 M A any\n",
+            Ending::BadLine(4),
+        ),
+        (
+            "zone A 0 1 0\nworkers 1\nlists 0 0\n0 alloc label123 0 M A any\n",
+            Ending::Good,
+        ),
+        (
+            "zone A 0 1 0\nworkers 1\nlists 0 0\n0 alloc label1234 0 M A any\n",
+            Ending::BadLine(4),
+        ),
+    ] {
+        let outcome = replayed(&rt, text.as_bytes(), sound(1000));
+        assert!(rt; outcome.ending == Ok(ending), "of {text}");
+    }
+}
+
+#[test]
+fn traces_have_at_most_4096_lines(rt: HostRuntime) -> Result<(), Fail> {
+    let mut text = String::from_str(rt.alloc(), "zone DMA 0 4096 0\nworkers 1\nlists 0 0\n")?;
+    for _ in 3..4096 {
+        text.push_str("0 info\n")?;
+    }
+    let outcome = replayed(&rt, text.as_bytes(), sound(100_000));
+    assert!(rt; outcome.ending == Ok(Ending::Good));
+    text.push_str("0 info\n")?;
+    let outcome = replayed(&rt, text.as_bytes(), sound(100_000));
+    assert!(rt; outcome.ending == Ok(Ending::BadLine(4097)));
+    assert!(rt; outcome.written.as_slice() == "bad line 4097\n".as_bytes());
+    Ok(())
+}
+
+#[test]
+fn texts_stay_unread_past_262144_bytes(rt: HostRuntime) -> Result<(), Fail> {
     let zeros = vec![in rt.alloc(); b'0'; 300_000]?;
     let outcome = replayed(&rt, &zeros, sound(1000));
     assert!(rt; outcome.ending == Ok(Ending::BadLine(1)));
     assert!(rt; outcome.written.as_slice() == "bad line 1\n".as_bytes());
-    assert_eq!(rt; outcome.unread, 300_000 - INPUT_LIMIT);
+    assert_eq!(rt; outcome.unread, 37_856);
+    Ok(())
+}
+
+#[test]
+fn bad_lines_before_the_limit_are_found(rt: HostRuntime) -> Result<(), Fail> {
     let mut text = String::from_str(rt.alloc(), "zone DMA 0 4096 0\nworkers 1\nlists 0 0\n")?;
     for _ in 3..50_000 {
         text.push_str("0 info\n")?;
@@ -252,7 +339,7 @@ fn long_texts_stay_unread_past_the_limit(rt: HostRuntime) -> Result<(), Fail> {
     let outcome = replayed(&rt, text.as_bytes(), sound(300_000));
     assert!(rt; outcome.ending == Ok(Ending::BadLine(4097)));
     assert!(rt; outcome.written.as_slice() == "bad line 4097\n".as_bytes());
-    assert!(rt; outcome.unread > 0);
+    assert_eq!(rt; outcome.unread, 87_873);
     Ok(())
 }
 
@@ -298,11 +385,36 @@ fn failing_writes_leave_a_beginning(rt: HostRuntime) {
 
 #[test]
 fn streams_of_std_are_replayed(rt: HostRuntime) {
-    let output = Vec::new(rt.alloc());
-    let (rest, written, ending) = device::replay_streams(rt.alloc(), INFO_TRACE.as_bytes(), output);
-    assert!(rt; ending == Ok(Ending::Good));
-    assert!(rt; rest.is_empty());
-    assert!(rt; written.as_slice() == INFO_OUTPUT.as_bytes());
+    let outcome = streamed::<Brand, Brand>(
+        &rt,
+        INFO_TRACE.as_bytes(),
+        Blank::new(1),
+        Blank::new(1),
+    );
+    assert!(rt; outcome.ending == Ok(Ending::Good));
+    assert_eq!(rt; outcome.unread, 0);
+    assert!(rt; outcome.written.as_slice() == INFO_OUTPUT.as_bytes());
+}
+
+fn streamed<K: Ledger, L: Ledger>(
+    rt: &HostRuntime,
+    text: &[u8],
+    reads: Blank,
+    writes: Blank,
+) -> Outcome
+    requires read_name { reads.name ≡ K.name }
+    requires read_parts { (reads.parts ≡ K.parts) × (0 < reads.parts) }
+    requires write_name { writes.name ≡ L.name }
+    requires write_parts { (writes.parts ≡ L.parts) × (0 < writes.parts) }
+{
+    let mut source = Source::new(text, Failures::<K>::new(reads));
+    let mut sink = Sink::new(Vec::new(rt.alloc()), Failures::<L>::new(writes));
+    let ending = replay_serial(rt.alloc(), &mut source, &mut sink);
+    Outcome {
+        ending,
+        unread: source.into_stream().len(),
+        written: sink.into_stream(),
+    }
 }
 
 #[test]
@@ -368,29 +480,50 @@ fn other_words_are_unknown(rt: HostRuntime) {
 }
 
 #[test]
-fn faults_have_their_messages(rt: HostRuntime) -> Result<(), Fail> {
-    for (fault, message) in [
-        (ReplayFault::Memory, "zonereplay: no memory"),
-        (ReplayFault::Read, "zonereplay: cannot read"),
-        (ReplayFault::Write, "zonereplay: cannot write"),
-        (ReplayFault::NoThread, "zonereplay: no thread"),
-    ] {
-        assert!(rt;
-            format!(in rt.alloc(); "{fault}")?.as_str() == message,
-            "of {message}"
-        );
-    }
-    for (fault, message) in [
-        (FlagFault::Unknown, "zonereplay: unknown argument"),
+fn exits_have_their_status_and_text(rt: HostRuntime) -> Result<(), Fail> {
+    for (exit, status, text) in [
+        (Exit::Replayed(Ending::Good), 0, ""),
+        (Exit::Replayed(Ending::BadLine(1)), 1, ""),
         (
-            FlagFault::NeedsThreads,
-            "zonereplay: --journal needs threads",
+            Exit::Broken(ReplayFault::Memory),
+            1,
+            "zonereplay: no memory\n",
         ),
-        (FlagFault::Memory, "zonereplay: no memory"),
+        (
+            Exit::Broken(ReplayFault::Read),
+            1,
+            "zonereplay: cannot read\n",
+        ),
+        (
+            Exit::Broken(ReplayFault::Write),
+            1,
+            "zonereplay: cannot write\n",
+        ),
+        (
+            Exit::Broken(ReplayFault::NoThread),
+            1,
+            "zonereplay: no thread\n",
+        ),
+        (
+            Exit::Refused(FlagFault::Memory),
+            1,
+            "zonereplay: no memory\n",
+        ),
+        (
+            Exit::Refused(FlagFault::NeedsThreads),
+            2,
+            "zonereplay: --journal needs threads\n",
+        ),
+        (
+            Exit::Refused(FlagFault::Unknown),
+            2,
+            "zonereplay: unknown argument\n",
+        ),
     ] {
+        assert_eq!(rt; exit_status(exit), status, "of {exit:?}");
         assert!(rt;
-            format!(in rt.alloc(); "{fault}")?.as_str() == message,
-            "of {message}"
+            format!(in rt.alloc(); "{exit}")?.as_str() == text,
+            "of {exit:?}"
         );
     }
     Ok(())

@@ -1,40 +1,35 @@
-use Rattle.std.proofs.Common.{sym, ap, subst, ◌∙◌}
+use Rattle.std.proofs.Common.{◌≡◌, ap, ◌∙◌, arith}
+use Rattle.std.proofs.lemmas.Result.{err_from_is_err_and}
 use Rattle.zp_model.specs.declared.mark.Mark.TheVariants.{Any}
-use Rattle.zp_model.specs.Zone.{PlainZone}
-use Rattle.zp_laws.specs.FreePages.{IsSameZone}
-use Rattle.zp_laws.proofs.Sameness.{alloc-same}
-use Rattle.zp_zone.specs.NamedZone.{NamedZone}
-use Rattle.zp_replay.proofs.Seating.{same_right, seats-back}
+use Rattle.zp_model.specs.declared.refused.Refused.{Refused as Refusal}
+use Rattle.zp_model.specs.declared.request.Reply.TheVariants.{Refused}
+use Rattle.zp_model.specs.Step.{alloc}
+use Rattle.zp_zone.specs.NamedZone.{page_reply}
+use Rattle.zp_replay.proofs.Seating.{fit_after, workers_after, worker_at}
 use Rattle.zp_replay.proofs.replay.Replay.alloc.Goals as goal
 
 pub invariant_of-self : goal.invariant_of-self
 invariant_of-self c =
     let old = c.args.self.now in
-    let seat = c.index_mut-seat.result.now in
-    let after = ap (λ (n : NamedZone). n.plain) c.alloc.ensures.after in
-    let same : IsSameZone old.zone.plain c.alloc.new.self.plain =
-    subst (λ (p : PlainZone). IsSameZone old.zone.plain p) (sym after) (alloc-same old.zone.plain seat.worker c.args.order c.args.kind Any)
-    in
+    let a = c.alloc.ensures in
     record {
-      named = ap (λ (n : NamedZone). n.name) c.alloc.ensures.after ∙ old.named;
-      short = old.short;
-      sized = same.pages ∙ old.sized;
-      crew = same.workers ∙ old.crew;
-      seated = seats-back old.zone.plain _ old.seats.items c.from.result seat _ same (same_right _ _ c.alloc.ensures.seat) c.index_mut-seat.ensures.value old.seated;
+      fit = fit_after _ _ old.seats.items _ _ a.seats a.fits old.fit;
+      crew = workers_after old.seats.items _ _ _ c.index_mut-seat.ensures.value a.seat.worker ∙ old.crew;
     }
 
 pub invariant_of-self-2 : goal.invariant_of-self-2
 invariant_of-self-2 c =
     let old = c.args.self.now in
-    let seat = c.index_mut-seat.result.now in
-    let after = ap (λ (n : NamedZone). n.plain) c.alloc.ensures.after in
-    let same : IsSameZone old.zone.plain c.alloc.new.self.plain =
-    subst (λ (p : PlainZone). IsSameZone old.zone.plain p) (sym after) (alloc-same old.zone.plain seat.worker c.args.order c.args.kind Any)
-    in
+    let a = c.alloc.ensures in
     record {
-      named = ap (λ (n : NamedZone). n.name) c.alloc.ensures.after ∙ old.named;
-      short = old.short;
-      sized = same.pages ∙ old.sized;
-      crew = same.workers ∙ old.crew;
-      seated = seats-back old.zone.plain _ old.seats.items c.from.result seat _ same (same_right _ _ c.alloc.ensures.seat) c.index_mut-seat.ensures.value old.seated;
+      fit = fit_after _ _ old.seats.items _ _ a.seats a.fits old.fit;
+      crew = workers_after old.seats.items _ _ _ c.index_mut-seat.ensures.value a.seat.worker ∙ old.crew;
     }
+
+pub returns-in_err-page-clause-reply : goal.returns-in_err-page-clause-reply
+returns-in_err-page-clause-reply c =
+    let old = c.args.self.now in
+    let p = err_from_is_err_and c.from_residual.result c.from_residual.ensures.1 in
+    let place : c.from.result ≡ c.args.worker = omega arith in
+    let is = worker_at old.seats.items c.from.result _ (omega arith) c.index_mut-seat.ensures.value old.crew ∙ place in
+    ap page_reply p.1 ∙ ap (λ (r : Refusal). Refused r) p.2 ∙ c.in_err-page.ensures.reply ∙ ap (λ w. (alloc old.zone.plain w c.args.order c.args.kind Any).reply) is

@@ -16,3 +16,14 @@ returns-in-Alloc-clause-err g c =
     ∙ ap (λ (call : Call). (answer_to before command.worker call).text) (sym c.in-Alloc.is)
     in
     on_err_weaker c.write_all.result (begun-same _ _ _ _ line) c.write_all.ensures.err
+
+pub returns-in-Free-clause-err : goal.returns-in-Free-clause-err
+returns-in-Free-clause-err g c =
+    let command = c.args.command.now in
+    let before = standing c.args.self.now.zone c.args.self.now.bindings.items in
+    let line : c.as_bytes-in-Free.result.now ≡ (answer before command).text =
+    c.as_bytes-in-Free.ensures.value ∙ c.deref-in-Free.ensures.0 ∙ c.freed_line.ensures
+    ∙ ap (λ (r : Reply). reply_line command.worker r) c.free-reply.ensures.reply
+    ∙ ap (λ (call : Call). (answer_to before command.worker call).text) (sym c.in-Free.is)
+    in
+    on_err_weaker c.write_all-in-Free.result (begun-same _ _ _ _ line) c.write_all-in-Free.ensures.err

@@ -10,5 +10,5 @@ invariant-loop-command g l = record {
   written : IsWritten (g.W.Writer.contents l.initial.writer) (g.W.Writer.contents l.writer) (answers (standing l.initial.self.zone l.initial.self.bindings.items) (take l.command-index l.commands)).text;
   calm : g.W.Writer.failures l.writer ≡ g.W.Writer.failures l.initial.writer;
   bound : length l.self.bindings.items ≤ length l.initial.self.bindings.items + l.command-index;
-  room : vec_capacity l.initial.self.bindings ≤ vec_capacity l.self.bindings;
+  room : vec_capacity l.self.bindings ≡ vec_capacity l.initial.self.bindings;
 }

@@ -7,4 +7,4 @@ use Rattle.zp_replay.proofs.replay.Replay.totals.Goals as goal
 pub overflow_sub-result : goal.overflow_sub-result
 unfolding size
 overflow_sub-result c =
-    omega (arith, count_by-le-length (λ b. b) c.args.self.now.zone.plain.area.free, ap (λ (k : Counts). k.free) c.counts-free.ensures.counts, c.args.self.now.sized)
+    omega (arith, count_by-le-length (λ b. b) c.args.self.now.zone.plain.area.free, ap (λ (k : Counts). k.free) c.counts-free.ensures.counts, c.pages.ensures.pages)
