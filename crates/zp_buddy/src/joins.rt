@@ -8,7 +8,7 @@ ghost use Rattle.zp_model.specs.BlockSet.{cover};
 ghost use Rattle.zp_model.specs.Rows.{state_at};
 ghost use Rattle.zp_model.specs.Area.{pageblocks_of};
 ghost use Rattle.zp_model.specs.Frames.{IsClear};
-ghost use Rattle.zp_frames.specs.Given.{given};
+ghost use Rattle.zp_model.specs.Frames.{given};
 ghost use Rattle.zp_frames.specs.Sound.{IsSound, frames_of, blocks_of};
 
 use zp_frames::{buddy_of, kind_of, list_of};

@@ -18,7 +18,7 @@ use Rattle.zp_model.proofs.Normal.{Filled, IsNormal}
 use Rattle.zp_model.proofs.Pages.{In}
 use Rattle.zp_model.proofs.Covers.{length-cover, has_below, same_pages, length-with, length-without, with-decides, without-decides}
 use Rattle.zp_model.proofs.Settles.{IsListed}
-use Rattle.zp_frames.specs.Given.{given}
+use Rattle.zp_model.specs.Frames.{given}
 use Rattle.zp_frames.specs.Sound.{free_order, blocks_of, area_of, frames_of, IsSound}
 use Rattle.zp_frames.proofs.Taken.{starts-from}
 use Rattle.zp_frames.proofs.Restating.{IsRestated, restated_from, free_or_same, sides_same}

@@ -22,7 +22,7 @@ use Rattle.zp_model.proofs.Pages.{In}
 use Rattle.zp_model.proofs.Covers.{length-cover}
 use Rattle.zp_laws.proofs.Areas.{free-taken, free-give}
 use Rattle.zp_frames.specs.Sound.{free_order, blocks_of, frames_of, IsSound}
-use Rattle.zp_frames.specs.Given.{given}
+use Rattle.zp_model.specs.Frames.{given}
 use Rattle.zp_frames.specs.Held.{IsHeld}
 use Rattle.zp_frames.specs.Counted.{IsCounted}
 use Rattle.zp_frames.specs.Choices.{IsListedBlock, chosen_of}

@@ -1,13 +1,10 @@
 -- Giving a block back: which pages may come back, and what is left.
-use Rattle.std.specs.Prelude.{ℕ, ◌+◌, ◌^◌, ◌≡◌, ◌≤◌, ◌<◌, List, false, drop, slice_set}
+use Rattle.std.specs.Prelude.{ℕ, ◌+◌, ◌^◌, ◌≡◌, ◌≤◌, ◌<◌, List, false, drop}
 use Rattle.zp_model.specs.declared.state.State.{State}
-use Rattle.zp_model.specs.declared.state.State.TheVariants.{Tail}
 use Rattle.zp_model.specs.Block.{has}
 use Rattle.zp_model.specs.BlockSet.{cover}
 use Rattle.zp_model.specs.Rows.{list_at, stands_in}
 use Rattle.zp_model.specs.Area.{lists_count}
-use Rattle.zp_model.specs.Frames.{Frames, with_area}
-use Rattle.zp_model.specs.Take.{give}
 use Rattle.zp_frames.specs.Sound.{blocks_of}
 
 -- page i is not free, and on no list past the free ones
@@ -17,7 +14,3 @@ IsClearPage states lists i = (has (cover (blocks_of states)) i ≡ false) × ((r
 -- that of each page of a run
 abbrev pub IsClearRun : List State → List (List ℕ) → ℕ → ℕ → Type 0
 IsClearRun states lists h k = (i : ℕ) → h ≤ i → i < h + 2 ^ k → IsClearPage states lists i
-
--- nothing is noted of the block's head any more, and its pages become free
-abbrev pub given : Frames → ℕ → ℕ → Frames
-given f h k = with_area (record f { states = slice_set f.states h Tail }) (give f.area h k)

@@ -1,5 +1,5 @@
 -- The free area with what is noted of each page, and further lists of pages that are not free.
-use Rattle.std.specs.Prelude.{ℕ, ◌≡◌, ◌<◌, ◌≤◌, ◌^◌, ◌+◌, ◌↔◌, Bool, true, false, List, [], length, map, replicate, slice_index_or, Option, None, Some}
+use Rattle.std.specs.Prelude.{ℕ, ◌≡◌, ◌<◌, ◌≤◌, ◌^◌, ◌+◌, ◌↔◌, Bool, true, false, List, [], length, map, replicate, slice_index_or, slice_set, Option, None, Some}
 use Rattle.std.specs.List.{range_with_len}
 use Rattle.zp_model.specs.declared.state.State.{State}
 use Rattle.zp_model.specs.declared.state.State.TheVariants.{Tail, Free, Out, Posted}
@@ -7,6 +7,7 @@ use Rattle.zp_model.specs.Block.{largest_order, has, is_max, IsBlock}
 use Rattle.zp_model.specs.BlockSet.{max_blocks}
 use Rattle.zp_model.specs.Rows.{state_at, stands_in, list_at}
 use Rattle.zp_model.specs.Area.{Area, opening, pageblocks_of}
+use Rattle.zp_model.specs.Take.{give}
 
 pub record Frames : Type 0 where
   pub area : Area
@@ -68,3 +69,7 @@ pub record IsFramed (f : Frames) : Type 0 where
   pub typed : length f.area.kinds ≡ pageblocks_of (length f.states)
   pub noted : (g k : ℕ) → (state_at f.states g ≡ Free k) ↔ (is_max largest_order f.area.free g k ≡ true)
   pub beside : (r p : ℕ) → stands_in p (list_at f.sides r) ≡ true → has f.area.free p ≡ false
+
+-- a block given back: nothing is noted of its head any more, and its pages become free
+abbrev pub given : Frames → ℕ → ℕ → Frames
+given f h k = with_area (record f { states = slice_set f.states h Tail }) (give f.area h k)

@@ -7,7 +7,7 @@ ghost use Rattle.zp_model.specs.Frames.{frames_opening, with_area, IsNote, IsFra
 ghost use Rattle.zp_model.specs.MigrateType.{types_count};
 ghost use Rattle.zp_model.specs.Area.{list_number, lists_count, free_list};
 ghost use Rattle.zp_model.specs.Take.{take_answer, take_after};
-ghost use Rattle.zp_frames.specs.Given.{given};
+ghost use Rattle.zp_model.specs.Frames.{given};
 ghost use Rattle.zp_frames.specs.Listed.{blocks_listed_of};
 
 use crate::choices::choose;

@@ -3,7 +3,7 @@ use Rattle.zp_model.specs.Frames.{Frames, IsClear}
 use Rattle.zp_model.specs.Run.{is_out}
 use Rattle.zp_model.specs.Step.{freed}
 use Rattle.zp_laws.proofs.Held.{IsHolding, held-to, out-to}
-use Rattle.zp_buddy.specs.Given.{given}
+use Rattle.zp_model.specs.Frames.{given}
 use Rattle.zp_zone.specs.NamedZone.{NamedZone}
 use Rattle.zp_zone.specs.Kept.{plain_of, IsKept}
 use Rattle.zp_zone.proofs.Allocated.{IsAsked}
