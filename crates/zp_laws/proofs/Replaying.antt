@@ -12,7 +12,7 @@ journal_runs z (q ∷ qs) = journal_runs (step z q.worker q.request).zone qs
 
 journal_legal : (z : PlainZone) (qs : List Asked) → MayAskAll z qs → IsLegal z (journal z qs)
 journal_legal z [] m = m
-journal_legal z (q ∷ qs) m = (m.0, m.1, refl, journal_legal (step z q.worker q.request).zone qs m.2)
+journal_legal z (q ∷ qs) m = ((m.0, refl), journal_legal (step z q.worker q.request).zone qs m.1)
 
 pub journal_replays : (z : PlainZone) (qs : List Asked) → IsReplayed z qs
 journal_replays z qs = record { same = journal_runs z qs; legal = journal_legal z qs }
@@ -20,6 +20,6 @@ journal_replays z qs = record { same = journal_runs z qs; legal = journal_legal 
 pub history_journal : (z : PlainZone) (es : List Entry) → IsLegal z es → journal z (asked_in es) ≡ es
 history_journal z [] l = refl
 history_journal z (e ∷ es) l =
-    let ih : journal (step z e.worker e.request).zone (asked_in es) ≡ es = history_journal (step z e.worker e.request).zone es l.3 in
-    ap (λ r. (let x : Entry = record { worker = e.worker; request = e.request; reply = r } in x) ∷ journal (step z e.worker e.request).zone (asked_in es)) l.2
+    let ih : journal (step z e.worker e.request).zone (asked_in es) ≡ es = history_journal (step z e.worker e.request).zone es l.1 in
+    ap (λ r. (let x : Entry = record { worker = e.worker; request = e.request; reply = r } in x) ∷ journal (step z e.worker e.request).zone (asked_in es)) (l.0).1
     ∙ ap (λ js. e ∷ js) ih

@@ -27,4 +27,4 @@ step_lawful z w (Request.Drain t ps) l lt e = let a = and_parts _ _ e in drained
 
 pub run_lawful : (z : PlainZone) (es : List Entry) → IsLawful z → IsLegal z es → IsLawful (run z es)
 run_lawful z [] l legal = l
-run_lawful z (e ∷ es) l legal = run_lawful (step z e.worker e.request).zone es (step_lawful z e.worker e.request l legal.0 legal.1) legal.3
+run_lawful z (e ∷ es) l legal = run_lawful (step z e.worker e.request).zone es (let d = (legal.0).0 in step_lawful z e.worker e.request l d.0 d.1) legal.1

@@ -1,5 +1,5 @@
 -- Which pages a step hands out and takes back. Pages are absolute here.
-use Rattle.std.specs.Prelude.{ℕ, ◌-◌, ◌≡◌, ◌<◌, ◌&&◌, ◌||◌, not, Bool, true, false, leb}
+use Rattle.std.specs.Prelude.{ℕ, ◌-◌, ◌≡◌, ◌&&◌, ◌||◌, not, Bool, true, false, leb}
 use Rattle.zp_model.specs.declared.request.Request.{Request}
 use Rattle.zp_model.specs.declared.request.Reply.{Reply}
 use Rattle.zp_model.specs.declared.refused.Refused.{Refused}
@@ -7,7 +7,7 @@ use Rattle.zp_model.specs.Block.{has, in_run}
 use Rattle.zp_model.specs.Rows.{stands_in}
 use Rattle.zp_model.specs.Zone.{PlainZone, pages_of, workers_of}
 use Rattle.zp_model.specs.Step.{step}
-use Rattle.zp_model.specs.Run.{may_ask}
+use Rattle.zp_model.specs.Run.{IsDefined}
 use Rattle.zp_model.specs.Lawful.{IsLawful}
 
 -- whether page p is a free page of the zone
@@ -37,7 +37,7 @@ pub record IsMove (before after : PlainZone) (goes comes : ℕ → Bool) : Type 
 -- a step changes the free pages by exactly those that it hands out or that are given back
 abbrev pub StepsMovePages : Type 0
 StepsMovePages =
-    (z : PlainZone) (w : ℕ) (q : Request) → IsLawful z → w < workers_of z → may_ask z w q ≡ true →
+    (z : PlainZone) (w : ℕ) (q : Request) → IsLawful z → IsDefined z w q →
     IsMove z (step z w q).zone (handed_out q (step z w q).reply) (given_back q)
 
 -- a refusal leaves the zone as it was

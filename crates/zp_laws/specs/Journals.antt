@@ -1,10 +1,10 @@
 -- What workers ask of a zone one after the other, and the journal of it.
-use Rattle.std.specs.Prelude.{ℕ, ◌≡◌, ◌<◌, true, List, [], ◌∷◌}
+use Rattle.std.specs.Prelude.{ℕ, ◌≡◌, List, [], ◌∷◌}
 use Rattle.zp_model.specs.declared.request.Entry.{Entry}
 use Rattle.zp_model.specs.declared.request.Request.{Request}
-use Rattle.zp_model.specs.Zone.{PlainZone, workers_of}
+use Rattle.zp_model.specs.Zone.{PlainZone}
 use Rattle.zp_model.specs.Step.{step}
-use Rattle.zp_model.specs.Run.{may_ask, run, IsLegal}
+use Rattle.zp_model.specs.Run.{IsDefined, run, IsLegal}
 
 -- a worker's request
 pub record Asked : Type 0 where
@@ -20,7 +20,7 @@ asked_all z (q ∷ qs) = asked_all (step z q.worker q.request).zone qs
 abbrev pub MayAskAll : PlainZone → List Asked → Type 0
 MayAskAll z [] = Unit {0}
 MayAskAll z (q ∷ qs) =
-    (q.worker < workers_of z) × (may_ask z q.worker q.request ≡ true) × MayAskAll (step z q.worker q.request).zone qs
+    IsDefined z q.worker q.request × MayAskAll (step z q.worker q.request).zone qs
 
 -- an entry for each of them, with the reply that it had
 abbrev pub journal : PlainZone → List Asked → List Entry

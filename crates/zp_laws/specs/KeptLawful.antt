@@ -1,5 +1,5 @@
 -- What keeps a zone lawful.
-use Rattle.std.specs.Prelude.{ℕ, ◌≡◌, ◌<◌, ◌==◌, true, List, None, Some}
+use Rattle.std.specs.Prelude.{ℕ, ◌≡◌, ◌<◌, ◌==◌, List, None, Some}
 use Rattle.std.specs.List.{IsDistinct}
 use Rattle.zp_model.specs.declared.migrate_type.MigrateType.{MigrateType}
 use Rattle.zp_model.specs.declared.mark.Mark.{Mark}
@@ -10,7 +10,7 @@ use Rattle.zp_model.specs.Rows.{list_at}
 use Rattle.zp_model.specs.Choose.{Chosen, choose}
 use Rattle.zp_model.specs.Zone.{PlainZone, zone_opening, workers_of}
 use Rattle.zp_model.specs.Step.{alloc, step}
-use Rattle.zp_model.specs.Run.{may_ask, run, IsLegal}
+use Rattle.zp_model.specs.Run.{IsDefined, run, IsLegal}
 use Rattle.zp_model.specs.Lawful.{IsListedArea, IsLawful}
 use Rattle.zp_laws.specs.Found.{IsFound}
 
@@ -39,7 +39,7 @@ AllocKeepsLawful =
 -- each step that is defined keeps a lawful zone lawful
 abbrev pub StepsKeepLawful : Type 0
 StepsKeepLawful =
-    (z : PlainZone) (w : ℕ) (q : Request) → IsLawful z → w < workers_of z → may_ask z w q ≡ true → IsLawful (step z w q).zone
+    (z : PlainZone) (w : ℕ) (q : Request) → IsLawful z → IsDefined z w q → IsLawful (step z w q).zone
 
 -- and so does a legal list of entries
 abbrev pub RunsKeepLawful : Type 0

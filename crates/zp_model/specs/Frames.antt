@@ -43,13 +43,6 @@ frames_opening pages side =
       sides = replicate side [];
     }
 
--- page p is free, page p stands on a further list
-abbrev pub IsFree : Frames → ℕ → Type 0
-IsFree f p = has f.area.free p ≡ true
-
-abbrev pub IsAside : Frames → ℕ → Type 0
-IsAside f p = (r : ℕ) × (stands_in p (list_at f.sides r) ≡ true)
-
 -- (h, k) is a block of the zone of which no page is free or on a further list
 pub record IsClear (f : Frames) (h k : ℕ) : Type 0 where
   pub block : IsBlock (length f.area.free) h k

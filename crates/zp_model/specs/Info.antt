@@ -3,6 +3,7 @@ use Rattle.std.specs.Prelude.{ℕ, ◌+◌, ◌-◌, Bool, List, [], ◌∷◌, 
 use Rattle.std.specs.List.{range_with_len, count_by, flat_map}
 use Rattle.std.specs.Fmt.{decimal}
 use Rattle.zp_model.specs.declared.counts.Counts.{Counts}
+use Rattle.zp_model.specs.declared.constants.TheConstants.{NAME_PLACES, NUMBER_PLACES}
 use Rattle.zp_model.specs.Block.{largest_order, is_max, size}
 
 -- how many maximal blocks of order k the free pages have
@@ -13,14 +14,20 @@ blocks_of_order free k = count_by (λ h. is_max largest_order free h k) (range_w
 abbrev pub counts : List Bool → Counts
 counts free = record { by_order = map (blocks_of_order free) (range_with_len 0 (largest_order + 1)); free = size free }
 
+abbrev pub space : ℕ
+space = 32
+
+abbrev pub line_feed : ℕ
+line_feed = 10
+
 -- a text right-aligned in so many places; a longer one stands whole
 abbrev pub right_aligned : ℕ → List ℕ → List ℕ
-right_aligned places text = replicate (places - length text) 32 ++ text
+right_aligned places text = replicate (places - length text) space ++ text
 
--- one number of the line: right-aligned in six places, and a space
+-- one number of the line: right-aligned in its places, and a space
 abbrev pub number_field : ℕ → List ℕ
-number_field n = right_aligned 6 (decimal n) ++ 32 ∷ []
+number_field n = right_aligned NUMBER_PLACES (decimal n) ++ space ∷ []
 
 abbrev pub info_line : List ℕ → Counts → List ℕ
 info_line name c =
-    codes "Node 0, zone " ++ (right_aligned 8 name ++ (32 ∷ (flat_map number_field c.by_order ++ 10 ∷ [])))
+    codes "Node 0, zone " ++ (right_aligned NAME_PLACES name ++ (space ∷ (flat_map number_field c.by_order ++ line_feed ∷ [])))

@@ -18,8 +18,12 @@ is_above min free k Low = ltb (low_mark min + 2 ^ k - 1) free
 is_above min free k Min = ltb (min + 2 ^ k - 1) free
 is_above min free k Any = true
 
+-- the pages that marks look at: the free ones
+abbrev pub pages_at_hand : PlainZone → ℕ
+pages_at_hand z = size z.area.free
+
 abbrev pub passes : PlainZone → ℕ → Mark → Bool
-passes z k m = is_above z.min (size z.area.free) k m
+passes z k m = is_above z.min (pages_at_hand z) k m
 
 -- the highest mark that the free pages are above
 abbrev pub level_of : ℕ → ℕ → Level
@@ -33,4 +37,4 @@ level_of min free =
     else Level.Short))
 
 abbrev pub level : PlainZone → Level
-level z = level_of z.min (size z.area.free)
+level z = level_of z.min (pages_at_hand z)

@@ -17,7 +17,7 @@ is_distinct (x ∷ xs) = not (stands_in x xs) && is_distinct xs
 abbrev pub is_out : PlainZone → ℕ → ℕ → ℕ → Bool
 is_out z w p k = leb z.base p && is_held z w (p - z.base) k
 
--- whether the step is defined
+-- whether a worker of the zone may ask for it (this profile)
 abbrev pub may_ask : PlainZone → ℕ → Request → Bool
 may_ask z w (Alloc k t m) = true
 may_ask z w (AllocLow k) = true
@@ -31,11 +31,15 @@ abbrev pub run : PlainZone → List Entry → PlainZone
 run z [] = z
 run z (e ∷ es) = run (step z e.worker e.request).zone es
 
--- from z on, each entry could be asked, and has the reply of the step
+-- the step is defined: the worker is one of the zone's, and may ask for it
+abbrev pub IsDefined : PlainZone → ℕ → Request → Type 0
+IsDefined z w q = (w < workers_of z) × (may_ask z w q ≡ true)
+
+-- the entry's request could be made, and has the reply of the step
+abbrev pub IsLegalEntry : PlainZone → Entry → Type 0
+IsLegalEntry z e = IsDefined z e.worker e.request × ((step z e.worker e.request).reply ≡ e.reply)
+
+-- from z on, each entry is legal
 abbrev pub IsLegal : PlainZone → List Entry → Type 0
 IsLegal z [] = Unit {0}
-IsLegal z (e ∷ es) =
-    (e.worker < workers_of z)
-    × (may_ask z e.worker e.request ≡ true)
-    × ((step z e.worker e.request).reply ≡ e.reply)
-    × IsLegal (step z e.worker e.request).zone es
+IsLegal z (e ∷ es) = IsLegalEntry z e × IsLegal (step z e.worker e.request).zone es

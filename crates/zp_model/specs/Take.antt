@@ -1,5 +1,5 @@
 -- Taking a block and giving one back. Nothing is split and nothing joined here: the free pages change, and the lists settle.
-use Rattle.std.specs.Prelude.{ℕ, ◌/◌, cond, Option, None, Some, slice_set}
+use Rattle.std.specs.Prelude.{ℕ, ◌/◌, List, cond, Option, None, Some, slice_set}
 use Rattle.std.specs.Option.{option_map}
 use Rattle.zp_model.specs.declared.migrate_type.MigrateType.{MigrateType}
 use Rattle.zp_model.specs.Block.{without, with_run}
@@ -31,9 +31,13 @@ take_answer a k t = option_map (λ c. c.head) (choose a k t)
 unfoldable pub take_after : Area → ℕ → MigrateType → Area
 take_after a k t = taken a k t (choose a k t)
 
--- the head of the lowest maximal block of order k or more, and what taking its low run of order k leaves
+-- the blocks of which the lowest is looked for: all maximal ones
+abbrev pub blocks_at_hand : Area → List (Option ℕ)
+blocks_at_hand a = max_blocks a.free
+
+-- the head of the lowest of them of order k or more, and what taking its low run of order k leaves
 unfoldable pub take_low_answer : Area → ℕ → Option ℕ
-take_low_answer a k = option_map (λ (b : ℕ × ℕ). b.0) (lowest (max_blocks a.free) k)
+take_low_answer a k = option_map (λ (b : ℕ × ℕ). b.0) (lowest (blocks_at_hand a) k)
 
 abbrev pub left_low : Area → ℕ → Option ℕ → Area
 left_low a k None = a

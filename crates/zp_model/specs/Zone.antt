@@ -1,5 +1,6 @@
 -- A plain zone: what is free, what is out and what is posted.
-use Rattle.std.specs.Prelude.{ℕ, ◌==◌, ◌&&◌, Bool, false, List, [], length, replicate, slice_index_or, slice_set, Option, None, Some}
+use Rattle.std.specs.Prelude.{ℕ, ◌^◌, ◌==◌, ◌&&◌, Bool, false, List, [], length, replicate, slice_index_or, slice_set, Option, None, Some}
+use Rattle.std.specs.List.{sum_by}
 use Rattle.zp_model.specs.declared.migrate_type.MigrateType.{MigrateType}
 use Rattle.zp_model.specs.Area.{Area, opening}
 
@@ -36,6 +37,10 @@ pages_of z = length z.area.free
 
 abbrev pub workers_of : PlainZone → ℕ
 workers_of z = length z.posted
+
+-- the pages of the posted blocks
+unfoldable pub posted_pages : PlainZone → ℕ
+posted_pages z = sum_by (λ (ps : List PostedBlock). sum_by (λ (p : PostedBlock). 2 ^ p.order) ps) z.posted
 
 abbrev pub holding_at : List (Option Holding) → ℕ → Option Holding
 holding_at out h = slice_index_or out h None

@@ -26,8 +26,16 @@ pub const MAX_PAGES: u32 = 65536;
 /// The largest number of workers of a zone.
 pub const MAX_WORKERS: u32 = 32;
 
+/// What the base of a zone is a multiple of.
+pub const BASE_STEP: u32 = 1_024;
+
 /// The largest base of a zone.
 pub const BASE_LIMIT: u32 = 16_777_216;
+
+/// The places of a zone's name in the info line, and of a number there.
+pub const NAME_PLACES: usize = 8;
+
+pub const NUMBER_PLACES: usize = 6;
 
 /// The most bytes of a name.
 pub const LONGEST_NAME: usize = 8;

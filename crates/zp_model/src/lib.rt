@@ -23,8 +23,9 @@ mod worker;
 pub use block::Block;
 pub use blocks_law::{each_page_in_one_block, unjoined_blocks_are_maximal};
 pub use constants::{
-    BASE_LIMIT, CLAIM_PAGES, LARGEST_ORDER, LEAST_MOVABLE_CLAIM, LONGEST_LIST, LONGEST_NAME,
-    MAX_BATCH, MAX_PAGES, MAX_WORKERS, ORDERS, PAGEBLOCK_PAGES, TYPES,
+    BASE_LIMIT, BASE_STEP, CLAIM_PAGES, LARGEST_ORDER, LEAST_MOVABLE_CLAIM, LONGEST_LIST,
+    LONGEST_NAME, MAX_BATCH, MAX_PAGES, MAX_WORKERS, NAME_PLACES, NUMBER_PLACES, ORDERS,
+    PAGEBLOCK_PAGES, TYPES,
 };
 pub use counts::Counts;
 pub use mark::{Level, Mark};

@@ -13,9 +13,7 @@ ghost use Rattle.zp_trace.specs.Grammar.{IsZoneLine, IsCallOf, IsCommandOf};
 use crate::bounds::WORKERS;
 use crate::line::{Call, Command, ZoneLine};
 use crate::number::parse_number;
-use zp_model::{
-    BASE_LIMIT, LARGEST_ORDER, MAX_PAGES, MigrateType, Name, Order, PAGEBLOCK_PAGES, Worker,
-};
+use zp_model::{BASE_LIMIT, BASE_STEP, LARGEST_ORDER, MAX_PAGES, MigrateType, Name, Order, Worker};
 
 fn is_word(word: &[u8], other: &[u8]) -> bool
     ensures { IsTrue result ↔ (word.now ≡ other.now) }
@@ -36,7 +34,7 @@ fn base_of(word: &[u8]) -> Option<u32>
     ensures none { IfNone result ((n : ℕ) → IsBase n → word.now ≡ decimal n → ⊥) }
 {
     let base = parse_number(word)?;
-    if base % PAGEBLOCK_PAGES == 0 && base <= BASE_LIMIT {
+    if base % BASE_STEP == 0 && base <= BASE_LIMIT {
         Some(base)
     } else {
         None

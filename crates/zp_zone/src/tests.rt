@@ -187,6 +187,9 @@ fn the_bounds_are_those_of_the_rules(rt: HostRuntime) {
     assert_eq!(rt; zp_model::MAX_PAGES, 65_536);
     assert_eq!(rt; zp_model::MAX_WORKERS, 32);
     assert_eq!(rt; zp_model::BASE_LIMIT, 16_777_216);
+    assert_eq!(rt; zp_model::BASE_STEP, 1_024);
+    assert_eq!(rt; zp_model::NAME_PLACES, 8);
+    assert_eq!(rt; zp_model::NUMBER_PLACES, 6);
     assert_eq!(rt; zp_model::LONGEST_NAME, 8);
     assert_eq!(rt; zp_model::MAX_BATCH, 31);
     assert_eq!(rt; zp_model::LONGEST_LIST, 64);
