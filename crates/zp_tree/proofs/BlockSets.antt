@@ -1,7 +1,8 @@
 -- The blocks of a status tree are a block set.
 use Rattle.std.proofs.Common.{ℕ, ◌+◌, ◌/◌, ◌%◌, ◌^◌, ◌≡◌, ◌≤◌, ◌<◌, inl, inr, sym, ◌∙◌, ap, subst, arith, true, List, Option}
-use Rattle.std.proofs.lemmas.Bool.{and_parts, leb-true, ltb-true, cases_lt}
+use Rattle.std.proofs.lemmas.Bool.{and_parts, and_from, leb-true, le-leb, ltb-true, lt-ltb, cases_lt}
 use Rattle.zp_model.specs.Block.{IsBlock, in_run}
+use Rattle.zp_model.specs.BlockSet.{Starts}
 use Rattle.zp_model.proofs.Heads.{head_of}
 use Rattle.zp_tree.specs.Layout.{rank_at}
 use Rattle.zp_tree.specs.Sound.{IsFull, IsSound}
@@ -45,3 +46,10 @@ tree_set h pages ns s t = record {
   where
     in_run-to : (h k i : ℕ) → in_run h k i ≡ true → (h ≤ i) × (i < h + 2 ^ k)
     in_run-to h k i e = let a = and_parts _ _ e in (leb-true h i a.0, ltb-true i (h + 2 ^ k) a.1)
+
+-- blocks of a set with a page in common start at one page
+pub same_page : (s : List (Option ℕ)) (a k b j i : ℕ) → IsBlockSet s → Starts s a k → Starts s b j → a ≤ i → i < a + 2 ^ k → b ≤ i → i < b + 2 ^ j → a ≡ b
+same_page s a k b j i x y z from to from_b to_b = x.apart a k b j i y z (in_run-from a k i from to) (in_run-from b j i from_b to_b)
+  where
+    in_run-from : (h k i : ℕ) → h ≤ i → i < h + 2 ^ k → in_run h k i ≡ true
+    in_run-from h k i lo hi = and_from _ _ (le-leb h i lo) (lt-ltb i (h + 2 ^ k) hi)

@@ -1,5 +1,5 @@
 -- The first block that a walk finds is the lowest.
-use Rattle.std.proofs.Common.{ℕ, suc, zero, ◌+◌, ◌^◌, ◌≡◌, ◌≤◌, ◌<◌, inl, inr, refl, sym, subst, arith, true, false, List, length, get_or, leb, Option, Some, None}
+use Rattle.std.proofs.Common.{ℕ, suc, zero, ◌+◌, ◌^◌, ◌≡◌, ◌≤◌, ◌<◌, inl, inr, refl, sym, subst, arith, true, false, List, length, get_or, leb, rules, Option, Some, None, IfSome}
 use Rattle.std.specs.List.{range_with_len}
 use Rattle.std.proofs.lemmas.Nat.{pow_pos}
 use Rattle.std.proofs.lemmas.Bool.{leb-true, le-leb, cases_eq, false_from_ne_true}
@@ -54,3 +54,8 @@ some_lowest h pages ns s k p o t f le before =
 pub first_lowest : (h pages : ℕ) (ns : List ℕ) (s : List (Option ℕ)) (k : ℕ) (q : Option (ℕ × ℕ)) → IsTreeOf h pages ns s → IsFirst h ns k q → q ≡ lowest s k
 first_lowest h pages ns s k None t f = sym (none_lowest h pages ns s k t f)
 first_lowest h pages ns s k (Some b) t f = sym (some_lowest h pages ns s k b.0 b.1 t f.0 f.1 f.2)
+
+-- it is in the set, and large enough
+pub first_starts : (h pages : ℕ) (ns : List ℕ) (s : List (Option ℕ)) (k : ℕ) (q : Option (ℕ × ℕ)) → IsTreeOf h pages ns s → IsFirst h ns k q → IfSome q (λ b. Starts s b.0 b.1 × (k ≤ b.1))
+first_starts h pages ns s k None t f = search rules
+first_starts h pages ns s k (Some b) t f = let st : Starts s b.0 b.1 = (t.blocks b.0 b.1).0 f.0 in let le : k ≤ b.1 = f.1 in search rules
