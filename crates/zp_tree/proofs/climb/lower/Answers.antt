@@ -11,22 +11,22 @@ sibling_of-requires c =
 pub returns-then-is_at_least-clause-sound : goal.returns-then-is_at_least-clause-sound
 returns-then-is_at_least-clause-sound c =
     let enough : c.of-cleared.result ≤ c.read-beside.result = search rules in
-    lower_stop c.args.height c.loop-level.nodes c.args.at c.loop-level.level c.node_of-node.result c.sibling_of.result c.read-beside.result c.of-cleared.result c.loop-level.rank
-    c.loop-level-test.true c.loop-level.invariant.lowered c.node_of-node.ensures.node c.sibling_of.ensures c.read-beside.ensures.rank enough
+    lower_stop c.args.height c.falling.nodes c.args.at c.falling.level c.node_of-node.result c.sibling_of.result c.read-beside.result c.of-cleared.result c.falling.rank
+    (omega arith) c.falling.invariant.lowered c.node_of-node.ensures.node c.sibling_of.ensures c.read-beside.ensures.rank enough
 
-pub loop-level-preserved : goal.loop-level-preserved
-loop-level-preserved c =
+pub falling-preserved : goal.falling-preserved
+falling-preserved c =
     let less : c.read-beside.result < c.of-cleared.result = search rules in
-    let r : IsLoweredOn c.args.height c.loop-level.nodes c.write.new.self c.args.at c.loop-level.level c.of-cleared.result c.with-rank.result =
-    lower_step c.args.height c.loop-level.nodes c.write.new.self c.args.at c.loop-level.level c.node_of-node.result c.sibling_of.result c.read-beside.result c.of-cleared.result c.loop-level.rank c.with-rank.result
-    c.loop-level-test.true c.requires.inside c.loop-level.invariant.lowered c.node_of-node.ensures.node c.sibling_of.ensures c.read-beside.ensures.rank less c.with-rank.ensures c.write.ensures in
+    let r : IsLoweredOn c.args.height c.falling.nodes c.write.new.self c.args.at c.falling.level c.of-cleared.result c.with-rank.result =
+    lower_step c.args.height c.falling.nodes c.write.new.self c.args.at c.falling.level c.node_of-node.result c.sibling_of.result c.read-beside.result c.of-cleared.result c.falling.rank c.with-rank.result
+    (omega arith) c.requires.inside c.falling.invariant.lowered c.node_of-node.ensures.node c.sibling_of.ensures c.read-beside.ensures.rank less c.with-rank.ensures c.write.ensures in
     record {
       least = omega arith;
       lowered = r.lowered;
-      same = same_then c.args.height c.args.nodes.now c.loop-level.nodes c.write.new.self c.loop-level.invariant.same r.same;
+      same = same_then c.args.height c.args.nodes.now c.falling.nodes c.write.new.self c.falling.invariant.same r.same;
       counted = omega arith;
     }
 
 pub returns-clause-sound : goal.returns-clause-sound
 returns-clause-sound c =
-    lower_end c.args.height c.loop-level.nodes c.args.at c.loop-level.level c.of-cleared.result c.loop-level.rank c.loop-level-test.false c.loop-level.invariant.lowered
+    lower_end c.args.height c.falling.nodes c.args.at c.falling.level c.of-cleared.result c.falling.rank (omega arith) c.falling.invariant.lowered

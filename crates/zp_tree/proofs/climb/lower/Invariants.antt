@@ -3,8 +3,8 @@ use Rattle.zp_tree.specs.Sound.{HasSameBlocks}
 use Rattle.zp_tree.specs.Climbs.{IsLowered}
 use Rattle.zp_tree.proofs.climb.lower.Given as goal
 
-abbrev pub invariant-loop-level : goal.invariant-loop-level
-invariant-loop-level l = record {
+abbrev pub invariant-falling : goal.invariant-falling
+invariant-falling l = record {
   least : l.fn.order ≤ l.level;
   lowered : IsLowered l.height l.nodes l.at l.level l.cleared l.rank;
   same : HasSameBlocks l.height l.initial.nodes l.nodes;

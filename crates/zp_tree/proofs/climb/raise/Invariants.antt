@@ -3,8 +3,8 @@ use Rattle.zp_tree.specs.Sound.{HasSameBlocks}
 use Rattle.zp_tree.specs.Climbs.{IsRaised}
 use Rattle.zp_tree.proofs.climb.raise.Given as goal
 
-abbrev pub invariant-loop-level : goal.invariant-loop-level
-invariant-loop-level l = record {
+abbrev pub invariant-rising : goal.invariant-rising
+invariant-rising l = record {
   least : l.fn.order ≤ l.level;
   raised : IsRaised l.height l.nodes l.at l.level l.rank;
   same : HasSameBlocks l.height l.initial.nodes l.nodes;
