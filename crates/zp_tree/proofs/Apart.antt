@@ -62,8 +62,8 @@ head_start : (s : List (Option ℕ)) (p k : ℕ) → IsBlock (length s) p k → 
 head_start s p k b = let room : p + 2 ^ k ≤ length s = b.inside in let pos : 0 < 2 ^ k = pow_pos k in omega arith
 
 -- a run beside the block that is set stays apart
-pub set_apart : (s : List (Option ℕ)) (p k h j : ℕ) → IsBlock (length s) p k → IsApart s h j → IsBeside h j p k → IsApart (with_block s p k) h j
-set_apart s p k h j b a beside i from to =
+pub set_still_apart : (s : List (Option ℕ)) (p k h j : ℕ) → IsBlock (length s) p k → IsApart s h j → IsBeside h j p k → IsApart (with_block s p k) h j
+set_still_apart s p k h j b a beside i from to =
     uncovered-from (with_block s p k) i (λ o le st. elim (set-starts s p k (head i o) o (head_start s p k b) st) [
       | inl e ↦
           let lo : head i o ≤ i = head_le i o in
@@ -74,8 +74,8 @@ set_apart s p k h j b a beside i from to =
     ])
 
 -- each run that was apart stays so where a block is cleared
-pub clear_keeps : (s : List (Option ℕ)) (p k h j : ℕ) → IsBlock (length s) p k → IsApart s h j → IsApart (without_block s p) h j
-clear_keeps s p k h j b a i from to =
+pub clear_still_apart : (s : List (Option ℕ)) (p k h j : ℕ) → IsBlock (length s) p k → IsApart s h j → IsApart (without_block s p) h j
+clear_still_apart s p k h j b a i from to =
     uncovered-from (without_block s p) i (λ o le st. uncovered-to s i o (a i from to) le (clear-starts s p (head i o) o (head_start s p k b) st).1)
 
 -- the pages of the block that is cleared are in no block then

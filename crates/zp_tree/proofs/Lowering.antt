@@ -17,14 +17,14 @@ lower_written : (h : ℕ) (ns : List ℕ) (p j was now v : ℕ) → j < h → p 
 lower_written h ns p j was now v lt b x less e =
     let best : v ≡ best_below h ns j (p / 2 ^ (j + 1)) = omega (arith, best_beside h ns j p, x.node, e) in
     let m : IsMended h ns (written h ns p (j + 1) v) p j = mend h ns p j v lt b x.sound x.open_up best in
-    let here : rank_at h ns (j + 1) (p / 2 ^ (j + 1)) ≡ was = omega (arith, x.keeps lt, less) in
+    let here : rank_at h ns (j + 1) (p / 2 ^ (j + 1)) ≡ was = omega (arith, x.above lt, less) in
     record {
       lowered = record {
         sound = m.sound;
         open_up = m.open_up;
-        less = omega (arith, x.less, e, less);
+        down = omega (arith, x.down, e, less);
         node = read_same h ns (j + 1) (p / 2 ^ (j + 1)) v x.sound.size (omega arith) (around_lt h (j + 1) p (omega arith) b);
-        keeps = λ up.
+        above = λ up.
             let w : IsBeside h ns p (j + 1) v = beside_written h ns p (j + 1) v up b x.sound.size in
             let old : rank_at h ns (j + 1 + 1) (p / 2 ^ (j + 1 + 1)) ≡ best_below h ns (j + 1) (p / 2 ^ (j + 1 + 1)) =
             x.sound.best (j + 1) (p / 2 ^ (j + 1 + 1)) up (around_lt h (j + 1 + 1) p (omega arith) b) (λ q _. omega arith)
@@ -54,7 +54,7 @@ lower_step h ns ms p j n s r was now v lt b x e f q less g w =
 pub lower_stop : (h : ℕ) (ns : List ℕ) (p j n s r was now : ℕ) → j < h → IsLowered h ns p j was now → n ≡ node_at h j (p / 2 ^ j) → s ≡ sibling n → r ≡ slice_index ns s → was ≤ r → IsSound h ns
 lower_stop h ns p j n s r was now lt x e f q le =
     let a : r ≡ rank_at h ns j (sibling (p / 2 ^ j)) = beside_read h ns p j n s r lt e f q in
-    in_step h ns p j x.sound (omega (arith, x.keeps lt, x.node, x.less, best_beside h ns j p))
+    in_step h ns p j x.sound (omega (arith, x.above lt, x.node, x.down, best_beside h ns j p))
 
 pub lower_end : (h : ℕ) (ns : List ℕ) (p j was now : ℕ) → h ≤ j → IsLowered h ns p j was now → IsSound h ns
 lower_end h ns p j was now le x = above_root h ns p j le x.sound

@@ -14,13 +14,13 @@ pub record IsRaisedOn (h : ℕ) (ns ms : List ℕ) (p j v : ℕ) : Type 0 where
 
 raise_written : (h : ℕ) (ns : List ℕ) (p j v : ℕ) → j < h → p < 2 ^ h → IsRaised h ns p j v → rank_at h ns (j + 1) (p / 2 ^ (j + 1)) < v → IsRaisedOn h ns (written h ns p (j + 1) v) p j v
 raise_written h ns p j v lt b x less =
-    let best : v ≡ best_below h ns j (p / 2 ^ (j + 1)) = omega (arith, x.lacks lt) in
+    let best : v ≡ best_below h ns j (p / 2 ^ (j + 1)) = omega (arith, x.above lt) in
     let m : IsMended h ns (written h ns p (j + 1) v) p j = mend h ns p j v lt b x.sound x.open_up best in
     record {
       raised = record {
         sound = m.sound;
         open_up = m.open_up;
-        lacks = λ up.
+        above = λ up.
             let w : IsBeside h ns p (j + 1) v = beside_written h ns p (j + 1) v up b x.sound.size in
             let old : rank_at h ns (j + 1 + 1) (p / 2 ^ (j + 1 + 1)) ≡ best_below h ns (j + 1) (p / 2 ^ (j + 1 + 1)) =
             x.sound.best (j + 1) (p / 2 ^ (j + 1 + 1)) up (around_lt h (j + 1 + 1) p (omega arith) b) (λ q _. omega arith)
@@ -44,7 +44,7 @@ raise_step h ns ms p j n v r lt b x e q less w =
 pub raise_stop : (h : ℕ) (ns : List ℕ) (p j n v r : ℕ) → j < h → IsRaised h ns p j v → n ≡ node_at h (j + 1) (p / 2 ^ (j + 1)) → r ≡ slice_index ns n → v ≤ r → IsSound h ns
 raise_stop h ns p j n v r lt x e q le =
     let a : r ≡ rank_at h ns (j + 1) (p / 2 ^ (j + 1)) = q ∙ ap (λ y. slice_index ns y) e in
-    in_step h ns p j x.sound (omega (arith, x.lacks lt))
+    in_step h ns p j x.sound (omega (arith, x.above lt))
 
 pub raise_end : (h : ℕ) (ns : List ℕ) (p j v : ℕ) → h ≤ j → IsRaised h ns p j v → IsSound h ns
 raise_end h ns p j v le x = above_root h ns p j le x.sound

@@ -5,12 +5,12 @@ use Rattle.zp_tree.specs.Layout.{node_at, rank_at, best_below, sibling}
 use Rattle.zp_tree.proofs.Numbering.{two_of, halves, around_lt, double_lt, child_low, child_high, read_same, read_other}
 use Rattle.zp_tree.proofs.Writing.{written}
 
-pub sibling-low : (m : ℕ) → sibling (2 * m) ≡ 2 * m + 1
+sibling-low : (m : ℕ) → sibling (2 * m) ≡ 2 * m + 1
 sibling-low m =
     let z : 2 * m % 2 ≡ 0 = omega arith in
     rw (eq-eqb (2 * m % 2) 0 z) refl
 
-pub sibling-high : (m : ℕ) → sibling (2 * m + 1) ≡ 2 * m
+sibling-high : (m : ℕ) → sibling (2 * m + 1) ≡ 2 * m
 sibling-high m =
     let z : (2 * m + 1) % 2 ≡ 1 = omega arith in
     rw (false_from_ne_true _ (λ e. let f : (2 * m + 1) % 2 ≡ 0 = eqb-true ((2 * m + 1) % 2) 0 e in let bad : ⊥ = omega arith in bad)) (omega arith)

@@ -1,5 +1,5 @@
--- Sets of blocks that share no page (Knowlton 1965), each the list of `BlockSet` of the vocabulary: when a list is one, and what one
--- block more or less makes of it.
+-- Sets of blocks that share no page (Knowlton 1965): when a list of the kind of `zp_model`'s `BlockSet` is one, and what one block more or
+-- less makes of it.
 use Rattle.std.specs.Prelude.{ℕ, ◌+◌, ◌^◌, ◌≡◌, ◌≤◌, ◌<◌, ◌⊎◌, true, false, List, length, Option, None, Some, slice_set}
 use Rattle.zp_model.specs.Block.{IsBlock, in_run}
 use Rattle.zp_model.specs.BlockSet.{Starts, is_covered}
@@ -13,10 +13,11 @@ pub record IsBlockSet (s : List (Option ℕ)) : Type 0 where
 abbrev pub IsApart : List (Option ℕ) → ℕ → ℕ → Type 0
 IsApart s h k = (i : ℕ) → h ≤ i → i < h + 2 ^ k → is_covered s i ≡ false
 
--- two runs with no page in common, that of order k at h and that of order j at g
+-- the run of order k at h and that of order j at g have no page in common
 abbrev pub IsBeside : ℕ → ℕ → ℕ → ℕ → Type 0
 IsBeside h k g j = (h + 2 ^ k ≤ g) ⊎ (g + 2 ^ j ≤ h)
 
+-- the set with the block (h, k), and without the block at h
 abbrev pub with_block : List (Option ℕ) → ℕ → ℕ → List (Option ℕ)
 with_block s h k = slice_set s h (Some k)
 
