@@ -1,5 +1,5 @@
 -- The greatest of some orders.
-use Rattle.std.proofs.Common.{ℕ, suc, zero, ◌+◌, ◌≡◌, ◌≤◌, ◌<◌, sym, ◌∙◌, ap, refl, arith, List, [], ◌∷◌, get_or, max, Option, Some, None}
+use Rattle.std.proofs.Common.{ℕ, suc, zero, ◌+◌, ◌≡◌, ◌≤◌, ◌<◌, ◌∙◌, ap, refl, arith, List, [], ◌∷◌, get_or, max, Option, Some, None}
 use Rattle.zp_model.specs.BlockSet.{larger, greatest}
 use Rattle.zp_tree.specs.Ranks.{order_ranked}
 

@@ -14,7 +14,7 @@ use Rattle.zp_tree.specs.Layout.{node_at, rank_at}
 use Rattle.zp_tree.specs.Sound.{IsFull}
 use Rattle.zp_tree.specs.Spelled.{IsTreeOf}
 use Rattle.zp_tree.specs.Ranks.{order_ranked}
-use Rattle.zp_tree.proofs.Numbering.{same_run, around_lt, node_in, root_number}
+use Rattle.zp_tree.proofs.Numbering.{same_run, root_number}
 use Rattle.zp_tree.proofs.Levels.{full_up}
 use Rattle.zp_tree.proofs.Inside.{inside}
 use Rattle.zp_tree.proofs.Greatest.{greatest_none, greatest_is}

@@ -1,5 +1,5 @@
 -- Lowering the nodes above a block that was cleared.
-use Rattle.std.proofs.Common.{ℕ, ◌+◌, ◌/◌, ◌^◌, ◌≡◌, ◌≤◌, ◌<◌, sym, ◌∙◌, ap, subst, arith, List, length, set, max, slice_index, slice_set}
+use Rattle.std.proofs.Common.{ℕ, ◌+◌, ◌/◌, ◌^◌, ◌≡◌, ◌≤◌, ◌<◌, sym, ◌∙◌, ap, subst, arith, List, set, max, slice_index, slice_set}
 use Rattle.zp_tree.specs.Layout.{node_at, rank_at, best_below, sibling}
 use Rattle.zp_tree.specs.Sound.{IsSound, HasSameBlocks}
 use Rattle.zp_tree.specs.Climbs.{IsLowered}

@@ -1,5 +1,5 @@
 -- The first block that a walk finds is the lowest.
-use Rattle.std.proofs.Common.{ℕ, suc, zero, ◌+◌, ◌^◌, ◌≡◌, ◌≤◌, ◌<◌, inl, inr, refl, sym, subst, arith, true, false, List, length, get_or, leb, rules, Option, Some, None, IfSome}
+use Rattle.std.proofs.Common.{ℕ, suc, zero, ◌+◌, ◌^◌, ◌≡◌, ◌≤◌, ◌<◌, inl, inr, refl, sym, subst, arith, false, List, length, get_or, leb, rules, Option, Some, None, IfSome}
 use Rattle.std.specs.List.{range_with_len}
 use Rattle.std.proofs.lemmas.Nat.{pow_pos}
 use Rattle.std.proofs.lemmas.Bool.{leb-true, le-leb, cases_eq, false_from_ne_true}

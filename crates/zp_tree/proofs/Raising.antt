@@ -1,6 +1,6 @@
 -- Raising the nodes above a block that was set.
-use Rattle.std.proofs.Common.{ℕ, ◌+◌, ◌/◌, ◌^◌, ◌≡◌, ◌≤◌, ◌<◌, sym, ◌∙◌, ap, subst, arith, List, length, set, max, slice_index, slice_set}
-use Rattle.zp_tree.specs.Layout.{node_at, rank_at, best_below, sibling}
+use Rattle.std.proofs.Common.{ℕ, ◌+◌, ◌/◌, ◌^◌, ◌≡◌, ◌≤◌, ◌<◌, sym, ◌∙◌, ap, subst, arith, List, set, slice_index, slice_set}
+use Rattle.zp_tree.specs.Layout.{node_at, rank_at, best_below}
 use Rattle.zp_tree.specs.Sound.{IsSound, HasSameBlocks}
 use Rattle.zp_tree.specs.Climbs.{IsRaised}
 use Rattle.zp_tree.proofs.Numbering.{around_lt}

@@ -1,5 +1,5 @@
 -- A node, the one beside it and the one above it.
-use Rattle.std.proofs.Common.{ℕ, ◌+◌, ◌-◌, ◌*◌, ◌/◌, ◌%◌, ◌^◌, ◌≡◌, ◌≤◌, ◌<◌, ◌⊎◌, inl, inr, refl, sym, ◌∙◌, ap, arith, List, length, max}
+use Rattle.std.proofs.Common.{ℕ, ◌+◌, ◌-◌, ◌*◌, ◌/◌, ◌%◌, ◌^◌, ◌≡◌, ◌<◌, ◌⊎◌, inl, inr, refl, sym, ◌∙◌, ap, arith, List, length, max}
 use Rattle.std.proofs.lemmas.Bool.{eq-eqb, false_from_ne_true, eqb-true}
 use Rattle.zp_tree.specs.Layout.{node_at, rank_at, best_below, sibling}
 use Rattle.zp_tree.proofs.Numbering.{two_of, halves, around_lt, double_lt, child_low, child_high, read_same, read_other}

@@ -1,4 +1,4 @@
-use Rattle.std.proofs.Common.{◌+◌, ◌≤◌, ◌<◌, ◌^◌}
+use Rattle.std.proofs.Common.{◌+◌, ◌≤◌}
 use Rattle.zp_tree.specs.Sound.{HasSameBlocks}
 use Rattle.zp_tree.specs.Climbs.{IsLowered}
 use Rattle.zp_tree.proofs.climb.lower.Given as goal

@@ -1,4 +1,4 @@
-use Rattle.std.proofs.Common.{◌+◌, ◌≤◌, ◌<◌, ◌^◌}
+use Rattle.std.proofs.Common.{◌+◌, ◌≤◌}
 use Rattle.zp_tree.specs.Sound.{HasSameBlocks}
 use Rattle.zp_tree.specs.Climbs.{IsRaised}
 use Rattle.zp_tree.proofs.climb.raise.Given as goal
