@@ -1,0 +1,25 @@
+-- Sets of blocks that share no page (Knowlton 1965): when a list of the kind of `zp_model`'s `BlockSet` is one, and what one block more or
+-- less makes of it.
+use Rattle.std.specs.Prelude.{ℕ, ◌+◌, ◌^◌, ◌≡◌, ◌≤◌, ◌<◌, ◌⊎◌, true, false, List, length, Option, None, Some, slice_set}
+use Rattle.zp_model.specs.Block.{IsBlock, in_run}
+use Rattle.zp_model.specs.BlockSet.{Starts, is_covered}
+
+-- each block lies in the zone, and no two have a page in common
+pub record IsBlockSet (s : List (Option ℕ)) : Type 0 where
+  pub block : (h k : ℕ) → Starts s h k → IsBlock (length s) h k
+  pub apart : (h k g j i : ℕ) → Starts s h k → Starts s g j → in_run h k i ≡ true → in_run g j i ≡ true → h ≡ g
+
+-- no page of the run of order k at h is in a block of the set
+abbrev pub IsApart : List (Option ℕ) → ℕ → ℕ → Type 0
+IsApart s h k = (i : ℕ) → h ≤ i → i < h + 2 ^ k → is_covered s i ≡ false
+
+-- the run of order k at h and that of order j at g have no page in common
+abbrev pub IsBeside : ℕ → ℕ → ℕ → ℕ → Type 0
+IsBeside h k g j = (h + 2 ^ k ≤ g) ⊎ (g + 2 ^ j ≤ h)
+
+-- the set with the block (h, k), and without the block at h
+abbrev pub with_block : List (Option ℕ) → ℕ → ℕ → List (Option ℕ)
+with_block s h k = slice_set s h (Some k)
+
+abbrev pub without_block : List (Option ℕ) → ℕ → List (Option ℕ)
+without_block s h = slice_set s h None
