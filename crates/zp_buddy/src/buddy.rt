@@ -87,7 +87,7 @@ impl Buddy {
         ensures clear { IfSome result (λ at. IsClear self.new at order) }
         ensures kept { (h k : ℕ) → IsClear self.old h k → IsClear self.new h k }
     {
-        let chosen = choose(&self.lists, &self.free_in, order, kind)?;
+        let chosen = choose(&self.lists, &self.kinds, &self.free_in, order, kind)?;
         let head = take_chosen(&mut self.lists, &mut self.kinds, chosen, order, kind);
         self.free -= order.pages();
         self.free_in[pageblock_of(head)] -= order.pages();

@@ -1,14 +1,15 @@
 //! Which free block a request takes: one of its own type's, one of a pageblock that it claims, or one that it borrows.
 //!
 //! In Linux: `__rmqueue_smallest`, and `find_suitable_fallback` with `__rmqueue_fallback`.
-ghost use Rattle.std.specs.Prelude.{◌≡◌, ◌≢◌, ◌<◌, ◌≤◌, length, IfSome, Contains};
+ghost use Rattle.std.specs.Prelude.{◌≡◌, ◌≢◌, ◌<◌, ◌≤◌, false, length, IfSome, Contains};
 ghost use Rattle.std.specs.List.{find};
 ghost use Rattle.zp_model.specs.BlockSet.{first_of, orders_from};
 ghost use Rattle.zp_model.specs.Rows.{list_at};
 ghost use Rattle.zp_model.specs.Area.{lists_count, pageblocks_of};
 ghost use Rattle.zp_model.specs.Choose.{own, claim, borrow};
 ghost use Rattle.zp_frames.specs.Counted.{IsCounted};
-ghost use Rattle.zp_frames.specs.Choices.{free_area, front_of_order, is_half_free, half_free_of_order, claimable_of_order, IsFoundAs, IsChosen};
+ghost use Rattle.zp_frames.specs.Sound.{IsSound};
+ghost use Rattle.zp_frames.specs.Choices.{NoneHasEnough, free_area, front_of_order, is_half_free, half_free_of_order, claimable_of_order, IsFoundAs, IsChosen};
 
 use zp_frames::{Choice, FreeBlock, foreign, list_of, may_claim, pageblock_of};
 use zp_links::Lists;
@@ -125,18 +126,36 @@ fn claimable_of(
     }
 }
 
+/// Whether a pageblock of another type has the free pages that a claim needs. No list is walked where none has.
+fn is_any_claimable(kinds: &[MigrateType], free_in: &[u32], kind: MigrateType) -> bool
+    requires { length kinds.now ≡ length free_in.now }
+    ensures { result ≡ false → NoneHasEnough kinds.now free_in.now kind }
+{
+    'pageblocks: for pageblock in 0..kinds.len() {
+        if free_in[pageblock] >= CLAIM_PAGES && kinds[pageblock] != kind {
+            return true;
+        }
+    }
+    false
+}
+
 /// The largest block of another type that may be claimed.
 fn claimed_block(
     lists: &Lists,
+    kinds: &[MigrateType],
     free_in: &[u32],
     order: Order,
     kind: MigrateType,
 ) -> Option<FreeBlock>
-    requires table { lists_count ≤ length lists.now.lists }
+    requires sound { IsSound lists.now.states kinds.now lists.now.lists }
+    requires typed { length kinds.now ≡ pageblocks_of (length lists.now.states) }
     requires counted { IsCounted lists.now.states free_in.now }
     ensures found { IsFoundAs lists.now.lists order (claim (free_area lists.now) order kind) result }
     ensures other { IfSome result (λ b. b.kind ≢ kind) }
 {
+    if !is_any_claimable(kinds, free_in, kind) {
+        return None;
+    }
     let mut found = Order::largest();
     'orders: loop {
         if let Some(block) = claimable_of(lists, free_in, found, kind) {
@@ -150,8 +169,15 @@ fn claimed_block(
 }
 
 /// The block that a request for a block of this order and type takes.
-pub fn choose(lists: &Lists, free_in: &[u32], order: Order, kind: MigrateType) -> Option<Choice>
-    requires table { lists_count ≤ length lists.now.lists }
+pub fn choose(
+    lists: &Lists,
+    kinds: &[MigrateType],
+    free_in: &[u32],
+    order: Order,
+    kind: MigrateType,
+) -> Option<Choice>
+    requires sound { IsSound lists.now.states kinds.now lists.now.lists }
+    requires typed { length kinds.now ≡ pageblocks_of (length lists.now.states) }
     requires counted { IsCounted lists.now.states free_in.now }
     ensures { IsChosen lists.now order kind result }
 {
@@ -161,7 +187,7 @@ pub fn choose(lists: &Lists, free_in: &[u32], order: Order, kind: MigrateType) -
             claims: false,
         });
     }
-    if let Some(block) = claimed_block(lists, free_in, order, kind) {
+    if let Some(block) = claimed_block(lists, kinds, free_in, order, kind) {
         return Some(Choice {
             block,
             claims: true,

@@ -20,7 +20,7 @@ use Rattle.zp_frames.proofs.Taken.{row_below}
 use Rattle.zp_frames.proofs.FirstFound.{first_same, first_only, back_none, back_some}
 
 -- the free list of an order and a type
-list_of_area : (s : List State) (kinds : List MigrateType) (l : List (List ℕ)) (o : ℕ) (t : MigrateType) → o ≤ largest_order →
+pub list_of_area : (s : List State) (kinds : List MigrateType) (l : List (List ℕ)) (o : ℕ) (t : MigrateType) → o ≤ largest_order →
     free_list (area_of s kinds l) o t ≡ list_at l (list_number o t)
 list_of_area s kinds l o t le = get_or-take lists_count l (list_number o t) [] (row_below o t le)
 

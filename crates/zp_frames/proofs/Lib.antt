@@ -25,3 +25,4 @@ pub mod Ending
 pub mod GivenBack
 pub mod ClearRuns
 pub mod ClearAfter
+pub mod ClaimsByPageblocks

@@ -1,7 +1,8 @@
 -- What the looks at the free lists find.
-use Rattle.std.specs.Prelude.{ℕ, ◌≡◌, ◌≢◌, ◌≤◌, ◌/◌, leb, slice_index, Bool, true, List, [], Option, None, Some}
+use Rattle.std.specs.Prelude.{ℕ, ◌≡◌, ◌≢◌, ◌≤◌, ◌<◌, ◌/◌, leb, slice_index, slice_index_or, Bool, true, List, [], length, Option, None, Some}
 use Rattle.std.specs.List.{find}
 use Rattle.zp_model.specs.declared.migrate_type.MigrateType.{MigrateType}
+use Rattle.zp_model.specs.declared.migrate_type.MigrateType.TheVariants.{Movable}
 use Rattle.zp_model.specs.declared.constants.TheConstants.{CLAIM_PAGES}
 use Rattle.zp_model.specs.MigrateType.{foreign}
 use Rattle.zp_model.specs.Block.{largest_order}
@@ -32,6 +33,11 @@ half_free_of_order l free_in ts o = first_of (λ t. find (is_half_free free_in) 
 -- the first block of order o and of a type foreign to t that may be claimed for t
 abbrev pub claimable_of_order : Area → MigrateType → ℕ → Option ℕ
 claimable_of_order a t o = first_of (λ f. find (is_claimable a t o) (free_list a o f)) (foreign t)
+
+-- no pageblock of another type than t has, by these counts, the free pages that a claim needs
+abbrev pub NoneHasEnough : List MigrateType → List ℕ → MigrateType → Type 0
+NoneHasEnough kinds free_in t =
+    (b : ℕ) → b < length kinds → slice_index_or kinds b Movable ≢ t → slice_index free_in b < CLAIM_PAGES
 
 -- the block has order k or more, and stands on the list of its order and type
 pub record IsListedBlock (l : List (List ℕ)) (k : ℕ) (b : FreeBlock) : Type 0 where

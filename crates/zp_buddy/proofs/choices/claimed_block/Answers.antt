@@ -1,8 +1,9 @@
-use Rattle.std.proofs.Common.{◌≡◌, ◌≢◌, ◌≤◌, ◌+◌, ℕ, arith, inl, inr, subst, sym, ◌∙◌, None}
+use Rattle.std.proofs.Common.{◌≡◌, ◌≢◌, ◌≤◌, ◌+◌, ℕ, arith, inl, inr, refl, subst, sym, ◌∙◌, None}
 use Rattle.std.proofs.lemmas.Bool.{eqb-true, eq-eqb, cases_lt, both_ways}
 use Rattle.zp_model.specs.Block.{largest_order}
 use Rattle.zp_frames.specs.Choices.{free_area, claimable_of_order, IsListedBlock}
 use Rattle.zp_frames.proofs.Finders.{claim_some, claim_none}
+use Rattle.zp_frames.proofs.ClaimsByPageblocks.{nothing_claimed}
 use Rattle.zp_buddy.proofs.choices.claimed_block.Goals as goal
 
 pub returns-in-Some-clause-found : goal.returns-in-Some-clause-found
@@ -44,3 +45,8 @@ orders-preserved c =
             subst P same c.in_default.ensures.found
       ];
     }
+
+pub returns-then-not-is_any_claimable-clause-found : goal.returns-then-not-is_any_claimable-clause-found
+returns-then-not-is_any_claimable-clause-found c =
+    nothing_claimed c.args.lists.now c.args.kinds.now c.args.free_in.now c.args.order c.args.kind c.requires.sound c.requires.typed c.requires.counted
+    (c.if-not-is_any_claimable.ensures refl)
