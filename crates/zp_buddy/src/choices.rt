@@ -140,6 +140,8 @@ fn is_any_claimable(kinds: &[MigrateType], free_in: &[u32], kind: MigrateType) -
 }
 
 /// The largest block of another type that may be claimed.
+#[cold]
+#[inline(never)]
 fn claimed_block(
     lists: &Lists,
     kinds: &[MigrateType],

@@ -31,6 +31,8 @@ fn move_block(lists: &mut Lists, at: PageAt, from: MigrateType, to: MigrateType)
 }
 
 /// Gives a pageblock another type, and moves its free blocks to the lists of that type, the lowest first.
+#[cold]
+#[inline(never)]
 pub fn retype(lists: &mut Lists, kinds: &mut Vec<MigrateType>, pageblock: usize, kind: MigrateType)
     requires typed { length kinds.old.items ≡ pageblocks_of (length lists.old.states) }
     requires pageblock { pageblock < length kinds.old.items }
