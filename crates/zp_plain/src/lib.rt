@@ -1,16 +1,15 @@
-//! The buddy allocator of one zone over lists in plain vectors. Its contract is that of the allocator over linked lists:
-//! the slow and obvious body, to compare that one with.
+//! The free area of one zone, kept as the definitions say it: marks of the free pages, the types of the pageblocks, lists
+//! that are settled anew after each change, and a note of each page. No block is ever split or joined. Its contract is that
+//! of the buddy allocator over linked lists.
 #![tactic(auto)]
 
-mod blocks;
+mod area;
+mod block;
 mod buddy;
-mod choices;
-mod clear;
-mod joins;
-mod lists;
-mod opening;
-mod page_stack;
-mod retypes;
-mod takes;
+mod choose;
+mod frames;
+mod info;
+mod page_row;
+mod take;
 
 pub use buddy::Buddy;
