@@ -1,14 +1,12 @@
-//! The same requests of both allocators, and the same answers.
+//! Requests whose answers follow by hand from the rules: both allocators give these, and agree after each.
 ghost use Rattle.std.specs.Prelude.{◌≤◌};
 ghost use Rattle.zp_model.specs.declared.constants.TheConstants.{MAX_PAGES};
 
 use crate::pair::Pair;
-use rand_core::Rng;
-use rand_pcg::Pcg32;
 use std::alloc::AllocGlobal;
 use std::process::Abort;
 use std::test::Fail;
-use zp_model::{MAX_PAGES, MigrateType, Order, PageAt};
+use zp_model::{MigrateType, Order, PageAt};
 
 const UNMOVABLE: MigrateType = MigrateType::Unmovable;
 
@@ -25,7 +23,7 @@ enum Step {
     Give(u32, u8),
 }
 
-/// Makes the steps in turn, and compares the lists after each.
+/// Makes the steps in turn, and compares the two after each.
 fn compare_steps(rt: &(impl Abort + AllocGlobal), pages: u32, steps: &[Step]) -> Result<(), Fail>
     requires { pages ≤ MAX_PAGES }
 {
@@ -47,9 +45,7 @@ fn compare_steps(rt: &(impl Abort + AllocGlobal), pages: u32, steps: &[Step]) ->
                 assert!(rt; pair.give(rt, at, order), "page {page} of {pages}");
             }
         }
-        pair.compare_counts(rt);
-        pair.compare_lists(rt);
-        pair.compare_notes(rt);
+        pair.compare(rt);
     }
     Ok(())
 }
@@ -111,79 +107,5 @@ fn worked_requests_are_answered_alike(rt: HostRuntime) -> Result<(), Fail> {
             Step::Take(0, RECLAIMABLE, None),
         ],
     )?;
-    Ok(())
-}
-
-/// A type, by a random word.
-fn kind_of(word: u32) -> MigrateType {
-    match word % 3 {
-        0 => UNMOVABLE,
-        1 => RECLAIMABLE,
-        _ => MOVABLE,
-    }
-}
-
-/// One of the first so many orders, by a random word.
-fn order_below(word: u32, orders: u8) -> Order {
-    let number = word % u32::from(orders.max(1));
-    Order::new(number as u8).unwrap_or(Order::zero())
-}
-
-/// Random requests of a zone of so many pages, for blocks below this order, with a comparison of the lists after each so many.
-fn compare_at_random(
-    rt: &(impl Abort + AllocGlobal),
-    pages: u32,
-    requests: u32,
-    orders: u8,
-    every: u32,
-) -> Result<(), Fail>
-    requires { pages ≤ MAX_PAGES }
-{
-    let mut random = Pcg32::new(u64::from(pages), u64::from(requests));
-    let mut pair = Pair::new(rt.alloc(), pages)?;
-    let mut taken: Vec<(PageAt, Order)> = Vec::new(rt.alloc());
-    for number in 0..requests {
-        let word = random.next_u32();
-        if word % 9 < 5 || taken.is_empty() {
-            let order = order_below(random.next_u32(), orders);
-            if let Some(head) = pair.take(rt, order, kind_of(random.next_u32())) {
-                taken.push((head, order))?;
-            }
-        } else {
-            let place = random.next_u32() as usize % taken.len();
-            let (head, order) = taken.swap_remove(place);
-            assert!(rt;
-                pair.give(rt, head, order),
-                "request {number} of {pages} pages"
-            );
-        }
-        pair.compare_counts(rt);
-        if let Some(at) = PageAt::new(random.next_u32() % pages.max(1)) {
-            pair.compare_clear(rt, at, order_below(random.next_u32(), orders));
-        }
-        if number % every.max(1) == 0 {
-            pair.compare_lists(rt);
-        }
-    }
-    pair.compare_lists(rt);
-    pair.compare_notes(rt);
-    Ok(())
-}
-
-#[test]
-fn random_requests_are_answered_alike(rt: HostRuntime) -> Result<(), Fail> {
-    for (pages, requests, orders, every) in [
-        (1, 2_000, 2, 1),
-        (8, 8_000, 4, 1),
-        (13, 10_000, 5, 1),
-        (100, 10_000, 7, 1),
-        (1023, 30_000, 10, 1),
-        (1024, 10_000, 11, 1),
-        (2500, 20_000, 11, 1),
-        (4096, 10_000, 11, 7),
-        (65_536, 10_000, 11, 500),
-    ] {
-        compare_at_random(&rt, pages, requests, orders, every)?;
-    }
     Ok(())
 }
