@@ -14,13 +14,7 @@ use Rattle.zp_laws.proofs.Areas.{free-taken}
 use Rattle.zp_laws.proofs.Choosing.{choose_found, found_block, found_free}
 use Rattle.zp_plain.specs.Clear.{open_frames, IsClearRun}
 
--- whether a block is clear is told by the free pages and the further lists
-pub clear_from : (f : Frames) (h k : ℕ) → IsClear (open_frames f.area.free f.sides) h k → IsClear f h k
-clear_from f h k x = record { block = x.block; free = x.free; aside = x.aside }
-
-pub clear_to : (f : Frames) (h k : ℕ) → IsClear f h k → IsClear (open_frames f.area.free f.sides) h k
-clear_to f h k x = record { block = x.block; free = x.free; aside = x.aside }
-
+-- the looks at the block and at its pages decide whether it is clear
 pub clear_by_pages : (free : List Bool) (sides : List (List ℕ)) (h k : ℕ) → IsBlock (length free) h k → IsClearRun free sides h k → IsClear (open_frames free sides) h k
 clear_by_pages free sides h k b x = record { block = b; free = λ i lo hi. (x i lo hi).0; aside = λ r i lo hi. (x i lo hi).1 r }
 

@@ -5,5 +5,6 @@ pub mod Kept
 pub mod Areas
 pub mod Choosing
 pub mod Clearing
+pub mod Counting
 pub mod Walking
 pub mod Opened

@@ -3,11 +3,10 @@ use Rattle.std.specs.Prelude.{ℕ, ◌+◌, ◌^◌, ◌≡◌, ◌≤◌, ◌<�
 use Rattle.zp_model.specs.Block.{has}
 use Rattle.zp_model.specs.Rows.{list_at, stands_in}
 use Rattle.zp_model.specs.Frames.{Frames}
-use Rattle.zp_plain.specs.Chosen.{open_area}
 
 -- frames of these free pages and further lists; whether a block is clear reads nothing else
 abbrev pub open_frames : List Bool → List (List ℕ) → Frames
-open_frames free sides = record { area = open_area free []; states = []; sides = sides }
+open_frames free sides = record { area = record { free = free; kinds = []; lists = [] }; states = []; sides = sides }
 
 -- page i is not free, and on no further list
 abbrev pub IsClearPage : List Bool → List (List ℕ) → ℕ → Type 0

@@ -7,7 +7,7 @@ use Rattle.zp_model.specs.Rows.{list_at, stands_in}
 use Rattle.zp_model.specs.Area.{Area, lists_count, pageblocks_of}
 use Rattle.zp_model.specs.Lawful.{IsListedArea}
 
--- lists of a zone with these free pages and types, on none of which a page stands twice
+-- lists that may be settled for these free pages and types: each has each page once, and pages of the zone alone
 pub record IsTable (free : List Bool) (kinds : List MigrateType) (lists : List (List ℕ)) : Type 0 where
   pub small : length free ≤ MAX_PAGES
   pub typed : length kinds ≡ pageblocks_of (length free)
@@ -15,6 +15,7 @@ pub record IsTable (free : List Bool) (kinds : List MigrateType) (lists : List (
   pub distinct : (r : ℕ) → r < lists_count → IsDistinct (λ x y. x == y) (list_at lists r)
   pub inside : (r p : ℕ) → r < lists_count → stands_in p (list_at lists r) ≡ true → p < length free
 
+-- the area is that of a zone, and its lists hold what belongs there
 pub record IsSoundArea (a : Area) : Type 0 where
   pub small : length a.free ≤ MAX_PAGES
   pub typed : length a.kinds ≡ pageblocks_of (length a.free)

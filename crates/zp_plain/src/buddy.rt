@@ -7,14 +7,15 @@ ghost use Rattle.zp_model.specs.Frames.{frames_opening, given, with_area, IsNote
 ghost use Rattle.zp_model.specs.Area.{list_number, free_list};
 ghost use Rattle.zp_model.specs.Take.{take_answer, take_after};
 
-use crate::block::{order_of, size};
+use crate::block::size;
+use crate::choose::choose;
 use crate::frames::{is_clear, restate_all};
-use crate::info::blocks_of_order;
+use crate::info::counts;
 use crate::page_row::{PageRow, empty_rows};
 use crate::take::PlainArea;
 use std::alloc::{AllocError, Global};
 use std::marker::Model;
-use zp_model::{Counts, MAX_PAGES, MigrateType, ORDERS, Order, PageAt, State};
+use zp_model::{Counts, MAX_PAGES, MigrateType, Order, PageAt, State};
 
 /// The free area of a zone, what is noted of its pages, and further lists of pages that are not free. Contracts see the
 /// plain free area with these.
@@ -60,7 +61,9 @@ impl Buddy {
         ensures clear { IfSome result (λ at. IsClear self.new at order) }
         ensures kept { (h k : ℕ) → IsClear self.old h k → IsClear self.new h k }
     {
-        let chosen = self.area.choose(order, kind)?;
+        // a clause of this call says that the lists have what belongs there
+        let _marks = self.area.marks();
+        let chosen = choose(&self.area, order, kind)?;
         let head = chosen.head;
         self.area.take_chosen(chosen, order, kind);
         restate_all(self.area.marks(), &mut self.notes);
@@ -90,6 +93,7 @@ impl Buddy {
         ensures within { result ≤ MAX_PAGES }
         ensures framed { IsFramed self.now }
     {
+        // a clause of this call says that the zone is no larger than a zone can be
         let _marks = self.area.marks();
         self.notes.len() as u32
     }
@@ -142,14 +146,6 @@ impl Buddy {
     pub fn counts(&self) -> Counts
         ensures { result ≡ counts self.now.area.free }
     {
-        let marks = self.area.marks();
-        let mut by_order = [0u32; ORDERS];
-        'orders: for k in 0..ORDERS {
-            by_order[k] = blocks_of_order(marks, order_of(k));
-        }
-        Counts {
-            by_order,
-            free: size(marks),
-        }
+        counts(self.area.marks())
     }
 }

@@ -1,17 +1,15 @@
 //! The free area: what `Take.antt` says of giving and taking. Marks or types change, and the lists are settled anew.
 ghost use Rattle.std.specs.Prelude.{◌≡◌, ◌<◌, ◌≤◌, length, IfOk, Some};
-ghost use Rattle.std.specs.Option.{option_map};
 ghost use Rattle.zp_model.specs.declared.constants.TheConstants.{MAX_PAGES};
 ghost use Rattle.zp_model.specs.Rows.{after, front};
 ghost use Rattle.zp_model.specs.Area.{free_list, opening};
-ghost use Rattle.zp_model.specs.Choose.{choose};
 ghost use Rattle.zp_model.specs.Take.{give, leave, retype, taken};
 ghost use Rattle.zp_plain.specs.Chosen.{as_chosen};
 ghost use Rattle.zp_plain.specs.Sound.{IsSoundArea};
 
 use crate::area::{list_of, settle};
 use crate::block::{add_run, remove_run};
-use crate::choose::{Choice, choose};
+use crate::choose::Choice;
 use crate::page_row::{PageRow, empty_rows};
 use std::alloc::{AllocError, Global};
 use std::marker::Model;
@@ -60,6 +58,13 @@ impl PlainArea {
         })
     }
 
+    /// The free list of an order and a type.
+    pub fn list(&self, order: Order, kind: MigrateType) -> &[PageAt]
+        ensures { result.now ≡ free_list self.now order kind }
+    {
+        self.lists[list_of(order, kind)].as_slice()
+    }
+
     /// The front of the free list of an order and a type.
     pub fn front(&self, order: Order, kind: MigrateType) -> Option<PageAt>
         ensures { result ≡ front (free_list self.now order kind) }
@@ -80,14 +85,6 @@ impl PlainArea {
         ensures sound { IsSoundArea self.now }
     {
         &self.free
-    }
-
-    /// The block that a request takes.
-    pub fn choose(&self, order: Order, kind: MigrateType) -> Option<Choice>
-        ensures chosen { option_map as_chosen result ≡ choose self.now order kind }
-        ensures sound { IsSoundArea self.now }
-    {
-        choose(&self.free, &self.lists, order, kind)
     }
 
     /// A pageblock gets a type.
@@ -121,6 +118,7 @@ impl PlainArea {
         requires { chosen.head < length self.old.free }
         ensures { self.new ≡ taken self.old order kind (Some (as_chosen chosen)) }
     {
+        // a clause of this call says that there is a type for each pageblock
         let _marks = self.marks();
         let Choice { head, claims } = chosen;
         if claims {

@@ -1,21 +1,10 @@
 use Rattle.std.proofs.Common.{ℕ, ◌≡◌, ◌≤◌, ◌<◌, ◌+◌, ◌-◌, ◌*◌, arith, sym, ◌∙◌, ap, Bool, true, false, List, cond}
 use Rattle.std.specs.List.{range_with_len, count_by}
-use Rattle.std.proofs.lemmas.List.Sums.{sum_by-cons}
 use Rattle.zp_model.specs.Block.{has}
 use Rattle.zp_model.specs.Area.{size_in}
-use Rattle.zp_plain.proofs.Orders.{range_here}
+use Rattle.zp_plain.proofs.Counting.{count_hit, count_miss}
 use Rattle.zp_plain.proofs.area.size_in.Goals as goal
 use Rattle.zp_plain.proofs.area.size_in.Goals.{then-has, else-has}
-
-count_step : (p : ℕ → Bool) (i e : ℕ) → i < e → count_by p (range_with_len i (e - i)) ≡ cond (p i) 1 0 + count_by p (range_with_len (i + 1) (e - (i + 1)))
-count_step p i e lt =
-    ap (λ xs. count_by p xs) (range_here i e lt) ∙ sum_by-cons (λ x. cond (p x) 1 0) i (range_with_len (i + 1) (e - (i + 1)))
-
-count_hit : (p : ℕ → Bool) (i e : ℕ) → i < e → p i ≡ true → count_by p (range_with_len i (e - i)) ≡ 1 + count_by p (range_with_len (i + 1) (e - (i + 1)))
-count_hit p i e lt t = count_step p i e lt ∙ ap (λ b. cond b 1 0 + count_by p (range_with_len (i + 1) (e - (i + 1)))) t
-
-count_miss : (p : ℕ → Bool) (i e : ℕ) → i < e → p i ≡ false → count_by p (range_with_len i (e - i)) ≡ 0 + count_by p (range_with_len (i + 1) (e - (i + 1)))
-count_miss p i e lt t = count_step p i e lt ∙ ap (λ b. cond b 1 0 + count_by p (range_with_len (i + 1) (e - (i + 1)))) t
 
 count_all : (u : List Bool) (pageblock n : ℕ) → n ≡ 1024 → count_by (λ i. has u i) (range_with_len (pageblock * 1024) n) ≡ size_in u pageblock
 unfolding size_in

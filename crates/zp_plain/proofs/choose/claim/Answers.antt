@@ -9,21 +9,21 @@ use Rattle.zp_plain.proofs.choose.claim.Goals as goal
 
 pub returns-in-Some : goal.returns-in-Some
 returns-in-Some c =
-    let f : ℕ → Option ℕ = λ o. first_of (claimable_at c.args.free.now c.args.lists.now c.args.kind o) (foreign c.args.kind) in
+    let f : ℕ → Option ℕ = λ o. first_of (claimable_at c.args.area.now c.args.kind o) (foreign c.args.kind) in
     let lt : c.args.order < c.orders.left =
     (let a : c.from.result ≡ c.number.result = c.from.ensures in let b : c.number.result ≡ c.args.order = c.number.ensures.same in omega arith) in
     let e : f c.order_of.result ≡ Some c.in-Some.head =
-    ap (λ ts. first_of (claimable_at c.args.free.now c.args.lists.now c.args.kind c.order_of.result) ts) (sym c.foreign.ensures) ∙ sym c.claimable_of.ensures ∙ c.in-Some.is in
-    sym (sym (claim_places c.args.free.now c.args.lists.now c.args.order c.args.kind) ∙ c.orders.invariant.rest
+    ap (λ ts. first_of (claimable_at c.args.area.now c.args.kind c.order_of.result) ts) (sym c.foreign.ensures) ∙ sym c.claimable_of.ensures ∙ c.in-Some.is in
+    sym (sym (claim_places c.args.area.now c.args.order c.args.kind) ∙ c.orders.invariant.rest
     ∙ back_here f c.args.order c.orders.left c.order_of.result c.in-Some.head c.order_of.ensures lt e)
 
 pub orders-preserved : goal.orders-preserved
 orders-preserved c =
-    let f : ℕ → Option ℕ = λ o. first_of (claimable_at c.args.free.now c.args.lists.now c.args.kind o) (foreign c.args.kind) in
+    let f : ℕ → Option ℕ = λ o. first_of (claimable_at c.args.area.now c.args.kind o) (foreign c.args.kind) in
     let lt : c.args.order < c.orders.left =
     (let a : c.from.result ≡ c.number.result = c.from.ensures in let b : c.number.result ≡ c.args.order = c.number.ensures.same in omega arith) in
     let e : f c.order_of.result ≡ None =
-    ap (λ ts. first_of (claimable_at c.args.free.now c.args.lists.now c.args.kind c.order_of.result) ts) (sym c.foreign.ensures) ∙ sym c.claimable_of.ensures ∙ c.in_default.is in
+    ap (λ ts. first_of (claimable_at c.args.area.now c.args.kind c.order_of.result) ts) (sym c.foreign.ensures) ∙ sym c.claimable_of.ensures ∙ c.in_default.is in
     let le : c.orders.left ≤ 11 = c.orders.invariant.within in
     record {
       from = omega arith;
@@ -33,10 +33,10 @@ orders-preserved c =
 
 pub returns : goal.returns
 returns c =
-    let f : ℕ → Option ℕ = λ o. first_of (claimable_at c.args.free.now c.args.lists.now c.args.kind o) (foreign c.args.kind) in
+    let f : ℕ → Option ℕ = λ o. first_of (claimable_at c.args.area.now c.args.kind o) (foreign c.args.kind) in
     let from : c.args.order ≤ c.orders.left = c.orders.invariant.from in
     let last : c.orders.left ≡ c.args.order =
     (let a : c.from.result ≡ c.number.result = c.from.ensures in let b : c.number.result ≡ c.args.order = c.number.ensures.same in omega arith) in
-    sym (sym (claim_places c.args.free.now c.args.lists.now c.args.order c.args.kind) ∙ c.orders.invariant.rest
+    sym (sym (claim_places c.args.area.now c.args.order c.args.kind) ∙ c.orders.invariant.rest
     ∙ ap (λ n. first_of f (reverse (range_with_len c.args.order (n - c.args.order)))) last
     ∙ ap (λ xs. first_of f (reverse xs)) (range_none c.args.order))

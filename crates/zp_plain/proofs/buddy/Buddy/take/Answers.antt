@@ -25,21 +25,21 @@ taken_none a k t = refl
 pub returns-in_err-chosen-clause-answer : goal.returns-in_err-chosen-clause-answer
 returns-in_err-chosen-clause-answer c =
     c.from_residual.ensures
-    ∙ (taken_by c.self.inside.area c.args.order c.args.kind None c.in_err-chosen.ensures.chosen).0
+    ∙ (taken_by c.self.inside.area c.args.order c.args.kind None c.in_err-chosen.ensures).0
     ∙ ap (λ (f : Frames). take_answer f.area c.args.order c.args.kind) c.self.view_is
 
 pub returns-in_err-chosen-clause-after : goal.returns-in_err-chosen-clause-after
 returns-in_err-chosen-clause-after c =
     let f : Frames = record { area = c.self.inside.area; states = c.self.inside.notes.items; sides = c.self.inside.sides.items } in
     let e : taken f.area c.args.order c.args.kind None ≡ take_after f.area c.args.order c.args.kind =
-    (taken_by c.self.inside.area c.args.order c.args.kind None c.in_err-chosen.ensures.chosen).1 in
+    (taken_by c.self.inside.area c.args.order c.args.kind None c.in_err-chosen.ensures).1 in
     sym c.self.view_is ∙ restated_same f c.self.invariant ∙ ap (λ a. with_area f a) (sym (taken_none f.area c.args.order c.args.kind) ∙ e)
     ∙ ap (λ (g : Frames). with_area g (take_after g.area c.args.order c.args.kind)) c.self.view_is
 
 pub take_chosen-requires : goal.take_chosen-requires
 take_chosen-requires c =
-    let e : choose c.self.inside.area c.args.order c.args.kind ≡ Some (as_chosen c.in_ok-chosen.chosen) = sym c.in_ok-chosen.ensures.chosen in
-    let b = found_block _ _ _ (choose_found c.self.inside.area c.args.order c.args.kind (as_chosen c.in_ok-chosen.chosen) c.in_ok-chosen.ensures.sound.lists e) in
+    let e : choose c.self.inside.area c.args.order c.args.kind ≡ Some (as_chosen c.in_ok-chosen.chosen) = sym c.in_ok-chosen.ensures in
+    let b = found_block _ _ _ (choose_found c.self.inside.area c.args.order c.args.kind (as_chosen c.in_ok-chosen.chosen) c.marks-marks.ensures.sound.lists e) in
     let in_zone : c.in_ok-chosen.chosen.head + 2 ^ c.args.order ≤ length c.self.inside.area.free = b.inside in
     omega (arith, pow_pos c.args.order)
 
@@ -63,7 +63,7 @@ after c =
 
 pub returns-clause-answer : goal.returns-clause-answer
 returns-clause-answer c =
-    (taken_by c.self.inside.area c.args.order c.args.kind (Some (as_chosen c.in_ok-chosen.chosen)) c.in_ok-chosen.ensures.chosen).0
+    (taken_by c.self.inside.area c.args.order c.args.kind (Some (as_chosen c.in_ok-chosen.chosen)) c.in_ok-chosen.ensures).0
     ∙ ap (λ (f : Frames). take_answer f.area c.args.order c.args.kind) c.self.view_is
 
 pub returns-clause-after : goal.returns-clause-after
@@ -71,7 +71,7 @@ returns-clause-after c =
     let f : Frames = record { area = c.self.inside.area; states = c.self.inside.notes.items; sides = c.self.inside.sides.items } in
     after c
     ∙ ap (λ a. with_area f a)
-    (taken_by c.self.inside.area c.args.order c.args.kind (Some (as_chosen c.in_ok-chosen.chosen)) c.in_ok-chosen.ensures.chosen).1
+    (taken_by c.self.inside.area c.args.order c.args.kind (Some (as_chosen c.in_ok-chosen.chosen)) c.in_ok-chosen.ensures).1
     ∙ ap (λ (g : Frames). with_area g (take_after g.area c.args.order c.args.kind)) c.self.view_is
 
 pub invariant_of-self : goal.invariant_of-self
@@ -82,7 +82,7 @@ invariant_of-self c =
 pub returns-clause-clear : goal.returns-clause-clear
 returns-clause-clear c =
     let P : Frames → Type 0 = λ f. IsClear f c.in_ok-chosen.chosen.head c.args.order in
-    subst P (sym (after c)) (clear_taken _ c.args.order c.args.kind (as_chosen c.in_ok-chosen.chosen) c.self.invariant c.in_ok-chosen.ensures.sound.lists (sym c.in_ok-chosen.ensures.chosen))
+    subst P (sym (after c)) (clear_taken _ c.args.order c.args.kind (as_chosen c.in_ok-chosen.chosen) c.self.invariant c.marks-marks.ensures.sound.lists (sym c.in_ok-chosen.ensures))
 
 pub returns-clause-kept : goal.returns-clause-kept
 returns-clause-kept c h k x =
