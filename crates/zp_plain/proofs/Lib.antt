@@ -1,2 +1,10 @@
-pub mod Reversed
-pub mod Stacked
+pub mod Settled
+pub mod Orders
+pub mod Noted
+pub mod Kept
+pub mod Areas
+pub mod Choosing
+pub mod Clearing
+pub mod Counting
+pub mod Walking
+pub mod Opened

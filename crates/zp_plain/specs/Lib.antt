@@ -1,3 +1,3 @@
-pub mod Stack
-pub mod Stacks
-pub use Rattle.zp_frames.specs.Given
+pub mod Chosen
+pub mod Clear
+pub mod Sound

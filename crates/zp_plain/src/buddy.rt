@@ -1,50 +1,39 @@
-//! The buddy allocator of one zone.
+//! The free area of one zone.
 ghost use Rattle.std.specs.Prelude.{ℕ, ◌≡◌, ◌<◌, ◌≤◌, ◌^◌, ◌↔◌, false, length, slice_set, IfOk, IfSome, IsTrue};
 ghost use Rattle.zp_model.specs.Block.{has, size};
 ghost use Rattle.zp_model.specs.Info.{counts};
 ghost use Rattle.zp_model.specs.Rows.{IsOn, after, front, state_at};
-ghost use Rattle.zp_model.specs.Frames.{frames_opening, with_area, IsNote, IsFramed, IsClear};
-ghost use Rattle.zp_model.specs.MigrateType.{types_count};
-ghost use Rattle.zp_model.specs.Area.{list_number, lists_count, free_list};
+ghost use Rattle.zp_model.specs.Frames.{frames_opening, given, with_area, IsNote, IsFramed, IsClear};
+ghost use Rattle.zp_model.specs.Area.{list_number, free_list};
 ghost use Rattle.zp_model.specs.Take.{take_answer, take_after};
-ghost use Rattle.zp_model.specs.Frames.{given};
-ghost use Rattle.zp_frames.specs.Listed.{blocks_listed_of};
 
-use crate::choices::choose;
-use crate::clear::{is_block, is_clear_run};
-use crate::joins::join;
-use crate::lists::Lists;
-use crate::opening::list_all_pages;
-use crate::takes::take_chosen;
+use crate::block::size;
+use crate::choose::choose;
+use crate::frames::{is_clear, restate_all};
+use crate::info::counts;
+use crate::page_row::{PageRow, empty_rows};
+use crate::take::PlainArea;
 use std::alloc::{AllocError, Global};
 use std::marker::Model;
-use zp_frames::{list_of, pageblock_of, pages_in_each};
-use zp_model::{
-    Counts, LARGEST_ORDER, MAX_PAGES, MigrateType, ORDERS, Order, PAGEBLOCK_PAGES, PageAt, State,
-    TYPES,
-};
+use zp_model::{Counts, MAX_PAGES, MigrateType, Order, PageAt, State};
 
-/// The free blocks of a zone, what is noted of its other pages, and further lists of those pages. Contracts see the plain
-/// free area with these.
+/// The free area of a zone, what is noted of its pages, and further lists of pages that are not free. Contracts see the
+/// plain free area with these.
 #[derive(Drop)]
 pub struct Buddy {
-    lists: Lists,
-    kinds: Vec<MigrateType>,
-    free: u32,
-    /// How many pages of each pageblock are free.
-    free_in: Vec<u32>,
+    area: PlainArea,
+    notes: Vec<State>,
+    sides: Vec<PageRow>,
 }
 
 impl Model for Buddy {
-    ghost use Rattle.zp_model.specs.Frames.{Frames};
-    ghost use Rattle.zp_frames.specs.Sound.{frames_of};
-    ghost use Rattle.zp_frames.specs.Held.{IsHeld};
+    ghost use Rattle.zp_model.specs.Frames.{Frames, IsFramed};
 
     ghost Value = { Frames };
 
-    ghost view = { λ b. frames_of b.lists.states b.kinds.items b.lists.lists };
+    ghost view = { λ b. record { area = b.area; states = b.notes.items; sides = b.sides.items } };
 
-    ghost invariant = { λ b. IsHeld b.lists b.kinds.items b.free b.free_in.items };
+    ghost invariant = { λ b. IsFramed (record { area = b.area; states = b.notes.items; sides = b.sides.items }) };
 }
 
 impl Buddy {
@@ -54,24 +43,15 @@ impl Buddy {
         requires side { side < 2 ^ 32 }
         ensures { IfOk result (λ b. b ≡ frames_opening pages side) }
     {
-        let kinds = Vec::from_elem(
-            alloc,
-            MigrateType::Movable,
-            pages.div_ceil(PAGEBLOCK_PAGES) as usize,
-        )?;
-        let free_in = pages_in_each(alloc, pages)?;
-        let mut lists = Lists::new(alloc, pages, TYPES * ORDERS + side)?;
-        list_all_pages(&mut lists);
-        Ok(Buddy {
-            lists,
-            kinds,
-            free: pages,
-            free_in,
-        })
+        let area = PlainArea::new(alloc, pages)?;
+        let sides = empty_rows(alloc, side)?;
+        let mut notes = Vec::from_elem(alloc, State::Tail, pages as usize)?;
+        restate_all(area.marks(), &mut notes);
+        Ok(Buddy { area, notes, sides })
     }
 
-    /// Takes a block of this order for this type: the smallest of its own lists that serves; or else the largest of another
-    /// type whose pageblock it may claim, which then gets the type; or else the smallest of another type.
+    /// Takes a block of this order for this type, as the lists offer it: of the type's own, or of a pageblock that is claimed,
+    /// or of another type's.
     pub fn take(&mut self, order: Order, kind: MigrateType) -> Option<PageAt>
         ensures answer { result ≡ take_answer self.old.area order kind }
         ensures after { self.new ≡ with_area self.old (take_after self.old.area order kind) }
@@ -81,10 +61,12 @@ impl Buddy {
         ensures clear { IfSome result (λ at. IsClear self.new at order) }
         ensures kept { (h k : ℕ) → IsClear self.old h k → IsClear self.new h k }
     {
-        let chosen = choose(&self.lists, &self.free_in, order, kind)?;
-        let head = take_chosen(&mut self.lists, &mut self.kinds, chosen, order, kind);
-        self.free -= order.pages();
-        self.free_in[pageblock_of(head)] -= order.pages();
+        // a clause of this call says that the lists have what belongs there
+        let _marks = self.area.marks();
+        let chosen = choose(&self.area, order, kind)?;
+        let head = chosen.head;
+        self.area.take_chosen(chosen, order, kind);
+        restate_all(self.area.marks(), &mut self.notes);
         Some(head)
     }
 
@@ -92,26 +74,28 @@ impl Buddy {
     pub fn is_clear(&self, at: PageAt, order: Order) -> bool
         ensures { IsTrue result ↔ IsClear self.now at order }
     {
-        is_block(&self.lists, at, order) && is_clear_run(&self.lists, at, order)
+        is_clear(self.area.marks(), &self.sides, at, order)
     }
 
-    /// Gives back a block, joined with its free buddies.
+    /// Gives back a block.
     pub fn give(&mut self, at: PageAt, order: Order)
         requires { IsClear self.old at order }
         ensures { self.new ≡ given self.old at order }
     {
-        join(&mut self.lists, &self.kinds, at, order);
-        self.free += order.pages();
-        self.free_in[pageblock_of(at)] += order.pages();
+        self.area.give(at, order);
+        self.notes[at.index()] = State::Tail;
+        restate_all(self.area.marks(), &mut self.notes);
     }
 
-    /// How many pages the zone has. The frames of a buddy allocator note as free what is free.
+    /// How many pages the zone has. What is noted as free is what is free.
     pub fn pages(&self) -> u32
         ensures pages { result ≡ length self.now.states }
         ensures within { result ≤ MAX_PAGES }
         ensures framed { IsFramed self.now }
     {
-        self.lists.pages() as u32
+        // a clause of this call says that the zone is no larger than a zone can be
+        let _marks = self.area.marks();
+        self.notes.len() as u32
     }
 
     /// Notes what a page that is not free holds.
@@ -122,7 +106,7 @@ impl Buddy {
         ensures after { self.new ≡ record self.old { states = slice_set self.old.states at state } }
         ensures kept { (h k : ℕ) → IsClear self.old h k → IsClear self.new h k }
     {
-        self.lists.set_state(at, state);
+        self.notes[at.index()] = state;
     }
 
     /// What is noted of a page.
@@ -130,7 +114,7 @@ impl Buddy {
         requires { at < length self.now.states }
         ensures { result ≡ state_at self.now.states at }
     {
-        self.lists.state(at)
+        self.notes[at.index()]
     }
 
     /// The block in front of the free list of an order and a type.
@@ -138,7 +122,7 @@ impl Buddy {
         ensures answer { result ≡ front (free_list self.now.area order kind) }
         ensures on { IfSome result (λ at. IsOn self.now.area.lists (list_number order kind) at) }
     {
-        self.lists.front(list_of(order, kind))
+        self.area.front(order, kind)
     }
 
     /// The block after this one on the free list of an order and a type.
@@ -147,7 +131,7 @@ impl Buddy {
         ensures answer { result ≡ after at (free_list self.now.area order kind) }
         ensures on { IfSome result (λ next. IsOn self.now.area.lists (list_number order kind) next) }
     {
-        self.lists.after(list_of(order, kind), at)
+        self.area.after(order, kind, at)
     }
 
     /// How many free pages there are. What is noted as free is free.
@@ -155,38 +139,13 @@ impl Buddy {
         ensures pages { result ≡ size self.now.area.free }
         ensures framed { IsFramed self.now }
     {
-        self.free
+        size(self.area.marks())
     }
 
     /// How many free blocks of each order there are, and how many free pages.
     pub fn counts(&self) -> Counts
         ensures { result ≡ counts self.now.area.free }
     {
-        let mut by_order = [0u32; ORDERS];
-        'orders: for k in 0..ORDERS {
-            by_order[k] = blocks_listed(&self.lists, k);
-        }
-        Counts {
-            by_order,
-            free: self.free,
-        }
+        counts(self.area.marks())
     }
 }
-
-/// How many blocks of an order the free lists hold, over all types.
-fn blocks_listed(lists: &Lists, order: usize) -> u32
-    requires order { order ≤ LARGEST_ORDER }
-    requires table { lists_count ≤ length lists.now.lists }
-    ensures { result ≡ blocks_listed_of lists.now.lists order types_count }
-{
-    // a clause of this call says that no page stands twice and each is one of the zone's
-    let _pages = lists.pages();
-    let mut blocks = 0;
-    'types: for kind in 0..TYPES {
-        blocks += lists.len(TYPES * order + kind);
-    }
-    blocks
-}
-
-#[cfg(test)]
-mod tests;

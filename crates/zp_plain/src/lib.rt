@@ -1,16 +1,18 @@
-//! The buddy allocator of one zone over lists in plain vectors. Its contract is that of the allocator over linked lists:
-//! the slow and obvious body, to compare that one with.
+//! The free area of one zone, kept as the definitions say it: marks of the free pages, the types of the pageblocks, lists
+//! that are settled anew after each change, and a note of each page. Nothing is split and nothing joined. The contract is
+//! that of the buddy allocator, so that the two can be compared: this one is slow, and is read beside the definitions.
+//!
+//! A file runs the definitions of the file of its name in `zp_model/specs`: `block`, `area`, `choose`, `take`, `frames` and
+//! `info`. Each function's contract is an equation with one of them. `page_row` has the lists, and `buddy` the calls.
 #![tactic(auto)]
 
-mod blocks;
+mod area;
+mod block;
 mod buddy;
-mod choices;
-mod clear;
-mod joins;
-mod lists;
-mod opening;
-mod page_stack;
-mod retypes;
-mod takes;
+mod choose;
+mod frames;
+mod info;
+mod page_row;
+mod take;
 
 pub use buddy::Buddy;

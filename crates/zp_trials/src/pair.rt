@@ -4,9 +4,12 @@ ghost use Rattle.zp_model.specs.declared.constants.TheConstants.{MAX_PAGES};
 
 use std::alloc::{AllocError, Global};
 use std::process::Abort;
-use zp_model::{MAX_PAGES, MigrateType, ORDERS, Order, PageAt};
+use zp_model::{MAX_PAGES, MigrateType, ORDERS, Order, PageAt, State, Worker};
 
-/// The allocator over linked lists, and the one over vectors, after the same requests.
+/// How many further lists a pair has.
+const SIDES: usize = 2;
+
+/// The allocator over linked lists, and the one that runs the definitions, after the same requests.
 #[derive(Drop)]
 pub struct Pair {
     buddy: zp_buddy::Buddy,
@@ -18,15 +21,21 @@ impl Pair {
         requires { pages ≤ MAX_PAGES }
     {
         Ok(Pair {
-            buddy: zp_buddy::Buddy::new(alloc, pages, 0)?,
-            plain: zp_plain::Buddy::new(alloc, pages, 0)?,
+            buddy: zp_buddy::Buddy::new(alloc, pages, SIDES)?,
+            plain: zp_plain::Buddy::new(alloc, pages, SIDES)?,
         })
     }
 
-    /// Takes a block from both.
+    /// Takes a block from both, and notes it as out.
     pub fn take(&mut self, rt: &impl Abort, order: Order, kind: MigrateType) -> Option<PageAt> {
         let head = self.buddy.take(order, kind);
-        assert_eq!(rt; head, self.plain.take(order, kind));
+        let plain_head = self.plain.take(order, kind);
+        assert_eq!(rt; head, plain_head);
+        if let (Some(at), Some(plain_at)) = (head, plain_head) {
+            let worker = Worker::new(0).expect(rt, "no worker");
+            self.buddy.hold(at, State::Out(order, kind, worker));
+            self.plain.hold(plain_at, State::Out(order, kind, worker));
+        }
         head
     }
 
@@ -48,44 +57,11 @@ impl Pair {
         assert_eq!(rt; clear, self.plain.is_clear(at, order));
     }
 
-    /// Compares what is noted of each page.
-    pub fn compare_notes(&self, rt: &impl Abort) {
-        assert_eq!(rt; self.buddy.pages(), self.plain.pages());
-        for number in 0..self.buddy.pages().min(self.plain.pages()) {
-            let at = PageAt::at(number);
-            let note = self.buddy.holding(at);
-            assert!(rt; note == self.plain.holding(at), "page {number}");
-        }
-    }
-
-    /// Takes the first so many pages, and gives back every second of them.
-    pub fn punch(&mut self, rt: &impl Abort, pages: u32) {
-        for _ in 0..pages {
-            let _ = self.take(rt, Order::zero(), MigrateType::Movable);
-        }
-        for number in 0..pages / 2 {
-            if let Some(at) = PageAt::new(2 * number) {
-                let _ = self.give(rt, at, Order::zero());
-            }
-        }
-    }
-
-    /// Takes a page from the linked lists, and gives it back.
-    pub fn take_and_give_linked(&mut self) {
-        if let Some(at) = self.buddy.take(Order::zero(), MigrateType::Movable) {
-            if self.buddy.is_clear(at, Order::zero()) {
-                self.buddy.give(at, Order::zero());
-            }
-        }
-    }
-
-    /// Takes a page from the vectors, and gives it back.
-    pub fn take_and_give_plain(&mut self) {
-        if let Some(at) = self.plain.take(Order::zero(), MigrateType::Movable) {
-            if self.plain.is_clear(at, Order::zero()) {
-                self.plain.give(at, Order::zero());
-            }
-        }
+    /// Compares all that can be asked of the two, but which blocks may come back.
+    pub fn compare(&self, rt: &impl Abort) {
+        self.compare_counts(rt);
+        self.compare_lists(rt);
+        self.compare_notes(rt);
     }
 
     /// Compares the counts.
@@ -97,8 +73,18 @@ impl Pair {
         assert!(rt; counts.by_order.as_slice() == plain_counts.by_order.as_slice());
     }
 
+    /// Compares what is noted of each page.
+    fn compare_notes(&self, rt: &impl Abort) {
+        assert_eq!(rt; self.buddy.pages(), self.plain.pages());
+        for number in 0..self.buddy.pages().min(self.plain.pages()) {
+            let at = PageAt::at(number);
+            let note = self.buddy.holding(at);
+            assert!(rt; note == self.plain.holding(at), "page {number}");
+        }
+    }
+
     /// Compares each free list, block by block.
-    pub fn compare_lists(&self, rt: &impl Abort) {
+    fn compare_lists(&self, rt: &impl Abort) {
         for number in 0..ORDERS as u8 {
             let order = Order::new(number).expect(rt, "no order");
             for kind in [

@@ -1,19 +1,12 @@
-use Rattle.std.proofs.Common.{ℕ, ◌≡◌, List, true, ap, sym, subst, ◌∙◌}
+use Rattle.std.proofs.Common.{◌≡◌, true, ap, sym, subst, ◌∙◌, IfSome}
 use Rattle.zp_model.specs.Rows.{after, stands_in}
 use Rattle.zp_model.specs.Area.{free_list}
-use Rattle.zp_frames.proofs.Finders.{list_of_frames}
-use Rattle.zp_frames.proofs.Walks.{IsNext, next_after, next_stands}
+use Rattle.zp_model.specs.Frames.{Frames}
+use Rattle.zp_plain.proofs.Walking.{after_stands}
 use Rattle.zp_plain.proofs.buddy.Buddy.after.Goals as goal
-
-pub after-requires : goal.after-requires
-after-requires c =
-    subst (λ (xs : List ℕ). stands_in c.args.at xs ≡ true) (sym (list_of_frames _ _ _ _ _ _ c.self.view_is c.list_of.ensures.number c.list_of.ensures.within)) c.requires
-
-pub returns-clause-answer : goal.returns-clause-answer
-returns-clause-answer c =
-    c.after.ensures ∙ ap (λ (xs : List ℕ). after c.args.at xs) (list_of_frames _ _ _ _ _ _ c.self.view_is c.list_of.ensures.number c.list_of.ensures.within)
 
 pub returns-clause-on : goal.returns-clause-on
 returns-clause-on c =
     let xs = free_list c.args.self.now.area c.args.order c.args.kind in
-    next_stands c.after.result xs (subst (λ o. IsNext o xs) (sym (returns-clause-answer c)) (next_after c.args.at xs))
+    let e = c.after.ensures ∙ ap (λ (f : Frames). after c.args.at (free_list f.area c.args.order c.args.kind)) c.self.view_is in
+    subst (λ o. IfSome o (λ p. stands_in p xs ≡ true)) (sym e) (after_stands c.args.at xs)

@@ -1,15 +1,12 @@
-use Rattle.std.proofs.Common.{ap, sym, subst, ◌∙◌}
-use Rattle.zp_model.specs.Rows.{front}
+use Rattle.std.proofs.Common.{◌≡◌, true, ap, sym, subst, ◌∙◌, IfSome}
+use Rattle.zp_model.specs.Rows.{front, stands_in}
 use Rattle.zp_model.specs.Area.{free_list}
-use Rattle.zp_frames.proofs.Finders.{list_of_frames}
-use Rattle.zp_frames.proofs.Walks.{IsNext, next_front, next_stands}
+use Rattle.zp_model.specs.Frames.{Frames}
+use Rattle.zp_plain.proofs.Walking.{front_stands}
 use Rattle.zp_plain.proofs.buddy.Buddy.front.Goals as goal
-
-pub returns-clause-answer : goal.returns-clause-answer
-returns-clause-answer c =
-    c.front.ensures ∙ ap front (list_of_frames _ _ _ _ _ _ c.self.view_is c.list_of.ensures.number c.list_of.ensures.within)
 
 pub returns-clause-on : goal.returns-clause-on
 returns-clause-on c =
     let xs = free_list c.args.self.now.area c.args.order c.args.kind in
-    next_stands c.front.result xs (subst (λ o. IsNext o xs) (sym (returns-clause-answer c)) (next_front xs))
+    let e = c.front.ensures ∙ ap (λ (f : Frames). front (free_list f.area c.args.order c.args.kind)) c.self.view_is in
+    subst (λ o. IfSome o (λ p. stands_in p xs ≡ true)) (sym e) (front_stands xs)

@@ -1,45 +1,36 @@
-use Rattle.std.proofs.Common.{rules, ℕ, ◌≡◌, ◌+◌, ◌/◌, ◌≤◌, List, length, replicate, ap, sym, subst, ◌∙◌, arith}
-use Rattle.std.specs.Int.{div_ceil}
+use Rattle.std.proofs.Common.{rules, ℕ, ◌≡◌, List, [], true, length, replicate, ap, sym, subst, ◌∙◌}
 use Rattle.std.proofs.lemmas.List.{length-replicate}
-use Rattle.zp_model.specs.declared.migrate_type.MigrateType.{MigrateType}
-use Rattle.zp_model.specs.declared.migrate_type.MigrateType.TheVariants.{Movable}
-use Rattle.zp_model.specs.declared.constants.TheConstants.{MAX_PAGES}
 use Rattle.zp_model.specs.declared.state.State.TheVariants.{Tail}
-use Rattle.zp_model.specs.Rows.{Rows}
-use Rattle.zp_model.specs.Area.{lists_count, pageblocks_of}
-use Rattle.zp_frames.specs.Sound.{IsSound, frames_of}
-use Rattle.zp_frames.specs.Opened.{all_movable, IsOpenedTo}
-use Rattle.zp_frames.proofs.OpenedFrames.{opened_cover, opened_sound, opened_frames, opened_counted}
-use Rattle.zp_frames.proofs.HeldCounts.{counts_all}
+use Rattle.zp_model.specs.Area.{Area, opening}
+use Rattle.zp_model.specs.Frames.{Frames, IsFramed, restated, with_area}
+use Rattle.zp_plain.proofs.Opened.{free-opening, framed_opening}
 use Rattle.zp_plain.proofs.buddy.Buddy.new.Goals as goal
 
-round_up : (n : ℕ) → div_ceil n 1024 ≡ (n + 1023) / 1024
-round_up n = omega arith
+pub restate_all-requires-clause-pages : goal.restate_all-requires-clause-pages
+restate_all-requires-clause-pages c =
+    let e : c.in_ok-notes.notes.items ≡ replicate c.args.pages Tail = c.in_ok-notes.ensures.items_if_clones_equal (λ y k. search rules) in
+    let m : c.marks.result.now ≡ replicate c.args.pages true = c.marks.ensures.marks ∙ ap (λ (a : Area). a.free) c.in_ok-area.ensures ∙ free-opening c.args.pages in
+    ap length e ∙ length-replicate c.args.pages Tail ∙ sym (ap length m ∙ length-replicate c.args.pages true)
 
-pub invariant_of-result : goal.invariant_of-result
-invariant_of-result c =
-    let n : length c.in_ok-lists.lists.states ≡ c.args.pages = ap (λ (w : Rows). length w.states) c.in_ok-lists.ensures ∙ length-replicate c.args.pages Tail in
-    let m : length c.in_ok-lists.lists.lists ≡ lists_count + c.args.side = ap (λ (w : Rows). length w.lists) c.in_ok-lists.ensures ∙ length-replicate _ _ in
-    let k : c.in_ok-kinds.kinds.items ≡ all_movable c.args.pages = c.in_ok-kinds.ensures.items_if_clones_equal (λ y e. search rules) ∙ ap (λ q. replicate q Movable) (c.div_ceil.ensures ∙ round_up c.args.pages) in
-    let P : ℕ → Type 0 = λ q. IsOpenedTo q q c.list_all_pages.new.lists.states c.list_all_pages.new.lists.lists in
-    let o : IsOpenedTo c.args.pages c.args.pages c.list_all_pages.new.lists.states c.list_all_pages.new.lists.lists = subst P n c.list_all_pages.ensures.opened in
-    let t : length c.list_all_pages.new.lists.lists ≡ length c.in_ok-lists.lists.lists = c.list_all_pages.ensures.table in
-    let le : c.args.pages ≤ MAX_PAGES = c.requires.pages in
-    let Q : List MigrateType → Type 0 = λ q. IsSound c.list_all_pages.new.lists.states q c.list_all_pages.new.lists.lists in
-    record {
-      sound = subst Q (sym k) (opened_sound _ _ _ o le (omega arith));
-      typed = ap length k ∙ length-replicate _ _ ∙ ap pageblocks_of (sym o.pages);
-      counted = opened_counted _ _ _ o;
-      each = counts_all c.args.pages _ _ o.pages (opened_cover _ _ _ o).1 c.in_ok-free_in.ensures;
-    }
+after : (c : goal.After-restate_all) →
+    (let f : Frames = record { area = c.in_ok-area.area; states = c.restate_all.new.notes.items; sides = c.in_ok-sides.sides.items } in f)
+    ≡ with_area (record { area = opening c.args.pages; states = replicate c.args.pages Tail; sides = replicate c.args.side [] }) (opening c.args.pages)
+after c =
+    let e : c.in_ok-notes.notes.items ≡ replicate c.args.pages Tail = c.in_ok-notes.ensures.items_if_clones_equal (λ y k. search rules) in
+    let es : c.restate_all.new.notes.items ≡ restated (opening c.args.pages).free (replicate c.args.pages Tail) =
+    c.restate_all.ensures
+    ∙ ap (λ q. restated q c.in_ok-notes.notes.items) (c.marks.ensures.marks ∙ ap (λ (a : Area). a.free) c.in_ok-area.ensures)
+    ∙ ap (λ q. restated (opening c.args.pages).free q) e in
+    ap (λ a. let f : Frames = record { area = a; states = c.restate_all.new.notes.items; sides = c.in_ok-sides.sides.items } in f) c.in_ok-area.ensures
+    ∙ ap (λ q. let f : Frames = record { area = opening c.args.pages; states = q; sides = c.in_ok-sides.sides.items } in f) es
+    ∙ ap (λ (q : List (List ℕ)). let f : Frames = record { area = opening c.args.pages; states = restated (opening c.args.pages).free (replicate c.args.pages Tail); sides = q } in f) c.in_ok-sides.ensures
 
 pub returns : goal.returns
 returns c =
-    let n : length c.in_ok-lists.lists.states ≡ c.args.pages = ap (λ (w : Rows). length w.states) c.in_ok-lists.ensures ∙ length-replicate c.args.pages Tail in
-    let m : length c.in_ok-lists.lists.lists ≡ lists_count + c.args.side = ap (λ (w : Rows). length w.lists) c.in_ok-lists.ensures ∙ length-replicate _ _ in
-    let k : c.in_ok-kinds.kinds.items ≡ all_movable c.args.pages = c.in_ok-kinds.ensures.items_if_clones_equal (λ y e. search rules) ∙ ap (λ q. replicate q Movable) (c.div_ceil.ensures ∙ round_up c.args.pages) in
-    let P : ℕ → Type 0 = λ q. IsOpenedTo q q c.list_all_pages.new.lists.states c.list_all_pages.new.lists.lists in
-    let o : IsOpenedTo c.args.pages c.args.pages c.list_all_pages.new.lists.states c.list_all_pages.new.lists.lists = subst P n c.list_all_pages.ensures.opened in
-    let t : length c.list_all_pages.new.lists.lists ≡ length c.in_ok-lists.lists.lists = c.list_all_pages.ensures.table in
-    ap (λ q. frames_of c.list_all_pages.new.lists.states q c.list_all_pages.new.lists.lists) k
-    ∙ opened_frames _ _ _ _ o (omega arith)
+    after c
+    ∙ ap (λ q. let f : Frames = record { area = opening c.args.pages; states = restated q (replicate c.args.pages Tail); sides = replicate c.args.side [] } in f)
+    (free-opening c.args.pages)
+
+pub invariant_of-result : goal.invariant_of-result
+invariant_of-result c =
+    let P : Frames → Type 0 = λ f. IsFramed f in subst P (sym (after c)) (framed_opening c.args.pages c.args.side)

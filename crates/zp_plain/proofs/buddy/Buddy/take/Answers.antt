@@ -1,93 +1,95 @@
-use Rattle.std.proofs.Common.{ℕ, ◌+◌, ◌≡◌, ◌≤◌, ◌<◌, ◌-◌, ◌/◌, ◌^◌, arith, refl, ap, sym, subst, ◌∙◌, Some, length, set, slice_index}
-use Rattle.zp_model.specs.declared.constants.TheConstants.{PAGEBLOCK_PAGES}
+use Rattle.std.proofs.Common.{ℕ, ◌≡◌, ◌≤◌, ◌+◌, ◌^◌, length, arith, refl, sym, ◌∙◌, ap, subst, Option, Some, None}
+use Rattle.std.specs.Option.{option_map}
 use Rattle.std.proofs.lemmas.Nat.{pow_pos}
-use Rattle.zp_model.specs.Frames.{Frames, IsClear, with_area}
-use Rattle.zp_model.specs.Take.{taken}
-use Rattle.zp_frames.specs.Choices.{chosen_of}
-use Rattle.zp_frames.specs.Sound.{frames_of}
-use Rattle.zp_frames.specs.Held.{IsHeld}
-use Rattle.zp_frames.proofs.HeldCounts.{IsLess, taken_less, read_at, held_less, listed_run}
-use Rattle.zp_frames.proofs.TakenWhole.{answer_none, after_none, answer_some, after_some}
-use Rattle.zp_frames.proofs.ClearAfter.{taken_may_return, taken_leaves_clear}
+use Rattle.zp_model.specs.declared.migrate_type.MigrateType.{MigrateType}
+use Rattle.zp_model.specs.Area.{Area}
+use Rattle.zp_model.specs.Choose.{Chosen, choose}
+use Rattle.zp_model.specs.Frames.{Frames, IsClear, IsFramed, restated, with_area}
+use Rattle.zp_model.specs.Take.{taken, take_answer, take_after}
+use Rattle.zp_model.proofs.Covers.{length-without}
+use Rattle.zp_laws.proofs.Areas.{free-taken}
+use Rattle.zp_laws.proofs.Choosing.{choose_found, found_block}
+use Rattle.zp_plain.specs.Chosen.{as_chosen}
+use Rattle.zp_plain.proofs.Clearing.{clear_taken, clear_still, clear_head}
+use Rattle.zp_plain.proofs.Kept.{kept_taken, restated_same}
 use Rattle.zp_plain.proofs.buddy.Buddy.take.Goals as goal
 
+taken_by : (a : Area) (k : ℕ) (t : MigrateType) (o : Option Chosen) → o ≡ choose a k t → (option_map (λ (x : Chosen). x.head) o ≡ take_answer a k t) × (taken a k t o ≡ take_after a k t)
+unfolding take_answer take_after
+taken_by a k t o e = (ap (λ q. option_map (λ (x : Chosen). x.head) q) e, ap (λ q. taken a k t q) e)
+
+taken_none : (a : Area) (k : ℕ) (t : MigrateType) → taken a k t None ≡ a
+unfolding taken
+taken_none a k t = refl
+
 pub returns-in_err-chosen-clause-answer : goal.returns-in_err-chosen-clause-answer
-returns-in_err-chosen-clause-answer c = c.from_residual.ensures ∙ answer_none _ _ _ _ _ c.self.view_is c.in_err-chosen.ensures
+returns-in_err-chosen-clause-answer c =
+    c.from_residual.ensures
+    ∙ (taken_by c.self.inside.area c.args.order c.args.kind None c.in_err-chosen.ensures).0
+    ∙ ap (λ (f : Frames). take_answer f.area c.args.order c.args.kind) c.self.view_is
 
 pub returns-in_err-chosen-clause-after : goal.returns-in_err-chosen-clause-after
-returns-in_err-chosen-clause-after c = after_none _ _ _ _ _ c.self.invariant.sound c.self.view_is c.in_err-chosen.ensures
+returns-in_err-chosen-clause-after c =
+    let f : Frames = record { area = c.self.inside.area; states = c.self.inside.notes.items; sides = c.self.inside.sides.items } in
+    let e : taken f.area c.args.order c.args.kind None ≡ take_after f.area c.args.order c.args.kind =
+    (taken_by c.self.inside.area c.args.order c.args.kind None c.in_err-chosen.ensures).1 in
+    sym c.self.view_is ∙ restated_same f c.self.invariant ∙ ap (λ a. with_area f a) (sym (taken_none f.area c.args.order c.args.kind) ∙ e)
+    ∙ ap (λ (g : Frames). with_area g (take_after g.area c.args.order c.args.kind)) c.self.view_is
 
-pub overflow_sub-self : goal.overflow_sub-self
-overflow_sub-self c =
-    let x : IsLess c.self.inside.lists.states c.self.inside.free_in.items c.self.inside.free c.in_ok-chosen.chosen.block.head c.args.order c.take_chosen-head.new.lists.states =
-    taken_less _ _ _ _ _ _ _ _ _ _ _ c.in_ok-chosen.chosen c.self.invariant.sound c.self.invariant.each c.self.invariant.counted c.in_ok-chosen.ensures.1 refl
-    c.take_chosen-head.ensures.pages c.take_chosen-head.ensures.after in
-    let m : 2 ^ c.args.order ≤ c.self.inside.free = x.total in
-    let p : c.pages.result ≡ 2 ^ c.args.order = c.pages.ensures.pages in
-    omega arith
+pub take_chosen-requires : goal.take_chosen-requires
+take_chosen-requires c =
+    let e : choose c.self.inside.area c.args.order c.args.kind ≡ Some (as_chosen c.in_ok-chosen.chosen) = sym c.in_ok-chosen.ensures in
+    let b = found_block _ _ _ (choose_found c.self.inside.area c.args.order c.args.kind (as_chosen c.in_ok-chosen.chosen) c.marks-marks.ensures.sound.lists e) in
+    let in_zone : c.in_ok-chosen.chosen.head + 2 ^ c.args.order ≤ length c.self.inside.area.free = b.inside in
+    omega (arith, pow_pos c.args.order)
 
-pub index_mut-requires : goal.index_mut-requires
-index_mut-requires c =
-    let x : IsLess c.self.inside.lists.states c.self.inside.free_in.items c.self.inside.free c.in_ok-chosen.chosen.block.head c.args.order c.take_chosen-head.new.lists.states =
-    taken_less _ _ _ _ _ _ _ _ _ _ _ c.in_ok-chosen.chosen c.self.invariant.sound c.self.invariant.each c.self.invariant.counted c.in_ok-chosen.ensures.1 refl
-    c.take_chosen-head.ensures.pages c.take_chosen-head.ensures.after in
-    let e : c.pageblock_of.result ≡ c.in_ok-chosen.chosen.block.head / PAGEBLOCK_PAGES = c.pageblock_of.ensures ∙ ap (λ q. q / PAGEBLOCK_PAGES) c.take_chosen-head.ensures.answer in
-    let lt : c.in_ok-chosen.chosen.block.head / PAGEBLOCK_PAGES < length c.self.inside.free_in.items = x.pageblock in
-    omega (arith, c.self.inside.free_in.ok.0)
+pub restate_all-requires-clause-pages : goal.restate_all-requires-clause-pages
+restate_all-requires-clause-pages c =
+    let x : Chosen = as_chosen c.in_ok-chosen.chosen in
+    sym c.self.invariant.pages ∙ sym (length-without c.self.inside.area.free x.head c.args.order)
+    ∙ sym (ap length (c.marks.ensures.marks ∙ ap (λ (a : Area). a.free) c.take_chosen.ensures ∙ free-taken c.self.inside.area c.args.order c.args.kind x))
+
+-- what the body leaves is what taking the chosen block leaves
+after : (c : goal.After-restate_all) →
+    (let f : Frames = record { area = c.take_chosen.new.self; states = c.restate_all.new.notes.items; sides = c.self.inside.sides.items } in f)
+    ≡ with_area (record { area = c.self.inside.area; states = c.self.inside.notes.items; sides = c.self.inside.sides.items })
+    (taken c.self.inside.area c.args.order c.args.kind (Some (as_chosen c.in_ok-chosen.chosen)))
+after c =
+    let b : Area = taken c.self.inside.area c.args.order c.args.kind (Some (as_chosen c.in_ok-chosen.chosen)) in
+    let es : c.restate_all.new.notes.items ≡ restated b.free c.self.inside.notes.items =
+    c.restate_all.ensures ∙ ap (λ q. restated q c.self.inside.notes.items) (c.marks.ensures.marks ∙ ap (λ (a : Area). a.free) c.take_chosen.ensures) in
+    ap (λ a. let f : Frames = record { area = a; states = c.restate_all.new.notes.items; sides = c.self.inside.sides.items } in f) c.take_chosen.ensures
+    ∙ ap (λ q. let f : Frames = record { area = b; states = q; sides = c.self.inside.sides.items } in f) es
 
 pub returns-clause-answer : goal.returns-clause-answer
 returns-clause-answer c =
-    ap (λ q. Some q) c.take_chosen-head.ensures.answer ∙ answer_some _ _ _ _ _ c.in_ok-chosen.chosen c.self.view_is c.in_ok-chosen.ensures.0
+    (taken_by c.self.inside.area c.args.order c.args.kind (Some (as_chosen c.in_ok-chosen.chosen)) c.in_ok-chosen.ensures).0
+    ∙ ap (λ (f : Frames). take_answer f.area c.args.order c.args.kind) c.self.view_is
 
 pub returns-clause-after : goal.returns-clause-after
 returns-clause-after c =
-    c.take_chosen-head.ensures.after
-    ∙ ap (λ (f : Frames). with_area f (taken f.area c.args.order c.args.kind (Some (chosen_of c.in_ok-chosen.chosen)))) c.self.view_is
-    ∙ after_some _ _ _ _ _ c.in_ok-chosen.chosen c.self.view_is c.in_ok-chosen.ensures.0
+    let f : Frames = record { area = c.self.inside.area; states = c.self.inside.notes.items; sides = c.self.inside.sides.items } in
+    after c
+    ∙ ap (λ a. with_area f a)
+    (taken_by c.self.inside.area c.args.order c.args.kind (Some (as_chosen c.in_ok-chosen.chosen)) c.in_ok-chosen.ensures).1
+    ∙ ap (λ (g : Frames). with_area g (take_after g.area c.args.order c.args.kind)) c.self.view_is
 
 pub invariant_of-self : goal.invariant_of-self
 invariant_of-self c =
-    let x : IsLess c.self.inside.lists.states c.self.inside.free_in.items c.self.inside.free c.in_ok-chosen.chosen.block.head c.args.order c.take_chosen-head.new.lists.states =
-    taken_less _ _ _ _ _ _ _ _ _ _ _ c.in_ok-chosen.chosen c.self.invariant.sound c.self.invariant.each c.self.invariant.counted c.in_ok-chosen.ensures.1 refl
-    c.take_chosen-head.ensures.pages c.take_chosen-head.ensures.after in
-    let e : c.pageblock_of.result ≡ c.in_ok-chosen.chosen.block.head / PAGEBLOCK_PAGES = c.pageblock_of.ensures ∙ ap (λ q. q / PAGEBLOCK_PAGES) c.take_chosen-head.ensures.answer in
-    let p : c.pages.result ≡ c.pages-2.result = c.pages.ensures.pages ∙ sym c.pages-2.ensures.pages in
-    let P : ℕ → Type 0 = λ q. IsHeld c.take_chosen-head.new.lists c.take_chosen-head.new.kinds.items (c.self.inside.free - q)
-    (set c.self.inside.free_in.items c.pageblock_of.result (c.index_mut.result.now - c.pages-2.result)) in
-    subst P (sym p)
-    (held_less c.self.inside.lists c.take_chosen-head.new.lists _ _ _ _ _ _ _ _ _ c.self.invariant x c.take_chosen-head.ensures.sound c.take_chosen-head.ensures.pages
-    c.take_chosen-head.ensures.typed e c.index_mut.ensures.value c.pages-2.ensures.pages)
-
-pub overflow_sub-index_mut : goal.overflow_sub-index_mut
-overflow_sub-index_mut c =
-    let x : IsLess c.self.inside.lists.states c.self.inside.free_in.items c.self.inside.free c.in_ok-chosen.chosen.block.head c.args.order c.take_chosen-head.new.lists.states =
-    taken_less _ _ _ _ _ _ _ _ _ _ _ c.in_ok-chosen.chosen c.self.invariant.sound c.self.invariant.each c.self.invariant.counted c.in_ok-chosen.ensures.1 refl
-    c.take_chosen-head.ensures.pages c.take_chosen-head.ensures.after in
-    let e : c.pageblock_of.result ≡ c.in_ok-chosen.chosen.block.head / PAGEBLOCK_PAGES = c.pageblock_of.ensures ∙ ap (λ q. q / PAGEBLOCK_PAGES) c.take_chosen-head.ensures.answer in
-    let r : c.index_mut.result.now ≡ slice_index c.self.inside.free_in.items (c.in_ok-chosen.chosen.block.head / PAGEBLOCK_PAGES) =
-    read_at _ _ _ _ x.pageblock e c.index_mut.ensures.value in
-    let m : 2 ^ c.args.order ≤ slice_index c.self.inside.free_in.items (c.in_ok-chosen.chosen.block.head / PAGEBLOCK_PAGES) = x.most in
-    let p : c.pages-2.result ≡ 2 ^ c.args.order = c.pages-2.ensures.pages in
-    omega arith
+    let Q : Frames → Type 0 = λ f. IsFramed f in
+    subst Q (sym (after c)) (kept_taken _ c.args.order c.args.kind (as_chosen c.in_ok-chosen.chosen) c.self.invariant)
 
 pub returns-clause-clear : goal.returns-clause-clear
 returns-clause-clear c =
-    let run = listed_run _ _ _ _ c.in_ok-chosen.chosen.block c.self.invariant.sound c.in_ok-chosen.ensures.1 in
-    let left = c.take_chosen-head.ensures.after ∙ ap (λ (f : Frames). with_area f (taken f.area c.args.order c.args.kind (Some (chosen_of c.in_ok-chosen.chosen)))) c.self.view_is in
-    let P : ℕ → Type 0 = λ h. IsClear (frames_of c.take_chosen-head.new.lists.states c.take_chosen-head.new.kinds.items c.take_chosen-head.new.lists.lists) h c.args.order in
-    subst P (sym c.take_chosen-head.ensures.answer)
-    (taken_may_return c.args.self.now _ _ _ c.args.order c.args.kind c.in_ok-chosen.chosen c.self.invariant.sound c.self.view_is run left)
+    let P : Frames → Type 0 = λ f. IsClear f c.in_ok-chosen.chosen.head c.args.order in
+    subst P (sym (after c)) (clear_taken _ c.args.order c.args.kind (as_chosen c.in_ok-chosen.chosen) c.self.invariant c.marks-marks.ensures.sound.lists (sym c.in_ok-chosen.ensures))
 
 pub returns-clause-kept : goal.returns-clause-kept
-returns-clause-kept c =
-    let left = c.take_chosen-head.ensures.after ∙ ap (λ (f : Frames). with_area f (taken f.area c.args.order c.args.kind (Some (chosen_of c.in_ok-chosen.chosen)))) c.self.view_is in
-    taken_leaves_clear c.args.self.now _ c.args.order c.args.kind c.in_ok-chosen.chosen left
+returns-clause-kept c h k x =
+    let P : Frames → Type 0 = λ f. IsClear f h k in
+    subst P (sym (after c)) (clear_still _ c.args.order h k c.args.kind (as_chosen c.in_ok-chosen.chosen) (subst P (sym c.self.view_is) x))
 
 pub returns-clause-head : goal.returns-clause-head
 returns-clause-head c =
-    let run = listed_run _ _ _ _ c.in_ok-chosen.chosen.block c.self.invariant.sound c.in_ok-chosen.ensures.1 in
-    let inside : c.in_ok-chosen.chosen.block.head + 2 ^ c.args.order ≤ length c.self.inside.lists.states = run.inside in
-    let some : 0 < 2 ^ c.args.order = pow_pos c.args.order in
-    let same : c.take_chosen-head.result ≡ c.in_ok-chosen.chosen.block.head = c.take_chosen-head.ensures.answer in
-    let pages : length c.take_chosen-head.new.lists.states ≡ length c.self.inside.lists.states = c.take_chosen-head.ensures.pages in
-    (omega arith, (returns-clause-clear c).free c.take_chosen-head.result (omega arith) (omega arith))
+    let f : IsFramed (record { area = c.take_chosen.new.self; states = c.restate_all.new.notes.items; sides = c.self.inside.sides.items }) = invariant_of-self c in
+    clear_head _ c.in_ok-chosen.chosen.head c.args.order f.pages (returns-clause-clear c)

@@ -1,6 +1,0 @@
-use Rattle.std.proofs.Common.{rules}
-use Rattle.std.proofs.lemmas.Fn.{filter_same}
-use Rattle.zp_plain.proofs.page_stack.remove_page.Goals as goal
-
-pub returns-clause-pages : goal.returns-clause-pages
-returns-clause-pages c = filter_same _ _ _ (λ x b f' k. search rules) _ _ c.retain.ensures.filtered

@@ -1,0 +1,17 @@
+-- Which blocks are clear, by what a test of it looks at.
+use Rattle.std.specs.Prelude.{ℕ, ◌+◌, ◌^◌, ◌≡◌, ◌≤◌, ◌<◌, Bool, List, [], false}
+use Rattle.zp_model.specs.Block.{has}
+use Rattle.zp_model.specs.Rows.{list_at, stands_in}
+use Rattle.zp_model.specs.Frames.{Frames}
+
+-- frames of these free pages and further lists; whether a block is clear reads nothing else
+abbrev pub open_frames : List Bool → List (List ℕ) → Frames
+open_frames free sides = record { area = record { free = free; kinds = []; lists = [] }; states = []; sides = sides }
+
+-- page i is not free, and on no further list
+abbrev pub IsClearPage : List Bool → List (List ℕ) → ℕ → Type 0
+IsClearPage free sides i = (has free i ≡ false) × ((r : ℕ) → stands_in i (list_at sides r) ≡ false)
+
+-- that of each page of a run
+abbrev pub IsClearRun : List Bool → List (List ℕ) → ℕ → ℕ → Type 0
+IsClearRun free sides h k = (i : ℕ) → h ≤ i → i < h + 2 ^ k → IsClearPage free sides i

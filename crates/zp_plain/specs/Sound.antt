@@ -1,0 +1,22 @@
+-- When a free area is sound, and when its lists may be settled.
+use Rattle.std.specs.Prelude.{ℕ, ◌≡◌, ◌≤◌, ◌<◌, ◌==◌, Bool, true, List, length}
+use Rattle.std.specs.List.{IsDistinct}
+use Rattle.zp_model.specs.declared.constants.TheConstants.{MAX_PAGES}
+use Rattle.zp_model.specs.declared.migrate_type.MigrateType.{MigrateType}
+use Rattle.zp_model.specs.Rows.{list_at, stands_in}
+use Rattle.zp_model.specs.Area.{Area, lists_count, pageblocks_of}
+use Rattle.zp_model.specs.Lawful.{IsListedArea}
+
+-- lists that may be settled for these free pages and types: each has each page once, and pages of the zone alone
+pub record IsTable (free : List Bool) (kinds : List MigrateType) (lists : List (List ℕ)) : Type 0 where
+  pub small : length free ≤ MAX_PAGES
+  pub typed : length kinds ≡ pageblocks_of (length free)
+  pub table : length lists ≡ lists_count
+  pub distinct : (r : ℕ) → r < lists_count → IsDistinct (λ x y. x == y) (list_at lists r)
+  pub inside : (r p : ℕ) → r < lists_count → stands_in p (list_at lists r) ≡ true → p < length free
+
+-- the area is that of a zone, and its lists hold what belongs there
+pub record IsSoundArea (a : Area) : Type 0 where
+  pub small : length a.free ≤ MAX_PAGES
+  pub typed : length a.kinds ≡ pageblocks_of (length a.free)
+  pub lists : IsListedArea a

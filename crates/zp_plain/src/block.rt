@@ -1,0 +1,96 @@
+//! Sets of pages: what `Block.antt` says, page by page.
+ghost use Rattle.std.specs.Prelude.{◌≡◌, ◌<◌, ◌≤◌, ◌+◌, length};
+ghost use Rattle.zp_model.specs.declared.constants.TheConstants.{LARGEST_ORDER, MAX_PAGES};
+ghost use Rattle.zp_model.specs.Block.{has, has_run, in_run, is_max, head as head_of, largest_order, size, with_run, without};
+
+use zp_model::{Order, PageAt};
+
+/// Whether a page is in the set.
+pub fn has(set: &[bool], page: usize) -> bool
+    ensures { result ≡ has set.now page }
+{
+    page < set.len() && set[page]
+}
+
+/// Whether the run of this order from a page on lies in the set.
+pub fn has_run(set: &[bool], head: PageAt, order: Order) -> bool
+    ensures { result ≡ has_run set.now head order }
+{
+    'pages: for i in 0..order.pages() as usize {
+        if !has(set, head.index() + i) {
+            return false;
+        }
+    }
+    true
+}
+
+/// Whether the double of the block, the aligned run of the next order around it, lies in the set.
+fn has_double(set: &[bool], head: PageAt, order: Order) -> bool
+    requires { order < LARGEST_ORDER }
+    ensures { result ≡ has_run set.now (head_of head (order + 1)) (order + 1) }
+{
+    let double = order.higher();
+    has_run(
+        set,
+        PageAt::at(head.number() / double.pages() * double.pages()),
+        double,
+    )
+}
+
+/// Whether this is a maximal block of the set.
+#[tactic(auto, unfolding(zp_model::specs::Block::is_max))]
+pub fn is_max(set: &[bool], head: PageAt, order: Order) -> bool
+    ensures { result ≡ is_max largest_order set.now head order }
+{
+    head.number() % order.pages() == 0
+        && has_run(set, head, order)
+        && (order == Order::largest() || !has_double(set, head, order))
+}
+
+/// The order of this number.
+pub fn order_of(number: usize) -> Order
+    requires { number ≤ LARGEST_ORDER }
+    ensures { result ≡ number }
+{
+    Order::new(number as u8).unwrap()
+}
+
+/// Whether a page lies in the run.
+fn in_run(head: PageAt, order: Order, page: usize) -> bool
+    ensures { result ≡ in_run head order page }
+{
+    head.index() <= page && page < head.index() + order.pages() as usize
+}
+
+/// Puts the pages of a run into the set.
+pub fn add_run(set: &mut Vec<bool>, head: PageAt, order: Order)
+    ensures { set.new.items ≡ with_run set.old.items head order }
+{
+    'pages: for i in 0..set.len() {
+        set[i] = set[i] || in_run(head, order, i);
+    }
+}
+
+/// Takes the pages of a run out of the set.
+pub fn remove_run(set: &mut Vec<bool>, head: PageAt, order: Order)
+    ensures { set.new.items ≡ without set.old.items head order }
+{
+    'pages: for i in 0..set.len() {
+        set[i] = set[i] && !in_run(head, order, i);
+    }
+}
+
+/// How many pages the set has.
+#[tactic(auto, unfolding(zp_model::specs::Block::size))]
+pub fn size(set: &[bool]) -> u32
+    requires { length set.now ≤ MAX_PAGES }
+    ensures { result ≡ size set.now }
+{
+    let mut pages = 0;
+    'pages: for mark in set {
+        if *mark {
+            pages += 1;
+        }
+    }
+    pages
+}

@@ -1,0 +1,93 @@
+//! What is noted of each page, and which blocks are clear: what `Frames.antt` says, page by page.
+ghost use Rattle.std.specs.Prelude.{◌≡◌, ◌≤◌, ◌+◌, ◌^◌, ◌↔◌, ℕ, true, length, IsTrue};
+ghost use Rattle.std.specs.List.{find};
+ghost use Rattle.zp_model.specs.declared.constants.TheConstants.{MAX_PAGES};
+ghost use Rattle.zp_model.specs.Block.{is_max, largest_order, IsBlock};
+ghost use Rattle.zp_model.specs.BlockSet.{orders_from};
+ghost use Rattle.zp_model.specs.Rows.{list_at, stands_in};
+ghost use Rattle.zp_model.specs.Frames.{restate, restated, IsClear};
+ghost use Rattle.zp_plain.specs.Clear.{open_frames, IsClearRun};
+
+use crate::area::stands_in;
+use crate::block::{has, is_max, order_of};
+use crate::page_row::PageRow;
+use zp_model::{MAX_PAGES, ORDERS, Order, PageAt, State};
+
+/// The order of the maximal block that a page heads, if it heads one.
+fn block_at(free: &[bool], head: PageAt) -> Option<Order>
+    ensures { result ≡ find (is_max largest_order free.now head) (orders_from 0) }
+{
+    'orders: for number in 0..ORDERS {
+        let order = order_of(number);
+        if is_max(free, head, order) {
+            return Some(order);
+        }
+    }
+    None
+}
+
+/// What is noted of a page that heads this free block, or none.
+fn restate(block: Option<Order>, note: State) -> State
+    ensures { result ≡ restate block note }
+{
+    match block {
+        Some(order) => State::Free(order),
+        None => match note {
+            State::Free(_) => State::Tail,
+            State::Tail => State::Tail,
+            State::Out(order, kind, worker) => State::Out(order, kind, worker),
+            State::Posted(order, kind, worker) => State::Posted(order, kind, worker),
+        },
+    }
+}
+
+/// Notes of each page whether it heads a free block.
+pub fn restate_all(free: &[bool], notes: &mut Vec<State>)
+    requires pages { length notes.old.items ≡ length free.now }
+    requires small { length free.now ≤ MAX_PAGES }
+    ensures { notes.new.items ≡ restated free.now notes.old.items }
+{
+    'pages: for i in 0..notes.len() {
+        notes[i] = restate(block_at(free, PageAt::at(i as u32)), notes[i]);
+    }
+}
+
+/// Whether this is a block of a zone of so many pages.
+fn is_block(pages: usize, head: PageAt, order: Order) -> bool
+    ensures { IsTrue result ↔ IsBlock pages head order }
+{
+    head.number() % order.pages() == 0 && head.index() + order.pages() as usize <= pages
+}
+
+/// Whether a page stands on a further list.
+fn is_aside(sides: &[PageRow], page: PageAt) -> bool
+    ensures { IsTrue result ↔ ((r : ℕ) × (stands_in page (list_at sides.now r) ≡ true)) }
+{
+    'sides: for side in sides {
+        if stands_in(page, side.as_slice()) {
+            return true;
+        }
+    }
+    false
+}
+
+/// Whether no page of the run is free or on a further list.
+fn is_clear_run(free: &[bool], sides: &[PageRow], head: PageAt, order: Order) -> bool
+    requires { head + 2 ^ order ≤ MAX_PAGES }
+    ensures { IsTrue result ↔ IsClearRun free.now sides.now head order }
+{
+    'pages: for i in head.index()..head.index() + order.pages() as usize {
+        if has(free, i) || is_aside(sides, PageAt::at(i as u32)) {
+            return false;
+        }
+    }
+    true
+}
+
+/// Whether this is a block of the zone of which no page is free or on a further list.
+pub fn is_clear(free: &[bool], sides: &[PageRow], head: PageAt, order: Order) -> bool
+    requires { length free.now ≤ MAX_PAGES }
+    ensures { IsTrue result ↔ IsClear (open_frames free.now sides.now) head order }
+{
+    is_block(free.len(), head, order) && is_clear_run(free, sides, head, order)
+}

@@ -1,0 +1,129 @@
+//! The free area: what `Take.antt` says of giving and taking. Marks or types change, and the lists are settled anew.
+ghost use Rattle.std.specs.Prelude.{◌≡◌, ◌<◌, ◌≤◌, length, IfOk, Some};
+ghost use Rattle.zp_model.specs.declared.constants.TheConstants.{MAX_PAGES};
+ghost use Rattle.zp_model.specs.Rows.{after, front};
+ghost use Rattle.zp_model.specs.Area.{free_list, opening};
+ghost use Rattle.zp_model.specs.Take.{give, leave, retype, taken};
+ghost use Rattle.zp_plain.specs.Chosen.{as_chosen};
+ghost use Rattle.zp_plain.specs.Sound.{IsSoundArea};
+
+use crate::area::{list_of, settle};
+use crate::block::{add_run, remove_run};
+use crate::choose::Choice;
+use crate::page_row::{PageRow, empty_rows};
+use std::alloc::{AllocError, Global};
+use std::marker::Model;
+use zp_model::{MAX_PAGES, MigrateType, ORDERS, Order, PAGEBLOCK_PAGES, PageAt, TYPES};
+
+/// A free area, as the definitions have it, and a list where lists are settled.
+#[derive(Drop)]
+pub struct PlainArea {
+    free: Vec<bool>,
+    kinds: Vec<MigrateType>,
+    lists: Vec<PageRow>,
+    scratch: PageRow,
+}
+
+impl Model for PlainArea {
+    ghost use Rattle.zp_model.specs.Area.{Area};
+    ghost use Rattle.zp_plain.specs.Sound.{IsSoundArea};
+
+    ghost Value = { Area };
+
+    ghost view = { λ a. record { free = a.free.items; kinds = a.kinds.items; lists = a.lists.items } };
+
+    ghost invariant = { λ a. IsSoundArea (record { free = a.free.items; kinds = a.kinds.items; lists = a.lists.items }) };
+}
+
+impl PlainArea {
+    /// All pages free, and all pageblocks Movable.
+    pub fn new(alloc: Global, pages: u32) -> Result<PlainArea, AllocError>
+        requires { pages ≤ MAX_PAGES }
+        ensures { IfOk result (λ a. a ≡ opening pages) }
+    {
+        let free = Vec::from_elem(alloc, true, pages as usize)?;
+        let kinds = Vec::from_elem(
+            alloc,
+            MigrateType::Movable,
+            pages.div_ceil(PAGEBLOCK_PAGES) as usize,
+        )?;
+        let mut lists = empty_rows(alloc, TYPES * ORDERS)?;
+        let mut scratch = PageRow::new(alloc)?;
+        settle(&free, &kinds, &mut lists, &mut scratch);
+        Ok(PlainArea {
+            free,
+            kinds,
+            lists,
+            scratch,
+        })
+    }
+
+    /// The free list of an order and a type.
+    pub fn list(&self, order: Order, kind: MigrateType) -> &[PageAt]
+        ensures { result.now ≡ free_list self.now order kind }
+    {
+        self.lists[list_of(order, kind)].as_slice()
+    }
+
+    /// The front of the free list of an order and a type.
+    pub fn front(&self, order: Order, kind: MigrateType) -> Option<PageAt>
+        ensures { result ≡ front (free_list self.now order kind) }
+    {
+        self.lists[list_of(order, kind)].front()
+    }
+
+    /// The page after this one on the free list of an order and a type.
+    pub fn after(&self, order: Order, kind: MigrateType, at: PageAt) -> Option<PageAt>
+        ensures { result ≡ after at (free_list self.now order kind) }
+    {
+        self.lists[list_of(order, kind)].after(at)
+    }
+
+    /// Whether each page is free.
+    pub fn marks(&self) -> &[bool]
+        ensures marks { result.now ≡ self.now.free }
+        ensures sound { IsSoundArea self.now }
+    {
+        &self.free
+    }
+
+    /// A pageblock gets a type.
+    fn retype(&mut self, pageblock: usize, kind: MigrateType)
+        requires { pageblock < length self.old.kinds }
+        ensures { self.new ≡ retype self.old pageblock kind }
+    {
+        self.kinds[pageblock] = kind;
+        settle(&self.free, &self.kinds, &mut self.lists, &mut self.scratch);
+    }
+
+    /// The pages of a run leave the free ones.
+    fn leave(&mut self, head: PageAt, order: Order)
+        ensures { self.new ≡ leave self.old head order }
+    {
+        remove_run(&mut self.free, head, order);
+        settle(&self.free, &self.kinds, &mut self.lists, &mut self.scratch);
+    }
+
+    /// The pages of a run become free.
+    pub fn give(&mut self, head: PageAt, order: Order)
+        ensures after { self.new ≡ give self.old head order }
+        ensures sound { IsSoundArea self.old }
+    {
+        add_run(&mut self.free, head, order);
+        settle(&self.free, &self.kinds, &mut self.lists, &mut self.scratch);
+    }
+
+    /// Takes the chosen block.
+    pub fn take_chosen(&mut self, chosen: Choice, order: Order, kind: MigrateType)
+        requires { chosen.head < length self.old.free }
+        ensures { self.new ≡ taken self.old order kind (Some (as_chosen chosen)) }
+    {
+        // a clause of this call says that there is a type for each pageblock
+        let _marks = self.marks();
+        let Choice { head, claims } = chosen;
+        if claims {
+            self.retype(head.index() / PAGEBLOCK_PAGES as usize, kind);
+        }
+        self.leave(head, order);
+    }
+}
