@@ -1,4 +1,4 @@
-use Rattle.std.proofs.Common.{ℕ, ◌≡◌, ◌≤◌, ◌<◌, ◌+◌, ◌-◌, ◌*◌, arith, sym, ◌∙◌, ap, Bool, true, false, List, cond}
+use Rattle.std.proofs.Common.{ℕ, ◌≡◌, ◌≤◌, ◌+◌, ◌-◌, ◌*◌, arith, sym, ◌∙◌, ap, Bool, List}
 use Rattle.std.specs.List.{range_with_len, count_by}
 use Rattle.zp_model.specs.Block.{has}
 use Rattle.zp_model.specs.Area.{size_in}

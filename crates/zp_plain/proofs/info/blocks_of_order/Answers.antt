@@ -1,4 +1,4 @@
-use Rattle.std.proofs.Common.{ℕ, ◌≡◌, ◌≤◌, ◌<◌, ◌+◌, ◌-◌, arith, sym, ◌∙◌, ap, Bool, true, false, List, length, cond}
+use Rattle.std.proofs.Common.{ℕ, ◌≡◌, ◌≤◌, ◌+◌, ◌-◌, arith, sym, ◌∙◌, ap, Bool, List, length}
 use Rattle.std.specs.List.{range_with_len, count_by}
 use Rattle.zp_model.specs.Block.{is_max, largest_order}
 use Rattle.zp_model.specs.Info.{blocks_of_order}

@@ -2,7 +2,7 @@ use Rattle.std.proofs.Common.{ℕ, ◌≡◌, ◌≢◌, ◌<◌, List, Bool, le
 use Rattle.std.specs.List.{range_with_len}
 use Rattle.std.proofs.lemmas.List.FromFn.{fill_by_all}
 use Rattle.zp_model.specs.declared.counts.Counts.{Counts}
-use Rattle.zp_model.specs.Info.{counts, blocks_of_order}
+use Rattle.zp_model.specs.Info.{blocks_of_order}
 use Rattle.zp_plain.proofs.info.counts.Goals as goal
 
 pub orders-preserved : goal.orders-preserved
