@@ -1,6 +1,7 @@
 -- Joining a run that comes back with its free buddies.
 use Rattle.std.proofs.Common.{ℕ, ◌+◌, ◌-◌, ◌*◌, ◌/◌, ◌%◌, ◌^◌, ◌≡◌, ◌≤◌, ◌<◌, ◌==◌, ◌≢◌, ◌⊎◌, inl, inr, refl, sym, ◌∙◌, ap, subst, arith, Bool, true, not, ◌&&◌, List, [], length, set, get_or-set_same, get_or-set_other, length-set, None, min}
 use Rattle.std.specs.List.{filter}
+use Rattle.std.proofs.Math.Nat.{mod-eq-sub-div-mul}
 use Rattle.std.proofs.lemmas.Nat.{pow_pos}
 use Rattle.std.proofs.lemmas.Bool.{cases_lt, cases_eq, not-true, and_parts, and_from, leb-true, le-leb, ltb-true, lt-ltb, eqb-true, eq-eqb, false_from_ne_true, both_ways}
 use Rattle.std.proofs.lemmas.List.{get_or_past}
@@ -354,6 +355,41 @@ buddy_at b j n e al =
       λ f. let h = buddy_high b j al (λ g. f (ap (λ q. b % q) t ∙ g)) in
           (omega (arith, h.0), subst S m2 (subst R (sym e) h.1)),
     )
+
+-- how far an aligned run lies above the head of its double: nothing, or all its pages
+half_off : (b j n : ℕ) → n ≡ 2 ^ j → b % 2 ^ j ≡ 0 → (b % (2 * n) ≡ 0) ⊎ ((b % (2 * n) ≡ 0 → ⊥) × (b % (2 * n) ≡ n) × (n ≤ b))
+half_off b j n e al =
+    let t : 2 * n ≡ 2 ^ (j + 1) = let u : 2 ^ (j + 1) ≡ 2 ^ j + 2 ^ j = two j in omega arith in
+    let m : b % (2 * n) ≡ b % 2 ^ (j + 1) = ap (λ q. b % q) t in
+    let pos : 0 < 2 ^ j = pow_pos j in
+    let off : b % 2 ^ (j + 1) ≡ b - head b (j + 1) = mod-eq-sub-div-mul b (2 ^ (j + 1)) in
+    elim (half b j al) [
+      | inl same ↦ inl (omega arith)
+      | inr high ↦ inr ((λ z. let bad : ⊥ = omega arith in bad), omega arith, omega arith)
+    ]
+
+-- the buddy, reckoned with no branch
+pub record IsReckoned (b j n c : ℕ) : Type 0 where
+  pub within : 2 * (b % (2 * n)) ≤ b + n
+  pub buddy : c ≡ b + n - 2 * (b % (2 * n)) → IsBuddy b j c (min b c)
+  pub below : b < MAX_PAGES → b + n - 2 * (b % (2 * n)) < MAX_PAGES
+
+pub reckoned : (b j n c : ℕ) → n ≡ 2 ^ j → j < largest_order → b % 2 ^ j ≡ 0 → IsReckoned b j n c
+reckoned b j n c e lt al =
+    let both = buddy_at b j n e al in
+    let P : ℕ → Type 0 = λ q. IsBuddy b j q (min b q) in
+    elim (half_off b j n e al) [
+      | inl low ↦ record {
+        within = omega arith;
+        buddy = λ is. let same : b + n ≡ c = omega arith in subst P same (both.0 low);
+        below = λ fits. let r : b + n < MAX_PAGES = buddy_below b j n e lt fits low in omega arith;
+      }
+      | inr high ↦ record {
+        within = omega (arith, high.1, high.2);
+        buddy = λ is. let same : b - n ≡ c = omega (arith, high.1, high.2) in subst P same (both.1 high.0).1;
+        below = λ fits. omega (arith, high.1, high.2);
+      }
+    ]
 
 -- where the run stands while it grows
 pub joining_place : (h k b j : ℕ) (s s' : List State) (kinds : List MigrateType) (l l' : List (List ℕ)) → IsBack h k s kinds l → IsJoining h k b j s s' l l' →

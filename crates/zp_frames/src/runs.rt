@@ -22,11 +22,8 @@ pub fn buddy_of(head: PageAt, order: Order) -> PageAt
 {
     let at = head.number();
     let pages = order.pages();
-    if at % (2 * pages) == 0 {
-        PageAt::at(at + pages)
-    } else {
-        PageAt::at(at - pages)
-    }
+    // up from the low half, down from the high one: no branch, as which of them it is, is random under load
+    PageAt::at(at + pages - 2 * (at % (2 * pages)))
 }
 
 /// The largest order, at most `most`, of a block with no more than so many pages.

@@ -1,6 +1,6 @@
 //! The ends of a list.
 ghost use Rattle.std.specs.Prelude.{ℕ, ◌≡◌, ◌↔◌, Some, IsTrue};
-ghost use Rattle.zp_links.specs.Linked.{end_if, ends_at};
+ghost use Rattle.zp_links.specs.Linked.{ends_at};
 
 use zp_model::PageAt;
 
@@ -10,20 +10,6 @@ pub struct Ends {
     pub first: Option<PageAt>,
     pub last: Option<PageAt>,
     pub len: u32,
-}
-
-/// `there` where a page has no neighbour, else `other`.
-pub fn end_where(
-    neighbour: Option<PageAt>,
-    there: Option<PageAt>,
-    other: Option<PageAt>,
-) -> Option<PageAt>
-    ensures { result ≡ end_if neighbour there other }
-{
-    match neighbour {
-        None => there,
-        Some(_) => other,
-    }
 }
 
 /// Whether a page is the first one of a list.

@@ -8,8 +8,8 @@ ghost use Rattle.zp_table.specs.Entries.{IsUnlinked};
 ghost use Rattle.zp_links.specs.Linked.{states_of};
 ghost use Rattle.zp_links.specs.Moved.{StandAsBefore};
 
-use crate::ends::{Ends, end_where, is_front};
-use crate::neighbour::{set_back_of, set_forward_of};
+use crate::ends::{Ends, is_front};
+use crate::neighbour::{set_back_or_last, set_forward_or_first};
 use std::alloc::{AllocError, Global};
 use std::marker::Model;
 use zp_model::PageAt;
@@ -60,15 +60,12 @@ impl Lists {
         ensures on { IsOn self.new.lists list at }
         ensures others { StandAsBefore at self.old.lists self.new.lists }
     {
-        let ends = self.ends[list];
-        self.table.set_links(at, None, ends.first);
-        set_back_of(&mut self.table, ends.first, Some(at));
-        let last = end_where(ends.first, Some(at), ends.last);
-        self.ends[list] = Ends {
-            first: Some(at),
-            last,
-            len: ends.len + 1,
-        };
+        let old = self.ends[list];
+        self.table.set_links(at, None, old.first);
+        let ends = &mut self.ends[list];
+        set_back_or_last(&mut self.table, &mut ends.last, old.first, Some(at));
+        ends.first = Some(at);
+        ends.len += 1;
     }
 
     /// Puts a page at the end of a list.
@@ -80,15 +77,12 @@ impl Lists {
         ensures on { IsOn self.new.lists list at }
         ensures others { StandAsBefore at self.old.lists self.new.lists }
     {
-        let ends = self.ends[list];
-        self.table.set_links(at, ends.last, None);
-        set_forward_of(&mut self.table, ends.last, Some(at));
-        let first = end_where(ends.last, Some(at), ends.first);
-        self.ends[list] = Ends {
-            first,
-            last: Some(at),
-            len: ends.len + 1,
-        };
+        let old = self.ends[list];
+        self.table.set_links(at, old.last, None);
+        let ends = &mut self.ends[list];
+        set_forward_or_first(&mut self.table, &mut ends.first, old.last, Some(at));
+        ends.last = Some(at);
+        ends.len += 1;
     }
 
     /// Takes a page out of its list. No search is made.
@@ -99,17 +93,11 @@ impl Lists {
         ensures others { StandAsBefore at self.old.lists self.new.lists }
     {
         let entry = self.table.entry(at);
-        set_back_of(&mut self.table, entry.forward, entry.back);
-        set_forward_of(&mut self.table, entry.back, entry.forward);
+        let ends = &mut self.ends[list];
+        set_back_or_last(&mut self.table, &mut ends.last, entry.forward, entry.back);
+        set_forward_or_first(&mut self.table, &mut ends.first, entry.back, entry.forward);
+        ends.len -= 1;
         self.table.set_links(at, None, None);
-        let ends = self.ends[list];
-        let first = end_where(entry.back, entry.forward, ends.first);
-        let last = end_where(entry.forward, entry.back, ends.last);
-        self.ends[list] = Ends {
-            first,
-            last,
-            len: ends.len - 1,
-        };
     }
 
     /// Takes the page in front of a list.

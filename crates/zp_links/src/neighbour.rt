@@ -1,26 +1,44 @@
-//! Links of a page's neighbours, which may not be there.
+//! Links to a page from its neighbours: a neighbour's link, or an end of the list where there is no neighbour on that side.
+//!
+//! In Linux: a list's head is a neighbour like the others, as lists are circular.
 ghost use Rattle.std.specs.Prelude.{◌≡◌, length};
-ghost use Rattle.zp_links.specs.Linked.{MayStand, with_back_of, with_forward_of};
+ghost use Rattle.zp_links.specs.Linked.{MayStand, with_back_of, with_forward_of, end_if};
 
 use zp_model::PageAt;
 use zp_table::PageTable;
 
-/// Sets the back link of a neighbour, if there is one.
-pub fn set_back_of(table: &mut PageTable, neighbour: Option<PageAt>, back: Option<PageAt>)
+/// Sets what names the page before a neighbour: the neighbour's back link, or the list's last page where there is no
+/// neighbour.
+pub fn set_back_or_last(
+    table: &mut PageTable,
+    last: &mut Option<PageAt>,
+    neighbour: Option<PageAt>,
+    back: Option<PageAt>,
+)
     requires { MayStand neighbour (length table.old) }
-    ensures { table.new ≡ with_back_of table.old neighbour back }
+    ensures table { table.new ≡ with_back_of table.old neighbour back }
+    ensures last { last.new ≡ end_if neighbour back last.old }
 {
-    if let Some(page) = neighbour {
-        table.set_back(page, back);
+    match neighbour {
+        Some(page) => table.set_back(page, back),
+        None => *last = back,
     }
 }
 
-/// Sets the forward link of a neighbour, if there is one.
-pub fn set_forward_of(table: &mut PageTable, neighbour: Option<PageAt>, forward: Option<PageAt>)
+/// Sets what names the page after a neighbour: the neighbour's forward link, or the list's first page where there is no
+/// neighbour.
+pub fn set_forward_or_first(
+    table: &mut PageTable,
+    first: &mut Option<PageAt>,
+    neighbour: Option<PageAt>,
+    forward: Option<PageAt>,
+)
     requires { MayStand neighbour (length table.old) }
-    ensures { table.new ≡ with_forward_of table.old neighbour forward }
+    ensures table { table.new ≡ with_forward_of table.old neighbour forward }
+    ensures first { first.new ≡ end_if neighbour forward first.old }
 {
-    if let Some(page) = neighbour {
-        table.set_forward(page, forward);
+    match neighbour {
+        Some(page) => table.set_forward(page, forward),
+        None => *first = forward,
     }
 }

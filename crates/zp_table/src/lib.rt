@@ -4,6 +4,7 @@
 #![tactic(auto)]
 
 mod entry;
+mod link;
 mod table;
 
 pub use entry::PageEntry;

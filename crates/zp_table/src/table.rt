@@ -5,7 +5,8 @@ ghost use Rattle.std.specs.Prelude.{◌≡◌, ◌<◌, ◌≤◌, length, repli
 ghost use Rattle.zp_model.specs.declared.constants.TheConstants.{MAX_PAGES};
 ghost use Rattle.zp_table.specs.Entries.{blank, entry_at, IsUnlinked, with_state_at, with_links_at, with_back_at, with_forward_at};
 
-use crate::entry::PageEntry;
+use crate::entry::{PageEntry, Slot};
+use crate::link::Link;
 use std::alloc::{AllocError, Global};
 use std::marker::Model;
 use zp_model::{PageAt, State};
@@ -13,19 +14,20 @@ use zp_model::{PageAt, State};
 /// An entry for each page.
 #[derive(Drop)]
 pub struct PageTable {
-    entries: Vec<PageEntry>,
+    slots: Vec<Slot>,
 }
 
 impl Model for PageTable {
-    ghost use Rattle.std.specs.Prelude.{List, length, ◌≤◌};
+    ghost use Rattle.std.specs.Prelude.{List, length, map, ◌≤◌};
     ghost use Rattle.zp_model.specs.declared.constants.TheConstants.{MAX_PAGES};
     ghost use Rattle.zp_table.specs.declared.entry.PageEntry.{PageEntry};
+    ghost use Rattle.zp_table.specs.Entries.{entry_of};
 
     ghost Value = { List PageEntry };
 
-    ghost view = { λ t. t.entries.items };
+    ghost view = { λ t. map entry_of t.slots.items };
 
-    ghost invariant = { λ t. length t.entries.items ≤ MAX_PAGES };
+    ghost invariant = { λ t. length t.slots.items ≤ MAX_PAGES };
 }
 
 impl PageTable {
@@ -35,13 +37,13 @@ impl PageTable {
         ensures table { IfOk result (λ t. t ≡ replicate pages blank) }
         ensures unlinked { IfOk result IsUnlinked }
     {
-        let blank = PageEntry {
+        let blank = Slot {
             state: State::Tail,
-            back: None,
-            forward: None,
+            back: Link::new(None),
+            forward: Link::new(None),
         };
-        let entries = Vec::from_elem(alloc, blank, pages as usize)?;
-        Ok(PageTable { entries })
+        let slots = Vec::from_elem(alloc, blank, pages as usize)?;
+        Ok(PageTable { slots })
     }
 
     /// How many entries the table has.
@@ -49,45 +51,49 @@ impl PageTable {
         ensures same { result ≡ length self.now }
         ensures within { result ≤ MAX_PAGES }
     {
-        self.entries.len()
+        self.slots.len()
     }
 
     pub fn entry(&self, at: PageAt) -> PageEntry
         requires { at < length self.now }
         ensures { result ≡ entry_at self.now at }
     {
-        let place = at.index();
-        self.entries[place]
+        let slot = self.slots[at.index()];
+        PageEntry {
+            state: slot.state,
+            back: slot.back.page(),
+            forward: slot.forward.page(),
+        }
     }
 
     pub fn set_state(&mut self, at: PageAt, state: State)
         requires { at < length self.old }
         ensures { self.new ≡ with_state_at self.old at state }
     {
-        self.entries[at.index()].state = state;
+        self.slots[at.index()].state = state;
     }
 
     pub fn set_links(&mut self, at: PageAt, back: Option<PageAt>, forward: Option<PageAt>)
         requires { at < length self.old }
         ensures { self.new ≡ with_links_at self.old at back forward }
     {
-        let entry = &mut self.entries[at.index()];
-        entry.back = back;
-        entry.forward = forward;
+        let slot = &mut self.slots[at.index()];
+        slot.back = Link::new(back);
+        slot.forward = Link::new(forward);
     }
 
     pub fn set_back(&mut self, at: PageAt, back: Option<PageAt>)
         requires { at < length self.old }
         ensures { self.new ≡ with_back_at self.old at back }
     {
-        self.entries[at.index()].back = back;
+        self.slots[at.index()].back = Link::new(back);
     }
 
     pub fn set_forward(&mut self, at: PageAt, forward: Option<PageAt>)
         requires { at < length self.old }
         ensures { self.new ≡ with_forward_at self.old at forward }
     {
-        self.entries[at.index()].forward = forward;
+        self.slots[at.index()].forward = Link::new(forward);
     }
 }
 

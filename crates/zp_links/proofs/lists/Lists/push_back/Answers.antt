@@ -7,26 +7,26 @@ use Rattle.zp_links.proofs.lists.Lists.push_back.Goals as goal
 
 pub overflow_add-ends : goal.overflow_add-ends
 overflow_add-ends c =
-    let s : c.index-ends.result.now.len ≤ MAX_PAGES = count_fits _ _ _ _ _ c.self.view_is c.self.invariant c.requires.list c.index-ends.ensures in
+    let s : c.index_mut-ends.result.now.len ≤ MAX_PAGES = count_fits _ _ _ _ _ c.self.view_is c.self.invariant c.requires.list c.index_mut-ends.ensures.value in
     omega arith
 
 pub invariant_of-self : goal.invariant_of-self
 invariant_of-self c =
     let xs = list_at c.args.self.now.lists c.args.list in
-    push_linked c.args.self.now c.args.list (length xs) c.args.at c.self.inside.table _ _ c.set_forward_of.new.table c.self.inside.ends.items c.index-ends.result.now _ c.index-ends.result.now.last None (record {
+    push_linked c.args.self.now c.args.list (length xs) c.args.at c.self.inside.table _ _ c.set_forward_or_first.new.table c.self.inside.ends.items c.index_mut-ends.result.now _ c.index-old.result.now.last None (record {
       view = c.self.view_is;
       linked = c.self.invariant;
       list = c.requires.list;
       page = c.requires.page;
       loose = c.requires.loose;
       place = omega arith;
-      previous = end_of _ _ _ _ _ c.self.view_is c.self.invariant c.requires.list c.index-ends.ensures;
+      previous = end_of _ _ _ _ _ c.self.view_is c.self.invariant c.requires.list c.index-old.ensures;
       next = past_end xs;
-      read = c.index-ends.ensures;
+      read = c.index_mut-ends.ensures.value;
       first = c.set_links.ensures;
       second = refl;
-      third = c.set_forward_of.ensures;
-      front = c.end_where-first.ensures;
+      third = c.set_forward_or_first.ensures.table;
+      front = c.set_forward_or_first.ensures.first;
       back = refl;
       count = refl;
     })
@@ -34,20 +34,20 @@ invariant_of-self c =
 pub returns-clause-after : goal.returns-clause-after
 returns-clause-after c =
     let xs = list_at c.args.self.now.lists c.args.list in
-    push_end c.args.self.now c.args.list c.args.at _ (push_value c.args.self.now c.args.list (length xs) c.args.at c.self.inside.table _ _ c.set_forward_of.new.table c.self.inside.ends.items c.index-ends.result.now _ c.index-ends.result.now.last None (record {
+    push_end c.args.self.now c.args.list c.args.at _ (push_value c.args.self.now c.args.list (length xs) c.args.at c.self.inside.table _ _ c.set_forward_or_first.new.table c.self.inside.ends.items c.index_mut-ends.result.now _ c.index-old.result.now.last None (record {
       view = c.self.view_is;
       linked = c.self.invariant;
       list = c.requires.list;
       page = c.requires.page;
       loose = c.requires.loose;
       place = omega arith;
-      previous = end_of _ _ _ _ _ c.self.view_is c.self.invariant c.requires.list c.index-ends.ensures;
+      previous = end_of _ _ _ _ _ c.self.view_is c.self.invariant c.requires.list c.index-old.ensures;
       next = past_end xs;
-      read = c.index-ends.ensures;
+      read = c.index_mut-ends.ensures.value;
       first = c.set_links.ensures;
       second = refl;
-      third = c.set_forward_of.ensures;
-      front = c.end_where-first.ensures;
+      third = c.set_forward_or_first.ensures.table;
+      front = c.set_forward_or_first.ensures.first;
       back = refl;
       count = refl;
     }))

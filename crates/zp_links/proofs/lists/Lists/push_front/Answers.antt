@@ -6,12 +6,12 @@ use Rattle.zp_links.proofs.lists.Lists.push_front.Goals as goal
 
 pub overflow_add-ends : goal.overflow_add-ends
 overflow_add-ends c =
-    let s : c.index-ends.result.now.len ≤ MAX_PAGES = count_fits _ _ _ _ _ c.self.view_is c.self.invariant c.requires.list c.index-ends.ensures in
+    let s : c.index_mut-ends.result.now.len ≤ MAX_PAGES = count_fits _ _ _ _ _ c.self.view_is c.self.invariant c.requires.list c.index_mut-ends.ensures.value in
     omega arith
 
 pub invariant_of-self : goal.invariant_of-self
 invariant_of-self c =
-    push_linked c.args.self.now c.args.list 0 c.args.at c.self.inside.table _ _ c.set_back_of.new.table c.self.inside.ends.items c.index-ends.result.now _ None c.index-ends.result.now.first (record {
+    push_linked c.args.self.now c.args.list 0 c.args.at c.self.inside.table _ _ c.set_back_or_last.new.table c.self.inside.ends.items c.index_mut-ends.result.now _ None c.index-old.result.now.first (record {
       view = c.self.view_is;
       linked = c.self.invariant;
       list = c.requires.list;
@@ -19,19 +19,19 @@ invariant_of-self c =
       loose = c.requires.loose;
       place = omega arith;
       previous = refl;
-      next = front_of _ _ _ _ _ c.self.view_is c.self.invariant c.requires.list c.index-ends.ensures;
-      read = c.index-ends.ensures;
+      next = front_of _ _ _ _ _ c.self.view_is c.self.invariant c.requires.list c.index-old.ensures;
+      read = c.index_mut-ends.ensures.value;
       first = c.set_links.ensures;
-      second = c.set_back_of.ensures;
+      second = c.set_back_or_last.ensures.table;
       third = refl;
       front = refl;
-      back = c.end_where-last.ensures;
+      back = c.set_back_or_last.ensures.last;
       count = refl;
     })
 
 pub returns-clause-after : goal.returns-clause-after
 returns-clause-after c =
-    push_value c.args.self.now c.args.list 0 c.args.at c.self.inside.table _ _ c.set_back_of.new.table c.self.inside.ends.items c.index-ends.result.now _ None c.index-ends.result.now.first (record {
+    push_value c.args.self.now c.args.list 0 c.args.at c.self.inside.table _ _ c.set_back_or_last.new.table c.self.inside.ends.items c.index_mut-ends.result.now _ None c.index-old.result.now.first (record {
       view = c.self.view_is;
       linked = c.self.invariant;
       list = c.requires.list;
@@ -39,13 +39,13 @@ returns-clause-after c =
       loose = c.requires.loose;
       place = omega arith;
       previous = refl;
-      next = front_of _ _ _ _ _ c.self.view_is c.self.invariant c.requires.list c.index-ends.ensures;
-      read = c.index-ends.ensures;
+      next = front_of _ _ _ _ _ c.self.view_is c.self.invariant c.requires.list c.index-old.ensures;
+      read = c.index_mut-ends.ensures.value;
       first = c.set_links.ensures;
-      second = c.set_back_of.ensures;
+      second = c.set_back_or_last.ensures.table;
       third = refl;
       front = refl;
-      back = c.end_where-last.ensures;
+      back = c.set_back_or_last.ensures.last;
       count = refl;
     })
 

@@ -1,0 +1,95 @@
+//! The time of each workload.
+
+use crate::bench::Bench;
+use crate::workload::{SIZES, Workload};
+use std::alloc::Global;
+use std::rt::Clock;
+use std::time::Instant;
+use zp_model::Order;
+
+/// The calls that are timed, about.
+const CALLS: u32 = 2_000_000;
+
+/// Tenths of a nanosecond that a call of a workload takes in a zone of so many pages.
+fn tenths_a_call(
+    rt: &impl Clock,
+    alloc: Global,
+    workload: &Workload,
+    pages: u32,
+    ops: u32,
+) -> anyhow::Result<u128> {
+    let mut bench = Bench::new(alloc, pages)?;
+    workload.prepare(&mut bench)?;
+    let start = Instant::now(rt)?;
+    let calls = workload.run(&mut bench, ops)?;
+    let time = start.elapsed(rt)?;
+    Ok(time.as_nanos().saturating_mul(10) / u128::from(calls.max(1)))
+}
+
+/// Prints a line of the table: the time of a workload at each size.
+fn print_times(
+    rt: &(impl Print + Eprint + Clock),
+    alloc: Global,
+    name: &str,
+    workload: &Workload,
+    ops: [u32; 3],
+) -> anyhow::Result<()> {
+    eprintln!(rt; "{name} ..")?;
+    print!(rt; "{name:<34}")?;
+    for (pages, ops) in SIZES.iter().zip(ops) {
+        let tenths = tenths_a_call(rt, alloc, workload, *pages, ops)?;
+        print!(rt; "{:>10}.{}", tenths / 10, tenths % 10)?;
+    }
+    println!(rt;)?;
+    Ok(())
+}
+
+/// Prints the table: nanoseconds a call, by the pages of the zone.
+pub fn print_all(rt: &(impl Print + Eprint + Clock), alloc: Global) -> anyhow::Result<()> {
+    println!(rt;
+        "{:<34}{:>12}{:>12}{:>12}",
+        "nanoseconds a call", "1024 pages", "4096", "65536"
+    )?;
+    let same = [CALLS / 2; 3];
+    for (name, order) in [
+        ("pairs of order 0", 0),
+        ("pairs of order 4", 4),
+        ("pairs of order 9", 9),
+        ("pairs of order 10", 10),
+    ] {
+        if let Some(order) = Order::new(order) {
+            print_times(rt, alloc, name, &Workload::Pairs(order), same)?;
+        }
+    }
+    print_times(rt, alloc, "runs of 64 pages", &Workload::Runs, [CALLS; 3])?;
+    print_times(
+        rt,
+        alloc,
+        "churn of all orders",
+        &Workload::Churn,
+        [CALLS; 3],
+    )?;
+    print_times(
+        rt,
+        alloc,
+        "press at nine tenths",
+        &Workload::Press,
+        [CALLS; 3],
+    )?;
+    print_times(
+        rt,
+        alloc,
+        "bursts of all pages",
+        &Workload::Burst,
+        [1000, 250, 16],
+    )?;
+    print_times(
+        rt,
+        alloc,
+        "Unmovable among scattered Movable",
+        &Workload::Scattered,
+        [100_000, 20_000, 1000],
+    )?;
+    print_times(rt, alloc, "claims of order 10", &Workload::Claims, same)?;
+    Ok(())
+}

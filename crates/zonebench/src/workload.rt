@@ -1,0 +1,203 @@
+//! The workloads.
+
+ghost use Rattle.std.specs.Prelude.{◌≤◌};
+
+use crate::bench::{Bench, NoMemory};
+use crate::random::below;
+use zp_model::{MigrateType, Order};
+
+/// The sizes of the zones, in pages.
+pub const SIZES: [u32; 3] = [1024, 4096, 65_536];
+
+/// The calls of a churn before the ones that count.
+const WARMING: u32 = 40_000;
+
+/// The blocks of a run.
+const RUN: u32 = 64;
+
+/// The most pages that are given back and taken at a time, under press.
+const MOST_EXCHANGED: usize = 64;
+
+/// The orders of a churn have probabilities that fall by halves; the last one takes what is left.
+const CHURNED: u64 = 1 << 10;
+
+/// What is asked of a zone.
+#[derive(Clone, Copy, Drop)]
+pub enum Workload {
+    /// A block of this order is taken and given back, again and again.
+    Pairs(Order),
+    /// 64 single pages are taken, and given back in the order in which they came.
+    Runs,
+    /// Blocks of all orders come and go at random, half of the pages lent.
+    Churn,
+    /// Single pages come and go at random, nine tenths of them lent.
+    Press,
+    /// All pages are taken one by one, and given back at random.
+    Burst,
+    /// An Unmovable page is taken and given back, where a third of the pages is free, each alone.
+    Scattered,
+    /// A block of the largest order is taken and given back for two types in turn: each claims the one pageblock.
+    Claims,
+}
+
+impl Workload {
+    /// What comes before the calls that count.
+    pub fn prepare(&self, bench: &mut Bench) -> Result<(), NoMemory> {
+        match self {
+            Workload::Churn => {
+                churn(bench, WARMING)?;
+            }
+            Workload::Press => press_down(bench)?,
+            Workload::Burst => burst(bench)?,
+            Workload::Scattered => scatter(bench)?,
+            Workload::Pairs(_) | Workload::Runs | Workload::Claims => {}
+        }
+        Ok(())
+    }
+
+    /// The calls that count. Answers how many calls of the zone they were, a test and a giving back being one.
+    pub fn run(&self, bench: &mut Bench, ops: u32) -> Result<u64, NoMemory> {
+        match self {
+            Workload::Pairs(order) => pairs(bench, *order, ops),
+            Workload::Runs => runs(bench, ops),
+            Workload::Churn => churn(bench, ops),
+            Workload::Press => press(bench, ops),
+            Workload::Burst => bursts(bench, ops),
+            Workload::Scattered => scattered(bench, ops),
+            Workload::Claims => claims(bench, ops),
+        }
+    }
+}
+
+fn pairs(bench: &mut Bench, order: Order, ops: u32) -> Result<u64, NoMemory> {
+    for _ in 0..ops {
+        bench.pair(order, MigrateType::Movable);
+    }
+    Ok(2 * u64::from(ops))
+}
+
+fn runs(bench: &mut Bench, ops: u32) -> Result<u64, NoMemory> {
+    for _ in 0..ops / (2 * RUN) {
+        run(bench)?;
+    }
+    Ok(u64::from(ops))
+}
+
+/// One run.
+fn run(bench: &mut Bench) -> Result<(), NoMemory> {
+    for _ in 0..RUN {
+        bench.lend(Order::zero())?;
+    }
+    bench.give_in_order();
+    Ok(())
+}
+
+fn churn(bench: &mut Bench, ops: u32) -> Result<u64, NoMemory> {
+    for _ in 0..ops {
+        churn_once(bench)?;
+    }
+    Ok(u64::from(ops))
+}
+
+/// A block of a drawn order is taken where fewer than half of the pages are lent; else a drawn one is given back.
+fn churn_once(bench: &mut Bench) -> Result<(), NoMemory> {
+    let drawn = bench.random.draw();
+    if bench.lent_pages() >= bench.pages() / 2 {
+        bench.give_drawn(drawn);
+        return Ok(());
+    }
+    let number = (drawn | CHURNED).trailing_zeros();
+    if let Some(order) = Order::new(number as u8) {
+        bench.lend(order)?;
+    }
+    Ok(())
+}
+
+/// Takes all pages one by one.
+fn fill(bench: &mut Bench) -> Result<(), NoMemory> {
+    for _ in 0..bench.pages() {
+        if !bench.lend(Order::zero())? {
+            break;
+        }
+    }
+    Ok(())
+}
+
+/// Leaves nine tenths of the pages lent.
+fn press_down(bench: &mut Bench) -> Result<(), NoMemory> {
+    fill(bench)?;
+    let kept = bench.pages() / 10 * 9;
+    for _ in 0..bench.pages() {
+        if bench.lent_pages() <= kept {
+            break;
+        }
+        let drawn = bench.random.draw();
+        bench.give_drawn(drawn);
+    }
+    Ok(())
+}
+
+fn press(bench: &mut Bench, ops: u32) -> Result<u64, NoMemory> {
+    let mut calls: u64 = 0;
+    for _ in 0..ops {
+        if calls >= u64::from(ops) {
+            break;
+        }
+        let drawn = bench.random.draw();
+        calls = calls.saturating_add(exchange(bench, 1 + below(drawn, MOST_EXCHANGED))?);
+    }
+    Ok(calls)
+}
+
+/// Gives back so many drawn pages, and takes as many. Answers how many calls these were.
+fn exchange(bench: &mut Bench, pages: usize) -> Result<u64, NoMemory>
+    requires { pages ≤ 64 }
+{
+    for _ in 0..pages {
+        let drawn = bench.random.draw();
+        bench.give_drawn(drawn);
+    }
+    for _ in 0..pages {
+        bench.lend(Order::zero())?;
+    }
+    Ok(2 * pages as u64)
+}
+
+/// Takes all pages, and gives them back at random.
+fn burst(bench: &mut Bench) -> Result<(), NoMemory> {
+    fill(bench)?;
+    for _ in 0..bench.pages() {
+        let drawn = bench.random.draw();
+        bench.give_drawn(drawn);
+    }
+    Ok(())
+}
+
+fn bursts(bench: &mut Bench, ops: u32) -> Result<u64, NoMemory> {
+    for _ in 0..ops {
+        burst(bench)?;
+    }
+    Ok((2 * u64::from(ops)).saturating_mul(bench.pages()))
+}
+
+/// Leaves a third of the pages free, each alone.
+fn scatter(bench: &mut Bench) -> Result<(), NoMemory> {
+    fill(bench)?;
+    bench.give_every_third();
+    Ok(())
+}
+
+fn scattered(bench: &mut Bench, ops: u32) -> Result<u64, NoMemory> {
+    for _ in 0..ops {
+        bench.pair(Order::zero(), MigrateType::Unmovable);
+    }
+    Ok(2 * u64::from(ops))
+}
+
+fn claims(bench: &mut Bench, ops: u32) -> Result<u64, NoMemory> {
+    for _ in 0..ops {
+        bench.pair(Order::largest(), MigrateType::Unmovable);
+        bench.pair(Order::largest(), MigrateType::Movable);
+    }
+    Ok(4 * u64::from(ops))
+}

@@ -1,0 +1,52 @@
+//! A link to a page, or to none, in four bytes.
+ghost use Rattle.std.specs.Prelude.{◌≡◌, Option, ℕ};
+
+use std::marker::Model;
+use zp_model::{MAX_PAGES, PageAt};
+
+/// A page, or none. Contracts see it as the option that it is; a number past all pages stands for none.
+#[derive(Clone, Copy, PartialEq, Eq, Debug, Drop)]
+pub struct Link {
+    number: u32,
+}
+
+impl Model for Link {
+    ghost use Rattle.std.specs.Prelude.{Option, ℕ, ◌≤◌};
+    ghost use Rattle.zp_model.specs.declared.constants.TheConstants.{MAX_PAGES};
+    ghost use Rattle.zp_table.specs.Links.{page_of, number_of, number_of-page_of};
+
+    ghost Value = { Option ℕ };
+
+    ghost view = { λ l. page_of l.number };
+
+    ghost invariant = { λ l. l.number ≤ MAX_PAGES };
+
+    ghost inverse = { λ o. record { number = number_of o } };
+
+    ghost inverse_ok = { λ l h i. record { number = number_of-page_of l.number h i } };
+}
+
+impl Link {
+    /// The link to this page, or to none.
+    pub fn new(page: Option<PageAt>) -> Link
+        ensures { result ≡ page }
+    {
+        match page {
+            Some(at) => Link {
+                number: at.number(),
+            },
+            None => Link { number: MAX_PAGES },
+        }
+    }
+
+    /// The page that it links to, if there is one.
+    pub fn page(self) -> Option<PageAt>
+        ensures { result ≡ self }
+    {
+        if self.number < MAX_PAGES {
+            Some(PageAt::at(self.number))
+        } else {
+            None
+        }
+    }
+}
