@@ -150,12 +150,20 @@ Node 0, zone      DMA      1      1      1      0      0      0      0      0   
 total DMA pages 8 free 8 posted 0 cached 0 lent 0 level high\n\
 Node 0, zone      DMA      0      0      0      1      0      0      0      0      0      0      0 \n",
         ),
+        // 512 free pages are enough for a claim, and 511 are not.
         (
             "zone DMA 0 1024 0\nworkers 1\nlists 0 0\n0 alloc a 9 M DMA any\n0 alloc b 0 U DMA any\n0 alloc c 0 M DMA any\n\
 0 free a\n0 alloc d 1 M DMA any\n",
             "0: page 0\n0: page 512\n0: page 513\n0: freed\n0: page 0\n\
 total DMA pages 1024 free 1020 posted 0 cached 0 lent 4 level high\n\
 Node 0, zone      DMA      0      2      2      2      2      2      2      2      2      0      0 \n",
+        ),
+        (
+            "zone DMA 0 1024 0\nworkers 1\nlists 0 0\n0 alloc a 9 M DMA any\n0 alloc b 0 M DMA any\n0 alloc c 0 U DMA any\n\
+0 alloc d 0 M DMA any\n",
+            "0: page 0\n0: page 512\n0: page 513\n0: page 514\n\
+total DMA pages 1024 free 509 posted 0 cached 0 lent 515 level high\n\
+Node 0, zone      DMA      1      0      1      1      1      1      1      1      1      0      0 \n",
         ),
     ] {
         let outcome = replayed(&rt, text.as_bytes(), sound(1000));
@@ -280,6 +288,11 @@ fn bounds_are_these_numbers(rt: HostRuntime) {
         ("zone A 0 1 0\nworkers 2\nlists 0 0\n", Ending::BadLine(2)),
         (
             "zone A 0 1 0\nworkers 1\nlists 0 0\n1 info\n",
+            Ending::BadLine(4),
+        ),
+        // A line has at most 7 words.
+        (
+            "zone A 0 1 0\nworkers 1\nlists 0 0\n0 alloc a 0 M A any any\n",
             Ending::BadLine(4),
         ),
         // The largest order is 10, and a label has at most 8 bytes.
