@@ -1,13 +1,13 @@
 -- Where no pageblock of another type has enough free pages, nothing can be claimed.
-use Rattle.std.proofs.Common.{ℕ, ◌+◌, ◌*◌, ◌/◌, ◌%◌, ◌≡◌, ◌≢◌, ◌≤◌, ◌<◌, refl, sym, ◌∙◌, ap, subst, arith, Bool, true, false, leb, not, ◌||◌, ◌&&◌, List, [], ◌∷◌, length, get_or, slice_index, Option, None, Some, cond}
+use Rattle.std.proofs.Common.{ℕ, ◌/◌, ◌%◌, ◌≡◌, ◌≢◌, ◌≤◌, ◌<◌, refl, sym, ◌∙◌, ap, arith, Bool, true, false, List, [], ◌∷◌, length, slice_index, None}
 use Rattle.std.specs.List.{find}
 use Rattle.std.proofs.lemmas.Bool.{and_right, leb-true, false_from_ne_true}
 use Rattle.zp_model.specs.declared.migrate_type.MigrateType.{MigrateType}
 use Rattle.zp_model.specs.declared.migrate_type.MigrateType.TheVariants.{Unmovable, Reclaimable, Movable}
-use Rattle.zp_model.specs.declared.constants.TheConstants.{CLAIM_PAGES, LEAST_MOVABLE_CLAIM}
+use Rattle.zp_model.specs.declared.constants.TheConstants.{CLAIM_PAGES}
 use Rattle.zp_model.specs.Block.{largest_order}
-use Rattle.zp_model.specs.BlockSet.{first_of, cover}
-use Rattle.zp_model.specs.MigrateType.{foreign, same_type, type_number, types_count}
+use Rattle.zp_model.specs.BlockSet.{cover}
+use Rattle.zp_model.specs.MigrateType.{type_number, types_count}
 use Rattle.zp_model.specs.Rows.{Rows, list_at, stands_in}
 use Rattle.zp_model.specs.Area.{list_number, free_list, kind_at, pageblock_pages, pageblocks_of, size_in}
 use Rattle.zp_model.specs.Choose.{claim, is_claimable}

@@ -1,7 +1,7 @@
 -- What the looks at the pages of a run say.
-use Rattle.std.proofs.Common.{ℕ, zero, suc, ◌+◌, ◌-◌, ◌≡◌, ◌≤◌, ◌<◌, inl, inr, refl, sym, ◌∙◌, ap, subst, arith, Bool, true, false, List, [], length, drop, Option, Some, None}
-use Rattle.std.proofs.lemmas.Bool.{cases_lt, eqb-true, false≢true, false_from_ne_true}
-use Rattle.std.proofs.lemmas.List.{length-map, get_or-drop, get_or_past}
+use Rattle.std.proofs.Common.{ℕ, zero, suc, ◌+◌, ◌-◌, ◌≡◌, ◌≤◌, ◌<◌, refl, sym, ◌∙◌, ap, subst, arith, Bool, true, false, List, [], length, drop, Option, Some, None}
+use Rattle.std.proofs.lemmas.Bool.{eqb-true, false≢true, false_from_ne_true}
+use Rattle.std.proofs.lemmas.List.{length-map, get_or-drop}
 use Rattle.zp_model.specs.declared.migrate_type.MigrateType.{MigrateType}
 use Rattle.zp_model.specs.declared.state.State.{State}
 use Rattle.zp_model.specs.declared.state.State.TheVariants.{Free}
@@ -41,16 +41,6 @@ aside_some l r i ge on =
     let e : lists_count + (r - lists_count) ≡ r = omega arith in
     let P : List ℕ → Type 0 = λ xs. stands_in i xs ≡ true in
     (r - lists_count, subst P (sym (get_or-drop lists_count l (r - lists_count) [] ∙ ap (λ q. list_at l q) e)) on)
-
-pub aside_none : (l : List (List ℕ)) (i : ℕ) → ((r : ℕ) → lists_count ≤ r → r < length l → stands_in i (list_at l r) ≡ false) →
-    (q : ℕ) → stands_in i (list_at (drop lists_count l) q) ≡ false
-aside_none l i f q =
-    let P : List ℕ → Type 0 = λ xs. stands_in i xs ≡ false in
-    subst P (sym (get_or-drop lists_count l q []))
-    (elim (cases_lt (lists_count + q) (length l)) [
-      | inl lt ↦ f (lists_count + q) (omega arith) lt
-      | inr ge ↦ subst P (sym (get_or_past l (lists_count + q) [] ge)) refl
-    ])
 
 -- the looks at the block and at its pages decide whether it is clear
 pub clear_from : (h k : ℕ) (s : List State) (kinds : List MigrateType) (l : List (List ℕ)) → IsBlock (length s) h k →

@@ -1,5 +1,5 @@
 -- One high half more.
-use Rattle.std.proofs.Common.{ℕ, ◌+◌, ◌*◌, ◌/◌, ◌^◌, ◌≡◌, ◌≤◌, ◌<◌, ◌≢◌, ◌⊎◌, inl, inr, refl, sym, ◌∙◌, ap, subst, arith, false, List, [], ◌∷◌, length, set, get_or-set_same, get_or-set_other, length-set}
+use Rattle.std.proofs.Common.{ℕ, ◌+◌, ◌*◌, ◌/◌, ◌^◌, ◌≡◌, ◌≤◌, ◌<◌, ◌≢◌, ◌⊎◌, inl, inr, sym, ◌∙◌, ap, subst, arith, false, List, [], ◌∷◌, length, set, get_or-set_same, get_or-set_other, length-set}
 use Rattle.std.proofs.lemmas.Nat.{pow_below}
 use Rattle.std.proofs.lemmas.Bool.{cases_lt, cases_eq, both_ways, false_from_ne_true}
 use Rattle.zp_model.specs.declared.migrate_type.MigrateType.{MigrateType}
@@ -33,16 +33,6 @@ find_row k o r t =
                 ]
           ]
     ]
-
-pub split_none : (h o : ℕ) (t : MigrateType) (s : List State) (l : List (List ℕ)) → IsSplit h o o t s s l l
-split_none h o t s l = record {
-  high = λ j a b. absurd (omega arith);
-  other = λ g f. refl;
-  listed = λ j a b. absurd (omega arith);
-  unlisted = λ r f. refl;
-  pages = refl;
-  table = refl;
-}
 
 pub split_more : (h j o : ℕ) (t : MigrateType) (s s' : List State) (l l' : List (List ℕ)) → IsSplit h (j + 1) o t s s' l l' → j < o →
     h + 2 ^ j < length s' → list_number j t < length l' →

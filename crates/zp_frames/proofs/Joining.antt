@@ -23,7 +23,7 @@ use Rattle.zp_model.proofs.Settles.{Here, IsListed, filter_all}
 use Rattle.zp_frames.specs.Join.{IsBuddy}
 use Rattle.zp_frames.specs.Sound.{blocks_of, IsSound}
 use Rattle.zp_frames.proofs.Halves.{type_below}
-use Rattle.zp_frames.proofs.Taken.{row_below, starts-to, starts-from, tail_free, kind_inside}
+use Rattle.zp_frames.proofs.Taken.{row_below, starts-to, starts-from, kind_inside}
 use Rattle.zp_frames.proofs.Restating.{restate_same}
 use Rattle.zp_frames.proofs.Counting.{same_tests}
 use Rattle.zp_frames.proofs.Filters.{filter_same, filter_twice, stands_filter-from}
@@ -328,10 +328,6 @@ buddy_unique b j c d e f x y =
             | inr q ↦ let q0 : e ≡ f = q.0 in let q1 : b ≡ f + 2 ^ j = q.1 in omega arith
           ]
     ]
-
--- a page whose state says something is one of the zone
-pub state_below : (s : List State) (c j : ℕ) → state_at s c ≡ Free j → c < length s
-state_below s c j e = elim (cases_lt c (length s)) [ inl lt ↦ lt | inr ge ↦ absurd (tail_free j (sym (get_or_past s c Tail ge) ∙ e)) ]
 
 -- the buddy of a page that a zone can have is one too
 pub buddy_below : (b j n : ℕ) → n ≡ 2 ^ j → j < largest_order → b < MAX_PAGES → b % (2 * n) ≡ 0 → b + n < MAX_PAGES

@@ -1,5 +1,5 @@
 pub mod Filters
-pub mod RowEdits
+pub mod RowLengths
 pub mod Halves
 pub mod Taken
 pub mod Restating

@@ -16,7 +16,7 @@ use Rattle.zp_frames.specs.Sound.{blocks_of, IsSound}
 use Rattle.zp_frames.specs.Retyped.{put_first, moved}
 use Rattle.zp_frames.proofs.Halves.{type_below}
 use Rattle.zp_frames.proofs.Filters.{stands_filter-to}
-use Rattle.zp_frames.proofs.RowEdits.{on_below}
+use Rattle.zp_frames.proofs.RowLengths.{on_below}
 use Rattle.zp_frames.proofs.Taken.{row_below, starts-to, starts-from}
 use Rattle.zp_frames.proofs.Restating.{one_order}
 use Rattle.zp_frames.proofs.SettledBy.{belongs_by, fresh_by, settled_by, settled-settled_by, settled_by_same, settled_came, settled_went, settled_by-from}

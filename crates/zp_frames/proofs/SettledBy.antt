@@ -1,7 +1,7 @@
 -- Settling where each page has a type of its own, and what the change of one page's type does to one settled list.
 use Rattle.std.proofs.Common.{ℕ, suc, zero, ◌/◌, ◌%◌, ◌≡◌, ◌≢◌, ◌<◌, ◌==◌, inl, inr, refl, sym, ◌∙◌, ap, subst, arith, Bool, true, false, not, ◌&&◌, List, ◌∷◌, ◌++◌, length}
 use Rattle.std.specs.List.{filter}
-use Rattle.std.proofs.lemmas.Bool.{cases_eq, and_parts, or_cases, not-true, eq-eqb, ne_eqb, both_ways, false_from_ne_true}
+use Rattle.std.proofs.lemmas.Bool.{cases_eq, and_parts, not-true, eq-eqb, ne_eqb, both_ways, false_from_ne_true}
 use Rattle.std.proofs.Math.Bool.{or-true}
 use Rattle.std.proofs.lemmas.List.Elements.{filter-append}
 use Rattle.zp_model.specs.declared.migrate_type.MigrateType.{MigrateType}
@@ -122,14 +122,6 @@ settled_went free f g r i old same off was =
     and_yes : (a : Bool) → (a && true) ≡ a
     and_yes true = refl
     and_yes false = refl
-
--- what stands on a settled list belongs there
-pub settled_by-to : (free : List Bool) (f : ℕ → MigrateType) (r h : ℕ) (old : List ℕ) → stands_in h (settled_by free f r old) ≡ true → belongs_by free f r h ≡ true
-settled_by-to free f r h old e =
-    elim (or_cases _ _ (sym (stands-append h (filter (fresh_by free f r old) (falling (length free))) (filter (belongs_by free f r) old)) ∙ e)) [
-      | inl a ↦ (and_parts _ _ (stands_filter-to (fresh_by free f r old) h (falling (length free)) a).1).0
-      | inr b ↦ (stands_filter-to (belongs_by free f r) h old b).1
-    ]
 
 -- what stood on the list and belongs there still stands on it
 pub settled_by-from : (free : List Bool) (f : ℕ → MigrateType) (r h : ℕ) (old : List ℕ) → stands_in h old ≡ true → belongs_by free f r h ≡ true →

@@ -12,11 +12,8 @@ abbrev pub all_below : (ℕ → Bool) → ℕ → Bool
 all_below test zero = true
 all_below test (suc n) = test n && all_below test n
 
--- a set of pages of a zone: one mark for each page of the zone, true where the page is in the set
-abbrev pub PageSet : Type 0
-PageSet = List Bool
-
--- whether page i is in the set; a page past the zone's end is in no set
+-- whether page i is in a set of pages of a zone, which has one mark for each page of the zone, true where the page is in the set; a page past
+-- the zone's end is in no set
 abbrev pub has : List Bool → ℕ → Bool
 has u i = slice_index_or u i false
 

@@ -1,7 +1,7 @@
 use Rattle.std.proofs.Common.{◌≡◌, ◌≤◌, ◌+◌, ◌*◌, length, arith, ap}
 use Rattle.zp_model.specs.Rows.{list_at}
 use Rattle.zp_frames.specs.Listed.{blocks_listed_of}
-use Rattle.zp_frames.proofs.RowEdits.{length-list-le}
+use Rattle.zp_frames.proofs.RowLengths.{length-list-le}
 use Rattle.zp_frames.proofs.BlocksListed.{sums-more}
 use Rattle.zp_buddy.proofs.buddy.blocks_listed.Goals as goal
 
