@@ -1,9 +1,9 @@
 //! Free lists and what settling makes of them: what `Area.antt` says, list by list.
-ghost use Rattle.std.specs.Prelude.{◌≡◌, ◌<◌, ◌≤◌, ◌==◌, ◌&&◌, ◌/◌, ℕ, true, not, [], length};
+ghost use Rattle.std.specs.Prelude.{◌≡◌, ◌<◌, ◌≤◌, ◌==◌, ◌&&◌, ◌/◌, ℕ, true, not, [], ◌++◌, length, filter};
 ghost use Rattle.std.specs.List.{IsDistinct};
 ghost use Rattle.zp_model.specs.declared.constants.TheConstants.{MAX_PAGES, PAGEBLOCK_PAGES};
 ghost use Rattle.zp_model.specs.Rows.{stands_in};
-ghost use Rattle.zp_model.specs.Area.{Area, belongs, kind_at, list_number, lists_count, pageblocks_of, settle, settled, size_in};
+ghost use Rattle.zp_model.specs.Area.{Area, belongs, falling, kind_at, list_number, lists_count, pageblocks_of, settle, settled, size_in};
 ghost use Rattle.zp_plain.specs.Sound.{IsTable};
 
 use crate::block::{has, is_max, order_of};
@@ -56,6 +56,39 @@ fn is_fresh(free: &[bool], kinds: &[MigrateType], list: usize, old: &[PageAt], h
     belongs(free, kinds, list, head) && !stands_in(head, old)
 }
 
+/// Puts the heads that belong on a list and are not on the old one onto an empty list, the highest first.
+fn put_fresh(free: &[bool], kinds: &[MigrateType], list: usize, old: &[PageAt], new: &mut PageRow)
+    requires small { length free.now ≤ MAX_PAGES }
+    requires typed { length kinds.now ≡ pageblocks_of (length free.now) }
+    requires list { list < lists_count }
+    requires empty { new.old ≡ [] }
+    ensures { new.new ≡ filter (λ h. belongs free.now kinds.now list h && not (stands_in h old.now)) (falling (length free.now)) }
+{
+    let mut left = free.len();
+    'fresh: while left > 0 {
+        left -= 1;
+        let head = PageAt::at(left as u32);
+        if is_fresh(free, kinds, list, old, head) {
+            new.push(head);
+        }
+    }
+}
+
+/// Puts those of the old heads that still belong on a list behind the fresh ones, in their old order.
+fn put_kept(free: &[bool], kinds: &[MigrateType], list: usize, old: &[PageAt], new: &mut PageRow)
+    requires typed { length kinds.now ≡ pageblocks_of (length free.now) }
+    requires list { list < lists_count }
+    requires inside { (p : ℕ) → stands_in p old.now ≡ true → p < length free.now }
+    requires room { length (new.old ++ filter (belongs free.now kinds.now list) old.now) ≤ MAX_PAGES }
+    ensures { new.new ≡ new.old ++ filter (belongs free.now kinds.now list) old.now }
+{
+    'kept: for head in old {
+        if belongs(free, kinds, list, *head) {
+            new.push(*head);
+        }
+    }
+}
+
 /// Writes a list, settled: first the heads that belong and are not on the old one, the highest first, then those of the old
 /// ones that still belong, in their old order.
 fn settle_list(free: &[bool], kinds: &[MigrateType], list: usize, old: &[PageAt], new: &mut PageRow)
@@ -67,19 +100,8 @@ fn settle_list(free: &[bool], kinds: &[MigrateType], list: usize, old: &[PageAt]
     requires empty { new.old ≡ [] }
     ensures { new.new ≡ settled free.now kinds.now list old.now }
 {
-    let mut left = free.len();
-    'fresh: while left > 0 {
-        left -= 1;
-        let head = PageAt::at(left as u32);
-        if is_fresh(free, kinds, list, old, head) {
-            new.push(head);
-        }
-    }
-    'kept: for head in old {
-        if belongs(free, kinds, list, *head) {
-            new.push(*head);
-        }
-    }
+    put_fresh(free, kinds, list, old, new);
+    put_kept(free, kinds, list, old, new);
 }
 
 /// Settles the lists.

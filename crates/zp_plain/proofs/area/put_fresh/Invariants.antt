@@ -1,8 +1,8 @@
-use Rattle.std.proofs.Common.{◌≡◌, ◌≤◌, ◌&&◌, not, ◌++◌, length, drop}
+use Rattle.std.proofs.Common.{◌≡◌, ◌≤◌, ◌&&◌, not, ◌++◌, length}
 use Rattle.std.specs.List.{filter}
 use Rattle.zp_model.specs.Rows.{stands_in}
-use Rattle.zp_model.specs.Area.{falling, belongs, settled}
-use Rattle.zp_plain.proofs.area.settle_list.Given as goal
+use Rattle.zp_model.specs.Area.{falling, belongs}
+use Rattle.zp_plain.proofs.area.put_fresh.Given as goal
 
 -- what is new, with the fresh heads below `left`, is all fresh heads
 abbrev pub invariant-fresh : goal.invariant-fresh
@@ -15,7 +15,3 @@ invariant-fresh l = record {
 
 abbrev pub decreases-fresh : goal.decreases-fresh
 decreases-fresh l = l.left
-
--- what is new, with the old heads from the index on that still belong, is the settled list
-abbrev pub invariant-kept : goal.invariant-kept
-invariant-kept l = l.new ++ filter (belongs l.free l.kinds l.list) (drop l.head-index l.old) ≡ settled l.free l.kinds l.list l.old
