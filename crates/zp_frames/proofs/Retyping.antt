@@ -1,5 +1,6 @@
 -- Moving the free blocks of a pageblock, the lowest first, to the lists of another type.
-use Rattle.std.proofs.Common.{ℕ, ◌+◌, ◌/◌, ◌%◌, ◌≡◌, ◌≢◌, ◌≤◌, ◌<◌, ◌==◌, inl, inr, refl, sym, ◌∙◌, ap, subst, arith, Bool, true, false, not, ◌&&◌, cond, leb, ltb, List, [], ◌∷◌, length, set, get_or-set_same, get_or-set_other, length-set}
+use Rattle.std.proofs.Common.{ℕ, zero, suc, ◌+◌, ◌-◌, ◌/◌, ◌%◌, ◌≡◌, ◌≢◌, ◌≤◌, ◌<◌, ◌==◌, inl, inr, refl, sym, ◌∙◌, ap, subst, arith, Bool, true, false, not, ◌&&◌, cond, leb, ltb, List, [], ◌∷◌, length, set, get_or-set_same, get_or-set_other, length-set}
+use Rattle.std.proofs.lemmas.Nat.{pow_pos}
 use Rattle.std.proofs.lemmas.Bool.{cases_eq, cases_lt, and_parts, and_from, leb-true, le-leb, ltb-true, lt-ltb, eq-eqb, eqb-true, ne_eqb, not-true, both_ways, false_from_ne_true}
 use Rattle.zp_model.specs.declared.migrate_type.MigrateType.{MigrateType}
 use Rattle.zp_model.specs.declared.migrate_type.MigrateType.TheVariants.{Unmovable, Reclaimable, Movable}
@@ -13,7 +14,7 @@ use Rattle.zp_model.specs.Area.{list_number, lists_count, kind_at}
 use Rattle.zp_model.proofs.MaximalBlocks.{max-unique}
 use Rattle.zp_model.proofs.Settles.{Here, settled_same}
 use Rattle.zp_frames.specs.Sound.{blocks_of, IsSound}
-use Rattle.zp_frames.specs.Retyped.{put_first, moved}
+use Rattle.zp_frames.specs.Retyped.{put_first, moved, pages_seen}
 use Rattle.zp_frames.proofs.Halves.{type_below}
 use Rattle.zp_frames.proofs.Filters.{stands_filter-to}
 use Rattle.zp_frames.proofs.RowLengths.{on_below}
@@ -270,7 +271,7 @@ retyping_moved a i k f t s kinds l w x e y =
         no m p f = false_from_ne_true _ (λ e. let a = and_parts _ _ e in f a.0 a.1)
 
 -- one page more
-pub retyping_more : (a i : ℕ) (f t : MigrateType) (s : List State) (kinds : List MigrateType) (l : List (List ℕ)) (w v : Rows) → IsLooking a i f t s kinds l → w.states ≡ s →
+retyping_more : (a i : ℕ) (f t : MigrateType) (s : List State) (kinds : List MigrateType) (l : List (List ℕ)) (w v : Rows) → IsLooking a i f t s kinds l → w.states ≡ s →
     IsRetyping a i t s kinds l w.lists → v ≡ moved w i f t (state_at w.states i) → (v.states ≡ s) × IsRetyping a (i + 1) t s kinds l v.lists
 retyping_more a i f t s kinds l w v x es y ev =
     let e : v ≡ moved w i f t (state_at s i) = ev ∙ ap (λ (q : List State). moved w i f t (state_at q i)) es in
@@ -290,3 +291,55 @@ retyping_more a i f t s kinds l w v x es y ev =
     go a i f t s kinds l w v x es y (Posted j u p) ez ev =
         let P : Rows → Type 0 = λ q. (q.states ≡ s) × IsRetyping a (i + 1) t s kinds l q.lists in
         subst P (sym ev) (es, retyping_same a i f t s kinds l w.lists x (λ k q. let b : Posted j u p ≡ Free k = sym ez ∙ q in cc) y)
+
+-- pages that head no free block move nothing
+retyping_along : (a i n : ℕ) (f t : MigrateType) (s : List State) (kinds : List MigrateType) (l l' : List (List ℕ)) →
+    ((h : ℕ) → i ≤ h → h < i + n → IsLooking a h f t s kinds l) → ((h k : ℕ) → i ≤ h → h < i + n → state_at s h ≡ Free k → ⊥) →
+    IsRetyping a i t s kinds l l' → IsRetyping a (i + n) t s kinds l l'
+retyping_along a i zero f t s kinds l l' x none y =
+    let P : ℕ → Type 0 = λ q. IsRetyping a q t s kinds l l' in
+    let e : i ≡ i + zero = omega arith in
+    subst P e y
+retyping_along a i (suc n) f t s kinds l l' x none y =
+    let z : IsRetyping a (i + n) t s kinds l l' =
+    retyping_along a i n f t s kinds l l' (λ h p q. x h p (omega arith)) (λ h k p q. none h k p (omega arith)) y in
+    let P : ℕ → Type 0 = λ q. IsRetyping a q t s kinds l l' in
+    let e : (i + n) + 1 ≡ i + suc n = omega arith in
+    subst P e (retyping_same a (i + n) f t s kinds l l' (x (i + n) (omega arith) (omega arith)) (λ k. none (i + n) k (omega arith) (omega arith)) z)
+
+-- each look sees a page
+pub some_seen : (z : State) → 1 ≤ pages_seen z
+some_seen (Free k) = pow_pos k
+some_seen Tail = omega arith
+some_seen (Out k u p) = omega arith
+some_seen (Posted k u p) = omega arith
+
+-- inside a free block no other one starts
+none_inside : (i h j : ℕ) (s : List State) (kinds : List MigrateType) (l : List (List ℕ)) → IsSound s kinds l → i < h → h < i + pages_seen (state_at s i) →
+    state_at s h ≡ Free j → ⊥
+none_inside i h j s kinds l x lo hi e = go (state_at s i) refl hi
+  where
+    go : (z : State) → state_at s i ≡ z → h < i + pages_seen z → ⊥
+    go (Free k) ez b =
+        let p = x.normal.apart i k h j h (starts-from s i k ez) (starts-from s h j e) (omega arith) b (omega arith) (omega (arith, pow_pos j)) in
+        let same : i ≡ h = p.0 in
+        omega arith
+    go Tail ez b = omega arith
+    go (Out k u q) ez b = omega arith
+    go (Posted k u q) ez b = omega arith
+
+-- from page i to page j, where all between them is seen at page i
+pub retyping_on : (a i j : ℕ) (f t : MigrateType) (s : List State) (kinds : List MigrateType) (l : List (List ℕ)) (w v : Rows) →
+    ((h : ℕ) → i ≤ h → h < j → IsLooking a h f t s kinds l) → i < j → j ≤ i + pages_seen (state_at s i) → w.states ≡ s →
+    IsRetyping a i t s kinds l w.lists → v ≡ moved w i f t (state_at w.states i) → (v.states ≡ s) × IsRetyping a j t s kinds l v.lists
+retyping_on a i j f t s kinds l w v x lt le es y ev =
+    let x0 : IsLooking a i f t s kinds l = x i (omega arith) lt in
+    let z = retyping_more a i f t s kinds l w v x0 es y ev in
+    let P : ℕ → Type 0 = λ q. IsRetyping a q t s kinds l v.lists in
+    let e : (i + 1) + (j - (i + 1)) ≡ j = omega arith in (
+      z.0,
+      subst P e (
+          retyping_along a (i + 1) (j - (i + 1)) f t s kinds l v.lists (λ h p q. x h (omega arith) (omega arith))
+          (λ h k p q. none_inside i h k s kinds l x0.sound (omega arith) (omega arith)) z.1
+          ),
+    )

@@ -1,5 +1,5 @@
 -- Moving the free block at a page to the list of another type.
-use Rattle.std.specs.Prelude.{ℕ, ◌∷◌}
+use Rattle.std.specs.Prelude.{ℕ, ◌∷◌, ◌^◌}
 use Rattle.zp_model.specs.declared.migrate_type.MigrateType.{MigrateType}
 use Rattle.zp_model.specs.declared.state.State.{State}
 use Rattle.zp_model.specs.declared.state.State.TheVariants.{Tail, Free, Out, Posted}
@@ -18,3 +18,10 @@ moved w h f t (Free k) = put_first w h (list_number k f) (list_number k t)
 moved w h f t Tail = w
 moved w h f t (Out k u p) = w
 moved w h f t (Posted k u p) = w
+
+-- how many pages are seen at a page in this state: those of the free block that it heads, or this one
+abbrev pub pages_seen : State → ℕ
+pages_seen (Free k) = 2 ^ k
+pages_seen Tail = 1
+pages_seen (Out k u p) = 1
+pages_seen (Posted k u p) = 1

@@ -1,20 +1,20 @@
-use Rattle.std.proofs.Common.{ℕ, ◌≡◌, ◌+◌, ◌*◌, arith, refl, sym, ◌∙◌, ap, subst, min, length, List, slice_set}
+use Rattle.std.proofs.Common.{ℕ, ◌≡◌, ◌+◌, ◌*◌, ◌≤◌, ◌<◌, arith, refl, sym, ◌∙◌, ap, subst, min, length, List, slice_set}
 use Rattle.zp_model.specs.declared.constants.TheConstants.{PAGEBLOCK_PAGES}
 use Rattle.zp_model.specs.declared.state.State.{State}
 use Rattle.zp_model.specs.declared.state.State.TheVariants.{Free}
 use Rattle.zp_model.specs.Rows.{IsOn, state_at}
 use Rattle.zp_model.specs.Area.{list_number}
 use Rattle.zp_frames.specs.Sound.{IsSound, frames_of}
-use Rattle.zp_frames.specs.Retyped.{moved}
-use Rattle.zp_frames.proofs.Retyping.{IsRetyping, retyping_none, retyping_more, looking_on}
+use Rattle.zp_frames.specs.Retyped.{moved, pages_seen}
+use Rattle.zp_frames.proofs.Retyping.{IsRetyping, some_seen, retyping_none, retyping_on, looking_on}
 use Rattle.zp_frames.proofs.RetypedFrames.{IsRetyped, looking, retyped_sound, retyped_frames}
 use Rattle.zp_buddy.proofs.retypes.retype.Goals as goal
 
 pub pages-init : goal.pages-init
-pages-init c = record { states = refl; moved = retyping_none _ _ _ _ _ c.requires.sound }
+pages-init c = record { from = omega arith; upto = omega arith; states = refl; moved = retyping_none _ _ _ _ _ c.requires.sound }
 
-pub move_block-requires-clause-listed : goal.move_block-requires-clause-listed
-move_block-requires-clause-listed c =
+pub move_block-seen-requires-clause-listed : goal.move_block-seen-requires-clause-listed
+move_block-seen-requires-clause-listed c =
     let i = c.pages.invariant in
     let x = looking c.args.pageblock c.pages.i c.index-from.result.now c.args.kind _ _ _ c.requires.sound c.requires.pageblock (omega arith) (omega arith)
     c.index-from.ensures c.requires.other in
@@ -27,13 +27,17 @@ move_block-requires-clause-listed c =
 pub pages-preserved : goal.pages-preserved
 pages-preserved c =
     let i = c.pages.invariant in
-    let x = looking c.args.pageblock c.pages.i c.index-from.result.now c.args.kind _ _ _ c.requires.sound c.requires.pageblock (omega arith) (omega arith)
+    let x = λ (h : ℕ) (lo : c.pages.i ≤ h) (hi : h < c.min-i.result).
+    looking c.args.pageblock h c.index-from.result.now c.args.kind _ _ _ c.requires.sound c.requires.pageblock (omega arith) (omega arith)
     c.index-from.ensures c.requires.other in
-    let e : c.move_block.new.lists ≡ moved c.pages.lists c.pages.i c.index-from.result.now c.args.kind (state_at c.pages.lists.states c.pages.i) =
-    c.move_block.ensures
+    let e : c.move_block-seen.new.lists ≡ moved c.pages.lists c.pages.i c.index-from.result.now c.args.kind (state_at c.pages.lists.states c.pages.i) =
+    c.move_block-seen.ensures.after
     ∙ ap (λ q. moved c.pages.lists q c.index-from.result.now c.args.kind (state_at c.pages.lists.states q)) c.at.ensures in
-    let y = retyping_more _ _ _ _ _ _ _ _ _ x i.states i.moved e in
-    record { states = y.0; moved = y.1 }
+    let n : c.move_block-seen.result ≡ pages_seen (state_at c.args.lists.now.states c.pages.i) =
+    c.move_block-seen.ensures.pages ∙ ap (λ q. pages_seen (state_at q c.at.result)) i.states ∙ ap (λ q. pages_seen (state_at c.args.lists.now.states q)) c.at.ensures in
+    let m : 1 ≤ pages_seen (state_at c.args.lists.now.states c.pages.i) = some_seen (state_at c.args.lists.now.states c.pages.i) in
+    let y = retyping_on _ c.pages.i c.min-i.result _ _ _ _ _ _ _ x (omega arith) (omega arith) i.states i.moved e in
+    record { from = omega arith; upto = omega arith; states = y.0; moved = y.1 }
 
 pub returns : goal.returns
 returns c =
