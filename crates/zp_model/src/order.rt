@@ -61,6 +61,14 @@ impl Order {
         self.number
     }
 
+    /// The order's place in a table with an entry an order.
+    pub const fn index(self) -> usize
+        ensures same { result ≡ self }
+        ensures within { result ≤ LARGEST_ORDER }
+    {
+        self.number as usize
+    }
+
     /// The order of its halves.
     pub const fn lower(self) -> Order
         requires { 0 < self }

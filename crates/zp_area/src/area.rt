@@ -1,0 +1,267 @@
+//! The free area of a zone.
+ghost use Rattle.std.specs.Prelude.{ℕ, ◌≡◌, ◌<◌, ◌≤◌, ◌+◌, ◌^◌, ◌*◌, ◌/◌, ◌↔◌, false, length, slice_index_or, IfOk, IfSome, IsTrue};
+ghost use Rattle.zp_model.specs.declared.constants.TheConstants.{MAX_PAGES};
+ghost use Rattle.zp_model.specs.declared.migrate_type.MigrateType.TheVariants.{Movable};
+ghost use Rattle.zp_model.specs.declared.state.State.TheVariants.{Free};
+ghost use Rattle.zp_model.specs.Block.{IsBlock, has, largest_order};
+ghost use Rattle.zp_model.specs.BlockSet.{Starts, cover, lowest, largest_in};
+ghost use Rattle.zp_model.specs.Rows.{IsLoose, IsOn, IsRow, after, front, state_at};
+ghost use Rattle.zp_model.specs.Described.{IsLinkedAt};
+ghost use Rattle.zp_model.specs.Frames.{IsNote};
+ghost use Rattle.zp_model.specs.Area.{list_number, lists_count, pageblock_pages, size_in};
+ghost use Rattle.zp_frames.specs.Given.{IsClearRun};
+ghost use Rattle.zp_area.specs.Blocks.{block_set, count_of, free_list_of, side_list_of, no_blocks, added, removed, noted, side_pushed, side_popped};
+ghost use Rattle.zp_area.specs.Retyped.{retyped};
+ghost use Rattle.zp_area.specs.OneSet.{IsOneSet};
+
+use crate::retypes::retype;
+use std::alloc::{AllocError, Global};
+use std::marker::Model;
+use zp_frames::{list_of, pageblock_of};
+use zp_links::Lists;
+use zp_model::{MAX_PAGES, MigrateType, ORDERS, Order, PAGEBLOCK_PAGES, PageAt, State, TYPES};
+use zp_table::{PageEntry, PageTable};
+use zp_tree::{Meter, OrderTree};
+
+/// How many free lists there are. The further lists come after them.
+const FREE_LISTS: usize = TYPES * ORDERS;
+
+/// A set of free blocks that share no page, on lists by order and type, and further lists of pages that are not free.
+/// Contracts see what is noted of each page, the lists and the types of the pageblocks; the set is what is noted as free.
+#[derive(Drop)]
+pub struct FreeArea {
+    lists: Lists,
+    kinds: Vec<MigrateType>,
+    tree: OrderTree,
+    /// How many blocks of each order there are.
+    counts: [u32; ORDERS],
+    /// How many pages of each pageblock are in blocks.
+    free_in: Vec<u32>,
+}
+
+impl Model for FreeArea {
+    ghost use Rattle.zp_area.specs.Blocks.{Blocks};
+    ghost use Rattle.zp_area.specs.OneSet.{IsKept};
+
+    ghost Value = { Blocks };
+
+    ghost view = { λ a. record { rows = a.lists; kinds = a.kinds.items } };
+
+    ghost invariant = { λ a. IsKept (record { rows = a.lists; kinds = a.kinds.items }) a.tree a.counts a.free_in.items };
+}
+
+impl FreeArea {
+    /// An area of so many pages with no block, all pageblocks Movable, and so many empty further lists.
+    pub fn new(alloc: Global, pages: u32, side: usize) -> Result<FreeArea, AllocError>
+        requires pages { pages ≤ MAX_PAGES }
+        requires side { side < 2 ^ 32 }
+        ensures { IfOk result (λ a. a ≡ no_blocks pages side) }
+    {
+        let pageblocks = pages.div_ceil(PAGEBLOCK_PAGES) as usize;
+        let kinds = Vec::from_elem(alloc, MigrateType::Movable, pageblocks)?;
+        let free_in = Vec::from_elem(alloc, 0, pageblocks)?;
+        let tree = OrderTree::new(alloc, pages)?;
+        let table = PageTable::new(alloc, pages)?;
+        let lists = Lists::new(alloc, table, FREE_LISTS + side)?;
+        Ok(FreeArea {
+            lists,
+            kinds,
+            tree,
+            counts: [0; ORDERS],
+            free_in,
+        })
+    }
+
+    /// How many pages there are. All that an area keeps is of one set of blocks.
+    pub fn pages(&self) -> u32
+        ensures pages { result ≡ length self.now.rows.states }
+        ensures within { result ≤ MAX_PAGES }
+        ensures one { IsOneSet self.now }
+        ensures row { IsRow self.now.rows.lists (length self.now.rows.states) }
+    {
+        self.lists.pages() as u32
+    }
+
+    /// How many pageblocks there are.
+    pub fn pageblocks(&self) -> usize
+        ensures { result ≡ length self.now.kinds }
+    {
+        self.kinds.len()
+    }
+
+    /// Takes a block into the set. Its head comes in front of the list of its order and its pageblock's type.
+    pub fn add(&mut self, at: PageAt, order: Order)
+        requires block { IsBlock (length self.old.rows.states) at order }
+        requires clear { IsClearRun self.old.rows.states self.old.rows.lists at order }
+        ensures { self.new ≡ added self.old at order }
+    {
+        let pageblock = pageblock_of(at);
+        let list = list_of(order, self.kinds[pageblock]);
+        self.lists.set_state(at, State::Free(order));
+        self.lists.push_front(list, at);
+        self.tree.set(at, order);
+        self.counts[order.index()] += 1;
+        self.free_in[pageblock] += order.pages();
+    }
+
+    /// Takes a block out of the set. No list is searched.
+    pub fn remove(&mut self, at: PageAt, order: Order)
+        requires { Starts (block_set self.old) at order }
+        ensures { self.new ≡ removed self.old at order }
+    {
+        let pageblock = pageblock_of(at);
+        let list = list_of(order, self.kinds[pageblock]);
+        self.lists.remove(list, at);
+        self.lists.set_state(at, State::Tail);
+        self.tree.clear(at, order);
+        self.counts[order.index()] -= 1;
+        self.free_in[pageblock] -= order.pages();
+    }
+
+    /// Gives a pageblock a type. Where it is another one, its blocks go to the lists of the type, the highest in front.
+    pub fn retype(&mut self, pageblock: usize, kind: MigrateType)
+        requires { pageblock < length self.old.kinds }
+        ensures after { self.new ≡ retyped self.old pageblock kind }
+        ensures same { kind ≡ slice_index_or self.old.kinds pageblock Movable → self.new ≡ self.old }
+    {
+        if self.kinds[pageblock] != kind {
+            retype(&mut self.lists, &mut self.kinds, pageblock, kind);
+        }
+    }
+
+    /// Whether a block of this order starts at a page.
+    pub fn is_free(&self, at: PageAt, order: Order) -> bool
+        ensures { IsTrue result ↔ (state_at self.now.rows.states at ≡ Free order) }
+    {
+        at.index() < self.lists.pages() && self.lists.state(at) == State::Free(order)
+    }
+
+    /// How many blocks of an order there are.
+    pub fn count(&self, order: Order) -> u32
+        ensures { result ≡ count_of (block_set self.now) order }
+    {
+        self.counts[order.index()]
+    }
+
+    /// How many pages of a pageblock are in blocks.
+    pub fn free_in(&self, pageblock: usize) -> u32
+        requires { pageblock < length self.now.kinds }
+        ensures { result ≡ size_in (cover (block_set self.now)) pageblock }
+    {
+        self.free_in[pageblock]
+    }
+
+    /// The type of a pageblock.
+    pub fn type_of(&self, pageblock: usize) -> MigrateType
+        requires { pageblock < length self.now.kinds }
+        ensures { result ≡ slice_index_or self.now.kinds pageblock Movable }
+    {
+        self.kinds[pageblock]
+    }
+
+    /// The largest order of a block in a pageblock. One node of the tree is read.
+    pub fn largest_in(&self, pageblock: usize) -> Option<Order>
+        requires { pageblock < length self.now.kinds }
+        ensures { result ≡ largest_in (block_set self.now) (pageblock * pageblock_pages) largest_order }
+    {
+        let first = PageAt::at(pageblock as u32 * PAGEBLOCK_PAGES);
+        self.tree.largest_in(first, Order::largest())
+    }
+
+    /// The block of this order or more with the least head.
+    pub fn lowest(&self, order: Order) -> Option<(PageAt, Order)>
+        ensures answer { result ≡ lowest (block_set self.now) order }
+        ensures found { IfSome result (λ b. Starts (block_set self.now) b.0 b.1 × (order ≤ b.1)) }
+    {
+        let mut meter = Meter::new();
+        self.tree.lowest(order, &mut meter)
+    }
+
+    /// The head in front of the list of an order and a type.
+    pub fn front(&self, order: Order, kind: MigrateType) -> Option<PageAt>
+        ensures answer { result ≡ front (free_list_of self.now order kind) }
+        ensures on { IfSome result (IsOn self.now.rows.lists (list_number order kind)) }
+    {
+        self.lists.front(list_of(order, kind))
+    }
+
+    /// The head after this one on the list of an order and a type.
+    pub fn after(&self, order: Order, kind: MigrateType, at: PageAt) -> Option<PageAt>
+        requires { IsOn self.now.rows.lists (list_number order kind) at }
+        ensures answer { result ≡ after at (free_list_of self.now order kind) }
+        ensures on { IfSome result (IsOn self.now.rows.lists (list_number order kind)) }
+    {
+        self.lists.after(list_of(order, kind), at)
+    }
+
+    /// Whether a page stands on some list, a free or a further one. No list is walked.
+    pub fn on_any(&self, at: PageAt) -> bool
+        ensures { IsTrue result ↔ ((r : ℕ) × IsOn self.now.rows.lists r at) }
+    {
+        self.lists.on_any(at)
+    }
+
+    /// Notes what a page that is in no block holds.
+    pub fn hold(&mut self, at: PageAt, state: State)
+        requires page { at < length self.old.rows.states }
+        requires used { has (cover (block_set self.old)) at ≡ false }
+        requires note { IsNote state }
+        ensures { self.new ≡ noted self.old at state }
+    {
+        self.lists.set_state(at, state);
+    }
+
+    /// What is noted of a page.
+    pub fn holding(&self, at: PageAt) -> State
+        requires { at < length self.now.rows.states }
+        ensures { result ≡ state_at self.now.rows.states at }
+    {
+        self.lists.state(at)
+    }
+
+    /// What is noted of a page, and its neighbours in its list.
+    pub fn entry(&self, at: PageAt) -> PageEntry
+        requires { at < length self.now.rows.states }
+        ensures state { result.state ≡ state_at self.now.rows.states at }
+        ensures linked { IsLinkedAt self.now.rows.lists at result.back result.forward }
+    {
+        PageEntry {
+            state: self.lists.state(at),
+            back: self.lists.back(at),
+            forward: self.lists.forward(at),
+        }
+    }
+
+    /// Puts a page that is in no block and on no list at the end of a further list.
+    pub fn side_push_back(&mut self, list: usize, at: PageAt)
+        requires list { lists_count + list < length self.old.rows.lists }
+        requires page { at < length self.old.rows.states }
+        requires used { has (cover (block_set self.old)) at ≡ false }
+        requires loose { IsLoose self.old.rows.lists at }
+        ensures { self.new ≡ side_pushed self.old list at }
+    {
+        self.lists.push_back(FREE_LISTS + list, at);
+    }
+
+    /// Takes the page in front of a further list.
+    pub fn side_pop_front(&mut self, list: usize) -> Option<PageAt>
+        requires { lists_count + list < length self.old.rows.lists }
+        ensures answer { result ≡ front (side_list_of self.old list) }
+        ensures after { self.new ≡ side_popped self.old list }
+        ensures page { IfSome result (λ at. at < length self.new.rows.states) }
+        ensures loose { IfSome result (IsLoose self.new.rows.lists) }
+    {
+        self.lists.pop_front(FREE_LISTS + list)
+    }
+
+    /// The page in front of a further list.
+    pub fn side_front(&self, list: usize) -> Option<PageAt>
+        requires { lists_count + list < length self.now.rows.lists }
+        ensures { result ≡ front (side_list_of self.now list) }
+    {
+        self.lists.front(FREE_LISTS + list)
+    }
+}
+
+#[cfg(test)]
+mod tests;

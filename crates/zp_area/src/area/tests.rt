@@ -1,0 +1,5 @@
+//! One call after another on small areas.
+
+use super::*;
+use std::test::Fail;
+use zp_model::Worker;

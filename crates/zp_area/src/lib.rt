@@ -1,0 +1,11 @@
+//! The free area: one set of free blocks, kept as page entries, lists by order and type, a status tree and counts, which all
+//! tell of the same blocks. Which blocks are split or joined is not its concern.
+//!
+//! In Linux: `struct free_area`, with `add_to_free_list`, `del_page_from_free_list` and `move_freepages_block`.
+#![tactic(auto)]
+
+mod area;
+mod retypes;
+
+pub use area::FreeArea;
+pub use zp_table::PageEntry;
