@@ -9,6 +9,7 @@ ghost use Rattle.zp_model.specs.Rows.{IsLoose, IsOn, IsRow, after, front, state_
 ghost use Rattle.zp_model.specs.Described.{IsLinkedAt};
 ghost use Rattle.zp_model.specs.Frames.{IsNote};
 ghost use Rattle.zp_model.specs.Area.{list_number, lists_count, pageblock_pages, size_in};
+ghost use Rattle.zp_tree.specs.Blocks.{IsBeside};
 ghost use Rattle.zp_frames.specs.Given.{IsClearRun};
 ghost use Rattle.zp_area.specs.Blocks.{block_set, count_of, free_list_of, side_list_of, no_blocks, added, removed, noted, side_pushed, side_popped};
 ghost use Rattle.zp_area.specs.Retyped.{retyped};
@@ -93,7 +94,11 @@ impl FreeArea {
     pub fn add(&mut self, at: PageAt, order: Order)
         requires block { IsBlock (length self.old.rows.states) at order }
         requires clear { IsClearRun self.old.rows.states self.old.rows.lists at order }
-        ensures { self.new ≡ added self.old at order }
+        ensures after { self.new ≡ added self.old at order }
+
+        // What the calls after it can rest on.
+        ensures held { Starts (block_set self.new) at order }
+        ensures still_clear { (h k : ℕ) → IsClearRun self.old.rows.states self.old.rows.lists h k → IsBeside h k at order → IsClearRun self.new.rows.states self.new.rows.lists h k }
     {
         let pageblock = pageblock_of(at);
         let list = list_of(order, self.kinds[pageblock]);
@@ -107,7 +112,11 @@ impl FreeArea {
     /// Takes a block out of the set. No list is searched.
     pub fn remove(&mut self, at: PageAt, order: Order)
         requires { Starts (block_set self.old) at order }
-        ensures { self.new ≡ removed self.old at order }
+        ensures after { self.new ≡ removed self.old at order }
+
+        // What the calls after it can rest on.
+        ensures clear { IsClearRun self.new.rows.states self.new.rows.lists at order }
+        ensures still_clear { (h k : ℕ) → IsClearRun self.old.rows.states self.old.rows.lists h k → IsClearRun self.new.rows.states self.new.rows.lists h k }
     {
         let pageblock = pageblock_of(at);
         let list = list_of(order, self.kinds[pageblock]);
@@ -206,7 +215,8 @@ impl FreeArea {
         requires page { at < length self.old.rows.states }
         requires used { has (cover (block_set self.old)) at ≡ false }
         requires note { IsNote state }
-        ensures { self.new ≡ noted self.old at state }
+        ensures after { self.new ≡ noted self.old at state }
+        ensures still_clear { (h k : ℕ) → IsClearRun self.old.rows.states self.old.rows.lists h k → IsClearRun self.new.rows.states self.new.rows.lists h k }
     {
         self.lists.set_state(at, state);
     }

@@ -1,2 +1,4 @@
 pub mod BlankTable
-pub mod OnAny
+pub mod FirstFound
+pub mod Finders
+pub mod TakenChosen

@@ -1,2 +1,3 @@
-pub mod FreeLists
+pub mod Choices
+pub mod Held
 pub use Rattle.zp_frames.specs.Given

@@ -7,49 +7,40 @@ ghost use Rattle.zp_model.specs.Info.{counts};
 ghost use Rattle.zp_model.specs.Rows.{IsLoose, IsOn, after, front, list_at, state_at};
 ghost use Rattle.zp_model.specs.Described.{IsLinkedAt};
 ghost use Rattle.zp_model.specs.Frames.{frames_opening, with_area, IsNote, IsFramed, IsClear};
-ghost use Rattle.zp_model.specs.MigrateType.{types_count};
-ghost use Rattle.zp_model.specs.Area.{list_number, lists_count, free_list};
-ghost use Rattle.zp_model.specs.Take.{take_answer, take_after};
+ghost use Rattle.zp_model.specs.Area.{list_number, free_list, kind_at};
+ghost use Rattle.zp_model.specs.Take.{take_answer, take_after, take_low_answer, take_low_after};
 ghost use Rattle.zp_model.specs.Frames.{given};
-ghost use Rattle.zp_frames.specs.Listed.{blocks_listed_of};
 
-use crate::choices::choose;
+use crate::choice::choose;
 use crate::clear::{is_block, is_clear_run};
-use crate::joins::join;
-use crate::opening::list_all_pages;
+use crate::join::join;
+use crate::opening::add_all_pages;
+use crate::split::take_block;
 use crate::takes::take_chosen;
 use std::alloc::{AllocError, Global};
 use std::marker::Model;
-use zp_frames::{list_of, pageblock_of, pages_in_each};
-use zp_links::Lists;
-use zp_model::{
-    Counts, LARGEST_ORDER, MAX_PAGES, MigrateType, ORDERS, Order, PAGEBLOCK_PAGES, PageAt, State,
-    TYPES,
-};
-use zp_table::{PageEntry, PageTable};
+use zp_area::{FreeArea, PageEntry};
+use zp_frames::pageblock_of;
+use zp_model::{Counts, MAX_PAGES, MigrateType, ORDERS, Order, PageAt, State};
 
 /// The free blocks of a zone, what is noted of its other pages, and further lists of those pages. Contracts see the plain
 /// free area with these.
 #[derive(Drop)]
 pub struct Buddy {
-    lists: Lists,
-    kinds: Vec<MigrateType>,
+    area: FreeArea,
     free: u32,
-    /// How many pages of each pageblock are free.
-    free_in: Vec<u32>,
 }
 
 impl Model for Buddy {
-    ghost use Rattle.zp_model.specs.Described.{IsLinkedAt};
     ghost use Rattle.zp_model.specs.Frames.{Frames};
-    ghost use Rattle.zp_frames.specs.Sound.{frames_of};
-    ghost use Rattle.zp_frames.specs.Held.{IsHeld};
+    ghost use Rattle.zp_buddy.specs.Choices.{frames_in};
+    ghost use Rattle.zp_buddy.specs.Held.{IsHeld};
 
     ghost Value = { Frames };
 
-    ghost view = { λ b. frames_of b.lists.states b.kinds.items b.lists.lists };
+    ghost view = { λ b. frames_in b.area };
 
-    ghost invariant = { λ b. IsHeld b.lists b.kinds.items b.free b.free_in.items };
+    ghost invariant = { λ b. IsHeld b.area b.free };
 }
 
 impl Buddy {
@@ -59,21 +50,9 @@ impl Buddy {
         requires side { side < 2 ^ 32 }
         ensures { IfOk result (λ b. b ≡ frames_opening pages side) }
     {
-        let kinds = Vec::from_elem(
-            alloc,
-            MigrateType::Movable,
-            pages.div_ceil(PAGEBLOCK_PAGES) as usize,
-        )?;
-        let free_in = pages_in_each(alloc, pages)?;
-        let table = PageTable::new(alloc, pages)?;
-        let mut lists = Lists::new(alloc, table, TYPES * ORDERS + side)?;
-        list_all_pages(&mut lists);
-        Ok(Buddy {
-            lists,
-            kinds,
-            free: pages,
-            free_in,
-        })
+        let mut area = FreeArea::new(alloc, pages, side)?;
+        add_all_pages(&mut area);
+        Ok(Buddy { area, free: pages })
     }
 
     /// Takes a block of this order for this type: the smallest of its own lists that serves; or else the largest of another
@@ -87,10 +66,26 @@ impl Buddy {
         ensures clear { IfSome result (λ at. IsClear self.new at order) }
         ensures kept { (h k : ℕ) → IsClear self.old h k → IsClear self.new h k }
     {
-        let chosen = choose(&self.lists, &self.kinds, &self.free_in, order, kind)?;
-        let head = take_chosen(&mut self.lists, &mut self.kinds, chosen, order, kind);
+        let chosen = choose(&self.area, order, kind)?;
+        take_chosen(&mut self.area, chosen, order, kind);
         self.free -= order.pages();
-        self.free_in[pageblock_of(head)] -= order.pages();
+        Some(chosen.block.head)
+    }
+
+    /// Takes the lowest run of this order: the low part of the block of this order or more with the least head, of whatever
+    /// type.
+    pub fn take_low(&mut self, order: Order) -> Option<PageAt>
+        ensures answer { result ≡ take_low_answer self.old.area order }
+        ensures after { self.new ≡ with_area self.old (take_low_after self.old.area order) }
+
+        // What the calls after it can rest on.
+        ensures head { IfSome result (λ at. (at < length self.new.states) × (has self.new.area.free at ≡ false)) }
+        ensures clear { IfSome result (λ at. IsClear self.new at order) }
+        ensures kept { (h k : ℕ) → IsClear self.old h k → IsClear self.new h k }
+    {
+        let (head, found) = self.area.lowest(order)?;
+        take_block(&mut self.area, head, found, order);
+        self.free -= order.pages();
         Some(head)
     }
 
@@ -98,7 +93,7 @@ impl Buddy {
     pub fn is_clear(&self, at: PageAt, order: Order) -> bool
         ensures { IsTrue result ↔ IsClear self.now at order }
     {
-        is_block(&self.lists, at, order) && is_clear_run(&self.lists, at, order)
+        is_block(&self.area, at, order) && is_clear_run(&self.area, at, order)
     }
 
     /// Gives back a block, joined with its free buddies.
@@ -106,9 +101,8 @@ impl Buddy {
         requires { IsClear self.old at order }
         ensures { self.new ≡ given self.old at order }
     {
-        join(&mut self.lists, &self.kinds, at, order);
+        join(&mut self.area, at, order);
         self.free += order.pages();
-        self.free_in[pageblock_of(at)] += order.pages();
     }
 
     /// How many pages the zone has. The frames of a buddy allocator note as free what is free.
@@ -117,7 +111,7 @@ impl Buddy {
         ensures within { result ≤ MAX_PAGES }
         ensures framed { IsFramed self.now }
     {
-        self.lists.pages() as u32
+        self.area.pages()
     }
 
     /// Notes what a page that is not free holds.
@@ -128,7 +122,17 @@ impl Buddy {
         ensures after { self.new ≡ record self.old { states = slice_set self.old.states at state } }
         ensures kept { (h k : ℕ) → IsClear self.old h k → IsClear self.new h k }
     {
-        self.lists.set_state(at, state);
+        self.area.hold(at, state);
+    }
+
+    /// The type of a page's pageblock.
+    pub fn type_of(&self, at: PageAt) -> MigrateType
+        requires { at < length self.now.states }
+        ensures { result ≡ kind_at self.now.area.kinds at }
+    {
+        // a clause of this call says that each pageblock has a type
+        let _pages = self.area.pages();
+        self.area.type_of(pageblock_of(at))
     }
 
     /// What is noted of a page.
@@ -136,7 +140,7 @@ impl Buddy {
         requires { at < length self.now.states }
         ensures { result ≡ state_at self.now.states at }
     {
-        self.lists.state(at)
+        self.area.holding(at)
     }
 
     /// What the page table has of a page: its note, and its neighbours in its list, be it a free list or a further one.
@@ -145,11 +149,7 @@ impl Buddy {
         ensures state { result.state ≡ state_at self.now.states at }
         ensures linked { IsLinkedAt (self.now.area.lists ++ self.now.sides) at result.back result.forward }
     {
-        PageEntry {
-            state: self.lists.state(at),
-            back: self.lists.back(at),
-            forward: self.lists.forward(at),
-        }
+        self.area.entry(at)
     }
 
     /// The block in front of the free list of an order and a type.
@@ -157,7 +157,7 @@ impl Buddy {
         ensures answer { result ≡ front (free_list self.now.area order kind) }
         ensures on { IfSome result (λ at. IsOn self.now.area.lists (list_number order kind) at) }
     {
-        self.lists.front(list_of(order, kind))
+        self.area.front(order, kind)
     }
 
     /// The block after this one on the free list of an order and a type.
@@ -166,7 +166,7 @@ impl Buddy {
         ensures answer { result ≡ after at (free_list self.now.area order kind) }
         ensures on { IfSome result (λ next. IsOn self.now.area.lists (list_number order kind) next) }
     {
-        self.lists.after(list_of(order, kind), at)
+        self.area.after(order, kind, at)
     }
 
     /// How many free pages there are. What is noted as free is free.
@@ -182,29 +182,19 @@ impl Buddy {
         ensures { result ≡ counts self.now.area.free }
     {
         let mut by_order = [0u32; ORDERS];
-        'orders: for k in 0..ORDERS {
-            by_order[k] = blocks_listed(&self.lists, k);
+        let mut order = Order::zero();
+        'orders: loop {
+            by_order[order.index()] = self.area.count(order);
+            if order == Order::largest() {
+                break;
+            }
+            order = order.higher();
         }
         Counts {
             by_order,
             free: self.free,
         }
     }
-}
-
-/// How many blocks of an order the free lists hold, over all types.
-fn blocks_listed(lists: &Lists, order: usize) -> u32
-    requires order { order ≤ LARGEST_ORDER }
-    requires table { lists_count ≤ length lists.now.lists }
-    ensures { result ≡ blocks_listed_of lists.now.lists order types_count }
-{
-    // a clause of this call says that no page stands twice and each is one of the zone's
-    let _pages = lists.pages();
-    let mut blocks = 0;
-    'types: for kind in 0..TYPES {
-        blocks += lists.len(TYPES * order + kind);
-    }
-    blocks
 }
 
 #[cfg(test)]

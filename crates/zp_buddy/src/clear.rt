@@ -1,67 +1,52 @@
 //! Whether a block may come back: no page of it is free or on a list past the free ones.
 //!
 //! In Linux: `free_pages_check`.
-ghost use Rattle.std.specs.Prelude.{◌≡◌, ◌<◌, ◌≤◌, ◌+◌, ◌^◌, ◌↔◌, ℕ, true, false, length, drop, IsTrue};
-ghost use Rattle.zp_model.specs.Block.{has, IsBlock};
-ghost use Rattle.zp_model.specs.BlockSet.{cover};
-ghost use Rattle.zp_model.specs.Rows.{stands_in, list_at};
-ghost use Rattle.zp_model.specs.Area.{lists_count};
+ghost use Rattle.std.specs.Prelude.{◌≡◌, ◌<◌, ◌≤◌, ◌+◌, ◌%◌, ◌^◌, ◌↔◌, ℕ, length, IsTrue};
+ghost use Rattle.zp_model.specs.Block.{IsBlock, head};
+ghost use Rattle.zp_model.specs.BlockSet.{Starts};
 ghost use Rattle.zp_frames.specs.Given.{IsClearRun};
-ghost use Rattle.zp_frames.specs.Sound.{blocks_of};
-ghost use Rattle.zp_buddy.specs.FreeLists.{HoldsFreePages};
+ghost use Rattle.zp_area.specs.Blocks.{block_set};
 
-use crate::joins::is_free_block;
+use zp_area::FreeArea;
 use zp_frames::head_of;
-use zp_links::Lists;
 use zp_model::{Order, PageAt};
 
 /// Whether there is a block of this order at `at`.
-pub fn is_block(lists: &Lists, at: PageAt, order: Order) -> bool
-    ensures { IsTrue result ↔ IsBlock (length lists.now.states) at order }
+pub fn is_block(area: &FreeArea, at: PageAt, order: Order) -> bool
+    ensures { IsTrue result ↔ IsBlock (length area.now.rows.states) at order }
 {
-    at.number() % order.pages() == 0 && at.index() + order.pages() as usize <= lists.pages()
+    at.number() % order.pages() == 0 && at.number() + order.pages() <= area.pages()
 }
 
-/// Whether no page of the run is free or on a list past the free ones.
-pub fn is_clear_run(lists: &Lists, at: PageAt, order: Order) -> bool
-    requires inside { at + 2 ^ order ≤ length lists.now.states }
-    requires listed { HoldsFreePages lists.now.states lists.now.lists }
-    ensures { IsTrue result ↔ IsClearRun lists.now.states lists.now.lists at order }
+/// Whether a page lies in a free block of more than this order.
+fn is_in_larger(area: &FreeArea, at: PageAt, order: Order) -> bool
+    ensures { IsTrue result ↔ ((k : ℕ) × (order < k) × Starts (block_set area.now) (head at k) k) }
 {
-    // a clause of this call says that no page stands twice and each is one of the zone's
-    let _pages = lists.pages();
+    let mut larger = order;
+    'orders: while larger != Order::largest() {
+        larger = larger.higher();
+        if area.is_free(head_of(at, larger), larger) {
+            return true;
+        }
+    }
+    false
+}
+
+/// Whether no page of the block is free or on a list past the free ones. A free block that has a page of it has all of it, or
+/// its head lies there and stands on a list.
+pub fn is_clear_run(area: &FreeArea, at: PageAt, order: Order) -> bool
+    requires { IsBlock (length area.now.rows.states) at order }
+    ensures { IsTrue result ↔ IsClearRun area.now.rows.states area.now.rows.lists at order }
+{
+    // clauses of this call say that the lists hold the heads of the free blocks
+    let _pages = area.pages();
+    if is_in_larger(area, at, order) {
+        return false;
+    }
     'pages: for i in at.number()..at.number() + order.pages() {
-        let page = PageAt::at(i);
-        if is_free_page(lists, page) || is_aside(lists, page) {
+        if area.on_any(PageAt::at(i)) {
             return false;
         }
     }
     true
-}
-
-/// Whether a page lies in a free block.
-fn is_free_page(lists: &Lists, at: PageAt) -> bool
-    requires { at < length lists.now.states }
-    ensures { IsTrue result ↔ (has (cover (blocks_of lists.now.states)) at ≡ true) }
-{
-    let mut order = Order::zero();
-    'orders: loop {
-        if is_free_block(lists, head_of(at, order), order) {
-            return true;
-        }
-        if order == Order::largest() {
-            return false;
-        }
-        order = order.higher();
-    }
-}
-
-/// Whether a page that is not free is on a list past the free ones: on any list, as no free list has it.
-fn is_aside(lists: &Lists, at: PageAt) -> bool
-    requires page { at < length lists.now.states }
-    requires used { has (cover (blocks_of lists.now.states)) at ≡ false }
-    requires listed { HoldsFreePages lists.now.states lists.now.lists }
-    ensures { IsTrue result ↔ ((r : ℕ) × (stands_in at (list_at (drop lists_count lists.now.lists) r) ≡ true)) }
-{
-    lists.on_any(at)
 }

@@ -1,15 +1,13 @@
-//! The buddy allocator of one zone: takes and gives blocks of its free pages. Its lists are linked through the page table,
-//! so that a page comes off its list with no search.
+//! The buddy allocator of one zone: takes and gives blocks of its free pages. What it knows of them is its free area.
 #![tactic(auto)]
 
-mod blocks;
 mod buddy;
-mod choices;
+mod choice;
 mod clear;
-mod joins;
+mod join;
 mod opening;
-mod retypes;
+mod split;
 mod takes;
 
 pub use buddy::Buddy;
-pub use zp_table::PageEntry;
+pub use zp_area::PageEntry;

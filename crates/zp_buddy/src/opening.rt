@@ -3,27 +3,27 @@
 //! In Linux: `memmap_init` and `memblock_free_all`.
 ghost use Rattle.std.specs.Prelude.{◌≡◌, ◌≤◌, length};
 ghost use Rattle.zp_model.specs.Area.{lists_count};
-ghost use Rattle.zp_frames.specs.Opened.{IsOpenedTo};
+ghost use Rattle.zp_frames.specs.Opened.{IsOpenedTo, all_movable};
 
-use zp_frames::{fitting, list_of};
-use zp_links::Lists;
-use zp_model::{MigrateType, Order, PageAt, State};
+use zp_area::FreeArea;
+use zp_frames::fitting;
+use zp_model::{Order, PageAt};
 
-/// Notes and lists all pages as free and Movable, in blocks as large as they can be, the lowest first.
-pub fn list_all_pages(lists: &mut Lists)
-    requires table { lists_count ≤ length lists.old.lists }
-    requires bare { IsOpenedTo (length lists.old.states) 0 lists.old.states lists.old.lists }
-    ensures opened { IsOpenedTo (length lists.old.states) (length lists.old.states) lists.new.states lists.new.lists }
-    ensures table { length lists.new.lists ≡ length lists.old.lists }
+/// Adds all pages, in blocks as large as they can be, the lowest first.
+pub fn add_all_pages(area: &mut FreeArea)
+    requires table { lists_count ≤ length area.old.rows.lists }
+    requires movable { area.old.kinds ≡ all_movable (length area.old.rows.states) }
+    requires bare { IsOpenedTo (length area.old.rows.states) 0 area.old.rows.states area.old.rows.lists }
+    ensures opened { IsOpenedTo (length area.old.rows.states) (length area.old.rows.states) area.new.rows.states area.new.rows.lists }
+    ensures table { length area.new.rows.lists ≡ length area.old.rows.lists }
+    ensures kinds { area.new.kinds ≡ area.old.kinds }
 {
-    let pages = lists.pages() as u32;
+    let pages = area.pages();
     let mut at = 0;
     let mut order = Order::largest();
     'heads: while at < pages {
         order = fitting(order, pages - at);
-        let head = PageAt::at(at);
-        lists.set_state(head, State::Free(order));
-        lists.push_front(list_of(order, MigrateType::Movable), head);
+        area.add(PageAt::at(at), order);
         at += order.pages();
     }
 }

@@ -1,49 +1,36 @@
 //! Taking the block that was chosen.
 //!
 //! In Linux: `steal_suitable_fallback`, then `expand`.
-ghost use Rattle.std.specs.Prelude.{◌≡◌, ◌≢◌, true, length, Some};
+ghost use Rattle.std.specs.Prelude.{◌≡◌, length, Some};
 ghost use Rattle.zp_model.specs.Area.{pageblocks_of};
 ghost use Rattle.zp_model.specs.Frames.{with_area};
 ghost use Rattle.zp_model.specs.Take.{taken};
-ghost use Rattle.zp_frames.specs.Choices.{IsListedBlock};
-ghost use Rattle.zp_frames.specs.Sound.{IsSound, frames_of};
+ghost use Rattle.zp_frames.specs.Sound.{IsSound};
+ghost use Rattle.zp_buddy.specs.Choices.{IsFreeBlock, chosen_of, frames_in};
 
-use crate::blocks::take_block;
-use crate::retypes::retype;
-use zp_frames::{Choice, FreeBlock, pageblock_of};
-use zp_links::Lists;
-use zp_model::{MigrateType, Order, PageAt};
+use crate::choice::{Choice, FreeBlock};
+use crate::split::take_block;
+use zp_area::FreeArea;
+use zp_frames::pageblock_of;
+use zp_model::{MigrateType, Order};
 
-/// Takes the low run of order `order` of the chosen block, and answers its head. A pageblock that is claimed gets the request's type first.
-pub fn take_chosen(
-    lists: &mut Lists,
-    kinds: &mut Vec<MigrateType>,
-    chosen: Choice,
-    order: Order,
-    kind: MigrateType,
-) -> PageAt
-    requires listed { IsListedBlock lists.old.lists order chosen.block }
-    requires other { chosen.claims ≡ true → chosen.block.kind ≢ kind }
-    requires typed { length kinds.old.items ≡ pageblocks_of (length lists.old.states) }
-    requires sound { IsSound lists.old.states kinds.old.items lists.old.lists }
-    ensures sound { IsSound lists.new.states kinds.new.items lists.new.lists }
-    ensures answer { result ≡ chosen.block.head }
-    ensures pages { length lists.new.states ≡ length lists.old.states }
-    ensures typed { length kinds.new.items ≡ length kinds.old.items }
-    ensures after { let old = frames_of lists.old.states kinds.old.items lists.old.lists in
-        frames_of lists.new.states kinds.new.items lists.new.lists
-        ≡ with_area old (taken old.area order kind (Some (record { head = chosen.block.head; claims = chosen.claims }))) }
+/// Takes the low run of order `order` of the chosen block. A pageblock that is claimed gets the request's type first.
+pub fn take_chosen(area: &mut FreeArea, chosen: Choice, order: Order, kind: MigrateType)
+    requires chosen { IsFreeBlock area.old order chosen.block }
+    requires sound { IsSound area.old.rows.states area.old.kinds area.old.rows.lists }
+    ensures sound { IsSound area.new.rows.states area.new.kinds area.new.rows.lists }
+    ensures pages { length area.new.rows.states ≡ length area.old.rows.states }
+    ensures typed { length area.new.kinds ≡ length area.old.kinds }
+    ensures after { frames_in area.new ≡ with_area (frames_in area.old) (taken (frames_in area.old).area order kind (Some (chosen_of chosen))) }
 {
-    let FreeBlock {
-        head,
-        order: found,
-        kind: from,
-    } = chosen.block;
+    // clauses of this call say that each pageblock has a type, and after a change of type that the lists are of the set
+    let _pages = area.pages();
+    let FreeBlock { head, order: found } = chosen.block;
     if !chosen.claims {
-        take_block(lists, kinds, head, found, order, from);
-        return head;
+        take_block(area, head, found, order);
+        return;
     }
-    retype(lists, kinds, pageblock_of(head), kind);
-    take_block(lists, kinds, head, found, order, kind);
-    head
+    area.retype(pageblock_of(head), kind);
+    let _pages = area.pages();
+    take_block(area, head, found, order);
 }

@@ -1,10 +1,9 @@
 -- What taking and giving leave of the counts of free pages.
-use Rattle.std.proofs.Common.{ℕ, ◌+◌, ◌-◌, ◌*◌, ◌/◌, ◌%◌, ◌^◌, ◌≡◌, ◌≢◌, ◌≤◌, ◌<◌, inl, inr, sym, ◌∙◌, ap, subst, arith, Bool, true, false, min, max, map, List, length, set, get_or-set_same, get_or-set_other, length-set, replicate, Some}
-use Rattle.std.specs.List.{range_with_len, count_by, slice_index, slice_index_or}
-use Rattle.std.proofs.Math.Nat.{pow-le-pow_right}
+use Rattle.std.proofs.Common.{ℕ, ◌+◌, ◌-◌, ◌*◌, ◌/◌, ◌%◌, ◌^◌, ◌≡◌, ◌≢◌, ◌≤◌, ◌<◌, inl, inr, sym, ◌∙◌, ap, subst, arith, Bool, true, false, min, max, map, List, length, set, get_or-set_same, get_or-set_other, length-set, replicate}
+use Rattle.std.specs.List.{range_with_len, count_by, slice_index}
 use Rattle.std.proofs.lemmas.Nat.{pow_pos}
 use Rattle.std.proofs.lemmas.Bool.{cases_eq, cases_lt, false≢true}
-use Rattle.std.proofs.lemmas.List.{get_or_past, get_or_default, get_or-replicate, length-replicate, length-map}
+use Rattle.std.proofs.lemmas.List.{get_or_past, get_or-replicate, length-replicate, length-map}
 use Rattle.std.proofs.lemmas.List.Sums.{count_by-le-length}
 use Rattle.std.proofs.lemmas.List.FromFn.{length-range_with_len, get_or-map-range_with_len, length-map-range_with_len}
 use Rattle.zp_model.specs.declared.constants.TheConstants.{PAGEBLOCK_PAGES}
@@ -12,23 +11,15 @@ use Rattle.zp_model.specs.declared.migrate_type.MigrateType.{MigrateType}
 use Rattle.zp_model.specs.declared.state.State.{State}
 use Rattle.zp_model.specs.Block.{largest_order, has, size, without, with_run}
 use Rattle.zp_model.specs.BlockSet.{cover}
-use Rattle.zp_model.specs.Rows.{Rows}
 use Rattle.zp_model.specs.Area.{pageblocks_of, size_in}
-use Rattle.zp_model.specs.Frames.{Frames, IsClear, with_area}
-use Rattle.zp_model.specs.Take.{taken}
-use Rattle.zp_model.proofs.Heads.{aligned_down}
+use Rattle.zp_model.specs.Frames.{Frames, IsClear}
 use Rattle.zp_model.proofs.Normal.{Filled}
 use Rattle.zp_model.proofs.Pages.{In}
 use Rattle.zp_model.proofs.Covers.{length-cover}
-use Rattle.zp_laws.proofs.Areas.{free-taken, free-give}
-use Rattle.zp_frames.specs.Sound.{free_order, blocks_of, frames_of, IsSound}
+use Rattle.zp_laws.proofs.Areas.{free-give}
+use Rattle.zp_frames.specs.Sound.{free_order, blocks_of, frames_of}
 use Rattle.zp_model.specs.Frames.{given}
-use Rattle.zp_frames.specs.Held.{IsHeld}
 use Rattle.zp_frames.specs.Counted.{IsCounted}
-use Rattle.zp_frames.specs.Choices.{IsListedBlock, chosen_of}
-use Rattle.zp_frames.specs.declared.choices.FreeBlock.{FreeBlock}
-use Rattle.zp_frames.specs.declared.choices.Choice.{Choice}
-use Rattle.zp_frames.proofs.Taken.{block_here, block_inside}
 use Rattle.zp_frames.proofs.Counting.{count-run, size-without}
 use Rattle.zp_frames.proofs.PageblockCounts.{size_in_less, size_in_more}
 
@@ -51,20 +42,6 @@ pub record IsFreeRun (s : List State) (h k : ℕ) : Type 0 where
   pub aligned : h % 2 ^ k ≡ 0
   pub inside : h + 2 ^ k ≤ length s
   pub free : Filled (In (cover (blocks_of s))) h k
-
-pub listed_run : (s : List State) (kinds : List MigrateType) (l : List (List ℕ)) (k : ℕ) (b : FreeBlock) → IsSound s kinds l → IsListedBlock l k b → IsFreeRun s b.head k
-listed_run s kinds l k b x y =
-    let here = block_here b.head b.order b.kind s kinds l x y.order y.on in
-    let inside : b.head + 2 ^ b.order ≤ length s = block_inside b.head b.order b.kind s kinds l x y.order y.on in
-    let up : k ≤ b.order = y.enough in
-    let top : b.order ≤ largest_order = y.order in
-    let p : 2 ^ k ≤ 2 ^ b.order = pow-le-pow_right (omega arith) up in
-    record {
-      order = omega arith;
-      aligned = aligned_down k b.order b.head up (x.normal.aligned b.head b.order here.0);
-      inside = omega arith;
-      free = λ i lo hi. x.normal.inside b.head b.order here.0 i lo (omega arith);
-    }
 
 pub record IsLess (s : List State) (free_in : List ℕ) (free h k : ℕ) (z : List State) : Type 0 where
   pub pageblock : h / PAGEBLOCK_PAGES < length free_in
@@ -96,14 +73,6 @@ counts_less s z free_in free h k x ef y len ez =
       each = counted_set s z free_in (h / PAGEBLOCK_PAGES) (slice_index free_in (h / PAGEBLOCK_PAGES) - 2 ^ k) x len lt (omega arith)
           (λ c ne. ap (λ q. size_in q c) ez ∙ w.1 c ne);
     }
-
--- the free pages of taking the chosen block
-pub taken_less : (f : Frames) (s z : List State) (kinds now : List MigrateType) (l m : List (List ℕ)) (free_in : List ℕ) (free k : ℕ) (t : MigrateType) (c : Choice) →
-    IsSound s kinds l → IsCounted s free_in → free ≡ size (cover (blocks_of s)) → IsListedBlock l k c.block → f ≡ frames_of s kinds l → length z ≡ length s →
-    frames_of z now m ≡ with_area f (taken f.area k t (Some (chosen_of c))) → IsLess s free_in free c.block.head k z
-taken_less f s z kinds now l m free_in free k t c x y ef w e len ez =
-    counts_less s z free_in free c.block.head k y ef (listed_run s kinds l k c.block x w) len
-    (ap (λ (q : Frames). q.area.free) ez ∙ free-taken f.area k t (chosen_of c) ∙ ap (λ (q : Frames). without q.area.free c.block.head k) e)
 
 pub record IsMore (free_in : List ℕ) (h k : ℕ) (z : List State) : Type 0 where
   pub pageblock : h / PAGEBLOCK_PAGES < length free_in
@@ -173,41 +142,4 @@ counts_all n s free_in len eu ef =
     record {
       blocks = ap length ef ∙ m ∙ ap pageblocks_of (sym len);
       each = λ b. ap (λ q. slice_index q b) ef ∙ at b ∙ sym (ap (λ q. size_in q b) eu ∙ size_in-all n b);
-    }
-
--- the number that the code reads at a pageblock
-pub read_at : (free_in : List ℕ) (h i m : ℕ) → h / PAGEBLOCK_PAGES < length free_in → i ≡ h / PAGEBLOCK_PAGES → m ≡ slice_index_or free_in i m →
-    m ≡ slice_index free_in (h / PAGEBLOCK_PAGES)
-read_at free_in h i m lt ei em =
-    em ∙ ap (λ q. slice_index_or free_in q m) ei ∙ get_or_default free_in (h / PAGEBLOCK_PAGES) m 0 lt
-
--- the fields after a taking, in the words of the code
-pub held_less : (w v : Rows) (kinds now : List MigrateType) (free_in : List ℕ) (free h k i m p : ℕ) → IsHeld w kinds free free_in → IsLess w.states free_in free h k v.states →
-    IsSound v.states now v.lists → length v.states ≡ length w.states → length now ≡ length kinds → i ≡ h / PAGEBLOCK_PAGES → m ≡ slice_index_or free_in i m → p ≡ 2 ^ k →
-    IsHeld v now (free - p) (set free_in i (m - p))
-held_less w v kinds now free_in free h k i m p x y sound len types ei em ep =
-    let r : m ≡ slice_index free_in (h / PAGEBLOCK_PAGES) = read_at free_in h i m y.pageblock ei em in
-    let P : List ℕ → Type 0 = λ q. IsCounted v.states q in
-    record {
-      sound = sound;
-      typed = types ∙ x.typed ∙ ap pageblocks_of (sym len);
-      counted = ap (λ q. free - q) ep ∙ y.counted;
-      each = subst P (sym (ap (λ q. set free_in q (m - p)) ei ∙ ap (λ q. set free_in (h / PAGEBLOCK_PAGES) (q - p)) r
-          ∙ ap (λ q. set free_in (h / PAGEBLOCK_PAGES) (slice_index free_in (h / PAGEBLOCK_PAGES) - q)) ep)) y.each;
-    }
-
--- the fields after a giving, in the words of the code
-pub held_more : (w v : Rows) (kinds now : List MigrateType) (free_in : List ℕ) (free h k i m p : ℕ) → IsHeld w kinds free free_in → IsMore free_in h k v.states →
-    IsSound v.states now v.lists → length v.states ≡ length w.states → length now ≡ length kinds →
-    size (cover (blocks_of v.states)) ≡ size (cover (blocks_of w.states)) + 2 ^ k → i ≡ h / PAGEBLOCK_PAGES → m ≡ slice_index_or free_in i m → p ≡ 2 ^ k →
-    IsHeld v now (free + p) (set free_in i (m + p))
-held_more w v kinds now free_in free h k i m p x y sound len types total ei em ep =
-    let r : m ≡ slice_index free_in (h / PAGEBLOCK_PAGES) = read_at free_in h i m y.pageblock ei em in
-    let P : List ℕ → Type 0 = λ q. IsCounted v.states q in
-    record {
-      sound = sound;
-      typed = types ∙ x.typed ∙ ap pageblocks_of (sym len);
-      counted = ap (λ q. free + q) ep ∙ ap (λ q. q + 2 ^ k) x.counted ∙ sym total;
-      each = subst P (sym (ap (λ q. set free_in q (m + p)) ei ∙ ap (λ q. set free_in (h / PAGEBLOCK_PAGES) (q + p)) r
-          ∙ ap (λ q. set free_in (h / PAGEBLOCK_PAGES) (slice_index free_in (h / PAGEBLOCK_PAGES) + q)) ep)) y.each;
     }

@@ -2,9 +2,6 @@ pub mod Sound
 pub mod Split
 pub mod Join
 pub mod Given
-pub mod Held
-pub mod Listed
 pub mod Opened
 pub mod Counted
-pub mod Choices
 pub mod Retyped

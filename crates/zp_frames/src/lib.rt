@@ -2,12 +2,10 @@
 //! parts that touch no list.
 #![tactic(auto)]
 
-mod choices;
 mod free_lists;
 mod pageblocks;
 mod runs;
 
-pub use choices::{Choice, FreeBlock, foreign, may_claim};
 pub use free_lists::list_of;
 pub use pageblocks::{kind_of, pageblock_of, pages_in_each};
 pub use runs::{buddy_of, fitting, head_of};

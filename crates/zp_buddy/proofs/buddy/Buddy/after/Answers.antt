@@ -1,7 +1,7 @@
 use Rattle.std.proofs.Common.{ℕ, ◌≡◌, List, true, ap, sym, subst, ◌∙◌}
 use Rattle.zp_model.specs.Rows.{after, stands_in}
 use Rattle.zp_model.specs.Area.{free_list}
-use Rattle.zp_frames.proofs.Finders.{list_of_frames}
+use Rattle.zp_buddy.proofs.Finders.{list_of_frames}
 use Rattle.zp_frames.proofs.Walks.{IsNext, next_after, next_stands}
 use Rattle.zp_buddy.proofs.buddy.Buddy.after.Goals as goal
 

@@ -1,7 +1,7 @@
 use Rattle.std.proofs.Common.{ap, sym, subst, ◌∙◌}
 use Rattle.zp_model.specs.Rows.{front}
 use Rattle.zp_model.specs.Area.{free_list}
-use Rattle.zp_frames.proofs.Finders.{list_of_frames}
+use Rattle.zp_buddy.proofs.Finders.{list_of_frames}
 use Rattle.zp_frames.proofs.Walks.{IsNext, next_front, next_stands}
 use Rattle.zp_buddy.proofs.buddy.Buddy.front.Goals as goal
 

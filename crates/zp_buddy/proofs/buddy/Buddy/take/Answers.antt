@@ -3,7 +3,7 @@ use Rattle.zp_model.specs.declared.constants.TheConstants.{PAGEBLOCK_PAGES}
 use Rattle.std.proofs.lemmas.Nat.{pow_pos}
 use Rattle.zp_model.specs.Frames.{Frames, IsClear, with_area}
 use Rattle.zp_model.specs.Take.{taken}
-use Rattle.zp_frames.specs.Choices.{chosen_of}
+use Rattle.zp_buddy.specs.Choices.{chosen_of}
 use Rattle.zp_frames.specs.Sound.{frames_of}
 use Rattle.zp_frames.specs.Held.{IsHeld}
 use Rattle.zp_frames.proofs.HeldCounts.{IsLess, taken_less, read_at, held_less, listed_run}

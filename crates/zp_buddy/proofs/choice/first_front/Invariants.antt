@@ -1,0 +1,15 @@
+use Rattle.std.proofs.Common.{◌≡◌, ◌≤◌, ◌<◌, ◌-◌, ℕ, None}
+use Rattle.zp_model.specs.Block.{largest_order}
+use Rattle.zp_buddy.specs.Choices.{front_of_order}
+use Rattle.zp_buddy.proofs.choice.first_front.Given as goal
+
+-- the lists of the orders before `found` are empty
+abbrev pub invariant-orders : goal.invariant-orders
+invariant-orders l = record {
+  from : l.fn.order ≤ l.found;
+  order : l.found ≤ largest_order;
+  none : (o : ℕ) → l.fn.order ≤ o → o < l.found → front_of_order l.lists.lists l.kinds o ≡ None;
+}
+
+abbrev pub decreases-orders : goal.decreases-orders
+decreases-orders l = largest_order - l.found

@@ -1,0 +1,7 @@
+use Rattle.std.proofs.Common.{◌≡◌, drop}
+use Rattle.zp_buddy.specs.Choices.{front_of_order}
+use Rattle.zp_buddy.proofs.choice.front_of.Given as goal
+
+-- what is looked for is of one of the types from the index on
+abbrev pub invariant-kinds : goal.invariant-kinds
+invariant-kinds l = front_of_order l.lists.lists l.kinds l.order ≡ front_of_order l.lists.lists (drop l.kind-index l.kinds) l.order

@@ -1,8 +1,0 @@
-use Rattle.std.proofs.Common.{◌≡◌, drop}
-use Rattle.zp_frames.specs.Choices.{half_free_of_order}
-use Rattle.zp_buddy.proofs.choices.half_free_of.Given as goal
-
--- what is looked for is of one of the types from the index on
-abbrev pub invariant-kinds : goal.invariant-kinds
-invariant-kinds l =
-    half_free_of_order l.lists.lists l.free_in l.kinds l.order ≡ half_free_of_order l.lists.lists l.free_in (drop l.kind-index l.kinds) l.order

@@ -1,9 +1,0 @@
-use Rattle.std.proofs.Common.{ℕ, Option, subst}
-use Rattle.zp_frames.specs.Choices.{IsFoundAs}
-use Rattle.zp_frames.proofs.Finders.{own_fronts}
-use Rattle.zp_buddy.proofs.choices.own_block.Goals as goal
-
-pub returns : goal.returns
-returns c =
-    let P : Option ℕ → Type 0 = λ o. IsFoundAs c.args.lists.now.lists c.args.order o c.first_front.result in
-    subst P (own_fronts c.args.lists.now c.args.order c.args.kind) c.first_front.ensures

@@ -1,0 +1,179 @@
+//! Which free block a request takes: one of its own type's, one of a pageblock that it claims, or one that it borrows.
+//!
+//! In Linux: `__rmqueue_smallest`, and `find_suitable_fallback` with `__rmqueue_fallback`.
+ghost use Rattle.std.specs.Prelude.{◌≡◌, ◌≤◌, ◌||◌, not, leb, IfSome};
+ghost use Rattle.std.specs.List.{find};
+ghost use Rattle.zp_model.specs.declared.migrate_type.MigrateType.TheVariants.{Movable};
+ghost use Rattle.zp_model.specs.BlockSet.{first_of, larger, orders_from, Starts};
+ghost use Rattle.zp_model.specs.MigrateType.{foreign, same_type};
+ghost use Rattle.zp_model.specs.Choose.{own, claim, borrow};
+ghost use Rattle.zp_area.specs.Blocks.{block_set, free_list_of};
+ghost use Rattle.zp_buddy.specs.Choices.{area_in, front_of_order, is_half_free, half_free_of_order, IsLargestClaimable, IsFoundAs, IsChosen};
+
+use zp_area::FreeArea;
+use zp_frames::pageblock_of;
+use zp_model::{CLAIM_PAGES, LEAST_MOVABLE_CLAIM, MigrateType, Order, PageAt};
+
+/// A free block.
+#[derive(Clone, Copy, PartialEq, Eq, Debug, Drop)]
+pub struct FreeBlock {
+    pub head: PageAt,
+    pub order: Order,
+}
+
+/// The block that a request takes, and whether it claims the block's pageblock first.
+#[derive(Clone, Copy, PartialEq, Eq, Debug, Drop)]
+pub struct Choice {
+    pub block: FreeBlock,
+    pub claims: bool,
+}
+
+/// The types that a request for this type may take from besides its own, in the order in which it looks at them.
+fn foreign(kind: MigrateType) -> [MigrateType; 2]
+    ensures { result ≡ foreign kind }
+{
+    match kind {
+        MigrateType::Unmovable => [MigrateType::Reclaimable, MigrateType::Movable],
+        MigrateType::Reclaimable => [MigrateType::Unmovable, MigrateType::Movable],
+        MigrateType::Movable => [MigrateType::Reclaimable, MigrateType::Unmovable],
+    }
+}
+
+/// Whether a request for this type may claim by a block of this order at all.
+fn may_claim(order: Order, kind: MigrateType) -> bool
+    ensures { result ≡ (leb LEAST_MOVABLE_CLAIM order || not (same_type kind Movable)) }
+{
+    order.number() >= LEAST_MOVABLE_CLAIM || kind != MigrateType::Movable
+}
+
+/// The block in front of the first list of this order and of one of these types that isn't empty.
+fn front_of(area: &FreeArea, order: Order, kinds: &[MigrateType]) -> Option<FreeBlock>
+    ensures { IsFoundAs area.now order (front_of_order area.now kinds.now order) result }
+{
+    'kinds: for kind in kinds {
+        if let Some(head) = area.front(order, *kind) {
+            return Some(FreeBlock { head, order });
+        }
+    }
+    None
+}
+
+/// The same over the orders from `order` on, the least first.
+fn first_front(area: &FreeArea, order: Order, kinds: &[MigrateType]) -> Option<FreeBlock>
+    ensures { IsFoundAs area.now order (first_of (front_of_order area.now kinds.now) (orders_from order)) result }
+{
+    let mut found = order;
+    'orders: loop {
+        if let Some(block) = front_of(area, found, kinds) {
+            return Some(block);
+        }
+        if found == Order::largest() {
+            return None;
+        }
+        found = found.higher();
+    }
+}
+
+/// The smallest block that serves of the request's own type.
+fn own_block(area: &FreeArea, order: Order, kind: MigrateType) -> Option<FreeBlock>
+    ensures { IsFoundAs area.now order (own (area_in area.now) order kind) result }
+{
+    first_front(area, order, &[kind])
+}
+
+/// The smallest block that serves of another type.
+fn borrowed_block(area: &FreeArea, order: Order, kind: MigrateType) -> Option<FreeBlock>
+    ensures { IsFoundAs area.now order (borrow (area_in area.now) order kind) result }
+{
+    first_front(area, order, &foreign(kind))
+}
+
+/// The first block of a list in whose pageblock half of the pages are free.
+fn half_free_on(area: &FreeArea, order: Order, kind: MigrateType) -> Option<PageAt>
+    ensures found { result ≡ find (is_half_free area.now) (free_list_of area.now order kind) }
+    ensures starts { IfSome result (λ at. Starts (block_set area.now) at order) }
+{
+    // a clause of this call says that no page stands twice
+    let _pages = area.pages();
+    let mut next = area.front(order, kind);
+    'heads: while let Some(head) = next {
+        if area.free_in(pageblock_of(head)) >= CLAIM_PAGES {
+            return Some(head);
+        }
+        next = area.after(order, kind, head);
+    }
+    None
+}
+
+/// The first block of this order and of one of these types in whose pageblock half of the pages are free.
+fn half_free_of(area: &FreeArea, order: Order, kinds: &[MigrateType]) -> Option<FreeBlock>
+    ensures { IsFoundAs area.now order (half_free_of_order area.now kinds.now order) result }
+{
+    'kinds: for kind in kinds {
+        if let Some(head) = half_free_on(area, order, *kind) {
+            return Some(FreeBlock { head, order });
+        }
+    }
+    None
+}
+
+/// The largest order of a block in a pageblock of another type that has the free pages that a claim needs. No list is walked.
+fn largest_claimable(area: &FreeArea, kind: MigrateType) -> Option<Order>
+    ensures { IsLargestClaimable area.now kind result }
+{
+    let mut largest = None;
+    'pageblocks: for pageblock in 0..area.pageblocks() {
+        if area.type_of(pageblock) != kind && area.free_in(pageblock) >= CLAIM_PAGES {
+            largest = larger(largest, area.largest_in(pageblock));
+        }
+    }
+    largest
+}
+
+/// The larger of two orders, where there are any.
+fn larger(one: Option<Order>, other: Option<Order>) -> Option<Order>
+    ensures { result ≡ larger one other }
+{
+    match (one, other) {
+        (Some(first), Some(second)) if first.number() < second.number() => Some(second),
+        (None, _) => other,
+        _ => one,
+    }
+}
+
+/// The largest block of another type that may be claimed. Its order is told by the pageblocks, so that a list is walked only
+/// where it holds such a block.
+#[cold]
+#[inline(never)]
+fn claimed_block(area: &FreeArea, order: Order, kind: MigrateType) -> Option<FreeBlock>
+    ensures { IsFoundAs area.now order (claim (area_in area.now) order kind) result }
+{
+    let largest = largest_claimable(area, kind)?;
+    if largest.number() < order.number() || !may_claim(largest, kind) {
+        return None;
+    }
+    half_free_of(area, largest, &foreign(kind))
+}
+
+/// The block that a request for a block of this order and type takes.
+pub fn choose(area: &FreeArea, order: Order, kind: MigrateType) -> Option<Choice>
+    ensures { IsChosen area.now order kind result }
+{
+    if let Some(block) = own_block(area, order, kind) {
+        return Some(Choice {
+            block,
+            claims: false,
+        });
+    }
+    if let Some(block) = claimed_block(area, order, kind) {
+        return Some(Choice {
+            block,
+            claims: true,
+        });
+    }
+    let block = borrowed_block(area, order, kind)?;
+    Some(Choice {
+        block,
+        claims: false,
+    })
+}
