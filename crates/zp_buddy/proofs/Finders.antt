@@ -9,13 +9,13 @@ use Rattle.zp_model.specs.declared.state.State.{State}
 use Rattle.zp_model.specs.Block.{largest_order}
 use Rattle.zp_model.specs.BlockSet.{first_of, orders_from, cover}
 use Rattle.zp_model.specs.MigrateType.{foreign, same_type}
-use Rattle.zp_model.specs.Rows.{Rows, list_at, front}
+use Rattle.zp_model.specs.Rows.{list_at, front}
 use Rattle.zp_model.specs.Area.{Area, list_number, lists_count, free_list, pageblock_pages, size_in}
 use Rattle.zp_model.specs.Choose.{chosen, own, claim, borrow, choose, is_claimable}
 use Rattle.zp_model.specs.Frames.{Frames}
 use Rattle.zp_frames.specs.Sound.{area_of, frames_of, blocks_of}
-use Rattle.zp_frames.specs.Counted.{IsCounted}
-use Rattle.zp_buddy.specs.Choices.{free_area, front_of_order, is_half_free, half_free_of_order, claimable_of_order}
+use Rattle.zp_area.specs.Blocks.{Blocks, free_list_of}
+use Rattle.zp_buddy.specs.Choices.{area_in, front_of_order, is_half_free, half_free_of_order, claimable_of_order}
 use Rattle.zp_frames.proofs.Taken.{row_below}
 use Rattle.zp_buddy.proofs.FirstFound.{first_same, first_only, back_none, back_some}
 
@@ -33,18 +33,18 @@ first_each : {X Y : Type 0} → (f g : X → Option Y) (xs : List X) → ((x : X
 first_each f g [] e = refl
 first_each f g (x ∷ xs) e = ap (λ o. option_or o (first_of f xs)) (e x) ∙ ap (λ o. option_or (g x) o) (first_each f g xs e)
 
-pub own_fronts : (w : Rows) (k : ℕ) (t : MigrateType) → first_of (front_of_order w.lists (t ∷ [])) (orders_from k) ≡ own (free_area w) k t
+pub own_fronts : (a : Blocks) (k : ℕ) (t : MigrateType) → first_of (front_of_order a (t ∷ [])) (orders_from k) ≡ own (area_in a) k t
 unfolding own
-own_fronts w k t =
-    first_same (front_of_order w.lists (t ∷ [])) (λ o. front (free_list (free_area w) o t)) k (largest_order + 1 - k)
-    (λ o p q. first_only (front (list_at w.lists (list_number o t))) ∙ ap front (sym (list_of_area w.states [] w.lists o t (omega arith))))
+own_fronts a k t =
+    first_same (front_of_order a (t ∷ [])) (λ o. front (free_list (area_in a) o t)) k (largest_order + 1 - k)
+    (λ o p q. first_only (front (free_list_of a o t)) ∙ ap front (sym (list_of_area a.rows.states a.kinds a.rows.lists o t (omega arith))))
 
-pub borrow_fronts : (w : Rows) (k : ℕ) (t : MigrateType) → first_of (front_of_order w.lists (foreign t)) (orders_from k) ≡ borrow (free_area w) k t
+pub borrow_fronts : (a : Blocks) (k : ℕ) (t : MigrateType) → first_of (front_of_order a (foreign t)) (orders_from k) ≡ borrow (area_in a) k t
 unfolding borrow
-borrow_fronts w k t =
-    first_same (front_of_order w.lists (foreign t)) (λ o. first_of (λ f. front (free_list (free_area w) o f)) (foreign t)) k (largest_order + 1 - k)
-    (λ o p q. first_each (λ f. front (list_at w.lists (list_number o f))) (λ f. front (free_list (free_area w) o f)) (foreign t)
-    (λ f. ap front (sym (list_of_area w.states [] w.lists o f (omega arith)))))
+borrow_fronts a k t =
+    first_same (front_of_order a (foreign t)) (λ o. first_of (λ f. front (free_list (area_in a) o f)) (foreign t)) k (largest_order + 1 - k)
+    (λ o p q. first_each (λ f. front (free_list_of a o f)) (λ f. front (free_list (area_in a) o f)) (foreign t)
+    (λ f. ap front (sym (list_of_area a.rows.states a.kinds a.rows.lists o f (omega arith)))))
 
 find_each : (p q : ℕ → Bool) (xs : List ℕ) → ((x : ℕ) → p x ≡ q x) → find p xs ≡ find q xs
 find_each p q [] e = refl
@@ -58,17 +58,15 @@ first_never : {X Y : Type 0} → (f : X → Option Y) (xs : List X) → ((x : X)
 first_never f [] e = refl
 first_never f (x ∷ xs) e = rw (e x) (first_never f xs e)
 
--- where a claim by a block of this order is possible at all, the counts decide
-pub claim_by_counts : (w : Rows) (free_in : List ℕ) (t : MigrateType) (o : ℕ) → IsCounted w.states free_in → o ≤ largest_order →
-    (leb LEAST_MOVABLE_CLAIM o || not (same_type t Movable)) ≡ true → half_free_of_order w.lists free_in (foreign t) o ≡ claimable_of_order (free_area w) t o
-claim_by_counts w free_in t o x le may =
-    first_each (λ f. find (is_half_free free_in) (list_at w.lists (list_number o f))) (λ f. find (is_claimable (free_area w) t o) (free_list (free_area w) o f)) (foreign t)
+-- where a claim by a block of this order is possible at all, the free pages of its pageblock decide
+pub claim_half_free : (a : Blocks) (t : MigrateType) (o : ℕ) → o ≤ largest_order →
+    (leb LEAST_MOVABLE_CLAIM o || not (same_type t Movable)) ≡ true → half_free_of_order a (foreign t) o ≡ claimable_of_order (area_in a) t o
+claim_half_free a t o le may =
+    first_each (λ f. find (is_half_free a) (free_list_of a o f)) (λ f. find (is_claimable (area_in a) t o) (free_list (area_in a) o f)) (foreign t)
     (λ f.
-    find_each (is_half_free free_in) (is_claimable (free_area w) t o) (list_at w.lists (list_number o f))
-    (λ h.
-    let u : List Bool = cover (blocks_of w.states) in
-    ap (λ n. leb CLAIM_PAGES n) (x.each (h / pageblock_pages)) ∙ ap (λ b. b && leb CLAIM_PAGES (size_in u (h / pageblock_pages))) (sym may))
-    ∙ ap (λ xs. find (is_claimable (free_area w) t o) xs) (sym (list_of_area w.states [] w.lists o f le)))
+    find_each (is_half_free a) (is_claimable (area_in a) t o) (free_list_of a o f)
+    (λ h. ap (λ b. b && is_half_free a h) (sym may))
+    ∙ ap (λ xs. find (is_claimable (area_in a) t o) xs) (sym (list_of_area a.rows.states a.kinds a.rows.lists o f le)))
 
 -- and where it is not, none may be claimed
 pub claim_never : (a : Area) (t : MigrateType) (o : ℕ) → (leb LEAST_MOVABLE_CLAIM o || not (same_type t Movable)) ≡ false → claimable_of_order a t o ≡ None

@@ -1,4 +1,4 @@
-pub mod BlankTable
 pub mod FirstFound
 pub mod Finders
+pub mod Claimable
 pub mod TakenChosen

@@ -67,9 +67,9 @@ impl Buddy {
         ensures kept { (h k : ℕ) → IsClear self.old h k → IsClear self.new h k }
     {
         let chosen = choose(&self.area, order, kind)?;
-        take_chosen(&mut self.area, chosen, order, kind);
+        let head = take_chosen(&mut self.area, chosen, order, kind);
         self.free -= order.pages();
-        Some(chosen.block.head)
+        Some(head)
     }
 
     /// Takes the lowest run of this order: the low part of the block of this order or more with the least head, of whatever

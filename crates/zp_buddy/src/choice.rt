@@ -148,6 +148,8 @@ fn larger(one: Option<Order>, other: Option<Order>) -> Option<Order>
 fn claimed_block(area: &FreeArea, order: Order, kind: MigrateType) -> Option<FreeBlock>
     ensures { IsFoundAs area.now order (claim (area_in area.now) order kind) result }
 {
+    // a clause of this call says that the lists hold the heads of the blocks
+    let _pages = area.pages();
     let largest = largest_claimable(area, kind)?;
     if largest.number() < order.number() || !may_claim(largest, kind) {
         return None;

@@ -12,13 +12,14 @@ use crate::choice::{Choice, FreeBlock};
 use crate::split::take_block;
 use zp_area::FreeArea;
 use zp_frames::pageblock_of;
-use zp_model::{MigrateType, Order};
+use zp_model::{MigrateType, Order, PageAt};
 
-/// Takes the low run of order `order` of the chosen block. A pageblock that is claimed gets the request's type first.
-pub fn take_chosen(area: &mut FreeArea, chosen: Choice, order: Order, kind: MigrateType)
+/// Takes the low run of order `order` of the chosen block, and answers its head. A pageblock that is claimed gets the request's type first.
+pub fn take_chosen(area: &mut FreeArea, chosen: Choice, order: Order, kind: MigrateType) -> PageAt
     requires chosen { IsFreeBlock area.old order chosen.block }
     requires sound { IsSound area.old.rows.states area.old.kinds area.old.rows.lists }
     ensures sound { IsSound area.new.rows.states area.new.kinds area.new.rows.lists }
+    ensures head { result ≡ chosen.block.head }
     ensures pages { length area.new.rows.states ≡ length area.old.rows.states }
     ensures typed { length area.new.kinds ≡ length area.old.kinds }
     ensures after { frames_in area.new ≡ with_area (frames_in area.old) (taken (frames_in area.old).area order kind (Some (chosen_of chosen))) }
@@ -28,9 +29,10 @@ pub fn take_chosen(area: &mut FreeArea, chosen: Choice, order: Order, kind: Migr
     let FreeBlock { head, order: found } = chosen.block;
     if !chosen.claims {
         take_block(area, head, found, order);
-        return;
+        return head;
     }
     area.retype(pageblock_of(head), kind);
     let _pages = area.pages();
     take_block(area, head, found, order);
+    head
 }

@@ -7,6 +7,6 @@ use Rattle.zp_buddy.proofs.choice.borrowed_block.Goals as goal
 
 pub returns : goal.returns
 returns c =
-    let P : Option ℕ → Type 0 = λ o. IsFoundAs c.args.lists.now.lists c.args.order o c.first_front.result in
-    let Q : List MigrateType → Type 0 = λ ts. P (first_of (front_of_order c.args.lists.now.lists ts) (orders_from c.args.order)) in
-    subst P (borrow_fronts c.args.lists.now c.args.order c.args.kind) (subst Q c.foreign.ensures c.first_front.ensures)
+    let P : Option ℕ → Type 0 = λ o. IsFoundAs c.args.area.now c.args.order o c.first_front.result in
+    let Q : List MigrateType → Type 0 = λ ts. P (first_of (front_of_order c.args.area.now ts) (orders_from c.args.order)) in
+    subst P (borrow_fronts c.args.area.now c.args.order c.args.kind) (subst Q c.foreign.ensures c.first_front.ensures)

@@ -1,7 +1,7 @@
 use Rattle.std.proofs.Common.{◌≡◌, ◌≤◌, ◌+◌, ◌-◌, ℕ, arith, inl, inr, subst, sym, ◌∙◌, None}
 use Rattle.std.proofs.lemmas.Bool.{eqb-true, cases_lt}
 use Rattle.zp_model.specs.Block.{largest_order}
-use Rattle.zp_buddy.specs.Choices.{front_of_order, IsListedBlock}
+use Rattle.zp_buddy.specs.Choices.{front_of_order, IsFreeBlock}
 use Rattle.zp_buddy.proofs.FirstFound.{first_none, first_some}
 use Rattle.zp_buddy.proofs.choice.first_front.Goals as goal
 
@@ -12,7 +12,7 @@ returns-in-Some c =
     let up : c.args.order ≤ c.orders.found = i.from in
     let top : c.orders.found ≤ largest_order = i.order in
     let more : c.orders.found ≤ c.in-Some.block.order = x.1.enough in
-    let y : IsListedBlock c.args.lists.now.lists c.args.order c.in-Some.block = record { enough = omega arith; order = x.1.order; on = x.1.on } in
+    let y : IsFreeBlock c.args.area.now c.args.order c.in-Some.block = record { enough = omega arith; starts = x.1.starts } in
     (first_some _ c.args.order (largest_order + 1 - c.args.order) c.orders.found c.in-Some.block.head up (omega arith) x.0 i.none, y)
 
 pub returns-then-eq : goal.returns-then-eq
@@ -24,6 +24,6 @@ returns-then-eq c =
       | inl lt ↦ i.none o p lt
       | inr ge ↦
           let same : c.orders.found ≡ o = omega arith in
-          let P : ℕ → Type 0 = λ n. front_of_order c.args.lists.now.lists c.args.kinds.now n ≡ None in
+          let P : ℕ → Type 0 = λ n. front_of_order c.args.area.now c.args.kinds.now n ≡ None in
           subst P same c.in_default.ensures
     ])

@@ -8,7 +8,7 @@ abbrev pub invariant-orders : goal.invariant-orders
 invariant-orders l = record {
   from : l.fn.order ≤ l.found;
   order : l.found ≤ largest_order;
-  none : (o : ℕ) → l.fn.order ≤ o → o < l.found → front_of_order l.lists.lists l.kinds o ≡ None;
+  none : (o : ℕ) → l.fn.order ≤ o → o < l.found → front_of_order l.area l.kinds o ≡ None;
 }
 
 abbrev pub decreases-orders : goal.decreases-orders

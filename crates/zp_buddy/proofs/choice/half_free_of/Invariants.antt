@@ -4,5 +4,4 @@ use Rattle.zp_buddy.proofs.choice.half_free_of.Given as goal
 
 -- what is looked for is of one of the types from the index on
 abbrev pub invariant-kinds : goal.invariant-kinds
-invariant-kinds l =
-    half_free_of_order l.lists.lists l.free_in l.kinds l.order ≡ half_free_of_order l.lists.lists l.free_in (drop l.kind-index l.kinds) l.order
+invariant-kinds l = half_free_of_order l.area l.kinds l.order ≡ half_free_of_order l.area (drop l.kind-index l.kinds) l.order

@@ -5,5 +5,5 @@ use Rattle.zp_buddy.proofs.choice.own_block.Goals as goal
 
 pub returns : goal.returns
 returns c =
-    let P : Option ℕ → Type 0 = λ o. IsFoundAs c.args.lists.now.lists c.args.order o c.first_front.result in
-    subst P (own_fronts c.args.lists.now c.args.order c.args.kind) c.first_front.ensures
+    let P : Option ℕ → Type 0 = λ o. IsFoundAs c.args.area.now c.args.order o c.first_front.result in
+    subst P (own_fronts c.args.area.now c.args.order c.args.kind) c.first_front.ensures

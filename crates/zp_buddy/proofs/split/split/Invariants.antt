@@ -1,12 +1,18 @@
-use Rattle.std.proofs.Common.{◌≤◌}
+use Rattle.std.proofs.Common.{◌≤◌, ◌≡◌}
+use Rattle.zp_model.specs.Area.{kind_at}
+use Rattle.zp_frames.specs.Given.{IsClearRun}
 use Rattle.zp_frames.specs.Split.{IsSplit}
 use Rattle.zp_buddy.proofs.split.split.Given as goal
 
--- the halves of the orders from `order` on are listed
+-- the halves of the orders from `order` on are added
 abbrev pub invariant-halves : goal.invariant-halves
-invariant-halves l =
-    IsSplit l.head l.order l.fn.from l.kind l.initial.lists.states l.lists.states l.initial.lists.lists l.lists.lists
-    × (l.to ≤ l.order) × (l.order ≤ l.fn.from)
+invariant-halves l = record {
+  halves : IsSplit l.head l.order l.fn.from (kind_at l.initial.area.kinds l.head) l.initial.area.rows.states l.area.rows.states l.initial.area.rows.lists l.area.rows.lists;
+  kinds : l.area.kinds ≡ l.initial.area.kinds;
+  down : l.to ≤ l.order;
+  up : l.order ≤ l.fn.from;
+  clear : IsClearRun l.area.rows.states l.area.rows.lists l.head l.order;
+}
 
 abbrev pub decreases-halves : goal.decreases-halves
 decreases-halves l = l.order
