@@ -1,5 +1,5 @@
 //! The free area of a zone.
-ghost use Rattle.std.specs.Prelude.{ℕ, ◌≡◌, ◌<◌, ◌≤◌, ◌+◌, ◌^◌, ◌*◌, ◌/◌, ◌↔◌, false, length, slice_index_or, IfOk, IfSome, IsTrue};
+ghost use Rattle.std.specs.Prelude.{ℕ, ◌≡◌, ◌<◌, ◌≤◌, ◌+◌, ◌^◌, ◌*◌, ◌/◌, ◌↔◌, false, length, slice_index_or, IfOk, Some, IfSome, IsTrue};
 ghost use Rattle.zp_model.specs.declared.constants.TheConstants.{MAX_PAGES};
 ghost use Rattle.zp_model.specs.declared.migrate_type.MigrateType.TheVariants.{Movable};
 ghost use Rattle.zp_model.specs.declared.state.State.TheVariants.{Free};
@@ -83,9 +83,10 @@ impl FreeArea {
         self.lists.pages() as u32
     }
 
-    /// How many pageblocks there are.
+    /// How many pageblocks there are. Each block lies in one of them.
     pub fn pageblocks(&self) -> usize
-        ensures { result ≡ length self.now.kinds }
+        ensures same { result ≡ length self.now.kinds }
+        ensures blocks { (h k : ℕ) → Starts (block_set self.now) h k → h / pageblock_pages < result }
     {
         self.kinds.len()
     }
@@ -171,7 +172,9 @@ impl FreeArea {
     /// The largest order of a block in a pageblock. One node of the tree is read.
     pub fn largest_in(&self, pageblock: usize) -> Option<Order>
         requires { pageblock < length self.now.kinds }
-        ensures { result ≡ largest_in (block_set self.now) (pageblock * pageblock_pages) largest_order }
+        ensures answer { result ≡ largest_in (block_set self.now) (pageblock * pageblock_pages) largest_order }
+        ensures held { IfSome result (λ o. (h : ℕ) × Starts (block_set self.now) h o × (h / pageblock_pages ≡ pageblock)) }
+        ensures most { (h k : ℕ) → Starts (block_set self.now) h k → h / pageblock_pages ≡ pageblock → (o : ℕ) × (result ≡ Some o) × (k ≤ o) }
     {
         let first = PageAt::at(pageblock as u32 * PAGEBLOCK_PAGES);
         self.tree.largest_in(first, Order::largest())
@@ -190,6 +193,7 @@ impl FreeArea {
     pub fn front(&self, order: Order, kind: MigrateType) -> Option<PageAt>
         ensures answer { result ≡ front (free_list_of self.now order kind) }
         ensures on { IfSome result (IsOn self.now.rows.lists (list_number order kind)) }
+        ensures starts { IfSome result (λ at. Starts (block_set self.now) at order) }
     {
         self.lists.front(list_of(order, kind))
     }
@@ -199,6 +203,7 @@ impl FreeArea {
         requires { IsOn self.now.rows.lists (list_number order kind) at }
         ensures answer { result ≡ after at (free_list_of self.now order kind) }
         ensures on { IfSome result (IsOn self.now.rows.lists (list_number order kind)) }
+        ensures starts { IfSome result (λ at. Starts (block_set self.now) at order) }
     {
         self.lists.after(list_of(order, kind), at)
     }

@@ -1,4 +1,5 @@
 pub mod FirstFound
 pub mod Finders
 pub mod Claimable
-pub mod TakenChosen
+pub mod SplitBlocks
+pub mod JoinBlocks

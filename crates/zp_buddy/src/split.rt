@@ -4,7 +4,7 @@
 ghost use Rattle.std.specs.Prelude.{◌≡◌, ◌≤◌, length};
 ghost use Rattle.zp_model.specs.Block.{IsBlock};
 ghost use Rattle.zp_model.specs.BlockSet.{Starts};
-ghost use Rattle.zp_model.specs.Area.{kind_at};
+ghost use Rattle.zp_model.specs.Area.{kind_at, lists_count};
 ghost use Rattle.zp_model.specs.Frames.{with_area};
 ghost use Rattle.zp_model.specs.Take.{leave};
 ghost use Rattle.zp_frames.specs.Given.{IsClearRun};
@@ -22,6 +22,7 @@ fn split(area: &mut FreeArea, head: PageAt, from: Order, to: Order)
     requires down { to ≤ from }
     requires block { IsBlock (length area.old.rows.states) head from }
     requires clear { IsClearRun area.old.rows.states area.old.rows.lists head from }
+    requires table { lists_count ≤ length area.old.rows.lists }
     ensures halves { IsSplit head to from (kind_at area.old.kinds head) area.old.rows.states area.new.rows.states area.old.rows.lists area.new.rows.lists }
     ensures kinds { area.new.kinds ≡ area.old.kinds }
 {

@@ -100,7 +100,7 @@ joining_none h k s kinds l x = record {
 }
 
 -- in the double a page lies in the one half or the other
-in_double : (b j c d : ℕ) → IsBuddy b j c d → (i : ℕ) → d ≤ i → i < d + 2 ^ (j + 1) → ((b ≤ i) × (i < b + 2 ^ j)) ⊎ ((c ≤ i) × (i < c + 2 ^ j))
+pub in_double : (b j c d : ℕ) → IsBuddy b j c d → (i : ℕ) → d ≤ i → i < d + 2 ^ (j + 1) → ((b ≤ i) × (i < b + 2 ^ j)) ⊎ ((c ≤ i) × (i < c + 2 ^ j))
 in_double b j c d y i lo hi =
     let t : 2 ^ (j + 1) ≡ 2 ^ j + 2 ^ j = two j in
     elim y.halves [
