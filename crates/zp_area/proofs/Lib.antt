@@ -1,0 +1,6 @@
+pub mod OneBlock
+pub mod Listing
+pub mod PageblockPages
+pub mod Keeping
+pub mod Adding
+pub mod Removing
