@@ -4,3 +4,5 @@ pub mod PageblockPages
 pub mod Keeping
 pub mod Adding
 pub mod Removing
+pub mod Holding
+pub mod NoBlocks

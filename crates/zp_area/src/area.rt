@@ -164,6 +164,8 @@ impl FreeArea {
         requires { pageblock < length self.now.kinds }
         ensures { result ≡ largest_in (block_set self.now) (pageblock * pageblock_pages) largest_order }
     {
+        // a clause of this call says how many pageblocks there can be
+        let _pages = self.pages();
         let first = PageAt::at(pageblock as u32 * PAGEBLOCK_PAGES);
         self.tree.largest_in(first, Order::largest())
     }
