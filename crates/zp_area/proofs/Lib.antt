@@ -6,3 +6,6 @@ pub mod Adding
 pub mod Removing
 pub mod Holding
 pub mod NoBlocks
+pub mod RelistedBy
+pub mod Relisting
+pub mod Retyping
