@@ -7,12 +7,12 @@ use Rattle.std.proofs.lemmas.List.{map-set, get_or-drop}
 use Rattle.zp_model.specs.declared.constants.TheConstants.{PAGEBLOCK_PAGES}
 use Rattle.zp_model.specs.declared.state.State.TheVariants.{Free}
 use Rattle.zp_model.specs.MigrateType.{types_count}
-use Rattle.zp_model.specs.Block.{IsBlock, largest_order, with_run}
+use Rattle.zp_model.specs.Block.{IsBlock, with_run}
 use Rattle.zp_model.specs.BlockSet.{Starts, cover}
 use Rattle.zp_model.specs.Rows.{list_at, stands_in, IsLoose, IsOn}
-use Rattle.zp_model.specs.Area.{list_number, lists_count, kind_at, pageblocks_of}
+use Rattle.zp_model.specs.Area.{lists_count, kind_at, pageblocks_of}
 use Rattle.zp_model.proofs.Pages.{In}
-use Rattle.zp_model.proofs.Covers.{has_below, has-cover, length-cover, length-with, with-decides}
+use Rattle.zp_model.proofs.Covers.{has_below, has-cover, length-with, with-decides}
 use Rattle.zp_model.proofs.Settles.{IsListed}
 use Rattle.zp_tree.specs.Blocks.{IsBlockSet, IsApart, with_block}
 use Rattle.zp_frames.specs.Given.{IsClearRun}

@@ -1,5 +1,5 @@
 -- What is kept beside a set of blocks, in other words for the same.
-use Rattle.std.proofs.Common.{ℕ, ◌+◌, ◌/◌, ◌≡◌, ◌≢◌, ◌≤◌, ◌<◌, inl, inr, refl, sym, ◌∙◌, ap, subst, arith, List, length, set, get_or-set_same, get_or-set_other, Option}
+use Rattle.std.proofs.Common.{ℕ, ◌/◌, ◌≡◌, ◌≢◌, ◌≤◌, ◌<◌, inl, inr, sym, ◌∙◌, ap, subst, arith, List, length, set, get_or-set_same, get_or-set_other, Option}
 use Rattle.std.specs.List.{slice_index, slice_index_or}
 use Rattle.std.proofs.lemmas.Bool.{cases_eq}
 use Rattle.std.proofs.lemmas.List.{get_or_default, length-map}
@@ -10,7 +10,7 @@ use Rattle.zp_model.specs.declared.migrate_type.MigrateType.TheVariants.{Movable
 use Rattle.zp_model.specs.declared.state.State.{State}
 use Rattle.zp_model.specs.Block.{largest_order}
 use Rattle.zp_model.specs.BlockSet.{is_order}
-use Rattle.zp_model.specs.Area.{kind_at, list_number, pageblocks_of}
+use Rattle.zp_model.specs.Area.{kind_at, list_number}
 use Rattle.zp_frames.specs.Sound.{free_order, blocks_of}
 use Rattle.zp_area.specs.Blocks.{Blocks, block_set, count_of, list_of_block}
 use Rattle.zp_area.specs.OneSet.{IsOneSet, IsKept}

@@ -1,6 +1,6 @@
 -- The lists of heads with one block more or one block less.
-use Rattle.std.proofs.Common.{ℕ, ◌+◌, ◌*◌, ◌/◌, ◌%◌, ◌≡◌, ◌≢◌, ◌<◌, ◌==◌, inl, inr, refl, sym, ◌∙◌, ap, subst, arith, true, not, List, ◌∷◌, length, Option}
-use Rattle.std.proofs.lemmas.Bool.{cases_eq, eq-eqb, ne_eqb, not-true, both_ways}
+use Rattle.std.proofs.Common.{ℕ, ◌/◌, ◌%◌, ◌≡◌, ◌≢◌, ◌<◌, ◌==◌, inl, inr, refl, sym, ◌∙◌, ap, subst, arith, true, not, List, ◌∷◌, length, Option}
+use Rattle.std.proofs.lemmas.Bool.{eq-eqb, ne_eqb, not-true, both_ways}
 use Rattle.zp_model.specs.declared.migrate_type.MigrateType.{MigrateType}
 use Rattle.zp_model.specs.MigrateType.{type_number, types_count}
 use Rattle.zp_model.specs.BlockSet.{Starts}

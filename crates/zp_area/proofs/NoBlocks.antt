@@ -1,5 +1,5 @@
 -- What is kept beside a set of no block.
-use Rattle.std.proofs.Common.{ℕ, zero, suc, ◌+◌, ◌*◌, ◌/◌, ◌^◌, ◌≡◌, ◌≤◌, ◌<◌, inl, inr, refl, sym, ◌∙◌, ap, subst, arith, Bool, true, false, List, [], ◌∷◌, length, map, replicate, Option, None}
+use Rattle.std.proofs.Common.{ℕ, zero, suc, ◌+◌, ◌*◌, ◌/◌, ◌^◌, ◌≡◌, ◌≤◌, ◌<◌, inl, inr, refl, sym, ◌∙◌, ap, subst, arith, true, List, [], ◌∷◌, length, replicate, Option, None}
 use Rattle.std.specs.List.{slice_index, IsDistinct}
 use Rattle.std.proofs.lemmas.Bool.{cases_lt, false≢true, false_from_ne_true}
 use Rattle.std.proofs.lemmas.List.{get_or-replicate, get_or_past, length-replicate}
@@ -9,7 +9,7 @@ use Rattle.zp_model.specs.declared.migrate_type.MigrateType.{MigrateType}
 use Rattle.zp_model.specs.declared.state.State.{State}
 use Rattle.zp_model.specs.declared.state.State.TheVariants.{Tail}
 use Rattle.zp_model.specs.MigrateType.{types_count}
-use Rattle.zp_model.specs.Block.{largest_order, has}
+use Rattle.zp_model.specs.Block.{has}
 use Rattle.zp_model.specs.BlockSet.{is_order, cover}
 use Rattle.zp_model.specs.Rows.{Rows, list_at, stands_in}
 use Rattle.zp_model.specs.Area.{lists_count, pageblocks_of, size_in}
@@ -20,7 +20,7 @@ use Rattle.zp_table.specs.Entries.{blank}
 use Rattle.zp_tree.specs.Blocks.{IsBlockSet}
 use Rattle.zp_tree.proofs.Opening.{no_start}
 use Rattle.zp_links.specs.Linked.{states_of}
-use Rattle.zp_frames.specs.Sound.{free_order, blocks_of}
+use Rattle.zp_frames.specs.Sound.{blocks_of}
 use Rattle.zp_frames.proofs.Counting.{one_if, count-none}
 use Rattle.zp_area.specs.Blocks.{Blocks, block_set, count_of, no_blocks}
 use Rattle.zp_area.specs.OneSet.{IsOneSet, IsKept}
@@ -69,9 +69,9 @@ one_empty n side le =
       table = omega arith;
       typed = length-replicate (pageblocks_of n) _ ∙ ap pageblocks_of (sym m);
       blocks = subst P (sym e) (record {
-            block = λ h k st. absurd (no_start n h k st);
-            apart = λ h k g j i st su u v. absurd (no_start n h k st);
-          });
+        block = λ h k st. absurd (no_start n h k st);
+        apart = λ h k g j i st su u v. absurd (no_start n h k st);
+      });
       listed = λ r lt.
           let Q : List (Option ℕ) → Type 0 = λ q. IsListed q (no_blocks n side).kinds r (list_at (no_blocks n side).rows.lists r) in
           let R : List ℕ → Type 0 = λ xs. IsListed (empty n) (no_blocks n side).kinds r xs in

@@ -1,9 +1,9 @@
 -- A set of blocks with one block more or one block less: its blocks, its pages, and how many it has of each order.
-use Rattle.std.proofs.Common.{ℕ, ◌+◌, ◌%◌, ◌^◌, ◌≡◌, ◌≢◌, ◌≤◌, ◌<◌, ◌==◌, ◌⊎◌, inl, inr, refl, sym, ◌∙◌, ap, subst, arith, Bool, true, false, List, length, set, get_or, get_or-set_same, get_or-set_other, length-set, Option, None, Some}
+use Rattle.std.proofs.Common.{ℕ, ◌+◌, ◌^◌, ◌≡◌, ◌≢◌, ◌≤◌, ◌<◌, ◌==◌, ◌⊎◌, inl, inr, sym, ◌∙◌, ap, subst, arith, true, List, length, set, get_or, get_or-set_same, get_or-set_other, length-set, Option, None, Some}
 use Rattle.std.proofs.lemmas.Nat.{pow_pos}
-use Rattle.std.proofs.lemmas.Bool.{cases_eq, false≢true, and_parts, and_from, leb-true, le-leb, ltb-true, lt-ltb}
+use Rattle.std.proofs.lemmas.Bool.{cases_eq, and_parts, and_from, leb-true, le-leb, ltb-true, lt-ltb}
 use Rattle.std.proofs.lemmas.List.Sums.{sum_by-set}
-use Rattle.zp_model.specs.Block.{IsBlock, has, head, in_run, with_run, without}
+use Rattle.zp_model.specs.Block.{IsBlock, head, in_run, with_run, without}
 use Rattle.zp_model.specs.BlockSet.{Starts, is_order, cover}
 use Rattle.zp_model.proofs.Heads.{head_le, lt_head, head_of}
 use Rattle.zp_model.proofs.Pages.{In}

@@ -5,10 +5,10 @@ use Rattle.std.proofs.lemmas.Bool.{cases_eq, eq-eqb, ne_eqb, false≢true, false
 use Rattle.std.proofs.lemmas.List.{map-set}
 use Rattle.zp_model.specs.declared.constants.TheConstants.{PAGEBLOCK_PAGES}
 use Rattle.zp_model.specs.declared.state.State.TheVariants.{Tail}
-use Rattle.zp_model.specs.Block.{IsBlock, largest_order, without}
+use Rattle.zp_model.specs.Block.{IsBlock, without}
 use Rattle.zp_model.specs.BlockSet.{Starts, cover}
 use Rattle.zp_model.specs.Rows.{list_at, stands_in, without_page, IsOn}
-use Rattle.zp_model.specs.Area.{list_number, lists_count, kind_at, pageblocks_of}
+use Rattle.zp_model.specs.Area.{lists_count, kind_at, pageblocks_of}
 use Rattle.zp_model.proofs.Pages.{In}
 use Rattle.zp_model.proofs.Covers.{has_below, length-without, without-decides}
 use Rattle.zp_model.proofs.Settles.{IsListed}

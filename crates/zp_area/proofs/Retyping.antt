@@ -1,7 +1,6 @@
 -- A pageblock that has got another type: what its blocks' moving leaves is what relisting says, and the set is kept.
-use Rattle.std.proofs.Common.{ℕ, ◌+◌, ◌-◌, ◌*◌, ◌/◌, ◌%◌, ◌^◌, ◌≡◌, ◌≤◌, ◌<◌, inl, inr, refl, sym, ◌∙◌, ap, subst, arith, Bool, true, false, min, List, [], ◌++◌, length, map, take, drop, set, get_or, get_or-set_same, get_or-set_other, length-set, length-append, length-drop, Option, None}
+use Rattle.std.proofs.Common.{ℕ, ◌+◌, ◌-◌, ◌*◌, ◌/◌, ◌^◌, ◌≡◌, ◌≤◌, ◌<◌, inl, inr, refl, sym, ◌∙◌, ap, subst, arith, true, min, List, [], ◌++◌, length, map, drop, set, get_or, get_or-set_same, get_or-set_other, length-set, length-append, length-drop, Option, None}
 use Rattle.std.specs.List.{slice_index_or, range_with_len}
-use Rattle.std.proofs.lemmas.Nat.{pow_pos}
 use Rattle.std.proofs.lemmas.Bool.{cases_eq, cases_lt, cases_Bool, false≢true}
 use Rattle.std.proofs.lemmas.List.{get_or_default, set-get_or, take-append-drop, get_or_past, get_or_append_left, get_or-append_right, get_or-drop}
 use Rattle.std.proofs.lemmas.List.FromFn.{get_or-map-range_with_len, length-map-range_with_len}
@@ -9,10 +8,10 @@ use Rattle.zp_model.specs.declared.constants.TheConstants.{PAGEBLOCK_PAGES}
 use Rattle.zp_model.specs.declared.migrate_type.MigrateType.{MigrateType}
 use Rattle.zp_model.specs.declared.migrate_type.MigrateType.TheVariants.{Unmovable, Reclaimable, Movable}
 use Rattle.zp_model.specs.declared.state.State.{State}
-use Rattle.zp_model.specs.BlockSet.{Starts, is_order}
+use Rattle.zp_model.specs.BlockSet.{is_order}
 use Rattle.zp_model.specs.MigrateType.{type_number, types_count}
-use Rattle.zp_model.specs.Rows.{Rows, IsOn, list_at, stands_in}
-use Rattle.zp_model.specs.Area.{lists_count, kind_at, pageblocks_of}
+use Rattle.zp_model.specs.Rows.{Rows, list_at, stands_in}
+use Rattle.zp_model.specs.Area.{lists_count, kind_at}
 use Rattle.zp_model.proofs.Settles.{Here, IsListed}
 use Rattle.zp_frames.proofs.Taken.{free_lists}
 use Rattle.zp_frames.proofs.Restating.{sides_same}
@@ -22,7 +21,7 @@ use Rattle.zp_area.specs.OneSet.{IsOneSet, IsKept}
 use Rattle.zp_area.proofs.OneBlock.{head_below}
 use Rattle.zp_area.proofs.Keeping.{blocks_length}
 use Rattle.zp_area.proofs.RelistedBy.{relisted_by, relisted_by_same, relisted_held, held-relisted, distinct-relisted}
-use Rattle.zp_area.proofs.Relisting.{IsAllListed, IsRelisting, IsLooking, stands_of, stands_of-to, stands_of-from, stands_while, kind_while, while-in, while-out}
+use Rattle.zp_area.proofs.Relisting.{IsAllListed, IsRelisting, IsLooking, stands_of, stands_of-to, stands_of-from, kind_while, while-in, while-out}
 
 relisted-relisted_by : (s : List (Option ℕ)) (kinds : List MigrateType) (r : ℕ) (old : List ℕ) → relisted s kinds r old ≡ relisted_by (is_to_stand s kinds r) (length s) old
 unfolding relisted

@@ -3,7 +3,7 @@ use Rattle.std.specs.Prelude.{ℕ, ◌≡◌, ◌≤◌, ◌<◌, ◌+◌, ◌^�
 use Rattle.zp_model.specs.declared.constants.TheConstants.{MAX_PAGES}
 use Rattle.zp_model.specs.Block.{largest_order, has}
 use Rattle.zp_model.specs.BlockSet.{cover}
-use Rattle.zp_model.specs.Rows.{list_at, IsOn, IsRow}
+use Rattle.zp_model.specs.Rows.{list_at, IsOn}
 use Rattle.zp_model.specs.Area.{lists_count, pageblocks_of}
 use Rattle.zp_model.proofs.Settles.{IsListed}
 use Rattle.zp_tree.specs.Blocks.{IsBlockSet}

@@ -3,7 +3,7 @@ use Rattle.zp_model.specs.declared.constants.TheConstants.{PAGEBLOCK_PAGES}
 use Rattle.zp_model.specs.declared.state.State.TheVariants.{Free}
 use Rattle.zp_model.specs.Rows.{Rows, IsLoose, list_at, with_list, with_state}
 use Rattle.zp_model.specs.Area.{pageblocks_of}
-use Rattle.zp_tree.specs.Blocks.{IsApart, with_block}
+use Rattle.zp_tree.specs.Blocks.{IsApart}
 use Rattle.zp_area.specs.Blocks.{Blocks, added, list_of_block}
 use Rattle.zp_area.proofs.Keeping.{kept_by, list_found}
 use Rattle.zp_area.proofs.Adding.{IsComing, IsMoreKept, coming_by, coming_loose, coming_apart, kept_added}

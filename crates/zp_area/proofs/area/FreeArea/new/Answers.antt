@@ -1,7 +1,7 @@
-use Rattle.std.proofs.Common.{rules, ℕ, ◌≡◌, ◌+◌, ◌/◌, refl, sym, ◌∙◌, ap, arith, replicate}
+use Rattle.std.proofs.Common.{rules, ℕ, ◌≡◌, ◌+◌, ◌/◌, refl, ◌∙◌, ap, arith, replicate}
 use Rattle.std.specs.Int.{div_ceil}
 use Rattle.zp_model.specs.declared.migrate_type.MigrateType.TheVariants.{Movable}
-use Rattle.zp_area.specs.Blocks.{Blocks, no_blocks}
+use Rattle.zp_area.specs.Blocks.{no_blocks}
 use Rattle.zp_area.proofs.Keeping.{kept_by}
 use Rattle.zp_area.proofs.NoBlocks.{kept_empty, blank_area}
 use Rattle.zp_area.proofs.area.FreeArea.new.Goals as goal

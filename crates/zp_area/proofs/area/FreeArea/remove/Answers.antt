@@ -1,4 +1,4 @@
-use Rattle.std.proofs.Common.{ℕ, ◌≡◌, ◌-◌, ◌/◌, ◌^◌, ◌≤◌, ◌<◌, List, length, set, slice_index, arith, sym, ◌∙◌, ap, subst, Option}
+use Rattle.std.proofs.Common.{ℕ, ◌≡◌, ◌-◌, ◌/◌, ◌^◌, ◌≤◌, ◌<◌, List, length, set, slice_index, arith, sym, ◌∙◌, ap, subst}
 use Rattle.zp_model.specs.declared.constants.TheConstants.{PAGEBLOCK_PAGES}
 use Rattle.zp_model.specs.declared.state.State.TheVariants.{Tail}
 use Rattle.zp_model.specs.Block.{IsBlock}

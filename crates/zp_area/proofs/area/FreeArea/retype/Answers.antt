@@ -3,7 +3,6 @@ use Rattle.std.proofs.lemmas.List.{get_or_default}
 use Rattle.zp_model.specs.declared.migrate_type.MigrateType.TheVariants.{Movable}
 use Rattle.zp_area.specs.Blocks.{Blocks}
 use Rattle.zp_area.specs.Retyped.{retyped}
-use Rattle.zp_area.specs.OneSet.{IsOneSet}
 use Rattle.zp_area.proofs.Keeping.{kept_by}
 use Rattle.zp_area.proofs.Retyping.{kept_retyped, retyped_by, retyped_same}
 use Rattle.zp_area.proofs.area.FreeArea.retype.Goals as goal
