@@ -1,1 +1,12 @@
 pub mod ListedHeads
+pub mod OneBlock
+pub mod Listing
+pub mod PageblockPages
+pub mod Keeping
+pub mod Adding
+pub mod Removing
+pub mod Holding
+pub mod NoBlocks
+pub mod RelistedBy
+pub mod Relisting
+pub mod Retyping

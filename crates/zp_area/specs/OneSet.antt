@@ -1,9 +1,9 @@
 -- When notes, lists and types are of one set of blocks, and when what is kept beside them is of the same set.
-use Rattle.std.specs.Prelude.{ℕ, ◌≡◌, ◌≤◌, ◌<◌, List, length, slice_index, Option, false}
+use Rattle.std.specs.Prelude.{ℕ, ◌≡◌, ◌≤◌, ◌<◌, ◌+◌, ◌^◌, List, length, slice_index, Option, false}
 use Rattle.zp_model.specs.declared.constants.TheConstants.{MAX_PAGES}
 use Rattle.zp_model.specs.Block.{largest_order, has}
 use Rattle.zp_model.specs.BlockSet.{cover}
-use Rattle.zp_model.specs.Rows.{list_at, IsOn, IsRow}
+use Rattle.zp_model.specs.Rows.{list_at, IsOn}
 use Rattle.zp_model.specs.Area.{lists_count, pageblocks_of}
 use Rattle.zp_model.proofs.Settles.{IsListed}
 use Rattle.zp_tree.specs.Blocks.{IsBlockSet}
@@ -26,6 +26,8 @@ pub record IsOneSet (a : Blocks) : Type 0 where
 -- the tree and the counts that are kept are those of the set
 pub record IsKept (a : Blocks) (tree : List (Option ℕ)) (counts free_in : List ℕ) : Type 0 where
   pub one : IsOneSet a
+  -- no list has a number that does not fit
+  pub few : length a.rows.lists ≤ lists_count + 2 ^ 32
   pub same : tree ≡ block_set a
   pub orders : (k : ℕ) → k ≤ largest_order → slice_index counts k ≡ count_of (block_set a) k
   pub each : IsCounted a.rows.states free_in

@@ -176,6 +176,8 @@ impl FreeArea {
         ensures held { IfSome result (λ o. (h : ℕ) × Starts (block_set self.now) h o × (h / pageblock_pages ≡ pageblock)) }
         ensures most { (h k : ℕ) → Starts (block_set self.now) h k → h / pageblock_pages ≡ pageblock → (o : ℕ) × (result ≡ Some o) × (k ≤ o) }
     {
+        // a clause of this call says how many pageblocks there can be
+        let _pages = self.pages();
         let first = PageAt::at(pageblock as u32 * PAGEBLOCK_PAGES);
         self.tree.largest_in(first, Order::largest())
     }

@@ -3,7 +3,7 @@ use Rattle.std.specs.Prelude.{ℕ, ◌+◌, ◌^◌, ◌/◌, ◌%◌, ◌≡◌
 use Rattle.std.specs.List.{range_with_len, find}
 use Rattle.zp_model.specs.Block.{IsBlock}
 use Rattle.zp_model.specs.BlockSet.{Starts}
-use Rattle.zp_model.specs.Bounds.{IsPages}
+use Rattle.zp_model.specs.declared.constants.TheConstants.{MAX_PAGES}
 use Rattle.zp_tree.specs.declared.constants.TheConstants.{LARGEST_HEIGHT}
 use Rattle.zp_tree.specs.Layout.{rank_at}
 use Rattle.zp_tree.specs.Sound.{IsFull, IsSound}
@@ -19,7 +19,7 @@ spelled h pages ns = map (λ i. find (is_full h ns i) (range_with_len 0 (h + 1))
 -- the nodes are the tree of the block set
 pub record IsTreeOf (h pages : ℕ) (ns : List ℕ) (s : List (Option ℕ)) : Type 0 where
   pub height : h ≤ LARGEST_HEIGHT
-  pub bounds : IsPages pages
+  pub bounds : pages ≤ MAX_PAGES
   pub room : pages ≤ 2 ^ h
   pub pages_of : length s ≡ pages
   pub sound : IsSound h ns

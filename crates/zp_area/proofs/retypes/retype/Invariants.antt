@@ -1,11 +1,15 @@
 use Rattle.std.proofs.Common.{◌-◌, ◌≡◌, ◌≤◌}
+use Rattle.zp_frames.specs.Sound.{blocks_of}
+use Rattle.zp_area.proofs.Relisting.{IsRelisting}
 use Rattle.zp_area.proofs.retypes.retype.Given as goal
 
+-- the blocks before page `i` are moved
 abbrev pub invariant-pages : goal.invariant-pages
 invariant-pages l = record {
   from : l.first ≤ l.i;
   upto : l.i ≤ l.end;
   states : l.lists.states ≡ l.initial.lists.states;
+  moved : IsRelisting l.first l.i l.kind (blocks_of l.initial.lists.states) l.kinds.items l.initial.lists.lists l.lists.lists;
 }
 
 abbrev pub decreases-pages : goal.decreases-pages

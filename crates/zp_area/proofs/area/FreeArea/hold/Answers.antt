@@ -1,0 +1,15 @@
+use Rattle.std.proofs.Common.{refl, ap}
+use Rattle.zp_model.specs.Rows.{Rows}
+use Rattle.zp_area.specs.Blocks.{Blocks, noted}
+use Rattle.zp_area.proofs.Keeping.{kept_by}
+use Rattle.zp_area.proofs.Holding.{IsHolding, holding_by, kept_noted}
+use Rattle.zp_area.proofs.area.FreeArea.hold.Goals as goal
+
+pub invariant_of-self : goal.invariant_of-self
+invariant_of-self c =
+    let a : Blocks = record { rows = c.self.inside.lists; kinds = c.self.inside.kinds.items } in
+    let x : IsHolding a c.args.at c.args.state = holding_by a _ _ _ c.self.view_is c.self.invariant.one c.requires.used c.requires.note in
+    kept_by _ (noted a c.args.at c.args.state) _ _ _ _ _ _
+    (ap (λ (w : Rows). let q : Blocks = record { rows = w; kinds = c.self.inside.kinds.items } in q) c.set_state.ensures)
+    refl refl refl
+    (kept_noted a _ _ _ _ _ c.self.invariant x)

@@ -1,0 +1,61 @@
+use Rattle.std.proofs.Common.{ℕ, ◌≡◌, ◌-◌, ◌/◌, ◌^◌, ◌≤◌, ◌<◌, List, length, set, slice_index, arith, sym, ◌∙◌, ap, subst}
+use Rattle.zp_model.specs.declared.constants.TheConstants.{PAGEBLOCK_PAGES}
+use Rattle.zp_model.specs.declared.state.State.TheVariants.{Tail}
+use Rattle.zp_model.specs.Block.{IsBlock}
+use Rattle.zp_model.specs.BlockSet.{Starts}
+use Rattle.zp_model.specs.Rows.{Rows, list_at, without_page, with_list, with_state}
+use Rattle.zp_model.specs.Area.{pageblocks_of}
+use Rattle.zp_area.specs.Blocks.{Blocks, block_set, removed, list_of_block}
+use Rattle.zp_area.proofs.Keeping.{kept_by, list_found, blocks_length}
+use Rattle.zp_area.proofs.Removing.{IsLessKept, kept_removed}
+use Rattle.zp_area.proofs.PageblockPages.{pageblock_below, read_at}
+use Rattle.zp_area.proofs.area.FreeArea.remove.Goals as goal
+
+pub overflow_sub-index_mut : goal.overflow_sub-index_mut
+overflow_sub-index_mut c =
+    let a : Blocks = record { rows = c.self.inside.lists; kinds = c.self.inside.kinds.items } in
+    let P : Blocks → Type 0 = λ q. Starts (block_set q) c.args.at c.args.order in
+    let x : Starts (block_set a) c.args.at c.args.order = subst P (sym c.self.view_is) c.requires in
+    let b : IsBlock (length (block_set a)) c.args.at c.args.order = c.self.invariant.one.blocks.block _ _ x in
+    let y : IsLessKept a c.self.inside.tree c.self.inside.counts c.self.inside.free_in.items c.args.at c.args.order =
+    kept_removed a _ _ _ _ _ c.self.invariant x (omega (arith, b.order)) in
+    let lt : c.args.at / PAGEBLOCK_PAGES < pageblocks_of (length (block_set a)) = pageblock_below _ _ _ b in
+    let l : length (block_set a) ≡ length c.self.inside.lists.states = blocks_length c.self.inside.lists.states in
+    let n : length c.self.inside.free_in.items ≡ pageblocks_of (length c.self.inside.lists.states) = c.self.invariant.each.blocks in
+    let r : c.index_mut.result.now ≡ slice_index c.self.inside.free_in.items (c.args.at / PAGEBLOCK_PAGES) =
+    read_at _ _ _ _ (omega arith) c.pageblock_of-pageblock.ensures c.index_mut.ensures.value in
+    let p : c.pages.result ≡ 2 ^ c.args.order = c.pages.ensures.pages in
+    let m : 2 ^ c.args.order ≤ slice_index c.self.inside.free_in.items (c.args.at / PAGEBLOCK_PAGES) = y.most in
+    omega arith
+
+pub invariant_of-self : goal.invariant_of-self
+invariant_of-self c =
+    let a : Blocks = record { rows = c.self.inside.lists; kinds = c.self.inside.kinds.items } in
+    let at : ℕ = c.args.at in
+    let counts : List ℕ = c.self.inside.counts in
+    let free_in : List ℕ = c.self.inside.free_in.items in
+    let P : Blocks → Type 0 = λ q. Starts (block_set q) c.args.at c.args.order in
+    let x : Starts (block_set a) c.args.at c.args.order = subst P (sym c.self.view_is) c.requires in
+    let b : IsBlock (length (block_set a)) c.args.at c.args.order = c.self.invariant.one.blocks.block _ _ x in
+    let y : IsLessKept a c.self.inside.tree c.self.inside.counts c.self.inside.free_in.items c.args.at c.args.order =
+    kept_removed a _ _ _ _ _ c.self.invariant x (omega (arith, b.order)) in
+    let lt : c.args.at / PAGEBLOCK_PAGES < pageblocks_of (length (block_set a)) = pageblock_below _ _ _ b in
+    let l : length (block_set a) ≡ length c.self.inside.lists.states = blocks_length c.self.inside.lists.states in
+    let n : length c.self.inside.free_in.items ≡ pageblocks_of (length c.self.inside.lists.states) = c.self.invariant.each.blocks in
+    let m : length c.self.inside.kinds.items ≡ pageblocks_of (length c.self.inside.lists.states) = c.self.invariant.one.typed in
+    let eb : c.pageblock_of-pageblock.result ≡ c.args.at / PAGEBLOCK_PAGES = c.pageblock_of-pageblock.ensures in
+    let r : c.index_mut.result.now ≡ slice_index c.self.inside.free_in.items (c.args.at / PAGEBLOCK_PAGES) =
+    read_at _ _ _ _ (omega arith) c.pageblock_of-pageblock.ensures c.index_mut.ensures.value in
+    let er : c.list_of-list.result ≡ list_of_block a c.args.at c.args.order =
+    list_found a _ _ _ _ _ (omega arith) eb c.index.ensures c.list_of-list.ensures.number in
+    kept_by _ (removed a c.args.at c.args.order) _ _ _ _ _ _
+    (ap (λ (w : Rows). let q : Blocks = record { rows = w; kinds = c.self.inside.kinds.items } in q)
+    (c.set_state.ensures
+    ∙ ap (λ (w : Rows). with_state w at Tail) c.remove.ensures.after
+    ∙ ap (λ q. with_state (with_list c.self.inside.lists q (without_page at (list_at c.self.inside.lists.lists q))) at Tail) er))
+    c.clear.ensures.after
+    (ap (λ q. set counts q (slice_index counts q - 1)) c.index-2.ensures.same)
+    (ap (λ q. set free_in q (c.index_mut.result.now - c.pages.result)) eb
+    ∙ ap (λ q. set free_in (at / PAGEBLOCK_PAGES) (q - c.pages.result)) r
+    ∙ ap (λ q. set free_in (at / PAGEBLOCK_PAGES) (slice_index free_in (at / PAGEBLOCK_PAGES) - q)) c.pages.ensures.pages)
+    y.kept
