@@ -10,3 +10,5 @@ pub mod NoBlocks
 pub mod RelistedBy
 pub mod Relisting
 pub mod Retyping
+pub mod LargestInside
+pub mod StillClear

@@ -40,7 +40,7 @@ pub root_read : (h pages : ℕ) (ns : List ℕ) (s : List (Option ℕ)) (v : ℕ
 root_read h pages ns s v t e = sym (root_largest h pages ns s v t (e ∙ ap (λ n. slice_index ns n) (root_number h)))
 
 -- the entries that largest_in goes over
-abbrev entry : List (Option ℕ) → ℕ → ℕ → ℕ → Option ℕ
+abbrev pub entry : List (Option ℕ) → ℕ → ℕ → ℕ → Option ℕ
 entry s a r g = order_of (block_if (λ x j. leb (x + 2 ^ j) (a + 2 ^ r)) g (get_or s g None))
 
 entry-to : (s : List (Option ℕ)) (a r g o : ℕ) → entry s a r g ≡ Some o → Starts s g o × (g + 2 ^ o ≤ a + 2 ^ r)
@@ -57,12 +57,12 @@ entry-to s a r g o e = go (get_or s g None) refl e
         let P : ℕ → Type 0 = λ n. (get_or s g None ≡ Some n) × (g + 2 ^ n ≤ a + 2 ^ r) in
         subst P p.1 (y, leb-true (g + 2 ^ k) (a + 2 ^ r) p.0)
 
-entry-from : (s : List (Option ℕ)) (a r g o : ℕ) → Starts s g o → g + 2 ^ o ≤ a + 2 ^ r → entry s a r g ≡ Some o
+pub entry-from : (s : List (Option ℕ)) (a r g o : ℕ) → Starts s g o → g + 2 ^ o ≤ a + 2 ^ r → entry s a r g ≡ Some o
 entry-from s a r g o st le =
     let e : leb (g + 2 ^ o) (a + 2 ^ r) ≡ true = le-leb (g + 2 ^ o) (a + 2 ^ r) le in
     rw st (rw e refl)
 
-entries-to : (s : List (Option ℕ)) (a r i o : ℕ) → get_or (map (entry s a r) (range_with_len a (2 ^ r))) i None ≡ Some o → Starts s (a + i) o × (a + i + 2 ^ o ≤ a + 2 ^ r)
+pub entries-to : (s : List (Option ℕ)) (a r i o : ℕ) → get_or (map (entry s a r) (range_with_len a (2 ^ r))) i None ≡ Some o → Starts s (a + i) o × (a + i + 2 ^ o ≤ a + 2 ^ r)
 entries-to s a r i o e =
     elim (cases_lt i (2 ^ r)) [
       | inl lt ↦ entry-to s a r (a + i) o (sym (get_or-map-range_with_len (entry s a r) a (2 ^ r) i (a + i) None lt refl) ∙ e)

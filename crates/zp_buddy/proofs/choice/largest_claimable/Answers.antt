@@ -8,9 +8,6 @@ use Rattle.zp_buddy.proofs.Claimable.{IsLargestBelow, largest_same, largest_more
 use Rattle.zp_buddy.proofs.choice.largest_claimable.Goals as goal
 use Rattle.zp_buddy.proofs.choice.largest_claimable.Goals.{then-ne+then-free_in-ge-CLAIM_PAGES, else-ne, else-ne-via-then-ne+else-free_in-ge-CLAIM_PAGES, else-ne-via-else-ne}
 
-pub largest_in-requires-clause-temp : goal.largest_in-requires-clause-temp
-largest_in-requires-clause-temp c = ?
-
 pub pageblocks-preserved : goal.pageblocks-preserved
 pageblocks-preserved c =
     let a = c.args.area.now in

@@ -14,15 +14,6 @@ use Rattle.zp_buddy.proofs.JoinBlocks.{back_noted, join_removed, clear_double, g
 use Rattle.zp_buddy.proofs.join.join.Goals as goal
 use Rattle.zp_buddy.proofs.join.join.Goals.{else-joins-test, then-joins-test+then-not-is_free}
 
-pub hold-requires-clause-temp : goal.hold-requires-clause-temp
-hold-requires-clause-temp c = ?
-
-pub remove-requires-clause-temp : goal.remove-requires-clause-temp
-remove-requires-clause-temp c = ?
-
-pub add-requires-clause-temp : goal.add-requires-clause-temp
-add-requires-clause-temp c = ?
-
 pub hold-requires-clause-page : goal.hold-requires-clause-page
 hold-requires-clause-page c = clear_below _ _ _ _ _ c.requires.clear
 

@@ -17,9 +17,6 @@ at-requires c =
     let below : c.args.head + 2 ^ c.lower-order.result < MAX_PAGES = half_below (length c.args.area.now.rows.states) c.args.head c.args.from c.lower-order.result c.requires.block h (omega arith) in
     omega arith
 
-pub add-requires-clause-temp : goal.add-requires-clause-temp
-add-requires-clause-temp c = ?
-
 pub add-requires-clause-block : goal.add-requires-clause-block
 add-requires-clause-block c =
     let i = c.halves.invariant in

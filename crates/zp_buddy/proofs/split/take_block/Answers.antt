@@ -4,9 +4,6 @@ use Rattle.zp_area.specs.Blocks.{Blocks}
 use Rattle.zp_buddy.proofs.SplitBlocks.{starts_block, taken_block}
 use Rattle.zp_buddy.proofs.split.take_block.Goals as goal
 
-pub remove-requires-clause-temp : goal.remove-requires-clause-temp
-remove-requires-clause-temp c = ?
-
 pub split-requires-clause-block : goal.split-requires-clause-block
 split-requires-clause-block c =
     let n : length c.remove.new.self.rows.states ≡ length c.args.area.now.rows.states = ap (λ (q : Blocks). length q.rows.states) c.remove.ensures.after ∙ length-set _ _ _ in

@@ -3,10 +3,13 @@ use Rattle.zp_model.specs.declared.constants.TheConstants.{PAGEBLOCK_PAGES}
 use Rattle.zp_model.specs.declared.state.State.TheVariants.{Free}
 use Rattle.zp_model.specs.Rows.{Rows, IsLoose, list_at, with_list, with_state}
 use Rattle.zp_model.specs.Area.{pageblocks_of}
-use Rattle.zp_tree.specs.Blocks.{IsApart}
-use Rattle.zp_area.specs.Blocks.{Blocks, added, list_of_block}
+use Rattle.zp_model.specs.BlockSet.{Starts}
+use Rattle.zp_tree.specs.Blocks.{IsApart, IsBeside}
+use Rattle.zp_frames.specs.Given.{IsClearRun}
+use Rattle.zp_area.specs.Blocks.{Blocks, block_set, added, list_of_block}
 use Rattle.zp_area.proofs.Keeping.{kept_by, list_found}
 use Rattle.zp_area.proofs.Adding.{IsComing, IsMoreKept, coming_by, coming_loose, coming_apart, kept_added}
+use Rattle.zp_area.proofs.StillClear.{added_starts, clear_beside}
 use Rattle.zp_area.proofs.PageblockPages.{pageblock_below, read_at}
 use Rattle.zp_area.proofs.area.FreeArea.add.Goals as goal
 
@@ -76,3 +79,38 @@ invariant_of-self c =
     ∙ ap (λ q. set free_in (at / PAGEBLOCK_PAGES) (q + c.pages.result)) r
     ∙ ap (λ q. set free_in (at / PAGEBLOCK_PAGES) (slice_index free_in (at / PAGEBLOCK_PAGES) + q)) c.pages.ensures.pages)
     y.kept
+
+-- the rows and the types after the call
+now_added : (a : Blocks) (h k r : ℕ) (v w : Rows) → v ≡ with_state a.rows h (Free k) → w ≡ with_list v r (h ∷ list_at v.lists r) → r ≡ list_of_block a h k →
+    (let q : Blocks = record a { rows = w } in q) ≡ added a h k
+now_added a h k r v w ev ew er =
+    ap (λ (x : Rows). let q : Blocks = record a { rows = x } in q)
+    (ew ∙ ap (λ (x : Rows). with_list x r (h ∷ list_at x.lists r)) ev
+    ∙ ap (λ q. with_list (with_state a.rows h (Free k)) q (h ∷ list_at a.rows.lists q)) er)
+
+pub returns-clause-held : goal.returns-clause-held
+returns-clause-held c =
+    let a : Blocks = record { rows = c.self.inside.lists; kinds = c.self.inside.kinds.items } in
+    let x : IsComing a c.args.at c.args.order = coming_by a _ _ _ c.self.view_is c.self.invariant.one c.requires.block c.requires.clear in
+    let lt : c.args.at / PAGEBLOCK_PAGES < pageblocks_of (length c.self.inside.lists.states) = pageblock_below _ _ _ x.block in
+    let m : length c.self.inside.kinds.items ≡ pageblocks_of (length c.self.inside.lists.states) = x.one.typed in
+    let er : c.list_of-list.result ≡ list_of_block a c.args.at c.args.order =
+    list_found a _ _ _ _ _ (omega arith) c.pageblock_of-pageblock.ensures c.index.ensures c.list_of-list.ensures.number in
+    let P : Blocks → Type 0 = λ q. Starts (block_set q) c.args.at c.args.order in
+    subst P (sym (now_added a c.args.at c.args.order c.list_of-list.result c.set_state.new.self c.push_front.new.self c.set_state.ensures c.push_front.ensures.after er))
+    (added_starts a c.args.at c.args.order x)
+
+pub returns-clause-still_clear : goal.returns-clause-still_clear
+returns-clause-still_clear c =
+    let a : Blocks = record { rows = c.self.inside.lists; kinds = c.self.inside.kinds.items } in
+    let x : IsComing a c.args.at c.args.order = coming_by a _ _ _ c.self.view_is c.self.invariant.one c.requires.block c.requires.clear in
+    let lt : c.args.at / PAGEBLOCK_PAGES < pageblocks_of (length c.self.inside.lists.states) = pageblock_below _ _ _ x.block in
+    let m : length c.self.inside.kinds.items ≡ pageblocks_of (length c.self.inside.lists.states) = x.one.typed in
+    let er : c.list_of-list.result ≡ list_of_block a c.args.at c.args.order =
+    list_found a _ _ _ _ _ (omega arith) c.pageblock_of-pageblock.ensures c.index.ensures c.list_of-list.ensures.number in
+    let P : Blocks → Type 0 = λ q. (h k : ℕ) → IsClearRun c.args.self.now.rows.states c.args.self.now.rows.lists h k → IsBeside h k c.args.at c.args.order →
+    IsClearRun q.rows.states q.rows.lists h k in
+    let Q : Blocks → Type 0 = λ q. (h k : ℕ) → IsClearRun q.rows.states q.rows.lists h k → IsBeside h k c.args.at c.args.order →
+    IsClearRun (added a c.args.at c.args.order).rows.states (added a c.args.at c.args.order).rows.lists h k in
+    subst P (sym (now_added a c.args.at c.args.order c.list_of-list.result c.set_state.new.self c.push_front.new.self c.set_state.ensures c.push_front.ensures.after er))
+    (subst Q c.self.view_is (clear_beside a c.args.at c.args.order x))

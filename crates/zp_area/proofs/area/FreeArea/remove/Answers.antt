@@ -5,9 +5,11 @@ use Rattle.zp_model.specs.Block.{IsBlock}
 use Rattle.zp_model.specs.BlockSet.{Starts}
 use Rattle.zp_model.specs.Rows.{Rows, list_at, without_page, with_list, with_state}
 use Rattle.zp_model.specs.Area.{pageblocks_of}
+use Rattle.zp_frames.specs.Given.{IsClearRun}
 use Rattle.zp_area.specs.Blocks.{Blocks, block_set, removed, list_of_block}
 use Rattle.zp_area.proofs.Keeping.{kept_by, list_found, blocks_length}
 use Rattle.zp_area.proofs.Removing.{IsLessKept, kept_removed}
+use Rattle.zp_area.proofs.StillClear.{clear_removed, clear_still}
 use Rattle.zp_area.proofs.PageblockPages.{pageblock_below, read_at}
 use Rattle.zp_area.proofs.area.FreeArea.remove.Goals as goal
 
@@ -59,3 +61,43 @@ invariant_of-self c =
     ∙ ap (λ q. set free_in (at / PAGEBLOCK_PAGES) (q - c.pages.result)) r
     ∙ ap (λ q. set free_in (at / PAGEBLOCK_PAGES) (slice_index free_in (at / PAGEBLOCK_PAGES) - q)) c.pages.ensures.pages)
     y.kept
+
+-- the rows and the types after the call
+now_removed : (a : Blocks) (h k r : ℕ) (v w : Rows) → v ≡ with_list a.rows r (without_page h (list_at a.rows.lists r)) → w ≡ with_state v h Tail → r ≡ list_of_block a h k →
+    (let q : Blocks = record a { rows = w } in q) ≡ removed a h k
+now_removed a h k r v w ev ew er =
+    ap (λ (x : Rows). let q : Blocks = record a { rows = x } in q)
+    (ew ∙ ap (λ (x : Rows). with_state x h Tail) ev
+    ∙ ap (λ q. with_state (with_list a.rows q (without_page h (list_at a.rows.lists q))) h Tail) er)
+
+pub returns-clause-clear : goal.returns-clause-clear
+returns-clause-clear c =
+    let a : Blocks = record { rows = c.self.inside.lists; kinds = c.self.inside.kinds.items } in
+    let S : Blocks → Type 0 = λ q. Starts (block_set q) c.args.at c.args.order in
+    let x : Starts (block_set a) c.args.at c.args.order = subst S (sym c.self.view_is) c.requires in
+    let b : IsBlock (length (block_set a)) c.args.at c.args.order = c.self.invariant.one.blocks.block _ _ x in
+    let lt : c.args.at / PAGEBLOCK_PAGES < pageblocks_of (length (block_set a)) = pageblock_below _ _ _ b in
+    let l : length (block_set a) ≡ length c.self.inside.lists.states = blocks_length c.self.inside.lists.states in
+    let m : length c.self.inside.kinds.items ≡ pageblocks_of (length c.self.inside.lists.states) = c.self.invariant.one.typed in
+    let er : c.list_of-list.result ≡ list_of_block a c.args.at c.args.order =
+    list_found a _ _ _ _ _ (omega arith) c.pageblock_of-pageblock.ensures c.index.ensures c.list_of-list.ensures.number in
+    let P : Blocks → Type 0 = λ q. IsClearRun q.rows.states q.rows.lists c.args.at c.args.order in
+    subst P (sym (now_removed a c.args.at c.args.order c.list_of-list.result c.remove.new.self c.set_state.new.self c.remove.ensures.after c.set_state.ensures er))
+    (clear_removed a c.args.at c.args.order c.self.invariant.one x)
+
+pub returns-clause-still_clear : goal.returns-clause-still_clear
+returns-clause-still_clear c =
+    let a : Blocks = record { rows = c.self.inside.lists; kinds = c.self.inside.kinds.items } in
+    let S : Blocks → Type 0 = λ q. Starts (block_set q) c.args.at c.args.order in
+    let x : Starts (block_set a) c.args.at c.args.order = subst S (sym c.self.view_is) c.requires in
+    let b : IsBlock (length (block_set a)) c.args.at c.args.order = c.self.invariant.one.blocks.block _ _ x in
+    let lt : c.args.at / PAGEBLOCK_PAGES < pageblocks_of (length (block_set a)) = pageblock_below _ _ _ b in
+    let l : length (block_set a) ≡ length c.self.inside.lists.states = blocks_length c.self.inside.lists.states in
+    let m : length c.self.inside.kinds.items ≡ pageblocks_of (length c.self.inside.lists.states) = c.self.invariant.one.typed in
+    let er : c.list_of-list.result ≡ list_of_block a c.args.at c.args.order =
+    list_found a _ _ _ _ _ (omega arith) c.pageblock_of-pageblock.ensures c.index.ensures c.list_of-list.ensures.number in
+    let P : Blocks → Type 0 = λ q. (h k : ℕ) → IsClearRun c.args.self.now.rows.states c.args.self.now.rows.lists h k → IsClearRun q.rows.states q.rows.lists h k in
+    let Q : Blocks → Type 0 = λ q. (h k : ℕ) → IsClearRun q.rows.states q.rows.lists h k →
+    IsClearRun (removed a c.args.at c.args.order).rows.states (removed a c.args.at c.args.order).rows.lists h k in
+    subst P (sym (now_removed a c.args.at c.args.order c.list_of-list.result c.remove.new.self c.set_state.new.self c.remove.ensures.after c.set_state.ensures er))
+    (subst Q c.self.view_is (clear_still a c.args.at c.args.order c.self.invariant.one x))

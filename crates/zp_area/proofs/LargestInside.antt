@@ -1,0 +1,79 @@
+-- The largest block inside an aligned run: that one is held, and none is larger.
+use Rattle.std.proofs.Common.{ℕ, zero, suc, ◌+◌, ◌-◌, ◌*◌, ◌/◌, ◌^◌, ◌≡◌, ◌≤◌, ◌<◌, ◌⊎◌, inl, inr, refl, sym, ◌∙◌, ap, subst, arith, max, map, List, [], ◌∷◌, get_or, Option, Some, None, IfSome}
+use Rattle.std.specs.List.{range_with_len}
+use Rattle.std.proofs.lemmas.Bool.{cases_lt}
+use Rattle.std.proofs.lemmas.Nat.{pow_pos}
+use Rattle.std.proofs.lemmas.List.FromFn.{get_or-map-range_with_len}
+use Rattle.zp_model.specs.Block.{largest_order, IsBlock}
+use Rattle.zp_model.specs.BlockSet.{Starts, greatest, larger, largest_in}
+use Rattle.zp_model.specs.Area.{pageblock_pages}
+use Rattle.zp_model.proofs.Heads.{head_room}
+use Rattle.zp_tree.specs.Blocks.{IsBlockSet}
+use Rattle.zp_tree.proofs.Largest.{entry, entry-from, entries-to}
+
+larger_held : (p q : Option ℕ) (o : ℕ) → larger p q ≡ Some o → (p ≡ Some o) ⊎ (q ≡ Some o)
+larger_held None q o e = inr e
+larger_held (Some j) None o e = inl e
+larger_held (Some j) (Some k) o e =
+    let f : max j k ≡ o = cc in
+    elim (cases_lt j k) [
+      | inl lt ↦ let g : k ≡ o = omega arith in inr (ap (λ q. Some q) g)
+      | inr ge ↦ let g : j ≡ o = omega arith in inl (ap (λ q. Some q) g)
+    ]
+
+larger_first : (p q : Option ℕ) (k : ℕ) → p ≡ Some k → (o : ℕ) × (larger p q ≡ Some o) × (k ≤ o)
+larger_first None q k e = cc
+larger_first (Some j) None k e = let f : j ≡ k = cc in (j, refl, omega arith)
+larger_first (Some j) (Some i) k e = let f : j ≡ k = cc in (max j i, refl, omega arith)
+
+larger_second : (p q : Option ℕ) (k n : ℕ) → q ≡ Some n → k ≤ n → (o : ℕ) × (larger p q ≡ Some o) × (k ≤ o)
+larger_second None q k n e le = (n, e, le)
+larger_second (Some j) None k n e le = cc
+larger_second (Some j) (Some i) k n e le = let f : i ≡ n = cc in (max j i, refl, omega arith)
+
+greatest_held : (os : List (Option ℕ)) (o : ℕ) → greatest os ≡ Some o → (i : ℕ) × (get_or os i None ≡ Some o)
+greatest_held [] o e = cc
+greatest_held (p ∷ os) o e =
+    elim (larger_held p (greatest os) o e) [
+      | inl here ↦ (0, here)
+      | inr later ↦ let w = greatest_held os o later in (suc w.0, w.1)
+    ]
+
+greatest_most : (os : List (Option ℕ)) (i k : ℕ) → get_or os i None ≡ Some k → (o : ℕ) × (greatest os ≡ Some o) × (k ≤ o)
+greatest_most [] i k e = cc
+greatest_most (p ∷ os) zero k e = larger_first p (greatest os) k e
+greatest_most (p ∷ os) (suc i) k e = let w = greatest_most os i k e in larger_second p (greatest os) k w.0 w.1 w.2
+
+pub inside_held : (s : List (Option ℕ)) (a r o : ℕ) → largest_in s a r ≡ Some o → (h : ℕ) × Starts s h o × (a ≤ h) × (h + 2 ^ o ≤ a + 2 ^ r)
+unfolding largest_in
+inside_held s a r o e =
+    let w = greatest_held (map (entry s a r) (range_with_len a (2 ^ r))) o e in
+    let x = entries-to s a r w.0 o w.1 in
+    (a + w.0, x.0, omega arith, x.1)
+
+pub inside_most : (s : List (Option ℕ)) (a r h k : ℕ) → Starts s h k → a ≤ h → h + 2 ^ k ≤ a + 2 ^ r → (o : ℕ) × (largest_in s a r ≡ Some o) × (k ≤ o)
+unfolding largest_in
+inside_most s a r h k st lo hi =
+    let j : a + (h - a) ≡ h = omega arith in
+    let pos : 0 < 2 ^ k = pow_pos k in
+    greatest_most (map (entry s a r) (range_with_len a (2 ^ r))) (h - a) k
+    (get_or-map-range_with_len (entry s a r) a (2 ^ r) (h - a) h None (omega arith) j ∙ entry-from s a r h k st hi)
+
+-- the same of the blocks of a pageblock
+pub pageblock_held : (s : List (Option ℕ)) (b : ℕ) (o : Option ℕ) → o ≡ largest_in s (b * pageblock_pages) largest_order →
+    IfSome o (λ k. (h : ℕ) × Starts s h k × (h / pageblock_pages ≡ b))
+pageblock_held s b None e = tt
+pageblock_held s b (Some k) e =
+    let w = inside_held s (b * pageblock_pages) largest_order k (sym e) in
+    let lo : b * pageblock_pages ≤ w.0 = w.2 in
+    let hi : w.0 + 2 ^ k ≤ b * pageblock_pages + 2 ^ largest_order = w.3 in
+    let pos : 0 < 2 ^ k = pow_pos k in
+    (w.0, w.1, omega arith)
+
+pub pageblock_most : (s : List (Option ℕ)) (b : ℕ) (o : Option ℕ) → IsBlockSet s → o ≡ largest_in s (b * pageblock_pages) largest_order → (h k : ℕ) → Starts s h k →
+    h / pageblock_pages ≡ b → (j : ℕ) × (o ≡ Some j) × (k ≤ j)
+pageblock_most s b o x e h k st there =
+    let block = x.block h k st in
+    let room : h + 2 ^ k ≤ h / 2 ^ largest_order * 2 ^ largest_order + 2 ^ largest_order = head_room h k largest_order block.order block.aligned in
+    let w = inside_most s (b * pageblock_pages) largest_order h k st (omega arith) (omega arith) in
+    (w.0, e ∙ w.1, w.2)
