@@ -2,7 +2,7 @@
 //!
 //! In Linux: `free_pages_check`.
 ghost use Rattle.std.specs.Prelude.{◌≡◌, ◌<◌, ◌≤◌, ◌+◌, ◌%◌, ◌^◌, ◌↔◌, ℕ, length, IsTrue};
-ghost use Rattle.zp_model.specs.Block.{IsBlock, head};
+ghost use Rattle.zp_model.specs.Block.{IsBlock, head, largest_order};
 ghost use Rattle.zp_model.specs.BlockSet.{Starts};
 ghost use Rattle.zp_frames.specs.Given.{IsClearRun};
 ghost use Rattle.zp_area.specs.Blocks.{block_set};
@@ -20,7 +20,7 @@ pub fn is_block(area: &FreeArea, at: PageAt, order: Order) -> bool
 
 /// Whether a page lies in a free block of more than this order.
 fn is_in_larger(area: &FreeArea, at: PageAt, order: Order) -> bool
-    ensures { IsTrue result ↔ ((k : ℕ) × (order < k) × Starts (block_set area.now) (head at k) k) }
+    ensures { IsTrue result ↔ ((k : ℕ) × (order < k) × (k ≤ largest_order) × Starts (block_set area.now) (head at k) k) }
 {
     let mut larger = order;
     'orders: while larger != Order::largest() {

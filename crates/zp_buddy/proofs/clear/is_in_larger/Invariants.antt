@@ -7,9 +7,9 @@ use Rattle.zp_buddy.proofs.clear.is_in_larger.Given as goal
 -- no block of an order up to `larger` has the page
 abbrev pub invariant-orders : goal.invariant-orders
 invariant-orders l = record {
-  from : l.order ≤ l.larger;
+  from : l.fn.order ≤ l.larger;
   upto : l.larger ≤ largest_order;
-  none : (k : ℕ) → l.order < k → k ≤ l.larger → Starts (block_set l.area) (head l.at k) k → ⊥;
+  none : (k : ℕ) → l.fn.order < k → k ≤ l.larger → Starts (block_set l.area) (head l.at k) k → ⊥;
 }
 
 abbrev pub decreases-orders : goal.decreases-orders
