@@ -1,15 +1,15 @@
 -- Whether and at which order something can be claimed, told by the pageblocks.
-use Rattle.std.proofs.Common.{ℕ, ◌+◌, ◌/◌, ◌%◌, ◌≡◌, ◌≢◌, ◌≤◌, ◌<◌, ◌⊎◌, inl, inr, refl, sym, ◌∙◌, ap, subst, arith, Bool, true, false, leb, not, ◌||◌, cond, max, List, [], ◌∷◌, length, Option, Some, None, IfSome}
+use Rattle.std.proofs.Common.{ℕ, ◌+◌, ◌/◌, ◌%◌, ◌≡◌, ◌≢◌, ◌≤◌, ◌<◌, ◌⊎◌, inl, inr, refl, sym, ◌∙◌, ap, subst, arith, Bool, true, false, leb, not, ◌||◌, cond, max, List, [], ◌∷◌, Option, Some, None, IfSome}
 use Rattle.std.specs.List.{find, slice_index_or}
 use Rattle.std.specs.Option.{option_or}
-use Rattle.std.proofs.lemmas.Bool.{cases_eq, cases_lt, leb-true, le-leb, or_cases, false≢true, both_ways, false_from_ne_true, eqb-true, eq-eqb}
+use Rattle.std.proofs.lemmas.Bool.{cases_eq, cases_lt, leb-true, le-leb, false≢true, both_ways}
 use Rattle.zp_model.specs.declared.migrate_type.MigrateType.{MigrateType}
 use Rattle.zp_model.specs.declared.migrate_type.MigrateType.TheVariants.{Unmovable, Reclaimable, Movable}
 use Rattle.zp_model.specs.declared.constants.TheConstants.{LEAST_MOVABLE_CLAIM, CLAIM_PAGES}
 use Rattle.zp_model.specs.Block.{largest_order}
 use Rattle.zp_model.specs.BlockSet.{Starts, cover, first_of, larger}
 use Rattle.zp_model.specs.MigrateType.{foreign, same_type, type_number, types_count}
-use Rattle.zp_model.specs.Rows.{list_at, stands_in}
+use Rattle.zp_model.specs.Rows.{stands_in}
 use Rattle.zp_model.specs.Area.{list_number, kind_at, pageblock_pages, size_in}
 use Rattle.zp_model.specs.Choose.{claim}
 use Rattle.zp_model.proofs.Settles.{stands_cases}
@@ -19,7 +19,7 @@ use Rattle.zp_frames.proofs.Walks.{found_stands}
 use Rattle.zp_area.specs.Blocks.{Blocks, block_set, free_list_of}
 use Rattle.zp_area.specs.OneSet.{IsOneSet}
 use Rattle.zp_area.proofs.ListedHeads.{listed_starts}
-use Rattle.zp_buddy.specs.Choices.{area_in, is_half_free, half_free_of_order, claimable_of_order, IsInClaimable, IsLargestClaimable, IsFoundAs, IsFreeBlock}
+use Rattle.zp_buddy.specs.Choices.{area_in, is_half_free, half_free_of_order, claimable_of_order, IsInClaimable, IsLargestClaimable, IsFoundAs}
 use Rattle.zp_buddy.specs.declared.choice.FreeBlock.{FreeBlock}
 use Rattle.zp_buddy.proofs.Finders.{claim_half_free, claim_never, claim_some, claim_none}
 

@@ -1,5 +1,5 @@
 -- A pageblock that gets another type, where the blocks are the maximal ones.
-use Rattle.std.proofs.Common.{ℕ, ◌+◌, ◌/◌, ◌%◌, ◌≡◌, ◌≤◌, ◌<◌, ◌==◌, refl, sym, ◌∙◌, ap, subst, arith, Bool, true, not, ◌&&◌, List, [], ◌++◌, length, Option, None, Some, drop, take, set, get_or, get_or-take}
+use Rattle.std.proofs.Common.{ℕ, ◌/◌, ◌%◌, ◌≡◌, ◌≤◌, ◌<◌, ◌==◌, refl, sym, ◌∙◌, ap, subst, arith, Bool, true, not, ◌&&◌, List, [], ◌++◌, length, Option, None, Some, take, set, get_or, get_or-take}
 use Rattle.std.specs.List.{filter}
 use Rattle.std.proofs.lemmas.Bool.{both_ways, eqb-true, eq-eqb, false≢true}
 use Rattle.zp_model.specs.declared.migrate_type.MigrateType.{MigrateType}
@@ -25,7 +25,7 @@ use Rattle.zp_area.specs.Blocks.{Blocks, block_set}
 use Rattle.zp_area.specs.OneSet.{IsOneSet}
 use Rattle.zp_area.specs.Retyped.{is_to_stand, relisted, all_relisted, retyped}
 use Rattle.zp_area.proofs.Retyping.{free-relisted, aside-relisted, length-relisted}
-use Rattle.zp_buddy.specs.Choices.{area_in, frames_in}
+use Rattle.zp_buddy.specs.Choices.{frames_in}
 
 order_is : (k : ℕ) (o : Option ℕ) → is_order k o ≡ true → o ≡ Some k
 order_is k None e = absurd (false≢true e)

@@ -1,8 +1,8 @@
 -- The looks at a run and at the blocks around it decide whether it is clear.
-use Rattle.std.proofs.Common.{ℕ, ◌+◌, ◌-◌, ◌*◌, ◌/◌, ◌%◌, ◌^◌, ◌≡◌, ◌≤◌, ◌<◌, inl, inr, sym, ◌∙◌, ap, subst, arith, List, [], drop, length, true, false, Option}
-use Rattle.std.proofs.lemmas.Bool.{cases_lt, and_from, le-leb, lt-ltb, both_ways, false_from_ne_true, leb-true, ltb-true, and_parts}
+use Rattle.std.proofs.Common.{ℕ, ◌+◌, ◌/◌, ◌^◌, ◌≡◌, ◌≤◌, ◌<◌, inl, inr, sym, ◌∙◌, ap, subst, arith, [], drop, length, true, false}
+use Rattle.std.proofs.lemmas.Bool.{cases_lt, both_ways, false_from_ne_true, leb-true, ltb-true, and_parts}
 use Rattle.std.proofs.lemmas.Nat.{pow_pos}
-use Rattle.zp_model.specs.Block.{largest_order, has, head, in_run, IsBlock}
+use Rattle.zp_model.specs.Block.{largest_order, has, head, IsBlock}
 use Rattle.zp_model.specs.BlockSet.{Starts, cover}
 use Rattle.zp_model.specs.MigrateType.{types_count}
 use Rattle.std.proofs.lemmas.List.{get_or-drop}
@@ -10,7 +10,6 @@ use Rattle.zp_model.specs.Rows.{IsLoose, IsOn, list_at, stands_in}
 use Rattle.zp_model.specs.Area.{kind_at, list_number, lists_count}
 use Rattle.zp_model.proofs.Heads.{head_le, lt_head, head_of, head_same, head_room}
 use Rattle.zp_frames.specs.Given.{IsClearRun}
-use Rattle.zp_frames.specs.Sound.{IsSound}
 use Rattle.zp_frames.proofs.ClearRuns.{aside_some}
 use Rattle.zp_frames.proofs.Taken.{row_below}
 use Rattle.zp_area.specs.Blocks.{Blocks, block_set}

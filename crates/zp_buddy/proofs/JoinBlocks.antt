@@ -1,14 +1,14 @@
 -- A block that comes back, and the buddies that leave the free area to join it.
-use Rattle.std.proofs.Common.{ℕ, ◌+◌, ◌-◌, ◌*◌, ◌/◌, ◌%◌, ◌^◌, ◌≡◌, ◌≤◌, ◌<◌, inl, inr, refl, sym, ◌∙◌, ap, subst, arith, List, ◌∷◌, length, true}
+use Rattle.std.proofs.Common.{ℕ, ◌+◌, ◌-◌, ◌^◌, ◌≡◌, ◌≤◌, ◌<◌, inl, inr, refl, sym, ◌∙◌, ap, subst, arith, List, length}
 use Rattle.std.proofs.lemmas.List.{length-map}
 use Rattle.std.proofs.lemmas.Nat.{pow_pos}
 use Rattle.zp_model.specs.declared.migrate_type.MigrateType.{MigrateType}
 use Rattle.zp_model.specs.declared.state.State.{State}
 use Rattle.zp_model.specs.declared.state.State.TheVariants.{Tail, Free}
-use Rattle.zp_model.specs.Block.{largest_order, head, size, IsBlock}
+use Rattle.zp_model.specs.Block.{largest_order, head, IsBlock}
 use Rattle.zp_model.specs.BlockSet.{cover}
-use Rattle.zp_model.specs.Frames.{IsClear, given}
-use Rattle.zp_model.specs.Rows.{Rows, list_at, state_at, with_state}
+use Rattle.zp_model.specs.Frames.{IsClear}
+use Rattle.zp_model.specs.Rows.{Rows, state_at, with_state}
 use Rattle.zp_model.specs.Area.{kind_at, list_number}
 use Rattle.zp_model.proofs.Covers.{has_below, length-cover}
 use Rattle.zp_model.proofs.Heads.{two, head_le, lt_head}
@@ -19,7 +19,7 @@ use Rattle.zp_frames.proofs.Taken.{kind_inside}
 use Rattle.zp_frames.proofs.Joining.{IsBack, IsJoining, in_double, joining_place, joining_step}
 use Rattle.zp_frames.proofs.Ending.{IsEnded}
 use Rattle.zp_frames.proofs.GivenBack.{IsGiven, made_back, make_given}
-use Rattle.zp_area.specs.Blocks.{Blocks, block_set, added, removed, noted, list_of_block, taken_off}
+use Rattle.zp_area.specs.Blocks.{Blocks, added, removed, noted, list_of_block, taken_off}
 use Rattle.zp_buddy.specs.Choices.{frames_in}
 
 -- the block's head is noted as a tail

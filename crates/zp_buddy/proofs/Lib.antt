@@ -8,3 +8,4 @@ pub mod Taking
 pub mod Claiming
 pub mod NotedFrames
 pub mod ClearRun
+pub mod AddedPages

@@ -1,17 +1,17 @@
 -- The blocks of a sound area are the maximal ones of its free pages.
-use Rattle.std.proofs.Common.{ℕ, zero, suc, ◌+◌, ◌^◌, ◌≡◌, ◌≤◌, ◌<◌, inl, inr, refl, sym, ◌∙◌, ap, subst, arith, Bool, true, false, cond, List, [], ◌∷◌, map, length, get_or, Option, None, Some}
-use Rattle.std.specs.List.{range_with_len, find, count_by}
+use Rattle.std.proofs.Common.{ℕ, suc, ◌+◌, ◌≡◌, ◌<◌, refl, sym, ◌∙◌, ap, subst, arith, Bool, true, List, [], ◌∷◌, length, get_or, Option, None, Some}
+use Rattle.std.specs.List.{range_with_len, count_by}
 use Rattle.std.proofs.lemmas.Bool.{false_from_ne_true, false≢true, eqb-true, eq-eqb}
 use Rattle.std.proofs.lemmas.List.Sums.{sum_by-cons}
 use Rattle.std.proofs.lemmas.List.FromFn.{length-map-range_with_len}
-use Rattle.std.proofs.lemmas.List.{length-map, ext_get_or}
-use Rattle.zp_model.specs.Block.{largest_order, is_max, size}
-use Rattle.zp_model.specs.BlockSet.{Starts, cover, is_order, lowest, max_blocks}
+use Rattle.std.proofs.lemmas.List.{ext_get_or}
+use Rattle.zp_model.specs.Block.{largest_order, is_max}
+use Rattle.zp_model.specs.BlockSet.{Starts, cover, is_order, max_blocks}
 use Rattle.zp_model.specs.Frames.{Frames, IsFramed}
 use Rattle.zp_model.specs.Info.{blocks_of_order}
 use Rattle.zp_model.proofs.Covers.{length-cover}
 use Rattle.zp_model.proofs.MaximalBlocks.{max-unique}
-use Rattle.zp_frames.specs.Sound.{blocks_of, free_order, IsSound}
+use Rattle.zp_frames.specs.Sound.{IsSound}
 use Rattle.zp_frames.proofs.Counting.{one_if, same_tests}
 use Rattle.zp_frames.proofs.Framed.{framed}
 use Rattle.zp_frames.proofs.Restating.{max_block_some, max_block_none}

@@ -1,17 +1,15 @@
 -- Noting something of a page that is not free leaves the free blocks.
-use Rattle.std.proofs.Common.{ℕ, ◌≡◌, ◌≤◌, refl, sym, ◌∙◌, ap, subst, arith, false, List, length, set, length-set, Option}
+use Rattle.std.proofs.Common.{ℕ, ◌≡◌, ◌≤◌, sym, ◌∙◌, ap, subst, arith, List, length, set, length-set, Option}
 use Rattle.zp_model.specs.declared.state.State.{State}
-use Rattle.zp_model.specs.Block.{largest_order, has, size}
+use Rattle.zp_model.specs.Block.{largest_order, size}
 use Rattle.zp_model.specs.BlockSet.{Starts, cover}
 use Rattle.zp_model.specs.Rows.{list_at}
 use Rattle.zp_model.specs.Area.{pageblocks_of}
-use Rattle.zp_model.specs.Frames.{Frames, IsNote}
+use Rattle.zp_model.specs.Frames.{Frames}
 use Rattle.zp_model.proofs.Normal.{IsNormal}
 use Rattle.zp_model.proofs.Pages.{In}
 use Rattle.zp_model.proofs.Settles.{IsListed}
-use Rattle.zp_frames.specs.Sound.{IsSound}
 use Rattle.zp_area.specs.Blocks.{Blocks, block_set, noted}
-use Rattle.zp_area.specs.OneSet.{IsOneSet}
 use Rattle.zp_area.proofs.Holding.{IsHolding, noted_set}
 use Rattle.zp_buddy.specs.Choices.{area_in, frames_in}
 use Rattle.zp_buddy.specs.Held.{IsHeld}

@@ -1,5 +1,5 @@
 -- A block that leaves the free area, and the halves of it that come back.
-use Rattle.std.proofs.Common.{ℕ, ◌+◌, ◌*◌, ◌/◌, ◌%◌, ◌^◌, ◌≡◌, ◌≤◌, ◌<◌, refl, sym, ◌∙◌, ap, subst, arith, List, ◌∷◌, length, set, length-set, true}
+use Rattle.std.proofs.Common.{ℕ, ◌+◌, ◌*◌, ◌/◌, ◌%◌, ◌^◌, ◌≡◌, ◌≤◌, ◌<◌, refl, sym, ◌∙◌, ap, subst, arith, List, length}
 use Rattle.std.proofs.Math.Nat.{add-mod_right, pow-le-pow_right}
 use Rattle.std.proofs.lemmas.Nat.{pow_pos, pow_below}
 use Rattle.zp_model.specs.declared.migrate_type.MigrateType.{MigrateType}
@@ -10,7 +10,7 @@ use Rattle.zp_model.specs.Block.{largest_order, IsBlock}
 use Rattle.zp_model.specs.BlockSet.{Starts}
 use Rattle.zp_model.specs.Frames.{with_area}
 use Rattle.zp_model.specs.MigrateType.{type_number, types_count}
-use Rattle.zp_model.specs.Rows.{Rows, IsOn, list_at, without_page, with_state}
+use Rattle.zp_model.specs.Rows.{Rows, IsOn, with_state}
 use Rattle.zp_model.specs.Area.{kind_at, list_number, lists_count}
 use Rattle.zp_model.specs.Take.{leave}
 use Rattle.zp_model.proofs.Heads.{two, aligned_down, head_room}
@@ -18,7 +18,7 @@ use Rattle.zp_frames.specs.Given.{IsClearRun}
 use Rattle.zp_frames.specs.Sound.{IsSound, frames_of}
 use Rattle.zp_frames.specs.Split.{IsSplit}
 use Rattle.zp_frames.proofs.Halves.{type_below, split_turn}
-use Rattle.zp_frames.proofs.Taken.{IsTaken, row_below, kind_inside, block_inside, taken_sound}
+use Rattle.zp_frames.proofs.Taken.{row_below, kind_inside, block_inside, taken_sound}
 use Rattle.zp_frames.proofs.TakenFrames.{make_taken, taken_frames}
 use Rattle.zp_area.specs.Blocks.{Blocks, block_set, added, removed, list_of_block, taken_off}
 use Rattle.zp_buddy.specs.Choices.{frames_in}

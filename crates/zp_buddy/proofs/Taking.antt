@@ -10,21 +10,20 @@ use Rattle.zp_model.specs.declared.state.State.{State}
 use Rattle.zp_model.specs.Block.{has, size, without, IsBlock}
 use Rattle.zp_model.specs.BlockSet.{Starts, cover, lowest}
 use Rattle.zp_model.specs.Rows.{stands_in}
-use Rattle.zp_model.specs.Area.{lists_count, pageblock_pages, pageblocks_of}
+use Rattle.zp_model.specs.Area.{lists_count, pageblock_pages}
 use Rattle.zp_model.specs.Choose.{choose}
 use Rattle.zp_model.specs.Frames.{Frames, IsClear, with_area, restated}
-use Rattle.zp_model.specs.Take.{leave, left_low, retype, taken, take_answer, take_after, take_low_answer, take_low_after, blocks_at_hand}
+use Rattle.zp_model.specs.Take.{leave, retype, taken, take_answer, take_after, take_low_answer, take_low_after, blocks_at_hand}
 use Rattle.zp_model.proofs.Covers.{has_below, length-without, length-cover, without-decides}
 use Rattle.zp_model.proofs.Heads.{aligned_down}
 use Rattle.zp_laws.proofs.Areas.{free-taken, free-leave}
-use Rattle.zp_frames.specs.Sound.{blocks_of, free_order, IsSound}
+use Rattle.zp_frames.specs.Sound.{free_order, IsSound}
 use Rattle.zp_frames.proofs.Counting.{size-without}
 use Rattle.zp_frames.proofs.HeldCounts.{IsFreeRun}
 use Rattle.zp_frames.proofs.Restating.{restated_from, free_or_same}
 use Rattle.zp_frames.proofs.TakenFrames.{frames}
 use Rattle.zp_area.specs.Blocks.{Blocks, block_set}
 use Rattle.zp_buddy.specs.Choices.{area_in, frames_in, chosen_of}
-use Rattle.zp_buddy.specs.Held.{IsHeld}
 use Rattle.zp_buddy.specs.declared.choice.Choice.{Choice}
 use Rattle.zp_buddy.proofs.Maximal.{set_maximal}
 use Rattle.zp_buddy.proofs.SplitBlocks.{starts_block}

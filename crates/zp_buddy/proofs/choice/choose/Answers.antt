@@ -1,5 +1,4 @@
 use Rattle.std.proofs.Common.{Option, None, subst, sym}
-use Rattle.std.proofs.lemmas.Bool.{false≢true}
 use Rattle.zp_buddy.specs.declared.choice.Choice.{Choice}
 use Rattle.zp_buddy.specs.Choices.{area_in, IsChosen}
 use Rattle.zp_buddy.proofs.Finders.{choose_own, choose_claim, choose_borrow}

@@ -1,4 +1,4 @@
-use Rattle.std.proofs.Common.{ℕ, ◌≡◌, ◌≤◌, ◌<◌, List, Option, sym, subst, arith, ◌∙◌}
+use Rattle.std.proofs.Common.{◌≤◌, ◌<◌, List, Option, sym, subst, arith, ◌∙◌}
 use Rattle.zp_model.specs.declared.migrate_type.MigrateType.{MigrateType}
 use Rattle.zp_model.specs.Block.{largest_order}
 use Rattle.zp_model.specs.Choose.{claim}

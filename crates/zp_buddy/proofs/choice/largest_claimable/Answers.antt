@@ -1,7 +1,7 @@
-use Rattle.std.proofs.Common.{rules, ℕ, ◌+◌, ◌≡◌, ◌≢◌, ◌≤◌, ◌∙◌, Option, sym, subst, arith, slice_index_or}
+use Rattle.std.proofs.Common.{rules, ℕ, ◌+◌, ◌≢◌, ◌≤◌, Option, sym, subst, arith, slice_index_or}
 use Rattle.zp_model.specs.declared.migrate_type.MigrateType.TheVariants.{Movable}
 use Rattle.zp_model.specs.declared.constants.TheConstants.{CLAIM_PAGES}
-use Rattle.zp_model.specs.BlockSet.{cover, larger}
+use Rattle.zp_model.specs.BlockSet.{cover}
 use Rattle.zp_model.specs.Area.{size_in}
 use Rattle.zp_area.specs.Blocks.{block_set}
 use Rattle.zp_buddy.proofs.Claimable.{IsLargestBelow, largest_same, largest_more, out_by_type, out_by_pages, there_of}

@@ -1,7 +1,7 @@
-use Rattle.std.proofs.Common.{ℕ, ◌≡◌, ◌≤◌, ◌<◌, ◌^◌, inl, inr, arith, refl, sym, subst, ◌∙◌}
+use Rattle.std.proofs.Common.{ℕ, ◌≡◌, ◌<◌, ◌^◌, inl, inr, arith, refl, subst}
 use Rattle.std.proofs.lemmas.Bool.{both_ways, cases_lt, false≢true, false_from_ne_true}
 use Rattle.std.proofs.lemmas.Nat.{pow_pos}
-use Rattle.zp_model.specs.Rows.{IsLoose, IsOn}
+use Rattle.zp_model.specs.Rows.{IsLoose}
 use Rattle.zp_buddy.proofs.ClearRun.{larger_free, listed_not_clear, clear_decided}
 use Rattle.zp_buddy.proofs.clear.is_clear_run.Goals as goal
 

@@ -1,4 +1,4 @@
-use Rattle.std.proofs.Common.{ℕ, ◌≡◌, ◌≤◌, ◌<◌, ◌+◌, inl, inr, arith, sym, subst, ◌∙◌, not}
+use Rattle.std.proofs.Common.{ℕ, ◌≡◌, ◌≤◌, ◌+◌, inl, inr, arith, sym, subst, ◌∙◌}
 use Rattle.std.proofs.lemmas.Bool.{both_ways, cases_lt, eqb-true, false≢true, not-false}
 use Rattle.zp_model.specs.declared.state.State.TheVariants.{Free}
 use Rattle.zp_model.specs.Block.{head, largest_order}

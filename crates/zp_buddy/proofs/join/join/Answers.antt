@@ -1,8 +1,7 @@
-use Rattle.std.proofs.Common.{ℕ, ◌≡◌, ◌<◌, List, length, min, arith, refl, sym, ◌∙◌, ap, subst}
+use Rattle.std.proofs.Common.{ℕ, ◌≡◌, ◌<◌, List, min, arith, refl, sym, ◌∙◌, ap, subst}
 use Rattle.std.proofs.lemmas.Bool.{both_ways}
 use Rattle.zp_model.specs.declared.migrate_type.MigrateType.{MigrateType}
 use Rattle.zp_model.specs.Block.{largest_order}
-use Rattle.zp_frames.specs.Given.{IsClearRun}
 use Rattle.zp_frames.specs.Join.{IsBuddy}
 use Rattle.zp_frames.specs.Sound.{frames_of, IsSound}
 use Rattle.zp_frames.proofs.ClearRuns.{clear_run}

@@ -1,4 +1,4 @@
-use Rattle.std.proofs.Common.{◌-◌, ◌≡◌, ◌%◌, ◌^◌, ◌+◌, ◌≤◌, length}
+use Rattle.std.proofs.Common.{◌-◌, ◌≡◌}
 use Rattle.zp_frames.specs.Given.{IsClearRun}
 use Rattle.zp_frames.proofs.Joining.{IsJoining}
 use Rattle.zp_buddy.proofs.join.join.Given as goal

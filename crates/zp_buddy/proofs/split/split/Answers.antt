@@ -2,7 +2,6 @@ use Rattle.std.proofs.Common.{◌≡◌, ◌≤◌, ◌<◌, ◌+◌, ◌^◌, �
 use Rattle.zp_model.specs.declared.constants.TheConstants.{MAX_PAGES}
 use Rattle.zp_model.specs.Block.{IsBlock}
 use Rattle.zp_model.specs.Area.{kind_at}
-use Rattle.zp_frames.specs.Given.{IsClearRun}
 use Rattle.zp_frames.specs.Split.{IsSplit}
 use Rattle.zp_area.specs.Blocks.{Blocks}
 use Rattle.zp_buddy.proofs.SplitBlocks.{half_block, half_below, clear_low, clear_high, split_added}

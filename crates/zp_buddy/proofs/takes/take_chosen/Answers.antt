@@ -1,10 +1,10 @@
-use Rattle.std.proofs.Common.{◌≡◌, ap, sym, ◌∙◌}
+use Rattle.std.proofs.Common.{◌≡◌, ap, ◌∙◌}
 use Rattle.std.proofs.lemmas.Bool.{not-true, not-false}
 use Rattle.zp_model.specs.Frames.{with_area}
 use Rattle.zp_model.specs.Take.{retype}
 use Rattle.zp_area.specs.Blocks.{Blocks}
 use Rattle.zp_buddy.specs.Choices.{frames_in}
-use Rattle.zp_buddy.proofs.Claiming.{retyped_frames, sound_retyped}
+use Rattle.zp_buddy.proofs.Claiming.{retyped_frames}
 use Rattle.zp_buddy.proofs.Taking.{taken_plain, taken_claimed}
 use Rattle.zp_buddy.proofs.takes.take_chosen.Goals as goal
 

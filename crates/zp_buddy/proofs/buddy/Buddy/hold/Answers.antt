@@ -1,5 +1,4 @@
-use Rattle.std.proofs.Common.{ℕ, ap, sym, subst, ◌∙◌, set, List}
-use Rattle.zp_model.specs.declared.state.State.{State}
+use Rattle.std.proofs.Common.{ap, sym, subst, ◌∙◌, set}
 use Rattle.zp_model.specs.Block.{has}
 use Rattle.zp_model.specs.Frames.{Frames, IsClear}
 use Rattle.zp_area.specs.Blocks.{Blocks}

@@ -1,13 +1,12 @@
-use Rattle.std.proofs.Common.{◌≡◌, ◌≤◌, ◌-◌, ◌^◌, ℕ, List, Bool, length, arith, refl, ap, sym, subst, ◌∙◌, Some}
-use Rattle.zp_model.specs.Block.{size, without}
+use Rattle.std.proofs.Common.{◌≡◌, ◌≤◌, ◌-◌, ◌^◌, ℕ, arith, refl, ap, sym, subst, ◌∙◌, Some}
+use Rattle.zp_model.specs.Block.{without}
 use Rattle.zp_model.specs.BlockSet.{cover}
 use Rattle.zp_model.specs.Area.{pageblocks_of}
 use Rattle.zp_model.specs.Frames.{Frames, IsClear, with_area}
 use Rattle.zp_model.specs.Take.{taken}
 use Rattle.zp_laws.proofs.Areas.{free-taken}
-use Rattle.zp_area.specs.Blocks.{Blocks, block_set}
+use Rattle.zp_area.specs.Blocks.{block_set}
 use Rattle.zp_buddy.specs.Choices.{chosen_of, frames_in}
-use Rattle.zp_buddy.specs.Held.{IsHeld}
 use Rattle.zp_buddy.proofs.Taking.{answer_none, after_none, answer_some, after_some, block_run, IsLessFree, less_free, left_taken, may_return, still_may, clear_head}
 use Rattle.zp_buddy.proofs.buddy.Buddy.take.Goals as goal
 
