@@ -1,2 +1,3 @@
 pub mod BlankTable
 pub mod OnAny
+pub mod LowestServing

@@ -8,19 +8,20 @@ ghost use Rattle.zp_model.specs.Rows.{IsLoose, IsOn, after, front, list_at, stat
 ghost use Rattle.zp_model.specs.Described.{IsLinkedAt};
 ghost use Rattle.zp_model.specs.Frames.{frames_opening, with_area, IsNote, IsFramed, IsClear};
 ghost use Rattle.zp_model.specs.MigrateType.{types_count};
-ghost use Rattle.zp_model.specs.Area.{list_number, lists_count, free_list};
-ghost use Rattle.zp_model.specs.Take.{take_answer, take_after};
+ghost use Rattle.zp_model.specs.Area.{list_number, lists_count, free_list, kind_at};
+ghost use Rattle.zp_model.specs.Take.{take_answer, take_after, take_low_answer, take_low_after};
 ghost use Rattle.zp_model.specs.Frames.{given};
 ghost use Rattle.zp_frames.specs.Listed.{blocks_listed_of};
 
 use crate::choices::choose;
 use crate::clear::{is_block, is_clear_run};
 use crate::joins::join;
+use crate::lowest::lowest_block;
 use crate::opening::list_all_pages;
 use crate::takes::take_chosen;
 use std::alloc::{AllocError, Global};
 use std::marker::Model;
-use zp_frames::{list_of, pageblock_of, pages_in_each};
+use zp_frames::{Choice, kind_of, list_of, pageblock_of, pages_in_each};
 use zp_links::Lists;
 use zp_model::{
     Counts, LARGEST_ORDER, MAX_PAGES, MigrateType, ORDERS, Order, PAGEBLOCK_PAGES, PageAt, State,
@@ -92,6 +93,39 @@ impl Buddy {
         self.free -= order.pages();
         self.free_in[pageblock_of(head)] -= order.pages();
         Some(head)
+    }
+
+    /// Takes the lowest run of this order of the free pages: the low part of the block of this order or more with the least
+    /// head, of whatever type.
+    pub fn take_low(&mut self, order: Order) -> Option<PageAt>
+        ensures answer { result ≡ take_low_answer self.old.area order }
+        ensures after { self.new ≡ with_area self.old (take_low_after self.old.area order) }
+
+        // What the calls after it can rest on.
+        ensures head { IfSome result (λ at. (at < length self.new.states) × (has self.new.area.free at ≡ false)) }
+        ensures clear { IfSome result (λ at. IsClear self.new at order) }
+        ensures kept { (h k : ℕ) → IsClear self.old h k → IsClear self.new h k }
+    {
+        let block = lowest_block(&self.lists, &self.kinds, order)?;
+        let chosen = Choice {
+            block,
+            claims: false,
+        };
+        // nothing is claimed, so that the type asked for plays no part
+        let kind = MigrateType::Movable;
+        let head = take_chosen(&mut self.lists, &mut self.kinds, chosen, order, kind);
+        let pages = order.pages();
+        self.free -= pages;
+        self.free_in[pageblock_of(head)] -= pages;
+        Some(head)
+    }
+
+    /// The type of a page's pageblock.
+    pub fn type_of(&self, at: PageAt) -> MigrateType
+        requires { at < length self.now.states }
+        ensures { result ≡ kind_at self.now.area.kinds at }
+    {
+        kind_of(&self.kinds, at)
     }
 
     /// Whether this is a block of which no page is free or on a further list.

@@ -7,6 +7,7 @@ mod buddy;
 mod choices;
 mod clear;
 mod joins;
+mod lowest;
 mod opening;
 mod retypes;
 mod takes;

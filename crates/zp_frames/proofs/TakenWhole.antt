@@ -17,7 +17,7 @@ unfolding choose own claim borrow
 choose_same w kinds k t = refl
 
 -- frames whose area stays are what they were
-frames_stay : (s : List State) (kinds : List MigrateType) (l : List (List ℕ)) → IsSound s kinds l → frames_of s kinds l ≡ with_area (frames_of s kinds l) (area_of s kinds l)
+pub frames_stay : (s : List State) (kinds : List MigrateType) (l : List (List ℕ)) → IsSound s kinds l → frames_of s kinds l ≡ with_area (frames_of s kinds l) (area_of s kinds l)
 frames_stay s kinds l x =
     ap (λ (q : List State). let f : Frames = record (frames_of s kinds l) { states = q } in f) (restated_from s s x.normal refl (λ g. free_or_same (get_or s g _)))
 
