@@ -24,8 +24,8 @@ use std::alloc::Global;
 use std::marker::Model;
 use zp_buddy::Buddy;
 use zp_model::{
-    BASE_LIMIT, Block, Counts, LONGEST_NAME, Level, MAX_PAGES, Mark, MigrateType, Name, Order, PageAt,
-    PageNo, Refused, State, Worker,
+    BASE_LIMIT, Block, Counts, LONGEST_NAME, Level, MAX_PAGES, Mark, MigrateType, Name, Order,
+    PageAt, PageNo, Refused, State, Worker,
 };
 
 /// A zone: pages that workers take and give back. Contracts see its name and the plain zone, which is always lawful.
