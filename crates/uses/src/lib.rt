@@ -5,12 +5,14 @@
 mod buddyinfo;
 mod first_page;
 mod huge_page;
+mod low_block;
 mod page_pool;
 mod two_pages;
 
 pub use buddyinfo::{Memory, show};
 pub use first_page::one_page;
 pub use huge_page::{Run, give_run, take_huge_page};
+pub use low_block::take_below;
 pub use page_pool::PagePool;
 pub use two_pages::take_two;
 

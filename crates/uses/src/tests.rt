@@ -56,6 +56,22 @@ fn a_huge_page_is_whole_or_single(rt: HostRuntime) -> Result<(), Fail> {
     Ok(())
 }
 
+#[test]
+fn a_block_below_a_limit_is_kept(rt: HostRuntime) -> Result<(), Fail> {
+    let made = Zone::new(rt.alloc(), DMA, 1);
+    let (mut zone, mut seats) = made.ok().ok_or("the zone can be made")?;
+    let order = Order::new(4).ok_or("4 is an order")?;
+    let seat = &mut seats[0];
+    let limit = PageNo::new(20);
+    let low = take_below(&mut zone, seat, order, limit).ok_or("a block is low")?;
+    assert!(rt; low.page == PageNo::new(0));
+    let next = take_below(&mut zone, seat, order, limit).ok_or("so is the next")?;
+    assert!(rt; next.page == PageNo::new(16));
+    assert!(rt; take_below(&mut zone, seat, order, limit).is_none());
+    assert_eq!(rt; zone.counts().free, 1024 - 32);
+    Ok(())
+}
+
 /// Keeps the bytes that it is given.
 #[derive(Drop)]
 struct Kept {

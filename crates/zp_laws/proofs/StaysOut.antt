@@ -7,18 +7,20 @@ use Rattle.std.specs.Prelude.{leb}
 use Rattle.zp_model.specs.declared.migrate_type.MigrateType.{MigrateType}
 use Rattle.zp_model.specs.declared.mark.Mark.{Mark}
 use Rattle.zp_model.specs.declared.refused.Refused.TheVariants.{BelowMark}
+use Rattle.zp_model.specs.declared.block.Block.{Block}
+use Rattle.zp_model.specs.declared.request.Request.TheVariants as request
 use Rattle.zp_model.specs.declared.request.Reply.TheVariants as Reply
 use Rattle.zp_model.specs.Block.{IsBlock}
-use Rattle.zp_model.specs.Area.{Area}
+use Rattle.zp_model.specs.Area.{Area, kind_at}
 use Rattle.zp_model.specs.Choose.{Chosen, choose}
-use Rattle.zp_model.specs.Take.{taken, give}
+use Rattle.zp_model.specs.Take.{taken, leave, give, take_low_answer}
 use Rattle.zp_model.specs.Mark.{passes}
 use Rattle.zp_model.specs.Zone.{PlainZone, Holding, holding_at, is_of, pages_of, hand_out}
-use Rattle.zp_model.specs.Step.{alloc, alloc_chosen, refuse, freed}
+use Rattle.zp_model.specs.Step.{alloc, alloc_chosen, alloc_low_at, refuse, freed, step}
 use Rattle.zp_model.specs.Run.{is_out}
 use Rattle.zp_model.specs.Lawful.{IsLawful}
 use Rattle.zp_laws.specs.Found.{IsFound}
-use Rattle.zp_laws.proofs.Choosing.{choose_found, found_block, found_free}
+use Rattle.zp_laws.proofs.Choosing.{choose_found, take_low_found, found_block, found_free}
 use Rattle.zp_laws.proofs.Keeping.{free-not_out}
 use Rattle.zp_laws.proofs.Held.{out-to}
 
@@ -42,15 +44,17 @@ not_out-where_none z w p k h none e same =
     let held = (out-to z w p k e).1 in
     false≢true (ap (λ (o : Option Holding). is_of w k o) (sym none) ∙ ap (λ n. is_of w k (holding_at z.out n)) (sym same) ∙ held)
 
--- the block chosen starts at a page of the zone where none was out
-chosen_place : (z : PlainZone) (k : ℕ) (t : MigrateType) (c : Chosen) → choose z.area k t ≡ Some c → IsLawful z → (c.head < length z.out) × (holding_at z.out c.head ≡ None)
-chosen_place z k t c e l =
-    let f : IsFound z.area.free k c.head = choose_found z.area k t c l.lists e in
-    let b : IsBlock (pages_of z) c.head k = found_block z.area.free k c.head f in
-    let room : c.head + 2 ^ k ≤ pages_of z = b.inside in
+-- a free block starts at a page of the zone where none is out
+found_place : (z : PlainZone) (k h : ℕ) → IsFound z.area.free k h → IsLawful z → (h < length z.out) × (holding_at z.out h ≡ None)
+found_place z k h f l =
+    let b : IsBlock (pages_of z) h k = found_block z.area.free k h f in
+    let room : h + 2 ^ k ≤ pages_of z = b.inside in
     let some : 0 < 2 ^ k = pow_pos k in
     let places : length z.out ≡ pages_of z = l.places in
-    (omega arith, free-not_out z c.head l (omega arith) (found_free z.area.free k c.head f c.head (omega arith) (omega arith)))
+    (omega arith, free-not_out z h l (omega arith) (found_free z.area.free k h f h (omega arith) (omega arith)))
+
+chosen_place : (z : PlainZone) (k : ℕ) (t : MigrateType) (c : Chosen) → choose z.area k t ≡ Some c → IsLawful z → (c.head < length z.out) × (holding_at z.out c.head ≡ None)
+chosen_place z k t c e l = found_place z k c.head (choose_found z.area k t c l.lists e) l
 
 chosen-kept : (z : PlainZone) (w k : ℕ) (t : MigrateType) (o : Option Chosen) → choose z.area k t ≡ o → IsLawful z → (v p j : ℕ) → is_out z v p j ≡ true →
     is_out (alloc_chosen z w k t o).zone v p j ≡ true
@@ -101,6 +105,45 @@ alloc-fresh z w k t m l p r v j = go (passes z k m) r
     go : (b : Bool) → Reply.Page p ≡ (cond b (alloc_chosen z w k t (choose z.area k t)) (refuse z BelowMark)).reply → is_out z v p j ≡ false
     go true r = chosen-fresh z w k t (choose z.area k t) refl l p r v j
     go false r = cc
+
+-- the same of the lowest block
+low_place : (z : PlainZone) (k h : ℕ) → take_low_answer z.area k ≡ Some h → IsLawful z → (h < length z.out) × (holding_at z.out h ≡ None)
+low_place z k h e l = found_place z k h (take_low_found z.area k h e) l
+
+low-kept : (z : PlainZone) (w k : ℕ) (o : Option ℕ) → take_low_answer z.area k ≡ o → IsLawful z → (v p j : ℕ) → is_out z v p j ≡ true → is_out (alloc_low_at z w k o).zone v p j ≡ true
+low-kept z w k None e l v p j q = q
+low-kept z w k (Some h) e l v p j q =
+    let place = low_place z k h e l in
+    out-at_other z (leave z.area h k) h (Some (record { order = k; kind = kind_at z.area.kinds h; worker = w })) v p j (not_out-where_none z v p j h place.1 q) q
+
+pub alloc_low-kept : (z : PlainZone) (w k : ℕ) → IsLawful z → (v p j : ℕ) → is_out z v p j ≡ true → is_out (step z w (request.AllocLow k)).zone v p j ≡ true
+alloc_low-kept z w k l v p j q = low-kept z w k (take_low_answer z.area k) refl l v p j q
+
+-- it is out, with the order asked for
+low-out : (z : PlainZone) (w k : ℕ) (o : Option ℕ) → take_low_answer z.area k ≡ o → IsLawful z → (b : Block) → Reply.Block b ≡ (alloc_low_at z w k o).reply →
+    (b.order ≡ k) × (is_out (alloc_low_at z w k o).zone w b.page k ≡ true)
+low-out z w k None e l b r = cc
+low-out z w k (Some h) e l b r =
+    let x : Block = record { page = z.base + h; order = k; kind = kind_at z.area.kinds h } in
+    let same : b ≡ x = cc in
+    (ap (λ (y : Block). y.order) same, out-handed z (leave z.area h k) h k (kind_at z.area.kinds h) w b.page (low_place z k h e l).0 (ap (λ (y : Block). y.page) same))
+
+pub alloc_low-out : (z : PlainZone) (w k : ℕ) → IsLawful z → (b : Block) → Reply.Block b ≡ (step z w (request.AllocLow k)).reply →
+    (b.order ≡ k) × (is_out (step z w (request.AllocLow k)).zone w b.page k ≡ true)
+alloc_low-out z w k l b r = low-out z w k (take_low_answer z.area k) refl l b r
+
+low-fresh : (z : PlainZone) (w k : ℕ) (o : Option ℕ) → take_low_answer z.area k ≡ o → IsLawful z → (b : Block) → Reply.Block b ≡ (alloc_low_at z w k o).reply →
+    (v j : ℕ) → is_out z v b.page j ≡ false
+low-fresh z w k None e l b r v j = cc
+low-fresh z w k (Some h) e l b r v j =
+    let x : Block = record { page = z.base + h; order = k; kind = kind_at z.area.kinds h } in
+    let same : b ≡ x = cc in
+    let at : b.page ≡ z.base + h = ap (λ (y : Block). y.page) same in
+    let place : b.page - z.base ≡ h = omega arith in
+    false_from_ne_true _ (λ on. not_out-where_none z v b.page j h (low_place z k h e l).1 on place)
+
+pub alloc_low-fresh : (z : PlainZone) (w k : ℕ) → IsLawful z → (b : Block) → Reply.Block b ≡ (step z w (request.AllocLow k)).reply → (v j : ℕ) → is_out z v b.page j ≡ false
+alloc_low-fresh z w k l b r v j = low-fresh z w k (take_low_answer z.area k) refl l b r v j
 
 -- what comes back is out no more
 pub freed-gone : (z : PlainZone) (a k w j : ℕ) → is_out (freed z (a - z.base) k) w a j ≡ false

@@ -4,6 +4,7 @@ use Rattle.std.proofs.lemmas.Bool.{false_from_ne_true, both_ways}
 use Rattle.std.proofs.lemmas.Nat.{pow_pos}
 use Rattle.zp_model.specs.declared.migrate_type.MigrateType.{MigrateType}
 use Rattle.zp_model.specs.Block.{has, without, IsBlock}
+use Rattle.zp_model.specs.Area.{Area}
 use Rattle.zp_model.specs.Choose.{Chosen, choose}
 use Rattle.zp_model.specs.Frames.{Frames, IsClear, IsFramed, with_area}
 use Rattle.zp_model.specs.Lawful.{IsListedArea}
@@ -36,31 +37,35 @@ absent u h k i none =
     let n : length (without u h k) ≡ length u = length-without u h k in
     both_ways _ none ((without-decides u h k i (omega arith)).0 e).0)
 
--- the block that was chosen and taken is clear
-pub clear_taken : (f : Frames) (k : ℕ) (t : MigrateType) (c : Chosen) → IsFramed f → IsListedArea f.area → choose f.area k t ≡ Some c →
-    IsClear (with_area f (taken f.area k t (Some c))) c.head k
-clear_taken f k t c x l e =
-    let found : IsFound f.area.free k c.head = choose_found f.area k t c l e in
-    let free : (taken f.area k t (Some c)).free ≡ without f.area.free c.head k = free-taken f.area k t c in
-    let n : length (taken f.area k t (Some c)).free ≡ length f.area.free = ap length free ∙ length-without f.area.free c.head k in
-    let P : ℕ → Type 0 = λ m. IsBlock m c.head k in
+-- a free block that leaves is clear, where another area has all its pages but those
+pub clear_left : (f : Frames) (a : Area) (h k : ℕ) → IsFramed f → IsFound f.area.free k h → a.free ≡ without f.area.free h k → IsClear (with_area f a) h k
+clear_left f a h k x found free =
+    let n : length a.free ≡ length f.area.free = ap length free ∙ length-without f.area.free h k in
+    let P : ℕ → Type 0 = λ m. IsBlock m h k in
     record {
-      block = subst P (sym n) (found_block f.area.free k c.head found);
-      free = λ i lo hi. ap (λ (q : List Bool). has q i) free ∙ gone f.area.free c.head k i lo hi;
-      aside = λ r i lo hi. false_from_ne_true _ (λ on. both_ways _ (x.beside r i on) (found_free f.area.free k c.head found i lo hi));
+      block = subst P (sym n) (found_block f.area.free k h found);
+      free = λ i lo hi. ap (λ (q : List Bool). has q i) free ∙ gone f.area.free h k i lo hi;
+      aside = λ r i lo hi. false_from_ne_true _ (λ on. both_ways _ (x.beside r i on) (found_free f.area.free k h found i lo hi));
     }
 
 -- and each block that was clear before still is
-pub clear_still : (f : Frames) (k g j : ℕ) (t : MigrateType) (c : Chosen) → IsClear f g j → IsClear (with_area f (taken f.area k t (Some c))) g j
-clear_still f k g j t c x =
-    let free : (taken f.area k t (Some c)).free ≡ without f.area.free c.head k = free-taken f.area k t c in
-    let n : length (taken f.area k t (Some c)).free ≡ length f.area.free = ap length free ∙ length-without f.area.free c.head k in
+pub clear_kept : (f : Frames) (a : Area) (h k g j : ℕ) → a.free ≡ without f.area.free h k → IsClear f g j → IsClear (with_area f a) g j
+clear_kept f a h k g j free x =
+    let n : length a.free ≡ length f.area.free = ap length free ∙ length-without f.area.free h k in
     let P : ℕ → Type 0 = λ m. IsBlock m g j in
     record {
       block = subst P (sym n) x.block;
-      free = λ i lo hi. ap (λ (q : List Bool). has q i) free ∙ absent f.area.free c.head k i (x.free i lo hi);
+      free = λ i lo hi. ap (λ (q : List Bool). has q i) free ∙ absent f.area.free h k i (x.free i lo hi);
       aside = x.aside;
     }
+
+-- so of the block that was chosen
+pub clear_taken : (f : Frames) (k : ℕ) (t : MigrateType) (c : Chosen) → IsFramed f → IsListedArea f.area → choose f.area k t ≡ Some c →
+    IsClear (with_area f (taken f.area k t (Some c))) c.head k
+clear_taken f k t c x l e = clear_left f (taken f.area k t (Some c)) c.head k x (choose_found f.area k t c l e) (free-taken f.area k t c)
+
+pub clear_still : (f : Frames) (k g j : ℕ) (t : MigrateType) (c : Chosen) → IsClear f g j → IsClear (with_area f (taken f.area k t (Some c))) g j
+clear_still f k g j t c x = clear_kept f (taken f.area k t (Some c)) c.head k g j (free-taken f.area k t c) x
 
 -- a clear block starts at a page of the zone that is not free
 pub clear_head : (f : Frames) (h k : ℕ) → length f.area.free ≡ length f.states → IsClear f h k → (h < length f.states) × (has f.area.free h ≡ false)

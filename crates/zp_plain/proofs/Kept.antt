@@ -8,7 +8,7 @@ use Rattle.zp_model.specs.declared.state.State.TheVariants.{Tail, Free, Out, Pos
 use Rattle.zp_model.specs.Block.{has, with_run, without}
 use Rattle.zp_model.specs.BlockSet.{max_blocks}
 use Rattle.zp_model.specs.Rows.{state_at, list_at, stands_in}
-use Rattle.zp_model.specs.Area.{pageblocks_of}
+use Rattle.zp_model.specs.Area.{Area, pageblocks_of}
 use Rattle.zp_model.specs.Frames.{Frames, given, IsClear, IsFramed, IsNote, restate, restated, with_area}
 use Rattle.zp_model.specs.Choose.{Chosen}
 use Rattle.zp_model.specs.Take.{give, taken}
@@ -34,17 +34,21 @@ kept_given f h k x y =
           | inr run ↦ both_ways _ (y.aside r p run.0 run.1) e
         ]
 
-pub kept_taken : (f : Frames) (k : ℕ) (t : MigrateType) (c : Chosen) → IsFramed f → IsFramed (with_area f (taken f.area k t (Some c)))
-kept_taken f k t c x =
-    let n : length (taken f.area k t (Some c)).free ≡ length f.area.free = ap length (free-taken f.area k t c) ∙ length-without f.area.free c.head k in
-    framed_with f (taken f.area k t (Some c)) (n ∙ x.pages) (kinds-taken f.area k t c ∙ x.typed)
-    (λ r p e. false_from_ne_true _ (λ q. free_aside r p e (ap (λ u. has u p) (sym (free-taken f.area k t c)) ∙ q)))
+-- a block leaves, and another area has all the free pages but those
+pub kept_left : (f : Frames) (a : Area) (h k : ℕ) → IsFramed f → a.free ≡ without f.area.free h k → length a.kinds ≡ length f.area.kinds → IsFramed (with_area f a)
+kept_left f a h k x free kinds =
+    let n : length a.free ≡ length f.area.free = ap length free ∙ length-without f.area.free h k in
+    framed_with f a (n ∙ x.pages) (kinds ∙ x.typed)
+    (λ r p e. false_from_ne_true _ (λ q. free_aside r p e (ap (λ u. has u p) (sym free) ∙ q)))
   where
-    free_aside : (r p : ℕ) → stands_in p (list_at f.sides r) ≡ true → In (without f.area.free c.head k) p → ⊥
+    free_aside : (r p : ℕ) → stands_in p (list_at f.sides r) ≡ true → In (without f.area.free h k) p → ⊥
     free_aside r p e t =
-        let lt : p < length (without f.area.free c.head k) = has_below (without f.area.free c.head k) p t in
-        let n : length (without f.area.free c.head k) ≡ length f.area.free = length-without f.area.free c.head k in
-        both_ways _ (x.beside r p e) ((without-decides f.area.free c.head k p (omega arith)).0 t).0
+        let lt : p < length (without f.area.free h k) = has_below (without f.area.free h k) p t in
+        let n : length (without f.area.free h k) ≡ length f.area.free = length-without f.area.free h k in
+        both_ways _ (x.beside r p e) ((without-decides f.area.free h k p (omega arith)).0 t).0
+
+pub kept_taken : (f : Frames) (k : ℕ) (t : MigrateType) (c : Chosen) → IsFramed f → IsFramed (with_area f (taken f.area k t (Some c)))
+kept_taken f k t c x = kept_left f (taken f.area k t (Some c)) c.head k x (free-taken f.area k t c) (kinds-taken f.area k t c)
 
 -- frames whose notes say what is free are restated as they are
 pub restated_same : (f : Frames) → IsFramed f → f ≡ with_area f f.area

@@ -8,3 +8,4 @@ pub mod Clearing
 pub mod Counting
 pub mod Walking
 pub mod Opened
+pub mod Lowest

@@ -20,7 +20,7 @@ pub fn list_of(order: Order, kind: MigrateType) -> usize
 }
 
 /// The type of a page's pageblock.
-fn kind_at(kinds: &[MigrateType], head: PageAt) -> MigrateType
+pub fn kind_at(kinds: &[MigrateType], head: PageAt) -> MigrateType
     requires { head / PAGEBLOCK_PAGES < length kinds.now }
     ensures { result ≡ kind_at kinds.now head }
 {

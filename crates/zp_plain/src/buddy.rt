@@ -4,8 +4,8 @@ ghost use Rattle.zp_model.specs.Block.{has, size};
 ghost use Rattle.zp_model.specs.Info.{counts};
 ghost use Rattle.zp_model.specs.Rows.{IsOn, after, front, state_at};
 ghost use Rattle.zp_model.specs.Frames.{frames_opening, given, with_area, IsNote, IsFramed, IsClear};
-ghost use Rattle.zp_model.specs.Area.{list_number, free_list};
-ghost use Rattle.zp_model.specs.Take.{take_answer, take_after};
+ghost use Rattle.zp_model.specs.Area.{list_number, free_list, kind_at};
+ghost use Rattle.zp_model.specs.Take.{take_answer, take_after, take_low_answer, take_low_after};
 
 use crate::block::size;
 use crate::choose::choose;
@@ -68,6 +68,30 @@ impl Buddy {
         self.area.take_chosen(chosen, order, kind);
         restate_all(self.area.marks(), &mut self.notes);
         Some(head)
+    }
+
+    /// Takes the lowest run of this order of the free pages: the low part of the block of this order or more with the least
+    /// head, of whatever type.
+    pub fn take_low(&mut self, order: Order) -> Option<PageAt>
+        ensures answer { result ≡ take_low_answer self.old.area order }
+        ensures after { self.new ≡ with_area self.old (take_low_after self.old.area order) }
+
+        // What the calls after it can rest on.
+        ensures head { IfSome result (λ at. (at < length self.new.states) × (has self.new.area.free at ≡ false)) }
+        ensures clear { IfSome result (λ at. IsClear self.new at order) }
+        ensures kept { (h k : ℕ) → IsClear self.old h k → IsClear self.new h k }
+    {
+        let head = self.area.take_low(order)?;
+        restate_all(self.area.marks(), &mut self.notes);
+        Some(head)
+    }
+
+    /// The type of a page's pageblock.
+    pub fn type_of(&self, at: PageAt) -> MigrateType
+        requires { at < length self.now.states }
+        ensures { result ≡ kind_at self.now.area.kinds at }
+    {
+        self.area.kind_at(at)
     }
 
     /// Whether this is a block of which no page is free or on a further list.

@@ -1,30 +1,16 @@
 //! What is noted of each page, and which blocks are clear: what `Frames.antt` says, page by page.
 ghost use Rattle.std.specs.Prelude.{◌≡◌, ◌≤◌, ◌+◌, ◌^◌, ◌↔◌, ℕ, true, length, IsTrue};
-ghost use Rattle.std.specs.List.{find};
 ghost use Rattle.zp_model.specs.declared.constants.TheConstants.{MAX_PAGES};
-ghost use Rattle.zp_model.specs.Block.{is_max, largest_order, IsBlock};
-ghost use Rattle.zp_model.specs.BlockSet.{orders_from};
+ghost use Rattle.zp_model.specs.Block.{IsBlock};
 ghost use Rattle.zp_model.specs.Rows.{list_at, stands_in};
 ghost use Rattle.zp_model.specs.Frames.{restate, restated, IsClear};
 ghost use Rattle.zp_plain.specs.Clear.{open_frames, IsClearRun};
 
 use crate::area::stands_in;
-use crate::block::{has, is_max, order_of};
+use crate::block::has;
+use crate::block_set::block_at;
 use crate::page_row::PageRow;
-use zp_model::{MAX_PAGES, ORDERS, Order, PageAt, State};
-
-/// The order of the maximal block that a page heads, if it heads one.
-fn block_at(free: &[bool], head: PageAt) -> Option<Order>
-    ensures { result ≡ find (is_max largest_order free.now head) (orders_from 0) }
-{
-    'orders: for number in 0..ORDERS {
-        let order = order_of(number);
-        if is_max(free, head, order) {
-            return Some(order);
-        }
-    }
-    None
-}
+use zp_model::{MAX_PAGES, Order, PageAt, State};
 
 /// What is noted of a page that heads this free block, or none.
 fn restate(block: Option<Order>, note: State) -> State

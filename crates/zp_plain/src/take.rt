@@ -2,13 +2,14 @@
 ghost use Rattle.std.specs.Prelude.{◌≡◌, ◌<◌, ◌≤◌, length, IfOk, Some};
 ghost use Rattle.zp_model.specs.declared.constants.TheConstants.{MAX_PAGES};
 ghost use Rattle.zp_model.specs.Rows.{after, front};
-ghost use Rattle.zp_model.specs.Area.{free_list, opening};
-ghost use Rattle.zp_model.specs.Take.{give, leave, retype, taken};
+ghost use Rattle.zp_model.specs.Area.{free_list, kind_at, opening};
+ghost use Rattle.zp_model.specs.Take.{give, leave, retype, taken, take_low_after, take_low_answer};
 ghost use Rattle.zp_plain.specs.Chosen.{as_chosen};
 ghost use Rattle.zp_plain.specs.Sound.{IsSoundArea};
 
-use crate::area::{list_of, settle};
+use crate::area::{kind_at, list_of, settle};
 use crate::block::{add_run, remove_run};
+use crate::block_set::lowest;
 use crate::choose::Choice;
 use crate::page_row::{PageRow, empty_rows};
 use std::alloc::{AllocError, Global};
@@ -111,6 +112,24 @@ impl PlainArea {
     {
         add_run(&mut self.free, head, order);
         settle(&self.free, &self.kinds, &mut self.lists, &mut self.scratch);
+    }
+
+    /// The type of a page's pageblock.
+    pub fn kind_at(&self, at: PageAt) -> MigrateType
+        requires { at < length self.now.free }
+        ensures { result ≡ kind_at self.now.kinds at }
+    {
+        kind_at(&self.kinds, at)
+    }
+
+    /// Takes the low run of this order of the lowest block that has it.
+    pub fn take_low(&mut self, order: Order) -> Option<PageAt>
+        ensures answer { result ≡ take_low_answer self.old order }
+        ensures after { self.new ≡ take_low_after self.old order }
+    {
+        let (head, _) = lowest(&self.free, order)?;
+        self.leave(head, order);
+        Some(head)
     }
 
     /// Takes the chosen block.

@@ -9,13 +9,13 @@ use Rattle.zp_model.specs.declared.request.Reply.{Reply}
 use Rattle.zp_model.specs.declared.request.Reply.TheVariants.{Page, Block, Freed, Posted, Pages, Drained, Refused}
 use Rattle.zp_model.specs.Step.{step}
 use Rattle.zp_trace.specs.declared.line.Call.{Call}
-use Rattle.zp_trace.specs.declared.line.Call.TheVariants.{Info, Alloc, Free}
+use Rattle.zp_trace.specs.declared.line.Call.TheVariants.{Info, Alloc, Low, Free}
 use Rattle.zp_trace.specs.declared.line.Command.{Command}
 use Rattle.zp_zone.specs.Streams.{IsWritten, IsBegun}
 use Rattle.zp_zone.proofs.Written.{written-same, written-then, begun-then}
 use Rattle.zp_replay.specs.declared.bindings.Binding.{Binding}
 use Rattle.zp_replay.specs.Labels.{bind}
-use Rattle.zp_replay.specs.Replies.{Standing, answer_to, answer, answers}
+use Rattle.zp_replay.specs.Replies.{Standing, as_page, answer_to, answer, answers}
 
 pub left-append : (z : Standing) (cs ds : List Command) → (answers z (cs ++ ds)).left ≡ (answers (answers z cs).left ds).left
 left-append z [] ds = refl
@@ -86,6 +86,8 @@ answer_to-bound : (s : Standing) (worker : ℕ) (call : Call) → length (answer
 answer_to-bound s worker Info = omega arith
 answer_to-bound s worker (Alloc label order kind zone) =
     bind-most s.bindings worker label order (step s.zone.plain worker (request.Alloc order kind Any)).reply
+answer_to-bound s worker (Low label order zone) =
+    bind-most s.bindings worker label order (as_page (step s.zone.plain worker (request.AllocLow order)).reply)
 answer_to-bound s worker (Free label) = omega arith
 
 pub answer-bound : (now next : Standing) (c : Command) → next ≡ (answer now c).left → length next.bindings ≤ length now.bindings + 1

@@ -8,7 +8,7 @@ use Rattle.zp_model.specs.declared.constants.TheConstants.{LARGEST_ORDER, MAX_PA
 use Rattle.zp_trace.specs.declared.bounds.TheConstants.{MOST_LINES, WORKERS}
 use Rattle.zp_trace.specs.declared.line.ZoneLine.{ZoneLine}
 use Rattle.zp_trace.specs.declared.line.Call.{Call}
-use Rattle.zp_trace.specs.declared.line.Call.TheVariants.{Info, Alloc, Free}
+use Rattle.zp_trace.specs.declared.line.Call.TheVariants.{Info, Alloc, Low, Free}
 use Rattle.zp_trace.specs.declared.line.Command.{Command}
 use Rattle.zp_trace.specs.declared.trace.Trace.{Trace}
 use Rattle.zp_trace.specs.Lines.{Line}
@@ -55,6 +55,13 @@ call_short z worker (Alloc label order kind zone) named first is =
     let k : length (decimal order) ≤ 2 = length-decimal-le 2 order (omega arith) (omega arith) (omega arith) in
     let n : length zone ≡ length z.name = ap length is.2 in
     omega (arith, length-kind_word kind)
+call_short z worker (Low label order zone) named first is =
+    let w : length (decimal worker) ≤ 1 = length-decimal-le 1 worker (omega arith) (omega arith) (omega arith) in
+    let l : length label ≤ LONGEST_NAME = is.0.1 in
+    let o : order ≤ LARGEST_ORDER = is.1 in
+    let k : length (decimal order) ≤ 2 = length-decimal-le 2 order (omega arith) (omega arith) (omega arith) in
+    let n : length zone ≡ length z.name = ap length is.2 in
+    omega arith
 call_short z worker (Free label) named first is =
     let w : length (decimal worker) ≤ 1 = length-decimal-le 1 worker (omega arith) (omega arith) (omega arith) in
     let l : length label ≤ LONGEST_NAME = is.1 in

@@ -4,7 +4,7 @@ use Rattle.std.specs.Fmt.{decimal}
 use Rattle.zp_model.specs.declared.mark.Mark.TheVariants.{Any}
 use Rattle.zp_model.specs.declared.request.Request.TheVariants as request
 use Rattle.zp_model.specs.declared.request.Reply.{Reply}
-use Rattle.zp_model.specs.declared.request.Reply.TheVariants.{Page, Freed, Refused}
+use Rattle.zp_model.specs.declared.request.Reply.TheVariants.{Page, Block, Freed, Refused}
 use Rattle.zp_model.specs.declared.refused.Refused.{Refused as Refusal}
 use Rattle.zp_model.specs.declared.refused.Refused.TheVariants.{NotLent}
 use Rattle.zp_model.specs.Refused.{refused_number}
@@ -13,7 +13,7 @@ use Rattle.zp_model.specs.Zone.{PlainZone}
 use Rattle.zp_model.specs.Step.{Outcome, refuse, step}
 use Rattle.zp_model.specs.Run.{is_out}
 use Rattle.zp_trace.specs.declared.line.Call.{Call}
-use Rattle.zp_trace.specs.declared.line.Call.TheVariants.{Info, Alloc, Free}
+use Rattle.zp_trace.specs.declared.line.Call.TheVariants.{Info, Alloc, Low, Free}
 use Rattle.zp_trace.specs.declared.line.Command.{Command}
 use Rattle.zp_zone.specs.NamedZone.{NamedZone}
 use Rattle.zp_replay.specs.declared.bindings.Binding.{Binding}
@@ -37,6 +37,11 @@ reply_line worker reply = decimal worker ++ (codes ": " ++ (reply_words reply ++
 abbrev pub freed_reply : Result (Unit {0}) Refusal → Reply
 freed_reply (Ok done) = Freed
 freed_reply (Err r) = Refused r
+
+-- of the lowest block the trace is told its page alone
+abbrev pub as_page : Reply → Reply
+as_page (Block b) = Page b.page
+as_page r = r
 
 -- the info line of a zone
 abbrev pub info_of : NamedZone → List ℕ
@@ -68,6 +73,12 @@ answer_to s worker (Alloc label order kind zone) =
     record {
       text = reply_line worker o.reply;
       left = standing (record s.zone { plain = o.zone }) (bind s.bindings worker label order o.reply);
+    }
+answer_to s worker (Low label order zone) =
+    let o = step s.zone.plain worker (request.AllocLow order) in
+    record {
+      text = reply_line worker (as_page o.reply);
+      left = standing (record s.zone { plain = o.zone }) (bind s.bindings worker label order (as_page o.reply));
     }
 answer_to s worker (Free label) =
     let o = free_of s.zone.plain worker (bound_to s.bindings worker label) in

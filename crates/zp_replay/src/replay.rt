@@ -10,13 +10,13 @@ ghost use Rattle.zp_zone.specs.NamedZone.{IsSeatOf, page_reply};
 ghost use Rattle.zp_zone.specs.Streams.{IsWritten, IsBegun};
 ghost use Rattle.zp_replay.specs.Asked.{IsCommand, workers_at};
 ghost use Rattle.zp_replay.specs.Labels.{bound_to, bind};
-ghost use Rattle.zp_replay.specs.Replies.{standing, answer, answers, free_of, freed_reply, info_of};
+ghost use Rattle.zp_replay.specs.Replies.{standing, answer, answers, as_page, free_of, freed_reply, info_of};
 ghost use Rattle.zp_replay.specs.Output.{declared_zone, totals, total_of};
 
 use crate::bindings::{Binding, bind, bound_to};
 use crate::lines::{Line, Totals, freed_line, reply_line, total_line};
 use std::alloc::Global;
-use zp_model::{Mark, MigrateType, Name, Order, PageNo, Refused, Worker};
+use zp_model::{Block, Mark, MigrateType, Name, Order, PageNo, Refused, Worker};
 use zp_trace::{Call, Command, WORKERS, ZoneLine};
 use zp_zone::{Seat, WriteFault, Writer, Zone, ZoneConfig, write_all};
 
@@ -99,6 +99,14 @@ impl Replay {
                 let reply = self.alloc(worker, label, order, kind);
                 write_all(writer, reply_line(worker, reply).as_bytes())
             }
+            Call::Low {
+                label,
+                order,
+                zone: _,
+            } => {
+                let reply = self.low(worker, label, order);
+                write_all(writer, reply_line(worker, reply).as_bytes())
+            }
             Call::Free { label } => {
                 let reply = self.free(worker, label);
                 write_all(writer, freed_line(worker, reply).as_bytes())
@@ -130,6 +138,27 @@ impl Replay {
             order,
         };
         bind(&mut self.bindings, binding);
+        Ok(page)
+    }
+
+    /// The lowest block for a worker, bound to its label.
+    fn low(&mut self, worker: Worker, label: Name, order: Order) -> Result<PageNo, Refused>
+        requires worker { worker < WORKERS }
+        requires room { length self.old.bindings.items < vec_capacity self.old.bindings }
+        ensures reply { page_reply result ≡ as_page (step self.old.zone.plain worker (request.AllocLow order)).reply }
+        ensures zone { self.new.zone ≡ record self.old.zone { plain = (step self.old.zone.plain worker (request.AllocLow order)).zone } }
+        ensures bound { self.new.bindings.items ≡ bind self.old.bindings.items worker label order (page_reply result) }
+        ensures room { vec_capacity self.new.bindings ≡ vec_capacity self.old.bindings }
+    {
+        let seat = &mut self.seats[usize::from(worker.number())];
+        let Block { page, .. } = self.zone.alloc_low(seat, order)?;
+        let bound = Binding {
+            worker,
+            label,
+            page,
+            order,
+        };
+        bind(&mut self.bindings, bound);
         Ok(page)
     }
 

@@ -113,6 +113,33 @@ Node 0, zone   Normal      0      0      0      0      0      0      0      0   
     }
 }
 
+/// The block with the least head is taken, however large it is and whatever the lists have in front.
+#[test]
+fn the_lowest_block_is_taken(rt: HostRuntime) {
+    for (text, output) in [
+        (
+            "zone DMA 0 4096 0\nworkers 1\nlists 0 0\n0 low a 0 DMA\n0 alloc b 0 M DMA any\n",
+            "0: page 0\n0: page 1\n\
+total DMA pages 4096 free 4094 posted 0 cached 0 lent 2 level high\n\
+Node 0, zone      DMA      0      1      1      1      1      1      1      1      1      1      3 \n",
+        ),
+        (
+            "zone DMA 1024 13 0\nworkers 1\nlists 0 0\n0 alloc a 0 M DMA any\n0 low b 0 DMA\n0 low c 3 DMA\n\
+0 low d 2 DMA\n0 free b\n0 low e 2 DMA\n",
+            "0: page 1036\n0: page 1024\n0: refused 11\n0: page 1028\n0: freed\n0: page 1024\n\
+total DMA pages 13 free 4 posted 0 cached 0 lent 9 level high\n\
+Node 0, zone      DMA      0      0      1      0      0      0      0      0      0      0      0 \n",
+        ),
+    ] {
+        let outcome = replayed(&rt, text.as_bytes(), sound(1000));
+        assert!(rt; outcome.ending == Ok(Ending::Good), "of {text}");
+        assert!(rt;
+            outcome.written.as_slice() == output.as_bytes(),
+            "of {text}"
+        );
+    }
+}
+
 #[test]
 fn frees_join_and_types_fall_back_on_each_other(rt: HostRuntime) {
     for (text, output) in [
@@ -198,6 +225,16 @@ fn labels_stay_bound_and_go_stale(rt: HostRuntime) {
         (
             "0 alloc a 2 M DMA any\n0 alloc a 3 M DMA any\n0 free a\n0 alloc b 3 M DMA any\n",
             "0: page 0\n0: refused 11\n0: freed\n0: page 0\n",
+        ),
+        // So does one for the lowest block, and the block that it was answered comes back with its order.
+        (
+            "0 low a 2 DMA\n0 low b 3 DMA\n0 low a 3 DMA\n0 low c 0 DMA\n0 free a\n0 free b\n0 low d 1 DMA\n0 free c\n",
+            "0: page 0\n0: refused 11\n0: refused 11\n0: page 4\n0: freed\n0: refused 20\n0: page 0\n0: freed\n",
+        ),
+        // A label of one line may be bound anew by the other.
+        (
+            "0 alloc a 0 M DMA any\n0 low a 1 DMA\n0 free a\n0 free a\n0 low b 2 DMA\n",
+            "0: page 0\n0: page 2\n0: freed\n0: refused 20\n0: page 4\n",
         ),
         // A label that was asked for and refused was never bound.
         (

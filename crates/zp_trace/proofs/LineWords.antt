@@ -5,7 +5,7 @@ use Rattle.zp_model.specs.declared.migrate_type.MigrateType.{MigrateType}
 use Rattle.zp_model.specs.declared.migrate_type.MigrateType.TheVariants.{Unmovable, Reclaimable, Movable}
 use Rattle.zp_trace.specs.declared.line.ZoneLine.{ZoneLine}
 use Rattle.zp_trace.specs.declared.line.Call.{Call}
-use Rattle.zp_trace.specs.declared.line.Call.TheVariants.{Info, Alloc, Free}
+use Rattle.zp_trace.specs.declared.line.Call.TheVariants.{Info, Alloc, Low, Free}
 use Rattle.zp_trace.specs.declared.line.Command.{Command}
 use Rattle.zp_model.specs.Naming.{IsName}
 use Rattle.zp_trace.specs.Spelling.{line_feed, joined, IsWord, AreWords, zone_words, workers_words, lists_words, call_words, command_words, kind_word}
@@ -31,6 +31,8 @@ call_are_words : (z : ZoneLine) (call : Call) → IsName z.name → IsCallOf z c
 call_are_words z Info name is = (omega arith, search rules)
 call_are_words z (Alloc label order kind zone) name is =
     (omega arith, (search rules, (name_is_word label is.0, (number_is_word order (omega (arith, is.1)), (kind_is_word kind, (name_is_word zone (subst IsName (sym is.2) name), (search rules, tt)))))))
+call_are_words z (Low label order zone) name is =
+    (omega arith, (search rules, (name_is_word label is.0, (number_is_word order (omega (arith, is.1)), (name_is_word zone (subst IsName (sym is.2) name), tt)))))
 call_are_words z (Free label) name is = (omega arith, (search rules, (name_is_word label is, tt)))
 
 pub command_are_words : (z : ZoneLine) (c : Command) → IsName z.name → IsCommandOf z c → AreWords (command_words c)

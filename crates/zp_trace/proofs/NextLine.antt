@@ -5,7 +5,7 @@ use Rattle.zp_model.specs.declared.migrate_type.MigrateType.{MigrateType}
 use Rattle.zp_model.specs.declared.migrate_type.MigrateType.TheVariants.{Unmovable, Reclaimable, Movable}
 use Rattle.zp_trace.specs.declared.line.ZoneLine.{ZoneLine}
 use Rattle.zp_trace.specs.declared.line.Call.{Call}
-use Rattle.zp_trace.specs.declared.line.Call.TheVariants.{Info, Alloc, Free}
+use Rattle.zp_trace.specs.declared.line.Call.TheVariants.{Info, Alloc, Low, Free}
 use Rattle.zp_trace.specs.declared.line.Command.{Command}
 use Rattle.zp_trace.specs.Lines.{Line}
 use Rattle.zp_trace.specs.Lines as line
@@ -44,11 +44,17 @@ same_kind Movable Movable e = refl
 same_call : (z : ZoneLine) (a b : Call) → IsCallOf z a → IsCallOf z b → call_words a ≡ call_words b → a ≡ b
 same_call z Info Info p q e = refl
 same_call z Info (Alloc label order kind zone) p q e = cc
+same_call z Info (Low label order zone) p q e = cc
 same_call z Info (Free label) p q e = cc
 same_call z (Alloc label order kind zone) Info p q e = cc
+same_call z (Alloc label order kind zone) (Low m i r) p q e = cc
 same_call z (Alloc label order kind zone) (Free m) p q e = cc
+same_call z (Low label order zone) Info p q e = cc
+same_call z (Low label order zone) (Alloc m i j r) p q e = cc
+same_call z (Low label order zone) (Free m) p q e = cc
 same_call z (Free label) Info p q e = cc
 same_call z (Free label) (Alloc m i j r) p q e = cc
+same_call z (Free label) (Low m i r) p q e = cc
 same_call z (Free label) (Free m) p q e =
     let same : label ≡ m = cc in
     cc
@@ -58,6 +64,12 @@ same_call z (Alloc l o k n) (Alloc m i j r) p q e =
     let order = same_number (decimal o) o i (omega (arith, p.1)) (omega (arith, q.1)) refl order_text in
     let kind_text : kind_word k ≡ kind_word j = cc in
     let kind = same_kind k j kind_text in
+    let zone : n ≡ r = cc in
+    cc
+same_call z (Low l o n) (Low m i r) p q e =
+    let label : l ≡ m = cc in
+    let order_text : decimal o ≡ decimal i = cc in
+    let order = same_number (decimal o) o i (omega (arith, p.1)) (omega (arith, q.1)) refl order_text in
     let zone : n ≡ r = cc in
     cc
 

@@ -20,6 +20,14 @@ word_at ws d i words e inside =
     sym (get_or-map (λ (w : Bor (List ℕ)). w.now) ws i d [] inside) ∙ ap (λ (l : List (List ℕ)). get_or l i []) e
 
 -- words that are as many, and each of them known
+pub four : (ws : List (Bor (List ℕ))) (q : Bor (List ℕ)) → 4 ≤ length ws → length ws < 5 → {a b c d : List ℕ} → (get_or ws 0 q).now ≡ a → (get_or ws 1 q).now ≡ b → (get_or ws 2 q).now ≡ c → (get_or ws 3 q).now ≡ d → spelled ws ≡ a ∷ b ∷ c ∷ d ∷ []
+four [] q least below = absurd (omega arith)
+four (r ∷ []) q least below = absurd (omega arith)
+four (r ∷ s ∷ []) q least below = absurd (omega arith)
+four (r ∷ s ∷ t ∷ []) q least below = absurd (omega arith)
+four (r ∷ s ∷ t ∷ u ∷ []) q least below = λ a b c d. cc
+four (r ∷ s ∷ t ∷ u ∷ v ∷ ws) q least below = absurd (omega arith)
+
 pub five : (ws : List (Bor (List ℕ))) (q : Bor (List ℕ)) → 5 ≤ length ws → length ws < 6 → {a b c d e : List ℕ} → (get_or ws 0 q).now ≡ a → (get_or ws 1 q).now ≡ b → (get_or ws 2 q).now ≡ c → (get_or ws 3 q).now ≡ d → (get_or ws 4 q).now ≡ e → spelled ws ≡ a ∷ b ∷ c ∷ d ∷ e ∷ []
 five [] q least below = absurd (omega arith)
 five (r ∷ []) q least below = absurd (omega arith)

@@ -4,7 +4,7 @@ use Rattle.zp_model.specs.declared.constants.TheConstants.{LARGEST_ORDER}
 use Rattle.zp_trace.specs.declared.bounds.TheConstants.{MOST_LINES, WORKERS}
 use Rattle.zp_trace.specs.declared.line.ZoneLine.{ZoneLine}
 use Rattle.zp_trace.specs.declared.line.Call.{Call}
-use Rattle.zp_trace.specs.declared.line.Call.TheVariants.{Info, Alloc, Free}
+use Rattle.zp_trace.specs.declared.line.Call.TheVariants.{Info, Alloc, Low, Free}
 use Rattle.zp_trace.specs.declared.line.Command.{Command}
 use Rattle.zp_trace.specs.Lines.{Line}
 use Rattle.zp_trace.specs.Lines as line
@@ -21,6 +21,7 @@ abbrev pub IsCallOf : ZoneLine → Call → Type 0
 IsCallOf z Info = Unit {0}
 IsCallOf z (Alloc label order kind zone) =
     IsName label × (order ≤ LARGEST_ORDER) × (zone ≡ z.name)
+IsCallOf z (Low label order zone) = IsName label × (order ≤ LARGEST_ORDER) × (zone ≡ z.name)
 IsCallOf z (Free label) = IsName label
 
 abbrev pub IsCommandOf : ZoneLine → Command → Type 0
@@ -30,6 +31,7 @@ IsCommandOf z c = (c.worker < WORKERS) × IsCallOf z c.call
 abbrev pub bound_label : Call → Option (List ℕ)
 bound_label Info = None
 bound_label (Alloc label order kind zone) = Some label
+bound_label (Low label order zone) = Some label
 bound_label (Free label) = None
 
 -- the command binds this label of this worker, if it is answered a block
@@ -40,6 +42,7 @@ Binds worker label c = (c.worker ≡ worker) × (bound_label c.call ≡ Some lab
 abbrev pub HasLabel : List Command → ℕ → Call → Type 0
 HasLabel before worker Info = Unit {0}
 HasLabel before worker (Alloc label order kind zone) = Unit {0}
+HasLabel before worker (Low label order zone) = Unit {0}
 HasLabel before worker (Free label) = Any (Binds worker label) before
 
 -- a command that may stand after these in a trace of this zone

@@ -8,7 +8,7 @@ use Rattle.zp_model.specs.declared.migrate_type.MigrateType.TheVariants.{Unmovab
 use Rattle.zp_trace.specs.declared.bounds.TheConstants.{MOST_WORDS}
 use Rattle.zp_trace.specs.declared.line.ZoneLine.{ZoneLine}
 use Rattle.zp_trace.specs.declared.line.Call.{Call}
-use Rattle.zp_trace.specs.declared.line.Call.TheVariants.{Info, Alloc, Free}
+use Rattle.zp_trace.specs.declared.line.Call.TheVariants.{Info, Alloc, Low, Free}
 use Rattle.zp_trace.specs.declared.line.Command.{Command}
 use Rattle.zp_trace.specs.Lines.{Line}
 use Rattle.zp_trace.specs.Lines as line
@@ -53,6 +53,7 @@ abbrev pub call_words : Call → List (List ℕ)
 call_words Info = codes "info" ∷ []
 call_words (Alloc label order kind zone) =
     codes "alloc" ∷ label ∷ decimal order ∷ kind_word kind ∷ zone ∷ codes "any" ∷ []
+call_words (Low label order zone) = codes "low" ∷ label ∷ decimal order ∷ zone ∷ []
 call_words (Free label) = codes "free" ∷ label ∷ []
 
 abbrev pub command_words : Command → List (List ℕ)

@@ -5,7 +5,7 @@ ghost use Rattle.zp_model.specs.declared.migrate_type.MigrateType.{MigrateType};
 ghost use Rattle.zp_model.specs.Bounds.{IsBase, IsPages};
 ghost use Rattle.zp_trace.specs.declared.line.ZoneLine.{ZoneLine};
 ghost use Rattle.zp_trace.specs.declared.line.Call.{Call};
-ghost use Rattle.zp_trace.specs.declared.line.Call.TheVariants.{Info, Alloc, Free};
+ghost use Rattle.zp_trace.specs.declared.line.Call.TheVariants.{Info, Alloc, Low, Free};
 ghost use Rattle.zp_trace.specs.declared.line.Command.{Command};
 ghost use Rattle.zp_trace.specs.Spelling.{spelled, zone_words, call_words, command_words, kind_word, workers_words, lists_words};
 ghost use Rattle.zp_trace.specs.Grammar.{IsZoneLine, IsCallOf, IsCommandOf};
@@ -168,6 +168,27 @@ fn alloc_of(zone: &ZoneLine, words: &[&[u8]]) -> Option<Call>
     })
 }
 
+/// The low of such words in this zone.
+fn low_of(zone: &ZoneLine, words: &[&[u8]]) -> Option<Call>
+    ensures some { IfSome result (λ call. IsCallOf zone.now call × (spelled words.now ≡ call_words call)) }
+    ensures none { IfNone result ((label : List ℕ) (order : ℕ) (name : List ℕ)
+        → IsCallOf zone.now (Low label order name) → spelled words.now ≡ call_words (Low label order name) → ⊥) }
+{
+    let [keyword, label, order, zone_name] = words else {
+        return None;
+    };
+    if !is_text(keyword, "low") || !is_word(zone_name, zone.name.as_bytes()) {
+        return None;
+    }
+    let label = Name::new(label)?;
+    let order = order_of(order)?;
+    Some(Call::Low {
+        label,
+        order,
+        zone: zone.name,
+    })
+}
+
 /// The free of such words.
 fn free_of(words: &[&[u8]]) -> Option<Call>
     ensures some { IfSome result (λ call. (zone : ZoneLine) → IsCallOf zone call × (spelled words.now ≡ call_words call)) }
@@ -192,6 +213,9 @@ fn call_of(zone: &ZoneLine, words: &[&[u8]]) -> Option<Call>
         return Some(Call::Info);
     }
     if let Some(call) = alloc_of(zone, words) {
+        return Some(call);
+    }
+    if let Some(call) = low_of(zone, words) {
         return Some(call);
     }
     free_of(words)

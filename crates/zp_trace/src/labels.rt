@@ -10,7 +10,7 @@ fn bound_label(call: &Call) -> Option<Name>
     ensures { result ≡ bound_label call.now }
 {
     match call {
-        Call::Alloc { label, .. } => Some(*label),
+        Call::Alloc { label, .. } | Call::Low { label, .. } => Some(*label),
         Call::Info | Call::Free { .. } => None,
     }
 }
@@ -35,6 +35,6 @@ pub fn has_label(before: &[Command], command: &Command) -> bool
 {
     match command.call {
         Call::Free { label } => is_bound(before, command.worker, label),
-        Call::Info | Call::Alloc { .. } => true,
+        Call::Info | Call::Alloc { .. } | Call::Low { .. } => true,
     }
 }

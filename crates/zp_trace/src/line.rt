@@ -23,6 +23,12 @@ pub enum Call {
         kind: MigrateType,
         zone: Name,
     },
+    /// The lowest block of this order of the zone of this name, and of no other; the label is bound to it.
+    Low {
+        label: Name,
+        order: Order,
+        zone: Name,
+    },
     /// The block that this label of the worker is bound to, given back.
     Free {
         label: Name,

@@ -1,7 +1,7 @@
 //! Texts, and what parsing them answers.
 use super::*;
 use std::test::*;
-use zp_model::{MigrateType, Name};
+use zp_model::{MigrateType, Name, Order};
 
 /// The number of the bad line, 0 for a good trace, and 9999 for want of memory.
 fn bad_line(rt: &HostRuntime, text: &str) -> u32 {
@@ -21,7 +21,7 @@ fn bad_after_header(rt: &HostRuntime, rest: &str) -> Result<u32, Fail> {
 #[test]
 fn a_trace_says_what_its_text_writes(rt: HostRuntime) -> Result<(), Fail> {
     let text =
-        "zone DMA 1024 13 0\nworkers 1\nlists 0 0\n0 info\n0 alloc a 2 R DMA any\n0 free a\n";
+        "zone DMA 1024 13 0\nworkers 1\nlists 0 0\n0 info\n0 alloc a 2 R DMA any\n0 free a\n0 low b 1 DMA\n";
     let trace = parse_trace(rt.alloc(), text.as_bytes())
         .ok()
         .ok_or("the text is a trace")?;
@@ -29,10 +29,16 @@ fn a_trace_says_what_its_text_writes(rt: HostRuntime) -> Result<(), Fail> {
     assert_eq!(rt; trace.zone.base, 1024);
     assert_eq!(rt; trace.zone.pages, 13);
     let commands = trace.commands.as_slice();
-    assert_eq!(rt; commands.len(), 3);
+    assert_eq!(rt; commands.len(), 4);
     let label = Name::new(b"a").ok_or("a is a label")?;
     assert!(rt; commands[0].call == Call::Info);
     assert!(rt; commands[2].call == Call::Free { label });
+    let low = Call::Low {
+        label: Name::new(b"b").ok_or("b is a label")?,
+        order: Order::new(1).ok_or("1 is an order")?,
+        zone: trace.zone.name,
+    };
+    assert!(rt; commands[3].call == low);
     for command in commands {
         assert_eq!(rt; command.worker.number(), 0);
         if let Call::Alloc {
@@ -82,6 +88,11 @@ fn good_traces(rt: HostRuntime) -> Result<(), Fail> {
         "0 alloc a 0 U DMA any\n0 alloc b 1 R DMA any\n",
         "0 alloc a 0 M DMA any\n0 free a\n0 free a\n",
         "0 alloc a 0 M DMA any\n0 alloc abcd1234 0 M DMA any\n0 info\n0 free abcd1234\n",
+        "0 low a 3 DMA\n",
+        "0 low 1aZ9abcd 10 DMA\n0 low 1aZ9abcd 0 DMA\n0 info\n",
+        "0 low a 3 DMA\n0 free a\n",
+        "0 alloc a 0 M DMA any\n0 low b 0 DMA\n0 free a\n0 free b\n",
+        "0 low low 0 DMA\n0 free low\n",
     ] {
         assert_eq!(rt; bad_after_header(&rt, rest)?, 0, "of {rest}");
     }
@@ -181,6 +192,22 @@ fn bad_commands(rt: HostRuntime) -> Result<(), Fail> {
         ("0 alloc abcdefghi 0 M DMA any\n", 4),
         ("0 alloc  0 M DMA any\n", 4),
         ("0 alloc é 0 M DMA any\n", 4),
+        ("0 low a 11 DMA\n", 4),
+        ("0 low a 00 DMA\n", 4),
+        ("0 low a 0 DMB\n", 4),
+        ("0 low a 0 dma\n", 4),
+        ("0 low a 0 M DMA\n", 4),
+        ("0 low a 0 DMA any\n", 4),
+        ("0 low a 0 DMA \n", 4),
+        ("0 low a 0\n", 4),
+        ("0 low a\n", 4),
+        ("0 low abcdefghi 0 DMA\n", 4),
+        ("0 low  0 DMA\n", 4),
+        ("0 Low a 0 DMA\n", 4),
+        ("0 lower a 0 DMA\n", 4),
+        ("1 low a 0 DMA\n", 4),
+        ("0 free a\n0 low a 0 DMA\n", 4),
+        ("0 low a 0 DMA\n0 free b\n", 5),
         ("0 info\n0 info\n\n", 6),
         ("0 info\n0 info\n0 info", 6),
         ("0 info\n0 info\r\n0 info\n", 5),

@@ -39,6 +39,21 @@ impl Pair {
         head
     }
 
+    /// Takes the lowest block from both, and notes it as out for the type of its pageblock.
+    pub fn take_low(&mut self, rt: &impl Abort, order: Order) -> Option<PageAt> {
+        let head = self.buddy.take_low(order);
+        let plain_head = self.plain.take_low(order);
+        assert_eq!(rt; head, plain_head);
+        if let (Some(at), Some(plain_at)) = (head, plain_head) {
+            let kind = self.buddy.type_of(at);
+            assert!(rt; kind == self.plain.type_of(plain_at));
+            let worker = Worker::new(0).expect(rt, "no worker");
+            self.buddy.hold(at, State::Out(order, kind, worker));
+            self.plain.hold(plain_at, State::Out(order, kind, worker));
+        }
+        head
+    }
+
     /// Gives a block back to both, where it may come back.
     pub fn give(&mut self, rt: &impl Abort, at: PageAt, order: Order) -> bool {
         let clear = self.buddy.is_clear(at, order);

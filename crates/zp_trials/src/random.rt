@@ -33,7 +33,8 @@ fn order_below(word: u32, orders: u8) -> Order {
     Order::new(number as u8).unwrap_or(Order::zero())
 }
 
-/// Makes random requests of a pair whose zone has so many pages: takes, and gives of what they took.
+/// Makes random requests of a pair whose zone has so many pages: takes, each fourth of them of the lowest block, and gives of
+/// what they took.
 pub fn ask_at_random(
     rt: &(impl Abort + AllocGlobal),
     pair: &mut Pair,
@@ -50,7 +51,13 @@ pub fn ask_at_random(
     for number in 0..count {
         if random.next_u32() % 9 < 5 || taken.is_empty() {
             let order = order_below(random.next_u32(), orders);
-            if let Some(head) = pair.take(rt, order, kind_of(random.next_u32())) {
+            let word = random.next_u32();
+            let head = if random.next_u32() % 4 == 0 {
+                pair.take_low(rt, order)
+            } else {
+                pair.take(rt, order, kind_of(word))
+            };
+            if let Some(head) = head {
                 taken.push((head, order))?;
             }
         } else {

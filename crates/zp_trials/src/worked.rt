@@ -19,6 +19,8 @@ const MOVABLE: MigrateType = MigrateType::Movable;
 enum Step {
     /// A block of this order for a type: its first page.
     Take(u8, MigrateType, Option<u32>),
+    /// The lowest block of this order: its first page.
+    Low(u8, Option<u32>),
     /// The block of this order at this page comes back.
     Give(u32, u8),
 }
@@ -34,6 +36,14 @@ fn compare_steps(rt: &(impl Abort + AllocGlobal), pages: u32, steps: &[Step]) ->
                 let order = Order::new(order).expect(rt, "no order");
                 let head = pair.take(rt, order, kind);
                 let page = match head {
+                    Some(at) => Some(at.number()),
+                    None => None,
+                };
+                assert_eq!(rt; page, expected, "of {pages} pages");
+            }
+            Step::Low(order, expected) => {
+                let order = Order::new(order).expect(rt, "no order");
+                let page = match pair.take_low(rt, order) {
                     Some(at) => Some(at.number()),
                     None => None,
                 };
@@ -99,6 +109,32 @@ fn worked_requests_are_answered_alike(rt: HostRuntime) -> Result<(), Fail> {
         ],
     )?;
     compare_steps(&rt, 13, &[Step::Take(2, MOVABLE, Some(8))])?;
+    // The lowest block is split, though the block in front of a list would do; a smaller one does not stand in its way.
+    compare_steps(
+        &rt,
+        4096,
+        &[
+            Step::Take(0, UNMOVABLE, Some(3072)),
+            Step::Low(0, Some(0)),
+            Step::Low(10, Some(1024)),
+            Step::Low(9, Some(512)),
+            Step::Take(0, MOVABLE, Some(1)),
+            Step::Give(0, 0),
+            Step::Low(0, Some(0)),
+        ],
+    )?;
+    compare_steps(
+        &rt,
+        13,
+        &[
+            Step::Take(0, MOVABLE, Some(12)),
+            Step::Low(0, Some(0)),
+            Step::Low(3, None),
+            Step::Low(2, Some(4)),
+            Step::Low(2, Some(8)),
+            Step::Low(2, None),
+        ],
+    )?;
     compare_steps(
         &rt,
         1,

@@ -7,15 +7,17 @@ use Rattle.std.proofs.lemmas.List.{length-map, length-replicate, get_or_default}
 use Rattle.std.proofs.lemmas.List.FromFn.{get_or-range_with_len, length-range_with_len}
 use Rattle.zp_model.specs.declared.migrate_type.MigrateType.{MigrateType}
 use Rattle.zp_model.specs.declared.mark.Mark.{Mark}
+use Rattle.zp_model.specs.declared.block.Block.{Block}
+use Rattle.zp_model.specs.declared.request.Request.TheVariants as request
 use Rattle.zp_model.specs.declared.request.Reply.TheVariants as Reply
 use Rattle.zp_model.specs.Zone.{PlainZone, PostedBlock, workers_of, zone_opening}
-use Rattle.zp_model.specs.Step.{alloc, freed}
+use Rattle.zp_model.specs.Step.{alloc, freed, step}
 use Rattle.zp_model.specs.Run.{is_out}
 use Rattle.zp_model.specs.Lawful.{IsLawful}
 use Rattle.zp_laws.specs.FreePages.{IsSameZone}
 use Rattle.zp_laws.proofs.Opening.{free-opening}
-use Rattle.zp_laws.proofs.Sameness.{alloc-same, freed-same}
-use Rattle.zp_laws.proofs.StaysOut.{alloc-kept, alloc-out, alloc-fresh, freed-gone, freed-kept}
+use Rattle.zp_laws.proofs.Sameness.{alloc-same, freed-same, step-same}
+use Rattle.zp_laws.proofs.StaysOut.{alloc-kept, alloc-out, alloc-fresh, alloc_low-kept, alloc_low-out, alloc_low-fresh, freed-gone, freed-kept}
 use Rattle.zp_laws.proofs.Held.{out-to}
 use Rattle.zp_zone.specs.NamedZone.{NamedZone, Right, IsSeatOf, KeepsSeats, KeepsOut, KeepsOutBut, IsFresh, seats_of}
 
@@ -66,6 +68,24 @@ alloc_out z y w k p t m l e r = let P : PlainZone → Type 0 = λ q. is_out q w 
 
 pub alloc_fresh : (z : PlainZone) (w k p : ℕ) (t : MigrateType) (m : Mark) → IsLawful z → Reply.Page p ≡ (alloc z w k t m).reply → IsFresh z p
 alloc_fresh z w k p t m l r v j = alloc-fresh z w k t m l p r v j
+
+pub low_seats : (z y : PlainZone) (w k : ℕ) → y ≡ (step z w (request.AllocLow k)).zone → KeepsSeats z y
+low_seats z y w k e =
+    let P : PlainZone → Type 0 = λ q. KeepsSeats z q in
+    subst P (sym e) (same_seats z (step z w (request.AllocLow k)).zone (step-same z w (request.AllocLow k)))
+
+pub low_kept : (z y : PlainZone) (w k : ℕ) → IsLawful z → y ≡ (step z w (request.AllocLow k)).zone → KeepsOut z y
+low_kept z y w k l e = let P : PlainZone → Type 0 = λ q. KeepsOut z q in subst P (sym e) (alloc_low-kept z w k l)
+
+pub low_is_out : (z y : PlainZone) (w k : ℕ) (b : Block) → IsLawful z → y ≡ (step z w (request.AllocLow k)).zone → Reply.Block b ≡ (step z w (request.AllocLow k)).reply →
+    (b.order ≡ k) × (is_out y w b.page k ≡ true)
+low_is_out z y w k b l e r =
+    let P : PlainZone → Type 0 = λ q. is_out q w b.page k ≡ true in
+    let o = alloc_low-out z w k l b r in
+    (o.0, subst P (sym e) o.1)
+
+pub low_fresh : (z : PlainZone) (w k : ℕ) (b : Block) → IsLawful z → Reply.Block b ≡ (step z w (request.AllocLow k)).reply → IsFresh z b.page
+low_fresh z w k b l r v j = alloc_low-fresh z w k l b r v j
 
 pub freed_seats : (z y : PlainZone) (h k : ℕ) → y ≡ freed z h k → KeepsSeats z y
 freed_seats z y h k e =

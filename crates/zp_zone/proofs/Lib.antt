@@ -7,3 +7,4 @@ pub mod OpeningZone
 pub mod Freed
 pub mod Described
 pub mod Callers
+pub mod LowSteps

@@ -2,6 +2,7 @@
 use Rattle.std.specs.Prelude.{ℕ, ◌≡◌, ◌≢◌, ◌<◌, ◌≤◌, ◌+◌, ◌-◌, List, map, Option, Result, Ok, Err, IsTrue, false}
 use Rattle.std.specs.List.{range_with_len}
 use Rattle.std.specs.Option.{option_map}
+use Rattle.zp_model.specs.declared.block.Block.{Block}
 use Rattle.zp_model.specs.declared.refused.Refused.{Refused}
 use Rattle.zp_model.specs.declared.request.Reply.{Reply}
 use Rattle.zp_model.specs.declared.state.State.{State}
@@ -72,3 +73,7 @@ pub record IsToldOf (z : PlainZone) (p : ℕ) (state : State) (back forward : Op
 abbrev pub page_reply : Result ℕ Refused → Reply
 page_reply (Ok p) = Reply.Page p
 page_reply (Err r) = Reply.Refused r
+
+abbrev pub block_reply : Result Block Refused → Reply
+block_reply (Ok b) = Reply.Block b
+block_reply (Err r) = Reply.Refused r

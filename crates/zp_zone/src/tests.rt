@@ -6,7 +6,7 @@ use super::*;
 use arrayvec::ArrayVec;
 use std::process::Abort;
 use std::test::*;
-use zp_model::{Counts, Level, Mark, MigrateType, Order, PageNo, State};
+use zp_model::{Block, Counts, Level, Mark, MigrateType, Order, PageNo, Refused, State};
 
 fn config(name: &str, base: u32, pages: u32, min: u32) -> ZoneConfig<'_> {
     ZoneConfig {
@@ -110,6 +110,47 @@ fn entries_tell_heads_tails_and_neighbours(rt: HostRuntime) {
     assert!(rt; page == Ok(PageNo::new(3072)));
     expect_entry(&rt, &zone, 3072, &out, None, None);
     expect_entry(&rt, &zone, 2048, &free, None, Some(1024));
+}
+
+/// The lowest block is noted with the type that its pageblock has when it is taken, and keeps it when the pageblock gets
+/// another.
+#[test]
+fn the_lowest_block_has_the_type_of_its_pageblock(rt: HostRuntime) -> Result<(), Fail> {
+    let made = Zone::new(rt.alloc(), config("DMA", 1024, 1024, 0), 1);
+    let (mut zone, mut seats) = made.ok().ok_or("the zone can be made")?;
+    let seat = &mut seats[0];
+    let worker = seat.worker();
+    let order = Order::zero();
+    let first = zone.alloc_low(seat, order);
+    let movable = MigrateType::Movable;
+    assert!(rt;
+        first
+            == Ok(Block {
+                page: PageNo::new(1024),
+                order,
+                kind: movable
+            })
+    );
+    // An Unmovable page claims the pageblock by its largest block.
+    let unmovable = MigrateType::Unmovable;
+    let claimed = zone.alloc(seat, order, unmovable, Mark::Any);
+    assert!(rt; claimed == Ok(PageNo::new(1536)));
+    let first_noted = State::Out(order, movable, worker);
+    expect_entry(&rt, &zone, 1024, &first_noted, None, None);
+    let second = zone.alloc_low(seat, order);
+    assert!(rt;
+        second
+            == Ok(Block {
+                page: PageNo::new(1025),
+                order,
+                kind: unmovable
+            })
+    );
+    let second_noted = State::Out(order, unmovable, worker);
+    expect_entry(&rt, &zone, 1025, &second_noted, None, None);
+    let none = zone.alloc_low(seat, Order::largest());
+    assert!(rt; none == Err(Refused::NoBlock));
+    Ok(())
 }
 
 /// Takes single pages at a mark until one is refused: how many pages are free then.

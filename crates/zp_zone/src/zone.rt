@@ -7,10 +7,11 @@ ghost use Rattle.zp_model.specs.Zone.{zone_opening, is_of, pages_of};
 ghost use Rattle.zp_zone.specs.Kept.{holding_of};
 ghost use Rattle.zp_model.specs.Mark.{level, level_of, is_above};
 ghost use Rattle.zp_model.specs.Info.{counts, info_line};
-ghost use Rattle.zp_model.specs.Step.{alloc, freed};
+ghost use Rattle.zp_model.specs.declared.request.Request.TheVariants as request;
+ghost use Rattle.zp_model.specs.Step.{alloc, freed, step};
 ghost use Rattle.zp_model.specs.Run.{is_out};
 ghost use Rattle.zp_model.specs.Lawful.{IsLawful};
-ghost use Rattle.zp_zone.specs.NamedZone.{IsSeatOf, IsSameRight, KeepsSeats, KeepsOut, KeepsOutBut, IsFresh, IsPageOf, IsToldOf, page_reply, seats_of};
+ghost use Rattle.zp_zone.specs.NamedZone.{IsSeatOf, IsSameRight, KeepsSeats, KeepsOut, KeepsOutBut, IsFresh, IsPageOf, IsToldOf, block_reply, page_reply, seats_of};
 ghost use Rattle.zp_zone.specs.Making.{wanted, IsGood, IsWhy};
 ghost use Rattle.zp_zone.specs.Streams.{IsWritten, IsBegun};
 
@@ -23,8 +24,8 @@ use std::alloc::Global;
 use std::marker::Model;
 use zp_buddy::Buddy;
 use zp_model::{
-    BASE_LIMIT, Counts, LONGEST_NAME, Level, MAX_PAGES, Mark, MigrateType, Name, Order, PageAt,
-    PageNo, Refused, State, Worker,
+    BASE_LIMIT, Block, Counts, LONGEST_NAME, Level, MAX_PAGES, Mark, MigrateType, Name, Order,
+    PageAt, PageNo, Refused, State, Worker,
 };
 
 /// A zone: pages that workers take and give back. Contracts see its name and the plain zone, which is always lawful.
@@ -106,6 +107,36 @@ impl Zone {
         self.buddy
             .hold(head, State::Out(order, kind, seat.worker()));
         Ok(PageNo::new(self.base + head.number()))
+    }
+
+    /// The lowest block of this order, of whatever type. The type noted for it is its pageblock's. Refused 11.
+    pub fn alloc_low(&mut self, seat: &mut Seat, order: Order) -> Result<Block, Refused>
+        requires seat { IsSeatOf self.old.plain seat.old }
+        ensures reply { block_reply result ≡ (step self.old.plain seat.old.worker (request.AllocLow order)).reply }
+        ensures after { self.new ≡ record self.old { plain = (step self.old.plain seat.old.worker (request.AllocLow order)).zone } }
+
+        // What the calls after it can rest on.
+        ensures seat { IsSameRight seat.old seat.new }
+        ensures fits { IsSeatOf self.new.plain seat.new }
+        ensures seats { KeepsSeats self.old.plain self.new.plain }
+        ensures order { IfOk result (λ block. block.order ≡ order) }
+        ensures out { IfOk result (λ block. IsTrue (is_out self.new.plain seat.new.worker block.page block.order)) }
+        ensures fresh { IfOk result (λ block. IsFresh self.old.plain block.page) }
+        ensures kept { KeepsOut self.old.plain self.new.plain }
+    {
+        // a clause of this call says that what is noted as free is free
+        let _pages = self.buddy.pages();
+        let Some(head) = self.buddy.take_low(order) else {
+            return Err(Refused::NoBlock);
+        };
+        let kind = self.buddy.type_of(head);
+        let holder = seat.worker();
+        self.buddy.hold(head, State::Out(order, kind, holder));
+        Ok(Block {
+            page: PageNo::new(self.base + head.number()),
+            order,
+            kind,
+        })
     }
 
     /// Whether the block at this page, of this order, is out to the seat's worker.

@@ -27,3 +27,14 @@ returns-in-Free-clause-err g c =
     ∙ ap (λ (call : Call). (answer_to before command.worker call).text) (sym c.in-Free.is)
     in
     on_err_weaker c.write_all-in-Free.result (begun-same _ _ _ _ line) c.write_all-in-Free.ensures.err
+
+pub returns-in-Low-clause-err : goal.returns-in-Low-clause-err
+returns-in-Low-clause-err g c =
+    let command = c.args.command.now in
+    let before = standing c.args.self.now.zone c.args.self.now.bindings.items in
+    let line : c.as_bytes-in-Low.result.now ≡ (answer before command).text =
+    c.as_bytes-in-Low.ensures.value ∙ c.deref-in-Low.ensures.0 ∙ c.reply_line-in-Low.ensures
+    ∙ ap (λ (r : Reply). reply_line command.worker r) c.low-reply.ensures.reply
+    ∙ ap (λ (call : Call). (answer_to before command.worker call).text) (sym c.in-Low.is)
+    in
+    on_err_weaker c.write_all-in-Low.result (begun-same _ _ _ _ line) c.write_all-in-Low.ensures.err

@@ -1,7 +1,7 @@
 use Rattle.std.proofs.Common.{ℕ, ◌≡◌, Bool, false, arith, sym, ◌∙◌, ap}
 use Rattle.zp_model.specs.Block.{is_max, largest_order}
 use Rattle.zp_plain.proofs.Orders.{find_later}
-use Rattle.zp_plain.proofs.frames.block_at.Goals as goal
+use Rattle.zp_plain.proofs.block_set.block_at.Goals as goal
 
 pub orders-preserved : goal.orders-preserved
 orders-preserved c =

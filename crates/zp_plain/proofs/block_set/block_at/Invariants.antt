@@ -2,7 +2,7 @@ use Rattle.std.proofs.Common.{◌≡◌}
 use Rattle.std.specs.List.{find}
 use Rattle.zp_model.specs.Block.{is_max, largest_order}
 use Rattle.zp_model.specs.BlockSet.{orders_from}
-use Rattle.zp_plain.proofs.frames.block_at.Given as goal
+use Rattle.zp_plain.proofs.block_set.block_at.Given as goal
 
 -- the order is looked for from the number on
 abbrev pub invariant-orders : goal.invariant-orders
