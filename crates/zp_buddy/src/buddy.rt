@@ -85,7 +85,8 @@ impl Buddy {
     {
         let (head, found) = self.area.lowest(order)?;
         take_block(&mut self.area, head, found, order);
-        self.free -= order.pages();
+        let pages = order.pages();
+        self.free -= pages;
         Some(head)
     }
 

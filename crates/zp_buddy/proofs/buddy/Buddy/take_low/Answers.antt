@@ -27,7 +27,7 @@ overflow_sub-self c =
     ap (λ (q : Frames). q.area.free) c.take_block.ensures.after ∙ free-leave (frames_in a).area h c.args.order in
     let run = block_run a h c.in_ok-head.found c.args.order c.self.invariant.sound c.in_ok-head.ensures.found.0 c.in_ok-head.ensures.found.1 in
     let x : IsLessFree a c.self.inside.free c.args.order n = less_free a n c.self.inside.free h c.args.order c.self.invariant.counted run e in
-    let p : c.pages.result ≡ 2 ^ c.args.order = c.pages.ensures.pages in
+    let p : c.pages-pages.result ≡ 2 ^ c.args.order = c.pages-pages.ensures.pages in
     let m : 2 ^ c.args.order ≤ c.self.inside.free = x.enough in
     omega arith
 
@@ -40,7 +40,7 @@ invariant_of-self c =
     ap (λ (q : Frames). q.area.free) c.take_block.ensures.after ∙ free-leave (frames_in a).area h c.args.order in
     let run = block_run a h c.in_ok-head.found c.args.order c.self.invariant.sound c.in_ok-head.ensures.found.0 c.in_ok-head.ensures.found.1 in
     let x : IsLessFree a c.self.inside.free c.args.order n = less_free a n c.self.inside.free h c.args.order c.self.invariant.counted run e in
-    let p : c.pages.result ≡ 2 ^ c.args.order = c.pages.ensures.pages in
+    let p : c.pages-pages.result ≡ 2 ^ c.args.order = c.pages-pages.ensures.pages in
     record {
       sound = c.take_block.ensures.sound;
       typed = ap length c.take_block.ensures.kinds ∙ c.self.invariant.typed ∙ ap pageblocks_of (sym c.take_block.ensures.pages);
