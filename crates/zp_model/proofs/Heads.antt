@@ -1,5 +1,5 @@
 -- Where aligned runs begin, and how two of them lie.
-use Rattle.std.proofs.Common.{ℕ, suc, ◌+◌, ◌-◌, ◌*◌, ◌/◌, ◌%◌, ◌^◌, ◌≡◌, ◌≤◌, ◌<◌, ◌⊎◌, inl, inr, sym, ◌∙◌, ap, arith}
+use Rattle.std.proofs.Common.{ℕ, suc, zero, ◌+◌, ◌-◌, ◌*◌, ◌/◌, ◌%◌, ◌^◌, ◌≡◌, ◌≤◌, ◌<◌, ◌⊎◌, inl, inr, sym, ◌∙◌, ap, arith}
 use Rattle.std.proofs.lemmas.Nat.{shr_split, pow_pos, mod_below, shr_high, shr-shr, shl-shr, mod-pow-add}
 use Rattle.std.proofs.lemmas.Bool.{cases_lt}
 use Rattle.std.proofs.Math.Nat.{mul-mod_left, pow-suc, add-mod_right}
@@ -7,6 +7,10 @@ use Rattle.zp_model.specs.Block.{head}
 
 pub two : (k : ℕ) → 2 ^ (k + 1) ≡ 2 ^ k + 2 ^ k
 two k = let e : 2 ^ suc k ≡ 2 ^ k * 2 = pow-suc 2 k in let f : k + 1 ≡ suc k = omega arith in rw f (omega arith)
+
+pub lt_pow : (k : ℕ) → k < 2 ^ k
+lt_pow zero = omega arith
+lt_pow (suc k) = let e : suc k ≡ k + 1 = omega arith in rw e (omega (arith, lt_pow k, two k))
 
 pub head_le : (i k : ℕ) → head i k ≤ i
 head_le i k = omega (arith, shr_split i k)

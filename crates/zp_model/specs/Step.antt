@@ -34,8 +34,8 @@ abbrev pub alloc_low_at : PlainZone → ℕ → ℕ → Option ℕ → Outcome
 alloc_low_at z w k None = refuse z NoBlock
 alloc_low_at z w k (Some h) =
     record {
-      reply = Reply.Block (record { page = z.base + h; order = k; kind = kind_at z.area.kinds h });
-      zone = hand_out (record z { area = leave z.area h k }) h k (kind_at z.area.kinds h) w;
+      reply = Reply.Block (record { page = z.base + h; order = k; kind = kind_at z.area.largest z.area.kinds h });
+      zone = hand_out (record z { area = leave z.area h k }) h k (kind_at z.area.largest z.area.kinds h) w;
     }
 
 -- the block (h, k) is out no more, and its pages are free

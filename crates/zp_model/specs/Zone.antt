@@ -27,10 +27,10 @@ pub record PlainZone : Type 0 where
   -- the least mark
   pub min : ℕ
 
--- all pages free, nothing out and nothing posted
-abbrev pub zone_opening : ℕ → ℕ → ℕ → ℕ → PlainZone
-zone_opening base pages min workers =
-    record { area = opening pages; out = replicate pages None; posted = replicate workers []; base = base; min = min }
+-- all pages free, nothing out and nothing posted, where the largest block has order m
+abbrev pub zone_opening : ℕ → ℕ → ℕ → ℕ → ℕ → PlainZone
+zone_opening m base pages min workers =
+    record { area = opening m pages; out = replicate pages None; posted = replicate workers []; base = base; min = min }
 
 abbrev pub pages_of : PlainZone → ℕ
 pages_of z = length z.area.free
