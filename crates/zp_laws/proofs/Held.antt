@@ -27,9 +27,9 @@ held-to z w h k e = go z w h k (holding_at z.out h) refl e
 pub out-to : (z : PlainZone) (w p k : ℕ) → is_out z w p k ≡ true → (z.base ≤ p) × (is_held z w (p - z.base) k ≡ true)
 out-to z w p k e = let a = and_parts _ _ e in (leb-true z.base p a.0, a.1)
 
-pub held_block : (z : PlainZone) (h k w : ℕ) → IsLawful z → IsHolding z h k w → IsBlock (pages_of z) h k
+pub held_block : (z : PlainZone) (h k w : ℕ) → IsLawful z → IsHolding z h k w → IsBlock z.area.largest (pages_of z) h k
 held_block z h k w l x =
-    let P : ℕ → Type 0 = λ n. IsBlock (pages_of z) h n in
+    let P : ℕ → Type 0 = λ n. IsBlock z.area.largest (pages_of z) h n in
     subst P x.order (l.out h x.holding x.at).0
 
 -- no page of a block out is free
@@ -39,7 +39,7 @@ held-not_free z h k w i l x r = go z h k w i l x r (has z.area.free i) refl
     go : (z : PlainZone) (h k w i : ℕ) → IsLawful z → IsHolding z h k w → in_run h k i ≡ true → (b : Bool) → has z.area.free i ≡ b → b ≡ false
     go z h k w i l x r false e = refl
     go z h k w i l x r true e =
-        let b = block-inside (pages_of z) h k i (held_block z h k w l x) r in
+        let b = block-inside z.area.largest (pages_of z) h k i (held_block z h k w l x) r in
         let P : ℕ → Type 0 = λ n. in_run h n i ≡ true in
         let c : 1 ≤ times_out z.out i = out-has z.out h i x.holding x.at (subst P (sym x.order) r) in
         let d : one_if (has z.area.free i) ≡ 1 = ap one_if e in

@@ -20,8 +20,8 @@ posted_lawful z h to x held l lt =
     record {
       places = length-set z.out h None ∙ l.places;
       kinds = l.kinds;
-      out = λ g y e. let o = out_less (pages_of z) (workers_of z) z.out h below l.out g y e in (o.0, omega (arith, o.1));
-      posted = posted_set (pages_of z) z.posted to ps lt (All-push (λ (q : PostedBlock). IsBlock (pages_of z) q.head q.order) (posted_to z to) p (l.posted to) (l.out h x held).0) l.posted;
+      out = λ g y e. let o = out_less z.area.largest (pages_of z) (workers_of z) z.out h below l.out g y e in (o.0, omega (arith, o.1));
+      posted = posted_set z.area.largest (pages_of z) z.posted to ps lt (All-push (λ (q : PostedBlock). IsBlock z.area.largest (pages_of z) q.head q.order) (posted_to z to) p (l.posted to) (l.out h x held).0) l.posted;
       once = λ i under.
           let a = times_out-less z.out h i x below held in
           let b = times_posted-set z.posted to i ps lt in

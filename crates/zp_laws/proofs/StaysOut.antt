@@ -45,12 +45,12 @@ not_out-where_none z w p k h none e same =
 -- the block chosen starts at a page of the zone where none was out
 chosen_place : (z : PlainZone) (k : ℕ) (t : MigrateType) (c : Chosen) → choose z.area k t ≡ Some c → IsLawful z → (c.head < length z.out) × (holding_at z.out c.head ≡ None)
 chosen_place z k t c e l =
-    let f : IsFound z.area.free k c.head = choose_found z.area k t c l.lists e in
-    let b : IsBlock (pages_of z) c.head k = found_block z.area.free k c.head f in
+    let f : IsFound z.area.largest z.area.free k c.head = choose_found z.area k t c l.lists e in
+    let b : IsBlock z.area.largest (pages_of z) c.head k = found_block z.area.largest z.area.free k c.head f in
     let room : c.head + 2 ^ k ≤ pages_of z = b.inside in
     let some : 0 < 2 ^ k = pow_pos k in
     let places : length z.out ≡ pages_of z = l.places in
-    (omega arith, free-not_out z c.head l (omega arith) (found_free z.area.free k c.head f c.head (omega arith) (omega arith)))
+    (omega arith, free-not_out z c.head l (omega arith) (found_free z.area.largest z.area.free k c.head f c.head (omega arith) (omega arith)))
 
 chosen-kept : (z : PlainZone) (w k : ℕ) (t : MigrateType) (o : Option Chosen) → choose z.area k t ≡ o → IsLawful z → (v p j : ℕ) → is_out z v p j ≡ true →
     is_out (alloc_chosen z w k t o).zone v p j ≡ true

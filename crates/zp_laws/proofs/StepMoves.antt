@@ -43,7 +43,7 @@ chosen-moves : (z : PlainZone) (w k : ℕ) (t : MigrateType) (o : Option Chosen)
     IsMove z (alloc_chosen z w k t o).zone (paged k (alloc_chosen z w k t o).reply) none
 chosen-moves z w k t None e l = nothing z
 chosen-moves z w k t (Some c) e l =
-    move_out z (alloc_chosen z w k t (Some c)).zone c.head k refl (free-taken z.area k t c) (found_free z.area.free k c.head (choose_found z.area k t c l.lists e))
+    move_out z (alloc_chosen z w k t (Some c)).zone c.head k refl (free-taken z.area k t c) (found_free z.area.largest z.area.free k c.head (choose_found z.area k t c l.lists e))
 
 pub alloc-moves : (z : PlainZone) (w k : ℕ) (t : MigrateType) (m : Mark) → IsLawful z → IsMove z (alloc z w k t m).zone (paged k (alloc z w k t m).reply) none
 unfolding alloc
@@ -62,7 +62,7 @@ blocked k r p = false
 low-moves : (z : PlainZone) (w k : ℕ) (o : Option ℕ) → take_low_answer z.area k ≡ o → IsMove z (alloc_low_at z w k o).zone (blocked k (alloc_low_at z w k o).reply) none
 low-moves z w k None e = nothing z
 low-moves z w k (Some h) e =
-    move_out z (alloc_low_at z w k (Some h)).zone h k refl (free-leave z.area h k) (found_free z.area.free k h (take_low_found z.area k h e))
+    move_out z (alloc_low_at z w k (Some h)).zone h k refl (free-leave z.area h k) (found_free z.area.largest z.area.free k h (take_low_found z.area k h e))
 
 -- a block out comes back
 pub freed-moves : (z : PlainZone) (w p k : ℕ) → IsLawful z → is_out z w p k ≡ true → IsMove z (freed z (p - z.base) k) none (in_run p k)
@@ -70,7 +70,7 @@ freed-moves z w p k l e =
     let o = out-to z w p k e in
     let low : z.base ≤ p = o.0 in
     let x : IsHolding z (p - z.base) k w = held-to z w (p - z.base) k o.1 in
-    let b : IsBlock (pages_of z) (p - z.base) k = held_block z (p - z.base) k w l x in
+    let b : IsBlock z.area.largest (pages_of z) (p - z.base) k = held_block z (p - z.base) k w l x in
     let at : z.base + (p - z.base) ≡ p = omega arith in
     let P : ℕ → Type 0 = λ n. IsMove z (freed z (p - z.base) k) none (in_run n k) in
     subst P at (move_back z (freed z (p - z.base) k) (p - z.base) k refl (free-give z.area (p - z.base) k) b.inside (λ i r. held-not_free z (p - z.base) k w i l x r))
