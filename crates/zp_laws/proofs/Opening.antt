@@ -47,7 +47,7 @@ unfolding opening
 largest-opening m pages =
     largest-settle (record { largest = m; free = replicate pages true; kinds = replicate (pageblocks_of m pages) Movable; lists = replicate (lists_count m) [] })
 
-kinds-opening : (m pages : ℕ) → (opening m pages).kinds ≡ replicate (pageblocks_of m pages) Movable
+pub kinds-opening : (m pages : ℕ) → (opening m pages).kinds ≡ replicate (pageblocks_of m pages) Movable
 unfolding opening
 kinds-opening m pages =
     kinds-settle (record { largest = m; free = replicate pages true; kinds = replicate (pageblocks_of m pages) Movable; lists = replicate (lists_count m) [] })

@@ -10,7 +10,8 @@ use Rattle.zp_model.specs.declared.state.State.TheVariants.{Tail}
 use Rattle.zp_model.specs.Rows.{list_at, stands_in}
 use Rattle.zp_model.specs.Area.{lists_count, opening, pageblocks_of}
 use Rattle.zp_model.specs.Frames.{IsFramed, with_area}
-use Rattle.zp_laws.proofs.Settling.{free-settle, kinds-settle, opening_lists}
+use Rattle.zp_laws.proofs.Opening.{free-opening, largest-opening, kinds-opening}
+use Rattle.zp_laws.proofs.Settling.{opening_lists}
 use Rattle.zp_plain.specs.Sound.{IsSoundArea, IsTable}
 use Rattle.zp_plain.proofs.Noted.{framed_with}
 
@@ -32,40 +33,34 @@ distinct-nil : IsDistinct (λ x y. x == y) []
 unfolding IsDistinct
 distinct-nil = tt
 
-pub table_none : (pages : ℕ) → pages ≤ MAX_PAGES → IsTable (replicate pages true) (replicate (pageblocks_of pages) Movable) (replicate lists_count [])
-table_none pages le =
+pub table_none : (m pages : ℕ) → pages ≤ MAX_PAGES → IsTable m (replicate pages true) (replicate (pageblocks_of m pages) Movable) (replicate (lists_count m) [])
+table_none m pages le =
     let n : length (replicate pages true) ≡ pages = length-replicate pages true in
     record {
       small = omega arith;
-      typed = length-replicate (pageblocks_of pages) Movable ∙ ap (λ q. pageblocks_of q) (sym n);
-      table = length-replicate lists_count (let e : List ℕ = [] in e);
+      typed = length-replicate (pageblocks_of m pages) Movable ∙ ap (λ q. pageblocks_of m q) (sym n);
+      table = length-replicate (lists_count m) (let e : List ℕ = [] in e);
       distinct = λ r lt.
-          let P : List ℕ → Type 0 = λ xs. IsDistinct (λ x y. x == y) xs in subst P (sym (none_at lists_count r)) distinct-nil;
-      inside = λ r p lt e. absurd (none_on lists_count r p e);
+          let P : List ℕ → Type 0 = λ xs. IsDistinct (λ x y. x == y) xs in subst P (sym (none_at (lists_count m) r)) distinct-nil;
+      inside = λ r p lt e. absurd (none_on (lists_count m) r p e);
     }
 
-pub free-opening : (pages : ℕ) → (opening pages).free ≡ replicate pages true
-unfolding opening
-free-opening pages = free-settle (record { free = replicate pages true; kinds = replicate (pageblocks_of pages) Movable; lists = replicate lists_count [] })
-
-kinds-opening : (pages : ℕ) → (opening pages).kinds ≡ replicate (pageblocks_of pages) Movable
-unfolding opening
-kinds-opening pages = kinds-settle (record { free = replicate pages true; kinds = replicate (pageblocks_of pages) Movable; lists = replicate lists_count [] })
-
-pub sound_opening : (pages : ℕ) → pages ≤ MAX_PAGES → IsSoundArea (opening pages)
-sound_opening pages le =
-    let n : length (opening pages).free ≡ pages = ap length (free-opening pages) ∙ length-replicate pages true in
+pub sound_opening : (m pages : ℕ) → pages ≤ MAX_PAGES → IsSoundArea (opening m pages)
+sound_opening m pages le =
+    let n : length (opening m pages).free ≡ pages = ap length (free-opening m pages) ∙ length-replicate pages true in
     record {
       small = omega arith;
-      typed = ap length (kinds-opening pages) ∙ length-replicate (pageblocks_of pages) Movable ∙ ap (λ q. pageblocks_of q) (sym n);
-      lists = opening_lists pages;
+      typed = ap length (kinds-opening m pages) ∙ length-replicate (pageblocks_of m pages) Movable ∙ ap (λ q. pageblocks_of m q) (sym n)
+          ∙ ap (λ q. pageblocks_of q (length (opening m pages).free)) (sym (largest-opening m pages));
+      lists = opening_lists m pages;
     }
 
 -- the frames of the opening, whose notes are restated
-pub framed_opening : (pages side : ℕ) → IsFramed (with_area (record { area = opening pages; states = replicate pages Tail; sides = replicate side [] }) (opening pages))
-framed_opening pages side =
+pub framed_opening : (m pages side : ℕ) → IsFramed (with_area (record { area = opening m pages; states = replicate pages Tail; sides = replicate side [] }) (opening m pages))
+framed_opening m pages side =
     let s : length (replicate pages Tail) ≡ pages = length-replicate pages Tail in
-    framed_with (record { area = opening pages; states = replicate pages Tail; sides = replicate side [] }) (opening pages)
-    (ap length (free-opening pages) ∙ length-replicate pages true ∙ sym s)
-    (ap length (kinds-opening pages) ∙ length-replicate (pageblocks_of pages) Movable ∙ ap (λ q. pageblocks_of q) (sym s))
+    framed_with (record { area = opening m pages; states = replicate pages Tail; sides = replicate side [] }) (opening m pages)
+    (ap length (free-opening m pages) ∙ length-replicate pages true ∙ sym s)
+    (ap length (kinds-opening m pages) ∙ length-replicate (pageblocks_of m pages) Movable ∙ ap (λ q. pageblocks_of m q) (sym s)
+    ∙ ap (λ q. pageblocks_of q (length (replicate pages Tail))) (sym (largest-opening m pages)))
     (λ r p e. absurd (none_on side r p e))
