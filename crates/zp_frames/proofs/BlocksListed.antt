@@ -6,7 +6,7 @@ use Rattle.std.proofs.lemmas.Bool.{cases_eq, cases_Bool, eqb-true, eq-eqb, both_
 use Rattle.std.proofs.lemmas.List.Sums.{sum_by-cons}
 use Rattle.zp_model.specs.declared.migrate_type.MigrateType.{MigrateType}
 use Rattle.zp_model.specs.declared.state.State.{State}
-use Rattle.zp_model.specs.Block.{largest_order, is_max}
+use Rattle.zp_model.specs.Block.{is_max}
 use Rattle.zp_model.specs.BlockSet.{Starts, cover}
 use Rattle.zp_model.specs.MigrateType.{type_number, types_count}
 use Rattle.zp_model.specs.Rows.{list_at, stands_in}
@@ -73,54 +73,54 @@ count-stands (x ∷ xs) n d f =
         ]
 
 -- a page stands on the list of an order and of the type with number j where it heads a block of that order in a pageblock of that type
-list-has : (s : List State) (kinds : List MigrateType) (l : List (List ℕ)) (k j h : ℕ) → IsSound s kinds l → k ≤ largest_order → j < types_count →
-    (stands_in h (list_at l (types_count * k + j)) ≡ true → (is_max largest_order (cover (blocks_of s)) h k ≡ true) × (type_number (kind_at kinds h) ≡ j))
-    × (is_max largest_order (cover (blocks_of s)) h k ≡ true → type_number (kind_at kinds h) ≡ j → stands_in h (list_at l (types_count * k + j)) ≡ true)
-list-has s kinds l k j h x le lt =
+list-has : (m : ℕ) (s : List State) (kinds : List MigrateType) (l : List (List ℕ)) (k j h : ℕ) → IsSound m s kinds l → k ≤ m → j < types_count →
+    (stands_in h (list_at l (types_count * k + j)) ≡ true → (is_max m (cover (blocks_of s)) h k ≡ true) × (type_number (kind_at m kinds h) ≡ j))
+    × (is_max m (cover (blocks_of s)) h k ≡ true → type_number (kind_at m kinds h) ≡ j → stands_in h (list_at l (types_count * k + j)) ≡ true)
+list-has m s kinds l k j h x le lt =
     let r : ℕ = types_count * k + j in
     let d : (types_count * k + j) / types_count ≡ k = omega arith in
-    let m : (types_count * k + j) % types_count ≡ j = omega arith in
-    let below : types_count * k + j < lists_count = omega arith in
-    let y : IsListed (blocks_of s) kinds (types_count * k + j) (list_at l (types_count * k + j)) = x.listed (types_count * k + j) below in
-    let u = max-unique largest_order (Starts (blocks_of s)) (cover (blocks_of s)) x.normal h k in
+    let v : (types_count * k + j) % types_count ≡ j = omega arith in
+    let below : types_count * k + j < lists_count m = omega arith in
+    let y : IsListed m (blocks_of s) kinds (types_count * k + j) (list_at l (types_count * k + j)) = x.listed (types_count * k + j) below in
+    let u = max-unique m (Starts (blocks_of s)) (cover (blocks_of s)) x.normal h k in
     let P : ℕ → Type 0 = λ n. Starts (blocks_of s) h n in (
-      λ e. let w : Here (blocks_of s) kinds (types_count * k + j) h = y.to h e in (u.0 (subst P d w.0), w.1 ∙ m),
-      λ a b. y.from h (subst P (sym d) (u.1 a), b ∙ sym m),
+      λ e. let w : Here m (blocks_of s) kinds (types_count * k + j) h = y.to h e in (u.0 (subst P d w.0), w.1 ∙ v),
+      λ a b. y.from h (subst P (sym d) (u.1 a), b ∙ sym v),
     )
 
 -- one list of an order, by the numbers below the zone's end that stand on it
-list-counts : (s : List State) (kinds : List MigrateType) (l : List (List ℕ)) (k j : ℕ) → IsSound s kinds l → k ≤ largest_order → j < types_count →
+list-counts : (m : ℕ) (s : List State) (kinds : List MigrateType) (l : List (List ℕ)) (k j : ℕ) → IsSound m s kinds l → k ≤ m → j < types_count →
     count_by (λ h. stands_in h (list_at l (types_count * k + j))) (range_with_len 0 (length (cover (blocks_of s)))) ≡ length (list_at l (types_count * k + j))
-list-counts s kinds l k j x le lt =
-    let below : types_count * k + j < lists_count = omega arith in
+list-counts m s kinds l k j x le lt =
+    let below : types_count * k + j < lists_count m = omega arith in
     count-stands (list_at l (types_count * k + j)) (length (cover (blocks_of s))) (x.listed (types_count * k + j) below).distinct
     (λ p e.
-    let w : Here (blocks_of s) kinds (types_count * k + j) p = (x.listed (types_count * k + j) below).to p e in
+    let w : Here m (blocks_of s) kinds (types_count * k + j) p = (x.listed (types_count * k + j) below).to p e in
     has_below (cover (blocks_of s)) p (x.normal.inside p ((types_count * k + j) / types_count) w.0 p (omega arith) (omega (arith, pow_pos ((types_count * k + j) / types_count)))))
 
 -- a block of the order stands on the list of its pageblock's type and on no other
-each-once : (s : List State) (kinds : List MigrateType) (l : List (List ℕ)) (k h : ℕ) → IsSound s kinds l → k ≤ largest_order →
-    one_if (is_max largest_order (cover (blocks_of s)) h k) ≡
+each-once : (m : ℕ) (s : List State) (kinds : List MigrateType) (l : List (List ℕ)) (k h : ℕ) → IsSound m s kinds l → k ≤ m →
+    one_if (is_max m (cover (blocks_of s)) h k) ≡
     one_if (stands_in h (list_at l (types_count * k + 0))) + (one_if (stands_in h (list_at l (types_count * k + 1))) + one_if (stands_in h (list_at l (types_count * k + 2))))
-each-once s kinds l k h x le =
-    let y0 = list-has s kinds l k 0 h x le (omega arith) in
-    let y1 = list-has s kinds l k 1 h x le (omega arith) in
-    let y2 = list-has s kinds l k 2 h x le (omega arith) in
-    let t : ℕ = type_number (kind_at kinds h) in
-    let b : type_number (kind_at kinds h) < types_count = type_below (kind_at kinds h) in
-    let no0 : (type_number (kind_at kinds h) ≡ 0 → ⊥) → stands_in h (list_at l (types_count * k + 0)) ≡ false = λ f. false_from_ne_true _ (λ e. f (y0.0 e).1) in
-    let no1 : (type_number (kind_at kinds h) ≡ 1 → ⊥) → stands_in h (list_at l (types_count * k + 1)) ≡ false = λ f. false_from_ne_true _ (λ e. f (y1.0 e).1) in
-    let no2 : (type_number (kind_at kinds h) ≡ 2 → ⊥) → stands_in h (list_at l (types_count * k + 2)) ≡ false = λ f. false_from_ne_true _ (λ e. f (y2.0 e).1) in
-    elim (cases_Bool (is_max largest_order (cover (blocks_of s)) h k)) [
-      | inl m ↦
-          elim (cases_eq (type_number (kind_at kinds h)) 0) [
-            | inl e0 ↦ rw (m, y0.1 m e0, no1 (λ e. let bad : ⊥ = omega arith in bad), no2 (λ e. let bad : ⊥ = omega arith in bad)) refl
+each-once m s kinds l k h x le =
+    let y0 = list-has m s kinds l k 0 h x le (omega arith) in
+    let y1 = list-has m s kinds l k 1 h x le (omega arith) in
+    let y2 = list-has m s kinds l k 2 h x le (omega arith) in
+    let t : ℕ = type_number (kind_at m kinds h) in
+    let b : type_number (kind_at m kinds h) < types_count = type_below (kind_at m kinds h) in
+    let no0 : (type_number (kind_at m kinds h) ≡ 0 → ⊥) → stands_in h (list_at l (types_count * k + 0)) ≡ false = λ f. false_from_ne_true _ (λ e. f (y0.0 e).1) in
+    let no1 : (type_number (kind_at m kinds h) ≡ 1 → ⊥) → stands_in h (list_at l (types_count * k + 1)) ≡ false = λ f. false_from_ne_true _ (λ e. f (y1.0 e).1) in
+    let no2 : (type_number (kind_at m kinds h) ≡ 2 → ⊥) → stands_in h (list_at l (types_count * k + 2)) ≡ false = λ f. false_from_ne_true _ (λ e. f (y2.0 e).1) in
+    elim (cases_Bool (is_max m (cover (blocks_of s)) h k)) [
+      | inl d ↦
+          elim (cases_eq (type_number (kind_at m kinds h)) 0) [
+            | inl e0 ↦ rw (d, y0.1 d e0, no1 (λ e. let bad : ⊥ = omega arith in bad), no2 (λ e. let bad : ⊥ = omega arith in bad)) refl
             | inr n0 ↦
-                elim (cases_eq (type_number (kind_at kinds h)) 1) [
-                  | inl e1 ↦ rw (m, no0 (λ e. let bad : ⊥ = omega arith in bad), y1.1 m e1, no2 (λ e. let bad : ⊥ = omega arith in bad)) refl
+                elim (cases_eq (type_number (kind_at m kinds h)) 1) [
+                  | inl e1 ↦ rw (d, no0 (λ e. let bad : ⊥ = omega arith in bad), y1.1 d e1, no2 (λ e. let bad : ⊥ = omega arith in bad)) refl
                   | inr n1 ↦
-                      let e2 : type_number (kind_at kinds h) ≡ 2 = omega arith in
-                      rw (m, no0 (λ e. let bad : ⊥ = omega arith in bad), no1 (λ e. let bad : ⊥ = omega arith in bad), y2.1 m e2) refl
+                      let e2 : type_number (kind_at m kinds h) ≡ 2 = omega arith in
+                      rw (d, no0 (λ e. let bad : ⊥ = omega arith in bad), no1 (λ e. let bad : ⊥ = omega arith in bad), y2.1 d e2) refl
                 ]
           ]
       | inr n ↦
@@ -130,19 +130,19 @@ each-once s kinds l k h x le =
           rw (n, off0, off1, off2) refl
     ]
 
-pub blocks_listed : (s : List State) (kinds : List MigrateType) (l : List (List ℕ)) (k : ℕ) → IsSound s kinds l → k ≤ largest_order →
-    blocks_listed_of l k types_count ≡ blocks_of_order (cover (blocks_of s)) k
+pub blocks_listed : (m : ℕ) (s : List State) (kinds : List MigrateType) (l : List (List ℕ)) (k : ℕ) → IsSound m s kinds l → k ≤ m →
+    blocks_listed_of l k types_count ≡ blocks_of_order m (cover (blocks_of s)) k
 unfolding blocks_of_order
-blocks_listed s kinds l k x le =
+blocks_listed m s kinds l k x le =
     let n : ℕ = length (cover (blocks_of s)) in
-    let f : ℕ → ℕ = λ h. one_if (is_max largest_order (cover (blocks_of s)) h k) in
+    let f : ℕ → ℕ = λ h. one_if (is_max m (cover (blocks_of s)) h k) in
     let g : ℕ → ℕ → ℕ = λ j h. one_if (stands_in h (list_at l (types_count * k + j))) in
     let a : sum_by f (range_with_len 0 n) ≡ sum_by (g 0) (range_with_len 0 n) + sum_by (λ h. g 1 h + g 2 h) (range_with_len 0 n) =
-    sums-add f (g 0) (λ h. g 1 h + g 2 h) 0 n (λ i. each-once s kinds l k i x le) in
+    sums-add f (g 0) (λ h. g 1 h + g 2 h) 0 n (λ i. each-once m s kinds l k i x le) in
     let b : sum_by (λ h. g 1 h + g 2 h) (range_with_len 0 n) ≡ sum_by (g 1) (range_with_len 0 n) + sum_by (g 2) (range_with_len 0 n) =
     sums-add (λ h. g 1 h + g 2 h) (g 1) (g 2) 0 n (λ i. refl) in
-    let c0 : sum_by (g 0) (range_with_len 0 n) ≡ length (list_at l (types_count * k + 0)) = list-counts s kinds l k 0 x le (omega arith) in
-    let c1 : sum_by (g 1) (range_with_len 0 n) ≡ length (list_at l (types_count * k + 1)) = list-counts s kinds l k 1 x le (omega arith) in
-    let c2 : sum_by (g 2) (range_with_len 0 n) ≡ length (list_at l (types_count * k + 2)) = list-counts s kinds l k 2 x le (omega arith) in
+    let c0 : sum_by (g 0) (range_with_len 0 n) ≡ length (list_at l (types_count * k + 0)) = list-counts m s kinds l k 0 x le (omega arith) in
+    let c1 : sum_by (g 1) (range_with_len 0 n) ≡ length (list_at l (types_count * k + 1)) = list-counts m s kinds l k 1 x le (omega arith) in
+    let c2 : sum_by (g 2) (range_with_len 0 n) ≡ length (list_at l (types_count * k + 2)) = list-counts m s kinds l k 2 x le (omega arith) in
     let e : sum_by f (range_with_len 0 n) ≡ 0 + length (list_at l (types_count * k + 0)) + length (list_at l (types_count * k + 1)) + length (list_at l (types_count * k + 2)) = omega arith in
     sym e

@@ -8,10 +8,10 @@ use Rattle.zp_model.specs.Area.{pageblocks_of}
 use Rattle.zp_frames.specs.Sound.{IsSound, blocks_of}
 use Rattle.zp_frames.specs.Counted.{IsCounted}
 
-pub record IsHeld (rows : Rows) (kinds : List MigrateType) (free : ℕ) (free_in : List ℕ) : Type 0 where
-  pub sound : IsSound rows.states kinds rows.lists
+pub record IsHeld (m : ℕ) (rows : Rows) (kinds : List MigrateType) (free : ℕ) (free_in : List ℕ) : Type 0 where
+  pub sound : IsSound m rows.states kinds rows.lists
   -- each pageblock has a type
-  pub typed : length kinds ≡ pageblocks_of (length rows.states)
+  pub typed : length kinds ≡ pageblocks_of m (length rows.states)
   -- the free pages are counted, in all and by pageblocks
   pub counted : free ≡ size (cover (blocks_of rows.states))
-  pub each : IsCounted rows.states free_in
+  pub each : IsCounted m rows.states free_in

@@ -2,8 +2,10 @@
 //!
 //! In Linux: the table `fallbacks`, and `can_steal_fallback`.
 ghost use Rattle.std.specs.Prelude.{◌≡◌, ◌||◌, not, leb};
+ghost use Rattle.zp_model.specs.declared.constants.TheConstants.{LARGEST_ORDER};
 ghost use Rattle.zp_model.specs.declared.migrate_type.MigrateType.TheVariants.{Movable};
 ghost use Rattle.zp_model.specs.MigrateType.{foreign, same_type};
+ghost use Rattle.zp_model.specs.Choose.{least_movable_claim};
 
 use zp_model::{LEAST_MOVABLE_CLAIM, MigrateType, Order, PageAt};
 
@@ -35,7 +37,7 @@ pub fn foreign(kind: MigrateType) -> [MigrateType; 2]
 
 /// Whether a request for this type may claim by a block of this order at all.
 pub fn may_claim(order: Order, kind: MigrateType) -> bool
-    ensures { result ≡ (leb LEAST_MOVABLE_CLAIM order || not (same_type kind Movable)) }
+    ensures { result ≡ (leb (least_movable_claim LARGEST_ORDER) order || not (same_type kind Movable)) }
 {
     order.number() >= LEAST_MOVABLE_CLAIM || kind != MigrateType::Movable
 }
