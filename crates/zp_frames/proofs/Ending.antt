@@ -26,7 +26,7 @@ use Rattle.zp_frames.proofs.Taken.{row_below, starts-to, starts-from, free_free,
 use Rattle.zp_frames.proofs.Restating.{restate_not_free}
 use Rattle.zp_frames.proofs.Counting.{same_tests}
 use Rattle.zp_frames.proofs.Filters.{filter_same, stands_filter-to, stands_filter-from, distinct_filter}
-use Rattle.zp_frames.proofs.Joining.{IsBack, IsJoining, outside, outside-to, outside-from, buddy_unique}
+use Rattle.zp_frames.proofs.Joining.{IsBack, IsJoining, is_outside, outside-to, outside-from, buddy_unique}
 
 -- the joining has stopped at (b, j), which is then free and in front of its list
 pub record IsEnded (m h k b j : ℕ) (t : MigrateType) (s s' : List State) (kinds : List MigrateType) (l l' : List (List ℕ)) : Type 0 where
@@ -131,7 +131,7 @@ ended_list m h k b j t s s' kinds l l' x r below =
     let l2 : List (List ℕ) = set l' (list_number j t) v in
     let n : IsNormal m (Starts (blocks_of s2)) (In (cover (blocks_of s2))) = (ended_cover m h k b j t s s' kinds l l' x).0 in
     let xs : List ℕ = list_at l r in
-    let ys : List ℕ = filter (outside b j) xs in
+    let ys : List ℕ = filter (is_outside b j) xs in
     let old : IsListed m (blocks_of s) kinds r xs = x.back.sound.listed r below in
     let bt : type_number t < 3 = type_below t in
     let hi : (b ≤ h) × (h < b + 2 ^ j) × (b % 2 ^ j ≡ 0) = head_in m h k b j t s s' kinds l l' x in
@@ -143,20 +143,20 @@ ended_list m h k b j t s s' kinds l l' x r below =
     let P : ℕ → Type 0 = λ q. Starts (blocks_of s) q (r / types_count) in
     let Q : ℕ → Type 0 = λ q. Starts (blocks_of s) b q in
     not_before m h k b j t s s' kinds l l' x (subst Q same.1 (subst P same.0 (old.to g e).0)) in
-    let out : (g : ℕ) → (b ≤ g → g < b + 2 ^ j → ⊥) → outside b j g ≡ true = λ g f.
+    let out : (g : ℕ) → (b ≤ g → g < b + 2 ^ j → ⊥) → is_outside b j g ≡ true = λ g f.
     outside-from b j g (elim (cases_lt g b) [ inl lt ↦ inl lt | inr ge ↦ elim (cases_lt g (b + 2 ^ j)) [ inl lt ↦ absurd (f ge lt) | inr past ↦ inr past ] ]) in
-    let not_out : (g : ℕ) → outside b j g ≡ true → b ≤ g → g < b + 2 ^ j → ⊥ = λ g e p q.
+    let not_out : (g : ℕ) → is_outside b j g ≡ true → b ≤ g → g < b + 2 ^ j → ⊥ = λ g e p q.
     elim (outside-to b j g e) [ inl u ↦ omega arith | inr u ↦ omega arith ] in
-    let stays : (g : ℕ) → stands_in g xs ≡ true → outside b j g ≡ true → Here m (blocks_of s2) kinds r g = λ g e o.
+    let stays : (g : ℕ) → stands_in g xs ≡ true → is_outside b j g ≡ true → Here m (blocks_of s2) kinds r g = λ g e o.
     let w : Here m (blocks_of s) kinds r g = old.to g e in
     (ended-from m h k b j t s s' kinds l l' x g (r / types_count) (inl (w.0, not_out g o)), w.1) in
     let kept : filter (belongs m (cover (blocks_of s2)) kinds r) xs ≡ ys =
-    filter_same (belongs m (cover (blocks_of s2)) kinds r) (outside b j) xs (λ g e.
+    filter_same (belongs m (cover (blocks_of s2)) kinds r) (is_outside b j) xs (λ g e.
     same_tests _ _
     (λ f. let w : Here m (blocks_of s2) kinds r g = belongs-to m (blocks_of s2) kinds r g n f in
     elim (ended-to m h k b j t s s' kinds l l' x g (r / types_count) w.0) [ inl u ↦ out g u.1 | inr u ↦ absurd (fresh g e u) ])
     (λ f. belongs-from m (blocks_of s2) kinds r g n (stays g e f))) in
-    let dys : IsDistinct (λ x y. x == y) ys = distinct_filter (outside b j) xs old.distinct in
+    let dys : IsDistinct (λ x y. x == y) ys = distinct_filter (is_outside b j) xs old.distinct in
     elim (cases_eq r (list_number j t)) [
       | inl same ↦
           let rj : r ≡ 3 * j + type_number t = same in
@@ -171,7 +171,7 @@ ended_list m h k b j t s s' kinds l l' x r below =
           let here : Here m (blocks_of s2) kinds r b =
           (ended-from m h k b j t s s' kinds l l' x b (r / types_count) (inr (refl, dj)), ap type_number (sym kb ∙ x.kind) ∙ sym d) in
           let Q : List ℕ → Type 0 = λ q. IsListed m (blocks_of s2) kinds r q in
-          let cases : (g : ℕ) → Here m (blocks_of s2) kinds r g → (g ≡ b) ⊎ ((stands_in g xs ≡ true) × (outside b j g ≡ true)) = λ g w.
+          let cases : (g : ℕ) → Here m (blocks_of s2) kinds r g → (g ≡ b) ⊎ ((stands_in g xs ≡ true) × (is_outside b j g ≡ true)) = λ g w.
           elim (ended-to m h k b j t s s' kinds l l' x g (r / types_count) w.0) [
             | inl u ↦ inr (old.from g (u.0, w.1), out g u.1)
             | inr u ↦ inl u.0
@@ -179,14 +179,14 @@ ended_list m h k b j t s s' kinds l l' x r below =
           record {
             settles = settled_new m (blocks_of s2) kinds r b xs ys n kept here new (λ g w. elim (cases g w) [ inl q ↦ inl q | inr q ↦ inr q.0 ]) ∙ sym eh;
             listed = subst Q (sym eh) (record {
-              distinct = distinct_more b ys dys (λ f. new (stands_filter-to (outside b j) b xs f).0);
+              distinct = distinct_more b ys dys (λ f. new (stands_filter-to (is_outside b j) b xs f).0);
               to = λ g f. elim (stands_cases g b ys f) [
                 | inl q ↦ let R : ℕ → Type 0 = λ a. Here m (blocks_of s2) kinds r a in subst R (sym q) here
-                | inr q ↦ let a = stands_filter-to (outside b j) g xs q in stays g a.0 a.1
+                | inr q ↦ let a = stands_filter-to (is_outside b j) g xs q in stays g a.0 a.1
               ];
               from = λ g w. elim (cases g w) [
                 | inl q ↦ let R : ℕ → Type 0 = λ a. stands_in a (b ∷ ys) ≡ true in subst R (sym q) (stands_first b ys)
-                | inr q ↦ stands_later g b ys (stands_filter-from (outside b j) g xs q.0 q.1)
+                | inr q ↦ stands_later g b ys (stands_filter-from (is_outside b j) g xs q.0 q.1)
               ];
             });
           }
@@ -194,7 +194,7 @@ ended_list m h k b j t s s' kinds l l' x r below =
           let e : list_at l2 r ≡ list_at l' r = get_or-set_other l' (list_number j t) r v [] other in
           let eh : list_at l2 r ≡ ys = e ∙ rest in
           let Q : List ℕ → Type 0 = λ q. IsListed m (blocks_of s2) kinds r q in
-          let cases : (g : ℕ) → Here m (blocks_of s2) kinds r g → (stands_in g xs ≡ true) × (outside b j g ≡ true) = λ g w.
+          let cases : (g : ℕ) → Here m (blocks_of s2) kinds r g → (stands_in g xs ≡ true) × (is_outside b j g ≡ true) = λ g w.
           elim (ended-to m h k b j t s s' kinds l l' x g (r / types_count) w.0) [
             | inl u ↦ (old.from g (u.0, w.1), out g u.1)
             | inr u ↦
@@ -207,8 +207,8 @@ ended_list m h k b j t s s' kinds l l' x r below =
             settles = settled_kept m (blocks_of s2) kinds r xs ys n kept (λ g w. (cases g w).0) ∙ sym eh;
             listed = subst Q (sym eh) (record {
               distinct = dys;
-              to = λ g f. let a = stands_filter-to (outside b j) g xs f in stays g a.0 a.1;
-              from = λ g w. let q = cases g w in stands_filter-from (outside b j) g xs q.0 q.1;
+              to = λ g f. let a = stands_filter-to (is_outside b j) g xs f in stays g a.0 a.1;
+              from = λ g w. let q = cases g w in stands_filter-from (is_outside b j) g xs q.0 q.1;
             });
           }
     ]
@@ -272,7 +272,7 @@ ended_loose m h k b j s s' kinds l l' x z r =
     false_from_ne_true _ (λ on. elim (cases_lt r (lists_count m)) [
       | inl below ↦
           let P : List ℕ → Type 0 = λ q. stands_in b q ≡ true in
-          let o : outside b j b ≡ true = (stands_filter-to (outside b j) b (list_at l r) (subst P (z.listed r below) on)).1 in
+          let o : is_outside b j b ≡ true = (stands_filter-to (is_outside b j) b (list_at l r) (subst P (z.listed r below) on)).1 in
           elim (outside-to b j b o) [ inl lt ↦ omega arith | inr ge ↦ omega arith ]
       | inr ge ↦
           let P : List ℕ → Type 0 = λ q. stands_in b q ≡ true in

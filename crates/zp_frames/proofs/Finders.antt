@@ -9,7 +9,7 @@ use Rattle.zp_model.specs.BlockSet.{first_of, orders_from, cover}
 use Rattle.zp_model.specs.MigrateType.{foreign, same_type}
 use Rattle.zp_model.specs.Rows.{Rows, list_at, front}
 use Rattle.zp_model.specs.Area.{Area, list_number, lists_count, free_list, pageblock_pages, size_in}
-use Rattle.zp_model.specs.Choose.{chosen, own, claim, borrow, choose, least_movable_claim, claim_pages, is_claimable}
+use Rattle.zp_model.specs.Choose.{chosen_at, own, claim, borrow, choose, least_movable_claim, claim_pages, is_claimable}
 use Rattle.zp_model.specs.Frames.{Frames}
 use Rattle.zp_frames.specs.Sound.{area_of, frames_of, blocks_of}
 use Rattle.zp_frames.specs.Counted.{IsCounted}
@@ -94,6 +94,6 @@ pub choose_claim : (a : Area) (k h : ℕ) (t : MigrateType) → own a k t ≡ No
 unfolding choose
 choose_claim a k h t e f = rw (e, f) refl
 
-pub choose_borrow : (a : Area) (k : ℕ) (t : MigrateType) (o : Option ℕ) → own a k t ≡ None → claim a k t ≡ None → borrow a k t ≡ o → choose a k t ≡ chosen false o
+pub choose_borrow : (a : Area) (k : ℕ) (t : MigrateType) (o : Option ℕ) → own a k t ≡ None → claim a k t ≡ None → borrow a k t ≡ o → choose a k t ≡ chosen_at false o
 unfolding choose
 choose_borrow a k t o e f g = rw (e, f, g) refl

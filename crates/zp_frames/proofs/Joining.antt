@@ -29,8 +29,8 @@ use Rattle.zp_frames.proofs.Counting.{same_tests}
 use Rattle.zp_frames.proofs.Filters.{filter_same, filter_twice, stands_filter-from}
 
 -- whether a head stands outside the run (b, j)
-abbrev pub outside : ℕ → ℕ → ℕ → Bool
-outside b j x = not (in_run b j x)
+abbrev pub is_outside : ℕ → ℕ → ℕ → Bool
+is_outside b j x = not (in_run b j x)
 
 -- the run (h, k) has grown to (b, j): no state of that run says free, and the heads in it are gone from the lists
 pub record IsJoining (m h k b j : ℕ) (s s' : List State) (l l' : List (List ℕ)) : Type 0 where
@@ -40,7 +40,7 @@ pub record IsJoining (m h k b j : ℕ) (s s' : List State) (l l' : List (List �
   pub filled : Filled (Joined (In (cover (blocks_of s))) h k) b j
   pub within : (g : ℕ) → b ≤ g → g < b + 2 ^ j → state_at s' g ≡ restate None (state_at s g)
   pub others : (g : ℕ) → (g < b) ⊎ (b + 2 ^ j ≤ g) → state_at s' g ≡ state_at s g
-  pub listed : (r : ℕ) → r < lists_count m → list_at l' r ≡ filter (outside b j) (list_at l r)
+  pub listed : (r : ℕ) → r < lists_count m → list_at l' r ≡ filter (is_outside b j) (list_at l r)
   pub sides : (r : ℕ) → lists_count m ≤ r → list_at l' r ≡ list_at l r
   pub pages : length s' ≡ length s
   pub table : length l' ≡ length l
@@ -54,7 +54,7 @@ pub record IsBack (m h k : ℕ) (s : List State) (kinds : List MigrateType) (l :
   pub clear : (i : ℕ) → h ≤ i → i < h + 2 ^ k → In (cover (blocks_of s)) i → ⊥
   pub aside : (r i : ℕ) → lists_count m ≤ r → h ≤ i → i < h + 2 ^ k → IsOn l r i → ⊥
 
-pub outside-to : (b j x : ℕ) → outside b j x ≡ true → (x < b) ⊎ (b + 2 ^ j ≤ x)
+pub outside-to : (b j x : ℕ) → is_outside b j x ≡ true → (x < b) ⊎ (b + 2 ^ j ≤ x)
 outside-to b j x e =
     elim (cases_lt x b) [
       | inl lt ↦ inl lt
@@ -65,7 +65,7 @@ outside-to b j x e =
           ]
     ]
 
-pub outside-from : (b j x : ℕ) → (x < b) ⊎ (b + 2 ^ j ≤ x) → outside b j x ≡ true
+pub outside-from : (b j x : ℕ) → (x < b) ⊎ (b + 2 ^ j ≤ x) → is_outside b j x ≡ true
 outside-from b j x w =
     rw (false_from_ne_true (in_run b j x) (λ e.
     let a = and_parts _ _ e in
@@ -85,7 +85,7 @@ joining_none m h k s kinds l x = record {
   filled = λ i a b. inr (a, b);
   within = λ g a b. restate_same (state_at s g) (λ i e. x.clear g a b (start_in m h k s kinds l x.sound g i (starts-from s g i e)));
   others = λ g w. refl;
-  listed = λ r lt. sym (filter_all (outside h k) (list_at l r) (λ g e.
+  listed = λ r lt. sym (filter_all (is_outside h k) (list_at l r) (λ g e.
       let w : Here m (blocks_of s) kinds r g = (x.sound.listed r lt).to g e in
       outside-from h k g (elim (cases_lt g h) [
         | inl below ↦ inl below
@@ -143,11 +143,11 @@ buddy_starts m h k b j c d s s' kinds l l' x z y e =
     starts-from s c j (sym (z.others c (apart_halves b j c d y c (omega arith) (omega (arith, pow_pos j)))) ∙ e)
 
 -- what stays past the double is what stays past the run and isn't the buddy
-outside_both : (b j c d x : ℕ) → IsBuddy b j c d → (c ≤ x → x < c + 2 ^ j → x ≡ c) → (outside b j x && not (x == c)) ≡ outside d (j + 1) x
+outside_both : (b j c d x : ℕ) → IsBuddy b j c d → (c ≤ x → x < c + 2 ^ j → x ≡ c) → (is_outside b j x && not (x == c)) ≡ is_outside d (j + 1) x
 outside_both b j c d x y only =
     let hs : (d ≤ b) × (b + 2 ^ j ≤ d + 2 ^ (j + 1)) × (d ≤ c) × (c + 2 ^ j ≤ d + 2 ^ (j + 1)) = in_halves b j c d y in
     let pos : 0 < 2 ^ j = pow_pos j in
-    same_tests (outside b j x && not (x == c)) (outside d (j + 1) x)
+    same_tests (is_outside b j x && not (x == c)) (is_outside d (j + 1) x)
     (λ e.
     let a = and_parts _ _ e in
     outside-from d (j + 1) x (elim (cases_lt x d) [
@@ -165,7 +165,7 @@ outside_both b j c d x y only =
     let o = past_double b j c d y x w in
     and_from _ _ (outside-from b j x o.0) (rw (false_from_ne_true (x == c) (λ f. let g : x ≡ c = eqb-true x c f in elim w [ inl u ↦ omega arith | inr u ↦ omega arith ])) refl))
 
-outside_one : (b j c d x : ℕ) → IsBuddy b j c d → (c ≤ x → x < c + 2 ^ j → ⊥) → outside b j x ≡ outside d (j + 1) x
+outside_one : (b j c d x : ℕ) → IsBuddy b j c d → (c ≤ x → x < c + 2 ^ j → ⊥) → is_outside b j x ≡ is_outside d (j + 1) x
 outside_one b j c d x y none =
     same_tests _ _
     (λ e.
@@ -237,13 +237,13 @@ joining_more m h k b j c d t s s' kinds l l' x kt z y lt e =
                 subst P (sym same) (get_or-set_same l' (list_number j t) v [] (omega arith)) in
                 vr
                 ∙ ap (λ xs. filter (λ x. not (x == c)) xs) (z.listed r below)
-                ∙ filter_twice (λ x. not (x == c)) (outside b j) (list_at l r)
-                ∙ filter_same _ (outside d (j + 1)) (list_at l r) (λ g f.
+                ∙ filter_twice (λ x. not (x == c)) (is_outside b j) (list_at l r)
+                ∙ filter_same _ (is_outside d (j + 1)) (list_at l r) (λ g f.
                 outside_both b j c d g y (λ p q. (only g (r / types_count) (old.to g f).0 p q).0))
             | inr other ↦
                 get_or-set_other l' (list_number j t) r v [] other
                 ∙ z.listed r below
-                ∙ filter_same (outside b j) (outside d (j + 1)) (list_at l r) (λ g f.
+                ∙ filter_same (is_outside b j) (is_outside d (j + 1)) (list_at l r) (λ g f.
                 outside_one b j c d g y (λ p q.
                 let u : Here m (blocks_of s) kinds r g = old.to g f in
                 let on : (g ≡ c) × (r / types_count ≡ j) = only g (r / types_count) u.0 p q in
@@ -288,7 +288,7 @@ buddy_on m h k b j c d t s s' kinds l l' x kt z y lt e =
     let Q : List ℕ → Type 0 = λ xs. stands_in c xs ≡ true in
     let here : Here m (blocks_of s) kinds (list_number j t) c = (subst P (sym dj) w, ap type_number (kc ∙ sym kh ∙ kt) ∙ sym mj) in
     subst Q (sym (z.listed (list_number j t) below))
-    (stands_filter-from (outside b j) c (list_at l (list_number j t)) ((x.sound.listed (list_number j t) below).from c here)
+    (stands_filter-from (is_outside b j) c (list_at l (list_number j t)) ((x.sound.listed (list_number j t) below).from c here)
     (outside-from b j c (apart_halves b j c d y c (omega arith) (omega arith))))
 
 pub buddy_low : (b j : ℕ) → b % 2 ^ (j + 1) ≡ 0 → IsBuddy b j (b + 2 ^ j) b

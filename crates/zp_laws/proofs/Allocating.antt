@@ -17,7 +17,7 @@ chosen_lawful : (z : PlainZone) (w k : ℕ) (t : MigrateType) (o : Option Chosen
 chosen_lawful z w k t None e l lt = l
 chosen_lawful z w k t (Some c) e l lt =
     let f = choose_found z.area k t c l.lists e in
-    goes_out z (taken z.area k t (Some c)) c.head k t w l lt (found_block z.area.largest z.area.free k c.head f) (found_free z.area.largest z.area.free k c.head f)
+    goes_out z (taken z.area k t (Some c)) w c.head k t l lt (found_block z.area.largest z.area.free k c.head f) (found_free z.area.largest z.area.free k c.head f)
     (lists-taken z.area k t c l.lists) (largest-taken z.area k t c) (free-taken z.area k t c) (kinds-taken z.area k t c)
 
 pub alloc_lawful : (z : PlainZone) (w k : ℕ) (t : MigrateType) (m : Mark) → IsLawful z → w < workers_of z → IsLawful (alloc z w k t m).zone

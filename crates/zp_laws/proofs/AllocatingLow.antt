@@ -13,7 +13,7 @@ low_lawful : (z : PlainZone) (w k : ℕ) (o : Option ℕ) → take_low_answer z.
 low_lawful z w k None e l lt = l
 low_lawful z w k (Some h) e l lt =
     let f = take_low_found z.area k h e in
-    goes_out z (leave z.area h k) h k (kind_at z.area.largest z.area.kinds h) w l lt (found_block z.area.largest z.area.free k h f) (found_free z.area.largest z.area.free k h f)
+    goes_out z (leave z.area h k) w h k (kind_at z.area.largest z.area.kinds h) l lt (found_block z.area.largest z.area.free k h f) (found_free z.area.largest z.area.free k h f)
     (lists-leave z.area h k l.lists) (largest-leave z.area h k) (free-leave z.area h k) (ap length (kinds-leave z.area h k))
 
 pub alloc_low_lawful : (z : PlainZone) (w k : ℕ) → IsLawful z → w < workers_of z → IsLawful (alloc_low_at z w k (take_low_answer z.area k)).zone

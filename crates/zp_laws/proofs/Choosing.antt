@@ -16,7 +16,7 @@ use Rattle.zp_model.specs.Block.{is_max, IsBlock}
 use Rattle.zp_model.specs.BlockSet.{first_of, orders_from, max_blocks, lowest, block_if}
 use Rattle.zp_model.specs.Rows.{stands_in, front}
 use Rattle.zp_model.specs.Area.{Area, belongs, free_list, list_number, lists_count}
-use Rattle.zp_model.specs.Choose.{Chosen, chosen, own, claim, borrow, choose, is_claimable}
+use Rattle.zp_model.specs.Choose.{Chosen, chosen_at, own, claim, borrow, choose, is_claimable}
 use Rattle.zp_model.specs.Take.{take_answer, take_low_answer}
 use Rattle.zp_model.specs.Lawful.{IsListedArea}
 use Rattle.zp_model.proofs.Heads.{aligned_down}
@@ -118,7 +118,7 @@ borrow_found a k t h l e =
     (λ i d lt r. listed_found a k o h (get_or (foreign t) i d) l w.0 w.1 (front-stands (free_list a o (get_or (foreign t) i d)) h r)) q)
     (orders_from a.largest k) (orders_within a.largest k)) e
 
-chosen-head : (claims : Bool) (o : Option ℕ) (c : Chosen) → chosen claims o ≡ Some c → o ≡ Some c.head
+chosen-head : (claims : Bool) (o : Option ℕ) (c : Chosen) → chosen_at claims o ≡ Some c → o ≡ Some c.head
 chosen-head claims None c e = absurd (none-some c e)
 chosen-head claims (Some h) c e = ap (λ n. Some n) (ap (λ (x : Chosen). x.head) (same_Some _ c e))
 
@@ -126,10 +126,10 @@ chosen-head claims (Some h) c e = ap (λ n. Some n) (ap (λ (x : Chosen). x.head
 pub choose_found : (a : Area) (k : ℕ) (t : MigrateType) (c : Chosen) → IsListedArea a → choose a k t ≡ Some c → IsFound a.largest a.free k c.head
 unfolding choose
 choose_found a k t c l e =
-    elim (or_Some (chosen false (own a k t)) (option_or (chosen true (claim a k t)) (chosen false (borrow a k t))) c e) [
+    elim (or_Some (chosen_at false (own a k t)) (option_or (chosen_at true (claim a k t)) (chosen_at false (borrow a k t))) c e) [
       | inl mine ↦ own_found a k t c.head l (chosen-head false (own a k t) c mine)
       | inr other ↦
-          elim (or_Some (chosen true (claim a k t)) (chosen false (borrow a k t)) c other) [
+          elim (or_Some (chosen_at true (claim a k t)) (chosen_at false (borrow a k t)) c other) [
             | inl claims ↦ claim_found a k t c.head l (chosen-head true (claim a k t) c claims)
             | inr borrows ↦ borrow_found a k t c.head l (chosen-head false (borrow a k t) c borrows)
           ]

@@ -11,7 +11,7 @@ use Rattle.zp_model.specs.Block.{is_max}
 use Rattle.zp_model.specs.BlockSet.{first_of, orders_from}
 use Rattle.zp_model.specs.Rows.{stands_in, front}
 use Rattle.zp_model.specs.Area.{Area, belongs, free_list, list_number, kind_at}
-use Rattle.zp_model.specs.Choose.{chosen, own, claim, borrow, choose}
+use Rattle.zp_model.specs.Choose.{chosen_at, own, claim, borrow, choose}
 use Rattle.zp_model.specs.Lawful.{IsListedArea}
 use Rattle.zp_model.proofs.Pages.{is_max-to}
 use Rattle.zp_laws.specs.Found.{IsFound}
@@ -31,7 +31,7 @@ front-none : (xs : List ℕ) (h : ℕ) → front xs ≡ None → stands_in h xs 
 front-none [] h e = refl
 front-none (x ∷ xs) h e = absurd (none-some x (sym e))
 
-chosen-none : (claims : Bool) (o : Option ℕ) → chosen claims o ≡ None → o ≡ None
+chosen-none : (claims : Bool) (o : Option ℕ) → chosen_at claims o ≡ None → o ≡ None
 chosen-none claims None e = refl
 chosen-none claims (Some h) e = absurd (none-some _ (sym e))
 
@@ -75,8 +75,8 @@ pub choose_none : (a : Area) (k : ℕ) (t : MigrateType) (h : ℕ) → IsListedA
 unfolding choose own borrow
 choose_none a k t h l e x =
     let s = kind_at a.largest a.kinds h in
-    let c = or_None (chosen false (own a k t)) (option_or (chosen true (claim a k t)) (chosen false (borrow a k t))) e in
-    let d = or_None (chosen true (claim a k t)) (chosen false (borrow a k t)) c.1 in
+    let c = or_None (chosen_at false (own a k t)) (option_or (chosen_at true (claim a k t)) (chosen_at false (borrow a k t))) e in
+    let d = or_None (chosen_at true (claim a k t)) (chosen_at false (borrow a k t)) c.1 in
     let le : x.order ≤ a.largest = (is_max-to a.largest a.free h x.order x.maximal).order in
     let mine : front (free_list a x.order t) ≡ None =
     each_order a.largest (λ o. front (free_list a o t) ≡ None) k x.order x.enough le

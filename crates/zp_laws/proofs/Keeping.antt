@@ -92,9 +92,9 @@ free-not_out z h l lt f = go z h l lt f (holding_at z.out h) refl
         absurd (omega (arith, a, b, c, d))
 
 -- the pages of a run of free ones go out to a worker as a block
-pub goes_out : (z : PlainZone) (a : Area) (h k : ℕ) (t : MigrateType) (w : ℕ) → IsLawful z → w < workers_of z → IsBlock z.area.largest (pages_of z) h k → Filled (In z.area.free) h k →
-    IsListedArea a → a.largest ≡ z.area.largest → a.free ≡ without z.area.free h k → length a.kinds ≡ length z.area.kinds → IsLawful (hand_out (record z { area = a }) h k t w)
-goes_out z a h k t w l lt b full lists largest free kinds =
+pub goes_out : (z : PlainZone) (a : Area) (w h k : ℕ) (t : MigrateType) → IsLawful z → w < workers_of z → IsBlock z.area.largest (pages_of z) h k → Filled (In z.area.free) h k →
+    IsListedArea a → a.largest ≡ z.area.largest → a.free ≡ without z.area.free h k → length a.kinds ≡ length z.area.kinds → IsLawful (hand_out (record z { area = a }) w h k t)
+goes_out z a w h k t l lt b full lists largest free kinds =
     let x : Holding = record { order = k; kind = t; worker = w } in
     let pages : length a.free ≡ pages_of z = ap length free ∙ length-without z.area.free h k in
     let places : length z.out ≡ pages_of z = l.places in
@@ -113,7 +113,7 @@ goes_out z a h k t w l lt b full lists largest free kinds =
       once = λ i under.
           let inside : i < pages_of z = omega arith in
           let f : has a.free i ≡ (has z.area.free i && not (in_run h k i)) = ap (λ (u : List Bool). has u i) free ∙ has-without z.area.free h k i inside in
-          times-parts (hand_out (record z { area = a }) h k t w) i
+          times-parts (hand_out (record z { area = a }) w h k t) i
           ∙ once_out (has z.area.free i) (has a.free i) (in_run h k i) (times_out z.out i) (times_out (slice_set z.out h (Some x)) i) (times_posted z.posted i)
           f (λ e. let r = block-inside z.area.largest (pages_of z) h k i b e in full i r.0 r.1) (times_out-more z.out h i x below none) (sym (times-parts z i) ∙ l.once i inside);
       lists = lists;

@@ -58,9 +58,9 @@ freed-same z h k = record {
   workers = refl;
 }
 
-handed_on-same : (z : PlainZone) (h w : ℕ) (o : Option Holding) → IsSameZone z (handed_on z h w o)
-handed_on-same z h w None = same z
-handed_on-same z h w (Some x) = record {
+handed_on-same : (z : PlainZone) (w h : ℕ) (o : Option Holding) → IsSameZone z (handed_on z w h o)
+handed_on-same z w h None = same z
+handed_on-same z w h (Some x) = record {
   largest = refl;
   pages = refl;
   base = refl;
@@ -95,7 +95,7 @@ pub step-same : (z : PlainZone) (w : ℕ) (q : Request) → IsSameZone z (step z
 step-same z w (Request.Alloc k t m) = alloc-same z w k t m
 step-same z w (Request.AllocLow k) = low-same z w k (take_low_answer z.area k)
 step-same z w (Request.Free p k) = freed-same z (p - z.base) k
-step-same z w (Request.Post p k to) = handed_on-same z (p - z.base) to (holding_at z.out (p - z.base))
+step-same z w (Request.Post p k to) = handed_on-same z to (p - z.base) (holding_at z.out (p - z.base))
 step-same z w Request.Collect = collected-same z w (posted_to z w)
 step-same z w (Request.Refill t m n) = refill-same z w t m [] n
 step-same z w (Request.Drain t ps) = drained-same z ps

@@ -14,9 +14,10 @@ pub record Chosen : Type 0 where
   pub head : ℕ
   pub claims : Bool
 
-abbrev pub chosen : Bool → Option ℕ → Option Chosen
-chosen claims None = None
-chosen claims (Some h) = Some (record { head = h; claims = claims })
+-- the block that starts at the head that was found, where one was
+abbrev pub chosen_at : Bool → Option ℕ → Option Chosen
+chosen_at claims None = None
+chosen_at claims (Some h) = Some (record { head = h; claims = claims })
 
 -- own lists, the least order first: the front block
 unfoldable pub own : Area → ℕ → MigrateType → Option ℕ
@@ -46,4 +47,4 @@ borrow a k t = first_of (λ o. first_of (λ f. front (free_list a o f)) (foreign
 
 unfoldable pub choose : Area → ℕ → MigrateType → Option Chosen
 choose a k t =
-    option_or (chosen false (own a k t)) (option_or (chosen true (claim a k t)) (chosen false (borrow a k t)))
+    option_or (chosen_at false (own a k t)) (option_or (chosen_at true (claim a k t)) (chosen_at false (borrow a k t)))

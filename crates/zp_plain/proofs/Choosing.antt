@@ -4,7 +4,7 @@ use Rattle.zp_model.specs.declared.migrate_type.MigrateType.{MigrateType}
 use Rattle.zp_model.specs.MigrateType.{foreign}
 use Rattle.zp_model.specs.BlockSet.{first_of, orders_from}
 use Rattle.zp_model.specs.Area.{Area}
-use Rattle.zp_model.specs.Choose.{chosen, own, claim, borrow, choose}
+use Rattle.zp_model.specs.Choose.{chosen_at, own, claim, borrow, choose}
 use Rattle.zp_plain.specs.Chosen.{front_at, claimable_at}
 use Rattle.zp_plain.proofs.Orders.{first_only}
 
@@ -28,6 +28,6 @@ pub choose_claim : (a : Area) (k h : ℕ) (t : MigrateType) → own a k t ≡ No
 unfolding choose
 choose_claim a k h t e f = rw (e, f) refl
 
-pub choose_borrow : (a : Area) (k : ℕ) (t : MigrateType) (o : Option ℕ) → own a k t ≡ None → claim a k t ≡ None → borrow a k t ≡ o → choose a k t ≡ chosen false o
+pub choose_borrow : (a : Area) (k : ℕ) (t : MigrateType) (o : Option ℕ) → own a k t ≡ None → claim a k t ≡ None → borrow a k t ≡ o → choose a k t ≡ chosen_at false o
 unfolding choose
 choose_borrow a k t o e f g = rw (e, f, g) refl
