@@ -1,22 +1,38 @@
 -- The opening of a zone.
-use Rattle.std.proofs.Common.{ℕ, ◌+◌, ◌/◌, ◌≡◌, ◌≤◌, ◌==◌, inl, inr, sym, ◌∙◌, ap, subst, arith, true, List, [], length, replicate}
+use Rattle.std.proofs.Common.{ℕ, ◌+◌, ◌-◌, ◌*◌, ◌/◌, ◌%◌, ◌^◌, ◌≡◌, ◌≤◌, ◌<◌, ◌==◌, min, inl, inr, sym, ◌∙◌, ap, subst, arith, true, List, [], length, replicate}
 use Rattle.std.specs.Int.{div_ceil}
 use Rattle.std.specs.List.{IsDistinct}
-use Rattle.std.proofs.lemmas.Bool.{cases_lt, false≢true}
+use Rattle.std.proofs.lemmas.Nat.{shr_split, pow_pos, mod_below}
+use Rattle.std.proofs.lemmas.Bool.{cases_lt, cases_eq, false≢true}
 use Rattle.std.proofs.lemmas.List.{get_or-replicate, get_or_past, length-replicate}
 use Rattle.zp_model.specs.declared.constants.TheConstants.{MAX_PAGES}
 use Rattle.zp_model.specs.declared.migrate_type.MigrateType.TheVariants.{Movable}
 use Rattle.zp_model.specs.declared.state.State.TheVariants.{Tail}
 use Rattle.zp_model.specs.Rows.{list_at, stands_in}
-use Rattle.zp_model.specs.Area.{lists_count, opening, pageblocks_of}
+use Rattle.zp_model.specs.Area.{lists_count, opening, pageblock_pages, pageblocks_of}
 use Rattle.zp_model.specs.Frames.{IsFramed, with_area}
+use Rattle.zp_model.proofs.Heads.{number_within}
 use Rattle.zp_laws.proofs.Opening.{free-opening, largest-opening, kinds-opening}
 use Rattle.zp_laws.proofs.Settling.{opening_lists}
 use Rattle.zp_plain.specs.Sound.{IsSoundArea, IsTable}
 use Rattle.zp_plain.proofs.Noted.{framed_with}
 
-pub round_up : (n : ℕ) → div_ceil n 1024 ≡ (n + 1023) / 1024
-round_up n = omega arith
+-- how many pageblocks n pages take up, as code reckons it
+pub round_up : (m n : ℕ) → div_ceil n (pageblock_pages m) ≡ pageblocks_of m n
+round_up m n =
+    let s : n / 2 ^ m * 2 ^ m + n % 2 ^ m ≡ n = shr_split n m in
+    let p : 0 < 2 ^ m = pow_pos m in
+    let r : n % 2 ^ m < 2 ^ m = mod_below n (2 ^ m) p in
+    elim (cases_eq (n % 2 ^ m) 0) [
+      | inl even ↦
+          let none : min 1 (n % 2 ^ m) ≡ 0 = omega arith in
+          let here : (n + (2 ^ m - 1)) / 2 ^ m ≡ n / 2 ^ m = number_within (n / 2 ^ m) m (n + (2 ^ m - 1)) (omega arith) (omega arith) in
+          ap (λ q. n / 2 ^ m + q) none ∙ omega (arith, here)
+      | inr some ↦
+          let one : min 1 (n % 2 ^ m) ≡ 1 = omega arith in
+          let here : (n + (2 ^ m - 1)) / 2 ^ m ≡ n / 2 ^ m + 1 = number_within (n / 2 ^ m + 1) m (n + (2 ^ m - 1)) (omega arith) (omega arith) in
+          ap (λ q. n / 2 ^ m + q) one ∙ sym here
+    ]
 
 none_at : (n r : ℕ) → list_at (replicate n []) r ≡ []
 none_at n r = elim (cases_lt r n) [

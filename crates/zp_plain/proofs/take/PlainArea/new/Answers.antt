@@ -12,7 +12,7 @@ pub settle-requires : goal.settle-requires
 settle-requires c =
     let u : c.in_ok-free.free.items ≡ replicate c.args.pages true = c.in_ok-free.ensures.items_if_clones_equal (λ y k. search rules) in
     let k : c.in_ok-kinds.kinds.items ≡ replicate (pageblocks_of LARGEST_ORDER c.args.pages) Movable =
-    c.in_ok-kinds.ensures.items_if_clones_equal (λ y k. search rules) ∙ ap (λ q. replicate q Movable) (c.div_ceil.ensures ∙ round_up c.args.pages) in
+    c.in_ok-kinds.ensures.items_if_clones_equal (λ y k. search rules) ∙ ap (λ q. replicate q Movable) (c.div_ceil.ensures ∙ round_up LARGEST_ORDER c.args.pages) in
     let P : List Bool → Type 0 = λ q. IsTable LARGEST_ORDER q c.deref-2.result.now c.in_ok-lists.lists.items in
     let Q : List MigrateType → Type 0 = λ q. IsTable LARGEST_ORDER (replicate c.args.pages true) q c.in_ok-lists.lists.items in
     let R : List (List ℕ) → Type 0 = λ q. IsTable LARGEST_ORDER (replicate c.args.pages true) (replicate (pageblocks_of LARGEST_ORDER c.args.pages) Movable) q in
@@ -24,7 +24,7 @@ unfolding opening
 after c =
     let u : c.in_ok-free.free.items ≡ replicate c.args.pages true = c.in_ok-free.ensures.items_if_clones_equal (λ y k. search rules) in
     let k : c.in_ok-kinds.kinds.items ≡ replicate (pageblocks_of LARGEST_ORDER c.args.pages) Movable =
-    c.in_ok-kinds.ensures.items_if_clones_equal (λ y k. search rules) ∙ ap (λ q. replicate q Movable) (c.div_ceil.ensures ∙ round_up c.args.pages) in
+    c.in_ok-kinds.ensures.items_if_clones_equal (λ y k. search rules) ∙ ap (λ q. replicate q Movable) (c.div_ceil.ensures ∙ round_up LARGEST_ORDER c.args.pages) in
     settled_as LARGEST_ORDER _ _ _ _ _ _ c.deref.ensures.value c.deref-2.ensures.value c.settle.ensures
     ∙ ap (λ q. settle (record { largest = LARGEST_ORDER; free = q; kinds = c.in_ok-kinds.kinds.items; lists = c.in_ok-lists.lists.items })) u
     ∙ ap (λ q. settle (record { largest = LARGEST_ORDER; free = replicate c.args.pages true; kinds = q; lists = c.in_ok-lists.lists.items })) k
