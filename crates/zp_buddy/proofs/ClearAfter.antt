@@ -12,7 +12,7 @@ use Rattle.zp_model.specs.Area.{lists_count}
 use Rattle.zp_model.specs.Frames.{Frames, IsClear, with_area}
 use Rattle.zp_model.specs.Take.{taken}
 use Rattle.zp_model.proofs.Covers.{has_below, length-without, length-cover, without-decides}
-use Rattle.zp_laws.proofs.Areas.{free-taken}
+use Rattle.zp_laws.proofs.Areas.{free-taken, largest-taken}
 use Rattle.zp_buddy.specs.Choices.{chosen_of}
 use Rattle.zp_frames.specs.Sound.{blocks_of, free_order, frames_of, IsSound}
 use Rattle.zp_frames.specs.declared.choices.Choice.{Choice}
@@ -33,40 +33,42 @@ absent u h k i none =
     let n : length (without u h k) ≡ length u = length-without u h k in
     both_ways _ none ((without-decides u h k i (omega arith)).0 e).0)
 
-clear_taken : (s : List State) (kinds : List MigrateType) (l : List (List ℕ)) (k : ℕ) (t : MigrateType) (c : Choice) → IsSound s kinds l → IsFreeRun s c.block.head k →
-    IsClear (with_area (frames_of s kinds l) (taken (frames_of s kinds l).area k t (Some (chosen_of c)))) c.block.head k
-clear_taken s kinds l k t c x run =
+clear_taken : (m : ℕ) (s : List State) (kinds : List MigrateType) (l : List (List ℕ)) (k : ℕ) (t : MigrateType) (c : Choice) → IsSound m s kinds l → IsFreeRun m s c.block.head k →
+    IsClear (with_area (frames_of m s kinds l) (taken (frames_of m s kinds l).area k t (Some (chosen_of c)))) c.block.head k
+clear_taken m s kinds l k t c x run =
     let u : List Bool = cover (blocks_of s) in
-    let free : (taken (frames_of s kinds l).area k t (Some (chosen_of c))).free ≡ without u c.block.head k = free-taken (frames_of s kinds l).area k t (chosen_of c) in
-    let n : length (taken (frames_of s kinds l).area k t (Some (chosen_of c))).free ≡ length s =
+    let free : (taken (frames_of m s kinds l).area k t (Some (chosen_of c))).free ≡ without u c.block.head k = free-taken (frames_of m s kinds l).area k t (chosen_of c) in
+    let n : length (taken (frames_of m s kinds l).area k t (Some (chosen_of c))).free ≡ length s =
     ap length free ∙ length-without u c.block.head k ∙ length-cover (blocks_of s) ∙ length-map s free_order in
     let inside : c.block.head + 2 ^ k ≤ length s = run.inside in
+    let top : (taken (frames_of m s kinds l).area k t (Some (chosen_of c))).largest ≡ m = largest-taken (frames_of m s kinds l).area k t (chosen_of c) in
     record {
-      block = record { order = run.order; aligned = run.aligned; inside = omega arith };
+      block = record { order = rw top run.order; aligned = run.aligned; inside = omega arith };
       free = λ i lo hi. ap (λ (q : List Bool). has q i) free ∙ gone u c.block.head k i lo hi;
       aside = λ r i lo hi.
           let P : List ℕ → Type 0 = λ q. stands_in i q ≡ true in
-          false_from_ne_true _ (λ on. x.aside (lists_count + r) i (omega arith) (subst P (get_or-drop lists_count l r []) on) (run.free i lo hi));
+          false_from_ne_true _ (λ on. x.aside (lists_count m + r) i (omega arith) (subst P (get_or-drop (lists_count m) l r []) on) (run.free i lo hi));
     }
 
 clear_still : (f : Frames) (k g j : ℕ) (t : MigrateType) (c : Choice) → IsClear f g j → IsClear (with_area f (taken f.area k t (Some (chosen_of c)))) g j
 clear_still f k g j t c x =
     let free : (taken f.area k t (Some (chosen_of c))).free ≡ without f.area.free c.block.head k = free-taken f.area k t (chosen_of c) in
     let n : length (taken f.area k t (Some (chosen_of c))).free ≡ length f.area.free = ap length free ∙ length-without f.area.free c.block.head k in
-    let P : ℕ → Type 0 = λ m. IsBlock m g j in
+    let P : ℕ → Type 0 = λ n. IsBlock f.area.largest n g j in
+    let Q : ℕ → Type 0 = λ m. IsBlock m (length (taken f.area k t (Some (chosen_of c))).free) g j in
     record {
-      block = subst P (sym n) x.block;
+      block = subst Q (sym (largest-taken f.area k t (chosen_of c))) (subst P (sym n) x.block);
       free = λ i lo hi. ap (λ (q : List Bool). has q i) free ∙ absent f.area.free c.block.head k i (x.free i lo hi);
       aside = x.aside;
     }
 
 -- the block that was taken may come back
-pub taken_may_return : (f y : Frames) (w : Rows) (kinds : List MigrateType) (k : ℕ) (t : MigrateType) (c : Choice) → IsSound w.states kinds w.lists →
-    frames_of w.states kinds w.lists ≡ f → IsFreeRun w.states c.block.head k → y ≡ with_area f (taken f.area k t (Some (chosen_of c))) → IsClear y c.block.head k
-taken_may_return f y w kinds k t c x e run after =
+pub taken_may_return : (m : ℕ) (f y : Frames) (w : Rows) (kinds : List MigrateType) (k : ℕ) (t : MigrateType) (c : Choice) → IsSound m w.states kinds w.lists →
+    frames_of m w.states kinds w.lists ≡ f → IsFreeRun m w.states c.block.head k → y ≡ with_area f (taken f.area k t (Some (chosen_of c))) → IsClear y c.block.head k
+taken_may_return m f y w kinds k t c x e run after =
     let P : Frames → Type 0 = λ q. IsClear q c.block.head k in
     let Q : Frames → Type 0 = λ q. IsClear (with_area q (taken q.area k t (Some (chosen_of c)))) c.block.head k in
-    subst P (sym after) (subst Q e (clear_taken w.states kinds w.lists k t c x run))
+    subst P (sym after) (subst Q e (clear_taken m w.states kinds w.lists k t c x run))
 
 -- and so may each block that might before
 pub taken_leaves_clear : (f y : Frames) (k : ℕ) (t : MigrateType) (c : Choice) → y ≡ with_area f (taken f.area k t (Some (chosen_of c))) →

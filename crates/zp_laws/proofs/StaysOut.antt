@@ -28,8 +28,8 @@ out-at_other : (z : PlainZone) (a : Area) (h : ℕ) (v : Option Holding) (w p k 
 out-at_other z a h v w p k ne e = ap (λ (o : Option Holding). leb z.base p && is_of w k o) (get_or-set_other z.out h (p - z.base) v None ne) ∙ e
 
 -- a block that goes out is out
-out-handed : (z : PlainZone) (a : Area) (h k : ℕ) (t : MigrateType) (w p : ℕ) → h < length z.out → p ≡ z.base + h → is_out (hand_out (record z { area = a }) h k t w) w p k ≡ true
-out-handed z a h k t w p lt e =
+out-handed : (z : PlainZone) (a : Area) (w h k : ℕ) (t : MigrateType) (p : ℕ) → h < length z.out → p ≡ z.base + h → is_out (hand_out (record z { area = a }) w h k t) w p k ≡ true
+out-handed z a w h k t p lt e =
     let x : Option Holding = Some (record { order = k; kind = t; worker = w }) in
     let place : p - z.base ≡ h = omega arith in
     let low : z.base ≤ p = omega arith in
@@ -45,12 +45,12 @@ not_out-where_none z w p k h none e same =
 -- the block chosen starts at a page of the zone where none was out
 chosen_place : (z : PlainZone) (k : ℕ) (t : MigrateType) (c : Chosen) → choose z.area k t ≡ Some c → IsLawful z → (c.head < length z.out) × (holding_at z.out c.head ≡ None)
 chosen_place z k t c e l =
-    let f : IsFound z.area.free k c.head = choose_found z.area k t c l.lists e in
-    let b : IsBlock (pages_of z) c.head k = found_block z.area.free k c.head f in
+    let f : IsFound z.area.largest z.area.free k c.head = choose_found z.area k t c l.lists e in
+    let b : IsBlock z.area.largest (pages_of z) c.head k = found_block z.area.largest z.area.free k c.head f in
     let room : c.head + 2 ^ k ≤ pages_of z = b.inside in
     let some : 0 < 2 ^ k = pow_pos k in
     let places : length z.out ≡ pages_of z = l.places in
-    (omega arith, free-not_out z c.head l (omega arith) (found_free z.area.free k c.head f c.head (omega arith) (omega arith)))
+    (omega arith, free-not_out z c.head l (omega arith) (found_free z.area.largest z.area.free k c.head f c.head (omega arith) (omega arith)))
 
 chosen-kept : (z : PlainZone) (w k : ℕ) (t : MigrateType) (o : Option Chosen) → choose z.area k t ≡ o → IsLawful z → (v p j : ℕ) → is_out z v p j ≡ true →
     is_out (alloc_chosen z w k t o).zone v p j ≡ true
@@ -73,7 +73,7 @@ chosen-out : (z : PlainZone) (w k : ℕ) (t : MigrateType) (o : Option Chosen) �
 chosen-out z w k t None e l p r = cc
 chosen-out z w k t (Some c) e l p r =
     let same : p ≡ z.base + c.head = cc in
-    out-handed z (taken z.area k t (Some c)) c.head k t w p (chosen_place z k t c e l).0 same
+    out-handed z (taken z.area k t (Some c)) w c.head k t p (chosen_place z k t c e l).0 same
 
 -- the block that is answered is out
 pub alloc-out : (z : PlainZone) (w k : ℕ) (t : MigrateType) (m : Mark) → IsLawful z → (p : ℕ) → Reply.Page p ≡ (alloc z w k t m).reply → is_out (alloc z w k t m).zone w p k ≡ true

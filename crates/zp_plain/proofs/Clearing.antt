@@ -10,16 +10,16 @@ use Rattle.zp_model.specs.Lawful.{IsListedArea}
 use Rattle.zp_model.specs.Take.{taken}
 use Rattle.zp_model.proofs.Covers.{has_below, length-without, without-decides}
 use Rattle.zp_laws.specs.Found.{IsFound}
-use Rattle.zp_laws.proofs.Areas.{free-taken}
+use Rattle.zp_laws.proofs.Areas.{free-taken, largest-taken}
 use Rattle.zp_laws.proofs.Choosing.{choose_found, found_block, found_free}
 use Rattle.zp_plain.specs.Clear.{open_frames, IsClearRun}
 
 -- the looks at the block and at its pages decide whether it is clear
-pub clear_by_pages : (free : List Bool) (sides : List (List ℕ)) (h k : ℕ) → IsBlock (length free) h k → IsClearRun free sides h k → IsClear (open_frames free sides) h k
-clear_by_pages free sides h k b x = record { block = b; free = λ i lo hi. (x i lo hi).0; aside = λ r i lo hi. (x i lo hi).1 r }
+pub clear_by_pages : (m : ℕ) (free : List Bool) (sides : List (List ℕ)) (h k : ℕ) → IsBlock m (length free) h k → IsClearRun free sides h k → IsClear (open_frames m free sides) h k
+clear_by_pages m free sides h k b x = record { block = b; free = λ i lo hi. (x i lo hi).0; aside = λ r i lo hi. (x i lo hi).1 r }
 
-pub clear_pages : (free : List Bool) (sides : List (List ℕ)) (h k : ℕ) → IsClear (open_frames free sides) h k → IsClearRun free sides h k
-clear_pages free sides h k x i lo hi = (x.free i lo hi, λ r. x.aside r i lo hi)
+pub clear_pages : (m : ℕ) (free : List Bool) (sides : List (List ℕ)) (h k : ℕ) → IsClear (open_frames m free sides) h k → IsClearRun free sides h k
+clear_pages m free sides h k x i lo hi = (x.free i lo hi, λ r. x.aside r i lo hi)
 
 -- a page of the run is not in the set without it, and a page that was not in the set is not there either
 gone : (u : List Bool) (h k i : ℕ) → h ≤ i → i < h + 2 ^ k → has (without u h k) i ≡ false
@@ -40,14 +40,15 @@ absent u h k i none =
 pub clear_taken : (f : Frames) (k : ℕ) (t : MigrateType) (c : Chosen) → IsFramed f → IsListedArea f.area → choose f.area k t ≡ Some c →
     IsClear (with_area f (taken f.area k t (Some c))) c.head k
 clear_taken f k t c x l e =
-    let found : IsFound f.area.free k c.head = choose_found f.area k t c l e in
+    let found : IsFound f.area.largest f.area.free k c.head = choose_found f.area k t c l e in
     let free : (taken f.area k t (Some c)).free ≡ without f.area.free c.head k = free-taken f.area k t c in
     let n : length (taken f.area k t (Some c)).free ≡ length f.area.free = ap length free ∙ length-without f.area.free c.head k in
-    let P : ℕ → Type 0 = λ m. IsBlock m c.head k in
+    let P : ℕ → Type 0 = λ n. IsBlock f.area.largest n c.head k in
+    let Q : ℕ → Type 0 = λ m. IsBlock m (length (taken f.area k t (Some c)).free) c.head k in
     record {
-      block = subst P (sym n) (found_block f.area.free k c.head found);
+      block = subst Q (sym (largest-taken f.area k t c)) (subst P (sym n) (found_block f.area.largest f.area.free k c.head found));
       free = λ i lo hi. ap (λ (q : List Bool). has q i) free ∙ gone f.area.free c.head k i lo hi;
-      aside = λ r i lo hi. false_from_ne_true _ (λ on. both_ways _ (x.beside r i on) (found_free f.area.free k c.head found i lo hi));
+      aside = λ r i lo hi. false_from_ne_true _ (λ on. both_ways _ (x.beside r i on) (found_free f.area.largest f.area.free k c.head found i lo hi));
     }
 
 -- and each block that was clear before still is
@@ -55,9 +56,10 @@ pub clear_still : (f : Frames) (k g j : ℕ) (t : MigrateType) (c : Chosen) → 
 clear_still f k g j t c x =
     let free : (taken f.area k t (Some c)).free ≡ without f.area.free c.head k = free-taken f.area k t c in
     let n : length (taken f.area k t (Some c)).free ≡ length f.area.free = ap length free ∙ length-without f.area.free c.head k in
-    let P : ℕ → Type 0 = λ m. IsBlock m g j in
+    let P : ℕ → Type 0 = λ n. IsBlock f.area.largest n g j in
+    let Q : ℕ → Type 0 = λ m. IsBlock m (length (taken f.area k t (Some c)).free) g j in
     record {
-      block = subst P (sym n) x.block;
+      block = subst Q (sym (largest-taken f.area k t c)) (subst P (sym n) x.block);
       free = λ i lo hi. ap (λ (q : List Bool). has q i) free ∙ absent f.area.free c.head k i (x.free i lo hi);
       aside = x.aside;
     }
