@@ -5,13 +5,13 @@ use Rattle.std.specs.Option.{option_or}
 use Rattle.zp_model.specs.declared.migrate_type.MigrateType.{MigrateType}
 use Rattle.zp_model.specs.declared.migrate_type.MigrateType.TheVariants.{Movable}
 use Rattle.zp_model.specs.declared.state.State.{State}
-use Rattle.zp_model.specs.BlockSet.{first_of, orders_from, cover}
+use Rattle.zp_model.specs.BlockSet.{first_of, orders_from}
 use Rattle.zp_model.specs.MigrateType.{foreign, same_type}
 use Rattle.zp_model.specs.Rows.{list_at, front}
 use Rattle.zp_model.specs.Area.{Area, list_number, lists_count, free_list, pageblock_pages, size_in}
 use Rattle.zp_model.specs.Choose.{chosen_at, own, claim, borrow, choose, least_movable_claim, claim_pages, is_claimable}
 use Rattle.zp_model.specs.Frames.{Frames}
-use Rattle.zp_frames.specs.Sound.{area_of, frames_of, blocks_of}
+use Rattle.zp_frames.specs.Sound.{area_of, frames_of}
 use Rattle.zp_area.specs.Blocks.{Blocks, free_list_of}
 use Rattle.zp_buddy.specs.Choices.{area_in, front_of_order, is_half_free, half_free_of_order, claimable_of_order}
 use Rattle.zp_frames.proofs.Taken.{row_below}

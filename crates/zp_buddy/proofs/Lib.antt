@@ -3,3 +3,9 @@ pub mod Finders
 pub mod Claimable
 pub mod SplitBlocks
 pub mod JoinBlocks
+pub mod Maximal
+pub mod Taking
+pub mod Claiming
+pub mod NotedFrames
+pub mod ClearRun
+pub mod AddedPages

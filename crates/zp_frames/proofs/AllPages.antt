@@ -220,14 +220,14 @@ opened_loose m n a s l x r =
     not_falling h zero e le = false≢true e
     not_falling h (suc n) e le = elim (stands_cases h n (falling n) e) [ inl same ↦ omega arith | inr later ↦ not_falling h n later (omega arith) ]
 
-pub opened_turn : (n a k g m r : ℕ) (w v u : Rows) → IsOpenedTo m n a w.states w.lists → a < n → is_max m (all_pages n) a k ≡ true →
-    g ≡ a → m ≡ 2 ^ k → r ≡ list_number k Movable → lists_count m ≤ length w.lists → v ≡ with_state w g (Free k) → u ≡ with_list v r (g ∷ list_at v.lists r) →
-    (IsOpenedTo m n (a + m) u.states u.lists) × (length u.lists ≡ length w.lists)
-opened_turn n a k g m r w v u x lt y eg em er tl ev eu =
-    let P : Rows → Type 0 = λ q. IsOpenedTo m n (a + m) q.states q.lists in
-    let Q : Rows → Type 0 = λ q. IsOpenedTo m n (a + m) q.states (set q.lists r (g ∷ list_at q.lists r)) in
-    let R : ℕ → Type 0 = λ q. IsOpenedTo m n (a + m) (set w.states q (Free k)) (set w.lists r (q ∷ list_at w.lists r)) in
+pub opened_turn : (m n a k g d r : ℕ) (w v u : Rows) → IsOpenedTo m n a w.states w.lists → a < n → is_max m (all_pages n) a k ≡ true →
+    g ≡ a → d ≡ 2 ^ k → r ≡ list_number k Movable → lists_count m ≤ length w.lists → v ≡ with_state w g (Free k) → u ≡ with_list v r (g ∷ list_at v.lists r) →
+    (IsOpenedTo m n (a + d) u.states u.lists) × (length u.lists ≡ length w.lists)
+opened_turn m n a k g d r w v u x lt y eg ed er tl ev eu =
+    let P : Rows → Type 0 = λ q. IsOpenedTo m n (a + d) q.states q.lists in
+    let Q : Rows → Type 0 = λ q. IsOpenedTo m n (a + d) q.states (set q.lists r (g ∷ list_at q.lists r)) in
+    let R : ℕ → Type 0 = λ q. IsOpenedTo m n (a + d) (set w.states q (Free k)) (set w.lists r (q ∷ list_at w.lists r)) in
     let S : ℕ → Type 0 = λ q. IsOpenedTo m n (a + q) (set w.states a (Free k)) (set w.lists r (a ∷ list_at w.lists r)) in (
-      subst P (sym eu) (subst Q (sym ev) (subst R (sym eg) (subst S (sym em) (opened_more m n a k r w.states w.lists x lt y er tl)))),
+      subst P (sym eu) (subst Q (sym ev) (subst R (sym eg) (subst S (sym ed) (opened_more m n a k r w.states w.lists x lt y er tl)))),
       ap (λ (q : Rows). length q.lists) eu ∙ length-set v.lists r _ ∙ ap (λ (q : Rows). length q.lists) ev,
     )
