@@ -45,7 +45,8 @@ orders_set counts s t k n lt each here there j le =
     ]
 
 -- the list that the code finds for a block: t is what is read of the types at its pageblock
-pub list_found : (a : Blocks) (h k r b : ℕ) (t : MigrateType) → b < length a.kinds → b ≡ h / PAGEBLOCK_PAGES → t ≡ slice_index_or a.kinds b t → r ≡ list_number k t → r ≡ list_of_block a h k
+pub list_found : (a : Blocks) (h k r b : ℕ) (t : MigrateType) → b < length a.kinds → b ≡ h / PAGEBLOCK_PAGES →
+    t ≡ slice_index_or a.kinds b t → r ≡ list_number k t → r ≡ list_of_block a h k
 list_found a h k r b t lt eb et er =
     let e : t ≡ kind_at a.kinds h = et ∙ get_or_default a.kinds b t Movable lt ∙ ap (λ q. slice_index_or a.kinds q Movable) eb in
     er ∙ ap (λ q. list_number k q) e
