@@ -44,7 +44,8 @@ orders_set m counts s t k n lt each here there j le =
     ]
 
 -- the list that the code finds for a block: t is what is read of the types at its pageblock
-pub list_found : (m : ℕ) (a : Blocks) (h k r b : ℕ) (t : MigrateType) → b < length a.kinds → b ≡ h / pageblock_pages m → t ≡ slice_index_or a.kinds b t → r ≡ list_number k t → r ≡ list_of_block m a h k
+pub list_found : (m : ℕ) (a : Blocks) (h k r b : ℕ) (t : MigrateType) → b < length a.kinds → b ≡ h / pageblock_pages m →
+    t ≡ slice_index_or a.kinds b t → r ≡ list_number k t → r ≡ list_of_block m a h k
 list_found m a h k r b t lt eb et er =
     let e : t ≡ kind_at m a.kinds h = et ∙ get_or_default a.kinds b t Movable lt ∙ ap (λ q. slice_index_or a.kinds q Movable) eb in
     er ∙ ap (λ q. list_number k q) e

@@ -18,9 +18,9 @@ number_parts k t =
     let b : type_number t < types_count = type_below t in
     (omega arith, omega arith)
 
--- a block stands on the list of its number alone
-pub here_number : (m : ℕ) (s : List (Option ℕ)) (kinds : List MigrateType) (r h k : ℕ) → r / types_count ≡ k → type_number (kind_at m kinds h) ≡ r % types_count → r ≡ list_number k (kind_at m kinds h)
-here_number m s kinds r h k d z = omega arith
+-- a list of this order and type is that of their number
+pub number_from : (k r : ℕ) (t : MigrateType) → r / types_count ≡ k → type_number t ≡ r % types_count → r ≡ list_number k t
+number_from k r t d z = omega arith
 
 here_from : (m : ℕ) (s : List (Option ℕ)) (kinds : List MigrateType) (r h k : ℕ) → r ≡ list_number k (kind_at m kinds h) → Starts s h k → Here m s kinds r h
 here_from m s kinds r h k e st =
@@ -62,7 +62,7 @@ listed_with_other m s kinds r h k xs lt none ne old = record {
   from = λ g w. elim (with-starts s h k g (r / types_count) lt w.0) [
     | inl here ↦
         let P : ℕ → Type 0 = λ n. type_number (kind_at m kinds n) ≡ r % types_count in
-        absurd (ne (here_number m s kinds r h k here.1 (subst P here.0 w.1)))
+        absurd (ne (number_from k r (kind_at m kinds h) here.1 (subst P here.0 w.1)))
     | inr was ↦ old.from g (was.1, w.1)
   ];
 }
@@ -90,7 +90,7 @@ listed_without_other m s kinds r h k xs lt only ne old = record {
       let w : Here m s kinds r g = old.to g on in
       let P : ℕ → Type 0 = λ n. Here m s kinds r n in (
         without-there s h g (r / types_count)
-            (λ same. let v : Here m s kinds r h = subst P same w in ne (here_number m s kinds r h k (only (r / types_count) v.0) v.1)) w.0,
+            (λ same. let v : Here m s kinds r h = subst P same w in ne (number_from k r (kind_at m kinds h) (only (r / types_count) v.0) v.1)) w.0,
         w.1,
       );
   from = λ g w. old.from g ((without-starts s h g (r / types_count) lt w.0).1, w.1);

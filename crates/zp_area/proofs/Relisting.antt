@@ -16,7 +16,7 @@ use Rattle.zp_frames.specs.Sound.{blocks_of}
 use Rattle.zp_frames.specs.Retyped.{put_first, moved, pages_seen}
 use Rattle.zp_frames.proofs.Taken.{row_below, starts-to, starts-from}
 use Rattle.zp_area.proofs.OneBlock.{one_at, around_same}
-use Rattle.zp_area.proofs.Listing.{number_parts}
+use Rattle.zp_area.proofs.Listing.{number_parts, number_from}
 use Rattle.zp_area.proofs.RelistedBy.{is_fresh, relisted_by, relisted_by_same, relisted_held, relisted_came, relisted_went, relisted-from}
 
 order_to : (k : ℕ) (o : Option ℕ) → is_order k o ≡ true → o ≡ Some k
@@ -178,9 +178,7 @@ looking_on m a i k f t s kinds l l' x y st =
 on_number : (s : List (Option ℕ)) (r i k : ℕ) (t : MigrateType) → Starts s i k → stands_of s r i t ≡ true → r ≡ list_number k t
 on_number s r i k t st e =
     let w = stands_of-to s r i t e in
-    let d : r / types_count ≡ k = one_at s i k (r / types_count) st w.0 in
-    let c : type_number t ≡ r % types_count = w.1 in
-    omega arith
+    number_from k r t (one_at s i k (r / types_count) st w.0) w.1
 
 -- the head of a block is moved
 relisting_moved : (m a i k : ℕ) (f t : MigrateType) (s : List (Option ℕ)) (kinds : List MigrateType) (l : List (List ℕ)) (w : Rows) → IsLooking m a i f t s kinds l →
@@ -247,10 +245,11 @@ relisting_more m a i f t ss kinds l w v x es y ev =
     let e : v ≡ moved w i f t (state_at ss i) = ev ∙ ap (λ (q : List State). moved w i f t (state_at q i)) es in
     go (state_at ss i) refl e
   where
-    none : (z : State) → state_at ss i ≡ z → ((k : ℕ) → z ≡ Free k → ⊥) → (v : Rows) → v ≡ w → (v.states ≡ ss) × IsRelisting m a (i + 1) t (blocks_of ss) kinds l v.lists
-    none z ez f2 v ev =
+    none : (z : State) → state_at ss i ≡ z → ((k : ℕ) → z ≡ Free k → ⊥) → (v : Rows) → v ≡ w →
+        (v.states ≡ ss) × IsRelisting m a (i + 1) t (blocks_of ss) kinds l v.lists
+    none z ez off v ev =
         let P : Rows → Type 0 = λ q. (q.states ≡ ss) × IsRelisting m a (i + 1) t (blocks_of ss) kinds l q.lists in
-        subst P (sym ev) (es, relisting_same m a i f t (blocks_of ss) kinds l w.lists x (λ k q. f2 k (sym ez ∙ starts-to ss i k q)) y)
+        subst P (sym ev) (es, relisting_same m a i f t (blocks_of ss) kinds l w.lists x (λ k q. off k (sym ez ∙ starts-to ss i k q)) y)
 
     go : (z : State) → state_at ss i ≡ z → v ≡ moved w i f t z → (v.states ≡ ss) × IsRelisting m a (i + 1) t (blocks_of ss) kinds l v.lists
     go (Free k) ez ev =

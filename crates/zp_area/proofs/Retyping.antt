@@ -60,8 +60,8 @@ length-relisted m a kinds le =
 
 -- lists that are those, one by one
 relisted_all : (m : ℕ) (a : Blocks) (kinds : List MigrateType) (l : List (List ℕ)) → lists_count m ≤ length a.rows.lists → length l ≡ length a.rows.lists →
-    ((r : ℕ) → r < lists_count m → list_at l r ≡ relisted m (block_set a) kinds r (list_at a.rows.lists r)) → ((r : ℕ) → lists_count m ≤ r → list_at l r ≡ list_at a.rows.lists r) →
-    l ≡ all_relisted m a kinds
+    ((r : ℕ) → r < lists_count m → list_at l r ≡ relisted m (block_set a) kinds r (list_at a.rows.lists r)) →
+    ((r : ℕ) → lists_count m ≤ r → list_at l r ≡ list_at a.rows.lists r) → l ≡ all_relisted m a kinds
 unfolding all_relisted
 relisted_all m a kinds l le len each aside =
     sym (take-append-drop (lists_count m) l)
@@ -116,7 +116,8 @@ one_retyped m a b t x =
       aside = λ r p ge on. let P : List ℕ → Type 0 = λ xs. stands_in p xs ≡ true in x.aside r p ge (subst P (aside-relisted m a (set a.kinds b t) r ge) on);
     }
 
-pub kept_retyped : (m : ℕ) (a : Blocks) (tree : List (Option ℕ)) (counts free_in : List ℕ) (b : ℕ) (t : MigrateType) → IsKept m a tree counts free_in → IsKept m (retyped m a b t) tree counts free_in
+pub kept_retyped : (m : ℕ) (a : Blocks) (tree : List (Option ℕ)) (counts free_in : List ℕ) (b : ℕ) (t : MigrateType) → IsKept m a tree counts free_in →
+    IsKept m (retyped m a b t) tree counts free_in
 kept_retyped m a tree counts free_in b t x =
     let n : length (all_relisted m a (set a.kinds b t)) ≡ length a.rows.lists = length-relisted m a (set a.kinds b t) x.one.table in
     let few : length a.rows.lists ≤ lists_count m + 2 ^ 32 = x.few in

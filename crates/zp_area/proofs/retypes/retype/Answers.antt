@@ -54,6 +54,7 @@ pub returns-clause-lists : goal.returns-clause-lists
 returns-clause-lists c =
     let a : Blocks = record { rows = c.args.lists.now; kinds = c.args.kinds.now.items } in
     let i = c.pages.invariant in
-    let P : ℕ → Type 0 = λ q. IsRelisting LARGEST_ORDER (c.args.pageblock * PAGEBLOCK_PAGES) q c.args.kind (blocks_of c.args.lists.now.states) c.args.kinds.now.items c.args.lists.now.lists c.pages.lists.lists in
+    let P : ℕ → Type 0 = λ q.
+    IsRelisting LARGEST_ORDER (c.args.pageblock * PAGEBLOCK_PAGES) q c.args.kind (blocks_of c.args.lists.now.states) a.kinds c.args.lists.now.lists c.pages.lists.lists in
     let last : c.pages.i ≡ min (length c.args.lists.now.states) (c.args.pageblock * PAGEBLOCK_PAGES + PAGEBLOCK_PAGES) = omega arith in
     relisted_now LARGEST_ORDER c.args.pageblock c.args.kind a _ c.requires.one c.requires.pageblock (subst P last i.moved)
