@@ -1,13 +1,12 @@
 -- The largest block inside an aligned run: that one is held, and none is larger.
-use Rattle.std.proofs.Common.{ℕ, zero, suc, ◌+◌, ◌-◌, ◌*◌, ◌/◌, ◌^◌, ◌≡◌, ◌≤◌, ◌<◌, ◌⊎◌, inl, inr, refl, sym, ◌∙◌, ap, subst, arith, max, map, List, [], ◌∷◌, get_or, Option, Some, None, IfSome}
+use Rattle.std.proofs.Common.{ℕ, zero, suc, ◌+◌, ◌-◌, ◌*◌, ◌/◌, ◌^◌, ◌≡◌, ◌≤◌, ◌<◌, ◌⊎◌, inl, inr, refl, sym, ◌∙◌, ap, arith, max, map, List, [], ◌∷◌, get_or, Option, Some, None, IfSome}
 use Rattle.std.specs.List.{range_with_len}
 use Rattle.std.proofs.lemmas.Bool.{cases_lt}
-use Rattle.std.proofs.lemmas.Nat.{pow_pos}
+use Rattle.std.proofs.lemmas.Nat.{pow_pos, shr_split}
 use Rattle.std.proofs.lemmas.List.FromFn.{get_or-map-range_with_len}
-use Rattle.zp_model.specs.Block.{largest_order, IsBlock}
 use Rattle.zp_model.specs.BlockSet.{Starts, greatest, larger, largest_in}
 use Rattle.zp_model.specs.Area.{pageblock_pages}
-use Rattle.zp_model.proofs.Heads.{head_room}
+use Rattle.zp_model.proofs.Heads.{head_room, number_within}
 use Rattle.zp_tree.specs.Blocks.{IsBlockSet}
 use Rattle.zp_tree.proofs.Largest.{entry, entry-from, entries-to}
 
@@ -60,20 +59,21 @@ inside_most s a r h k st lo hi =
     (get_or-map-range_with_len (entry s a r) a (2 ^ r) (h - a) h None (omega arith) j ∙ entry-from s a r h k st hi)
 
 -- the same of the blocks of a pageblock
-pub pageblock_held : (s : List (Option ℕ)) (b : ℕ) (o : Option ℕ) → o ≡ largest_in s (b * pageblock_pages) largest_order →
-    IfSome o (λ k. (h : ℕ) × Starts s h k × (h / pageblock_pages ≡ b))
-pageblock_held s b None e = tt
-pageblock_held s b (Some k) e =
-    let w = inside_held s (b * pageblock_pages) largest_order k (sym e) in
-    let lo : b * pageblock_pages ≤ w.0 = w.2 in
-    let hi : w.0 + 2 ^ k ≤ b * pageblock_pages + 2 ^ largest_order = w.3 in
+pub pageblock_held : (m : ℕ) (s : List (Option ℕ)) (b : ℕ) (o : Option ℕ) → o ≡ largest_in s (b * pageblock_pages m) m →
+    IfSome o (λ k. (h : ℕ) × Starts s h k × (h / pageblock_pages m ≡ b))
+pageblock_held m s b None e = tt
+pageblock_held m s b (Some k) e =
+    let w = inside_held s (b * pageblock_pages m) m k (sym e) in
+    let lo : b * pageblock_pages m ≤ w.0 = w.2 in
+    let hi : w.0 + 2 ^ k ≤ b * pageblock_pages m + 2 ^ m = w.3 in
     let pos : 0 < 2 ^ k = pow_pos k in
-    (w.0, w.1, omega arith)
+    (w.0, w.1, number_within b m w.0 lo (omega arith))
 
-pub pageblock_most : (s : List (Option ℕ)) (b : ℕ) (o : Option ℕ) → IsBlockSet s → o ≡ largest_in s (b * pageblock_pages) largest_order → (h k : ℕ) → Starts s h k →
-    h / pageblock_pages ≡ b → (j : ℕ) × (o ≡ Some j) × (k ≤ j)
-pageblock_most s b o x e h k st there =
+pub pageblock_most : (m : ℕ) (s : List (Option ℕ)) (b : ℕ) (o : Option ℕ) → IsBlockSet m s → o ≡ largest_in s (b * pageblock_pages m) m → (h k : ℕ) → Starts s h k →
+    h / pageblock_pages m ≡ b → (j : ℕ) × (o ≡ Some j) × (k ≤ j)
+pageblock_most m s b o x e h k st there =
     let block = x.block h k st in
-    let room : h + 2 ^ k ≤ h / 2 ^ largest_order * 2 ^ largest_order + 2 ^ largest_order = head_room h k largest_order block.order block.aligned in
-    let w = inside_most s (b * pageblock_pages) largest_order h k st (omega arith) (omega arith) in
+    let room : h + 2 ^ k ≤ h / 2 ^ m * 2 ^ m + 2 ^ m = head_room h k m block.order block.aligned in
+    let first : h / pageblock_pages m * pageblock_pages m ≡ b * pageblock_pages m = ap (λ n. n * pageblock_pages m) there in
+    let w = inside_most s (b * pageblock_pages m) m h k st (omega (arith, shr_split h m)) (omega arith) in
     (w.0, e ∙ w.1, w.2)

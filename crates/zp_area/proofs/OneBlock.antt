@@ -5,7 +5,7 @@ use Rattle.std.proofs.lemmas.Bool.{cases_eq, and_parts, and_from, leb-true, le-l
 use Rattle.std.proofs.lemmas.List.Sums.{sum_by-set}
 use Rattle.zp_model.specs.Block.{IsBlock, head, in_run, with_run, without}
 use Rattle.zp_model.specs.BlockSet.{Starts, is_order, cover}
-use Rattle.zp_model.proofs.Heads.{head_le, lt_head, head_of}
+use Rattle.zp_model.proofs.Heads.{head_le, lt_head, head_of, lt_pow}
 use Rattle.zp_model.proofs.Pages.{In}
 use Rattle.zp_model.proofs.Covers.{cover-to, cover-from, has_below, length-cover, length-with, length-without, same_pages, with-decides, without-decides}
 use Rattle.zp_tree.specs.Blocks.{IsBlockSet, with_block, without_block}
@@ -23,17 +23,17 @@ covered_around s i e =
     let c = cover-to s i e in
     (head i c.0, c.0, record { starts = c.1; from = head_le i c.0; to = lt_head i c.0 })
 
-pub around_covered : (s : List (Option ℕ)) (i h k : ℕ) → IsBlockSet s → IsAround s i h k → In (cover s) i
-around_covered s i h k x y =
-    let b : IsBlock (length s) h k = x.block h k y.starts in
+pub around_covered : (m : ℕ) (s : List (Option ℕ)) (i h k : ℕ) → IsBlockSet m s → IsAround s i h k → In (cover s) i
+around_covered m s i h k x y =
+    let b : IsBlock m (length s) h k = x.block h k y.starts in
     let room : h + 2 ^ k ≤ length s = b.inside in
     let to : i < h + 2 ^ k = y.to in
     let P : ℕ → Type 0 = λ n. Starts s n k in
-    cover-from s i k (omega arith) b.order (subst P (sym (head_of h i k b.aligned y.from y.to)) y.starts)
+    cover-from s i k (omega arith) (omega (arith, lt_pow k)) (subst P (sym (head_of h i k b.aligned y.from y.to)) y.starts)
 
 -- two blocks of a set that have page i are one
-pub around_same : (s : List (Option ℕ)) (i h k g j : ℕ) → IsBlockSet s → IsAround s i h k → IsAround s i g j → h ≡ g
-around_same s i h k g j x y z = x.apart h k g j i y.starts z.starts (in_run-from h k i y.from y.to) (in_run-from g j i z.from z.to)
+pub around_same : (m : ℕ) (s : List (Option ℕ)) (i h k g j : ℕ) → IsBlockSet m s → IsAround s i h k → IsAround s i g j → h ≡ g
+around_same m s i h k g j x y z = x.apart h k g j i y.starts z.starts (in_run-from h k i y.from y.to) (in_run-from g j i z.from z.to)
   where
     in_run-from : (h k i : ℕ) → h ≤ i → i < h + 2 ^ k → in_run h k i ≡ true
     in_run-from h k i a b = and_from _ _ (le-leb h i a) (lt-ltb i (h + 2 ^ k) b)
@@ -44,19 +44,19 @@ in_run-to h k i e = let a = and_parts _ _ e in (leb-true h i a.0, ltb-true i (h 
 pub one_at : (s : List (Option ℕ)) (h k j : ℕ) → Starts s h k → Starts s h j → j ≡ k
 one_at s h k j a b = let e : Some k ≡ Some j = sym a ∙ b in cc
 
-pub head_below : (n h k : ℕ) → IsBlock n h k → h < n
-head_below n h k b = let room : h + 2 ^ k ≤ n = b.inside in omega (arith, pow_pos k)
+pub head_below : (m n h k : ℕ) → IsBlock m n h k → h < n
+head_below m n h k b = let room : h + 2 ^ k ≤ n = b.inside in omega (arith, pow_pos k)
 
 -- (h, k) is a block of the zone of which no page is in the set
-pub record IsNew (s : List (Option ℕ)) (h k : ℕ) : Type 0 where
-  pub block : IsBlock (length s) h k
+pub record IsNew (m : ℕ) (s : List (Option ℕ)) (h k : ℕ) : Type 0 where
+  pub block : IsBlock m (length s) h k
   pub clear : (i : ℕ) → h ≤ i → i < h + 2 ^ k → In (cover s) i → ⊥
 
 -- no block of the set starts at the head of a new one
-pub new_none : (s : List (Option ℕ)) (h k : ℕ) → IsBlockSet s → IsNew s h k → (j : ℕ) → Starts s h j → ⊥
-new_none s h k x n j st =
+pub new_none : (m : ℕ) (s : List (Option ℕ)) (h k : ℕ) → IsBlockSet m s → IsNew m s h k → (j : ℕ) → Starts s h j → ⊥
+new_none m s h k x n j st =
     n.clear h (omega arith) (omega (arith, pow_pos k))
-    (around_covered s h h j x (record { starts = st; from = omega arith; to = omega (arith, pow_pos j) }))
+    (around_covered m s h h j x (record { starts = st; from = omega arith; to = omega (arith, pow_pos j) }))
 
 -- the blocks with one more
 pub with-starts : (s : List (Option ℕ)) (h k g j : ℕ) → h < length s → Starts (with_block s h k) g j → ((g ≡ h) × (j ≡ k)) ⊎ ((g ≢ h) × Starts s g j)
@@ -88,43 +88,43 @@ without-starts s h g j lt st =
 pub without-there : (s : List (Option ℕ)) (h g j : ℕ) → g ≢ h → Starts s g j → Starts (without_block s h) g j
 without-there s h g j ne st = get_or-set_other s h g None None ne ∙ st
 
-pub with-set : (s : List (Option ℕ)) (h k : ℕ) → IsBlockSet s → IsNew s h k → IsBlockSet (with_block s h k)
-with-set s h k x n =
-    let lt : h < length s = head_below (length s) h k n.block in
-    let P : ℕ → Type 0 = λ m. (g j : ℕ) → Starts (with_block s h k) g j → IsBlock m g j in
+pub with-set : (m : ℕ) (s : List (Option ℕ)) (h k : ℕ) → IsBlockSet m s → IsNew m s h k → IsBlockSet m (with_block s h k)
+with-set m s h k x n =
+    let lt : h < length s = head_below m (length s) h k n.block in
+    let P : ℕ → Type 0 = λ r. (g j : ℕ) → Starts (with_block s h k) g j → IsBlock m r g j in
     record {
       block = subst P (sym (length-set s h (Some k)))
           (λ g j st. elim (with-starts s h k g j lt st) [
-            | inl e ↦ let Q : ℕ → Type 0 = λ m. IsBlock (length s) m j in let R : ℕ → Type 0 = λ m. IsBlock (length s) h m in subst Q (sym e.0) (subst R (sym e.1) n.block)
+            | inl e ↦ let Q : ℕ → Type 0 = λ r. IsBlock m (length s) r j in let R : ℕ → Type 0 = λ r. IsBlock m (length s) h r in subst Q (sym e.0) (subst R (sym e.1) n.block)
             | inr old ↦ x.block g j old.1
           ]);
-      apart = λ g j f m i st su u v.
+      apart = λ g j f r i st su u v.
           let p = in_run-to g j i u in
-          let q = in_run-to f m i v in
+          let q = in_run-to f r i v in
           elim (with-starts s h k g j lt st) [
-            | inl e ↦ elim (with-starts s h k f m lt su) [
+            | inl e ↦ elim (with-starts s h k f r lt su) [
               | inl d ↦ e.0 ∙ sym d.0
-              | inr old ↦ absurd (met i g j f m p.0 p.1 e.0 e.1 (record { starts = old.1; from = q.0; to = q.1 }))
+              | inr old ↦ absurd (met i g j f r p.0 p.1 e.0 e.1 (record { starts = old.1; from = q.0; to = q.1 }))
             ]
-            | inr old ↦ elim (with-starts s h k f m lt su) [
-              | inl d ↦ absurd (met i f m g j q.0 q.1 d.0 d.1 (record { starts = old.1; from = p.0; to = p.1 }))
-              | inr older ↦ x.apart g j f m i old.1 older.1 u v
+            | inr old ↦ elim (with-starts s h k f r lt su) [
+              | inl d ↦ absurd (met i f r g j q.0 q.1 d.0 d.1 (record { starts = old.1; from = p.0; to = p.1 }))
+              | inr older ↦ x.apart g j f r i old.1 older.1 u v
             ]
           ];
     }
   where
-    met : (i g j f m : ℕ) → g ≤ i → i < g + 2 ^ j → g ≡ h → j ≡ k → IsAround s i f m → ⊥
-    met i g j f m lo hi e d y =
+    met : (i g j f r : ℕ) → g ≤ i → i < g + 2 ^ j → g ≡ h → j ≡ k → IsAround s i f r → ⊥
+    met i g j f r lo hi e d y =
         let P : ℕ → Type 0 = λ q. i < g + 2 ^ q in
         let up : i < g + 2 ^ k = subst P d hi in
-        n.clear i (omega arith) (omega arith) (around_covered s i f m x y)
+        n.clear i (omega arith) (omega arith) (around_covered m s i f r x y)
 
 -- the pages with one block more
-pub cover-with : (s : List (Option ℕ)) (h k : ℕ) → IsBlockSet s → IsNew s h k → cover (with_block s h k) ≡ with_run (cover s) h k
-cover-with s h k x n =
+pub cover-with : (m : ℕ) (s : List (Option ℕ)) (h k : ℕ) → IsBlockSet m s → IsNew m s h k → cover (with_block s h k) ≡ with_run (cover s) h k
+cover-with m s h k x n =
     let t : List (Option ℕ) = with_block s h k in
-    let y : IsBlockSet (with_block s h k) = with-set s h k x n in
-    let lt : h < length s = head_below (length s) h k n.block in
+    let y : IsBlockSet m (with_block s h k) = with-set m s h k x n in
+    let lt : h < length s = head_below m (length s) h k n.block in
     let room : h + 2 ^ k ≤ length s = n.block.inside in
     let a : length (cover s) ≡ length s = length-cover s in
     let b : length (cover (with_block s h k)) ≡ length s = length-cover t ∙ length-set s h (Some k) in
@@ -141,7 +141,7 @@ cover-with s h k x n =
           let hi : i < w.0 + 2 ^ k = subst P d.1 z.to in
           let same : w.0 ≡ h = d.0 in
           inr (omega arith, omega arith)
-      | inr old ↦ inl (around_covered s i w.0 w.1 x (record { starts = old.1; from = z.from; to = z.to }))
+      | inr old ↦ inl (around_covered m s i w.0 w.1 x (record { starts = old.1; from = z.from; to = z.to }))
     ]))
     (λ i e.
     let below : i < length (with_run (cover s) h k) = has_below (with_run (cover s) h k) i e in
@@ -149,26 +149,26 @@ cover-with s h k x n =
       | inl old ↦
           let w = covered_around s i old in
           let z : IsAround s i w.0 w.1 = w.2 in
-          let ne : w.0 ≢ h = λ same. let P : ℕ → Type 0 = λ q. Starts s q w.1 in new_none s h k x n w.1 (subst P same z.starts) in
-          around_covered t i w.0 w.1 y (record { starts = with-there s h k w.0 w.1 ne z.starts; from = z.from; to = z.to })
-      | inr run ↦ around_covered t i h k y (record { starts = with-here s h k lt; from = run.0; to = run.1 })
+          let ne : w.0 ≢ h = λ same. let P : ℕ → Type 0 = λ q. Starts s q w.1 in new_none m s h k x n w.1 (subst P same z.starts) in
+          around_covered m t i w.0 w.1 y (record { starts = with-there s h k w.0 w.1 ne z.starts; from = z.from; to = z.to })
+      | inr run ↦ around_covered m t i h k y (record { starts = with-here s h k lt; from = run.0; to = run.1 })
     ])
 
-pub without-set : (s : List (Option ℕ)) (h k : ℕ) → IsBlockSet s → Starts s h k → IsBlockSet (without_block s h)
-without-set s h k x here =
-    let lt : h < length s = head_below (length s) h k (x.block h k here) in
-    let P : ℕ → Type 0 = λ m. (g j : ℕ) → Starts (without_block s h) g j → IsBlock m g j in
+pub without-set : (m : ℕ) (s : List (Option ℕ)) (h k : ℕ) → IsBlockSet m s → Starts s h k → IsBlockSet m (without_block s h)
+without-set m s h k x here =
+    let lt : h < length s = head_below m (length s) h k (x.block h k here) in
+    let P : ℕ → Type 0 = λ r. (g j : ℕ) → Starts (without_block s h) g j → IsBlock m r g j in
     record {
       block = subst P (sym (length-set s h None)) (λ g j st. x.block g j (without-starts s h g j lt st).1);
-      apart = λ g j f m i st su u v. x.apart g j f m i (without-starts s h g j lt st).1 (without-starts s h f m lt su).1 u v;
+      apart = λ g j f r i st su u v. x.apart g j f r i (without-starts s h g j lt st).1 (without-starts s h f r lt su).1 u v;
     }
 
 -- the pages with one block less
-pub cover-without : (s : List (Option ℕ)) (h k : ℕ) → IsBlockSet s → Starts s h k → cover (without_block s h) ≡ without (cover s) h k
-cover-without s h k x here =
+pub cover-without : (m : ℕ) (s : List (Option ℕ)) (h k : ℕ) → IsBlockSet m s → Starts s h k → cover (without_block s h) ≡ without (cover s) h k
+cover-without m s h k x here =
     let t : List (Option ℕ) = without_block s h in
-    let y : IsBlockSet (without_block s h) = without-set s h k x here in
-    let lt : h < length s = head_below (length s) h k (x.block h k here) in
+    let y : IsBlockSet m (without_block s h) = without-set m s h k x here in
+    let lt : h < length s = head_below m (length s) h k (x.block h k here) in
     let a : length (cover s) ≡ length s = length-cover s in
     let b : length (cover (without_block s h)) ≡ length s = length-cover t ∙ length-set s h None in
     let c : length (without (cover s) h k) ≡ length (cover s) = length-without (cover s) h k in
@@ -180,8 +180,8 @@ cover-without s h k x here =
     let old = without-starts s h w.0 w.1 lt z.starts in
     let was : IsAround s i w.0 w.1 = record { starts = old.1; from = z.from; to = z.to } in
     (without-decides (cover s) h k i (omega arith)).1 (
-      around_covered s i w.0 w.1 x was,
-      λ lo hi. old.0 (around_same s i w.0 w.1 h k x was (record { starts = here; from = lo; to = hi })),
+      around_covered m s i w.0 w.1 x was,
+      λ lo hi. old.0 (around_same m s i w.0 w.1 h k x was (record { starts = here; from = lo; to = hi })),
     ))
     (λ i e.
     let below : i < length (without (cover s) h k) = has_below (without (cover s) h k) i e in
@@ -194,7 +194,7 @@ cover-without s h k x here =
     let lo : w.0 ≤ i = z.from in
     let hi : i < w.0 + 2 ^ k = subst Q (one_at s h k w.1 here (subst P same z.starts)) z.to in
     out.1 (omega arith) (omega arith) in
-    around_covered t i w.0 w.1 y (record { starts = without-there s h w.0 w.1 ne z.starts; from = z.from; to = z.to }))
+    around_covered m t i w.0 w.1 y (record { starts = without-there s h w.0 w.1 ne z.starts; from = z.from; to = z.to }))
 
 -- how many blocks of each order there are, with one more and with one less
 pub count-with : (s : List (Option ℕ)) (h k j : ℕ) → h < length s → get_or s h None ≡ None → count_of (with_block s h k) j ≡ count_of s j + one_if (k == j)

@@ -29,8 +29,8 @@ falling_none p zero f = refl
 falling_none p (suc n) f = rw (f n) (falling_none p n f)
 
 -- a list that holds what passes stays
-pub relisted_held : (p : ℕ → Bool) (n : ℕ) (old : List ℕ) → ((h : ℕ) → stands_in h old ≡ true → p h ≡ true) → ((h : ℕ) → p h ≡ true → stands_in h old ≡ true) →
-    relisted_by p n old ≡ old
+pub relisted_held : (p : ℕ → Bool) (n : ℕ) (old : List ℕ) → ((h : ℕ) → stands_in h old ≡ true → p h ≡ true) →
+    ((h : ℕ) → p h ≡ true → stands_in h old ≡ true) → relisted_by p n old ≡ old
 relisted_held p n old to from =
     ap (λ xs. xs ++ filter p old) (falling_none (is_fresh p old) n (λ h. false_from_ne_true _ (λ e.
     let a = and_parts _ _ e in

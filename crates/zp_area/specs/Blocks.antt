@@ -1,5 +1,5 @@
 -- A set of free blocks with the free lists that hold their heads and the types of the pageblocks (Knowlton 1965 for the blocks; Gorman,
--- chapter 6, for the lists by order; the types and the order of the heads are this profile's).
+-- chapter 6, for the lists by order; the types and the order of the heads are this profile's). The largest block has order m.
 use Rattle.std.specs.Prelude.{ℕ, ◌+◌, List, [], ◌∷◌, ◌++◌, replicate, Option}
 use Rattle.std.specs.List.{count_by}
 use Rattle.zp_model.specs.declared.migrate_type.MigrateType.{MigrateType}
@@ -29,19 +29,19 @@ count_of s k = count_by (is_order k) s
 abbrev pub free_list_of : Blocks → ℕ → MigrateType → List ℕ
 free_list_of a k t = list_at a.rows.lists (list_number k t)
 
-abbrev pub side_list_of : Blocks → ℕ → List ℕ
-side_list_of a q = list_at a.rows.lists (lists_count + q)
+abbrev pub side_list_of : ℕ → Blocks → ℕ → List ℕ
+side_list_of m a q = list_at a.rows.lists (lists_count m + q)
 
 -- the number of the list on which the block (h, k) stands: that of its order and its pageblock's type
-abbrev pub list_of_block : Blocks → ℕ → ℕ → ℕ
-list_of_block a h k = list_number k (kind_at a.kinds h)
+abbrev pub list_of_block : ℕ → Blocks → ℕ → ℕ → ℕ
+list_of_block m a h k = list_number k (kind_at m a.kinds h)
 
 -- no block, all pageblocks Movable, and so many empty further lists
-abbrev pub no_blocks : ℕ → ℕ → Blocks
-no_blocks pages side =
+abbrev pub no_blocks : ℕ → ℕ → ℕ → Blocks
+no_blocks m pages side =
     record {
-      rows = record { lists = replicate (lists_count + side) []; states = replicate pages Tail };
-      kinds = replicate (pageblocks_of pages) Movable;
+      rows = record { lists = replicate (lists_count m + side) []; states = replicate pages Tail };
+      kinds = replicate (pageblocks_of m pages) Movable;
     }
 
 -- with page h in front of list r, at its end, and without it
@@ -55,20 +55,20 @@ abbrev pub taken_off : Rows → ℕ → ℕ → Rows
 taken_off w r h = with_list w r (without_page h (list_at w.lists r))
 
 -- with the block (h, k): it is noted as free and stands in front of its list
-abbrev pub added : Blocks → ℕ → ℕ → Blocks
-added a h k = record a { rows = put_in_front (with_state a.rows h (Free k)) (list_of_block a h k) h }
+abbrev pub added : ℕ → Blocks → ℕ → ℕ → Blocks
+added m a h k = record a { rows = put_in_front (with_state a.rows h (Free k)) (list_of_block m a h k) h }
 
 -- without the block (h, k): it is noted as free no more, and stands on no list
-abbrev pub removed : Blocks → ℕ → ℕ → Blocks
-removed a h k = record a { rows = with_state (taken_off a.rows (list_of_block a h k) h) h Tail }
+abbrev pub removed : ℕ → Blocks → ℕ → ℕ → Blocks
+removed m a h k = record a { rows = with_state (taken_off a.rows (list_of_block m a h k) h) h Tail }
 
 -- with another note of page h
 abbrev pub noted : Blocks → ℕ → State → Blocks
 noted a h s = record a { rows = with_state a.rows h s }
 
 -- with page h at the end of a further list, and without the page in front of one
-abbrev pub side_pushed : Blocks → ℕ → ℕ → Blocks
-side_pushed a q h = record a { rows = put_at_end a.rows (lists_count + q) h }
+abbrev pub side_pushed : ℕ → Blocks → ℕ → ℕ → Blocks
+side_pushed m a q h = record a { rows = put_at_end a.rows (lists_count m + q) h }
 
-abbrev pub side_popped : Blocks → ℕ → Blocks
-side_popped a q = record a { rows = with_list a.rows (lists_count + q) (rest (side_list_of a q)) }
+abbrev pub side_popped : ℕ → Blocks → ℕ → Blocks
+side_popped m a q = record a { rows = with_list a.rows (lists_count m + q) (rest (side_list_of m a q)) }

@@ -1,14 +1,14 @@
 //! The free area of a zone.
 ghost use Rattle.std.specs.Prelude.{ℕ, ◌≡◌, ◌<◌, ◌≤◌, ◌+◌, ◌^◌, ◌*◌, ◌/◌, ◌↔◌, false, length, slice_index_or, IfOk, Some, IfSome, IsTrue};
-ghost use Rattle.zp_model.specs.declared.constants.TheConstants.{MAX_PAGES};
+ghost use Rattle.zp_model.specs.declared.constants.TheConstants.{LARGEST_ORDER, MAX_PAGES, PAGEBLOCK_PAGES};
 ghost use Rattle.zp_model.specs.declared.migrate_type.MigrateType.TheVariants.{Movable};
 ghost use Rattle.zp_model.specs.declared.state.State.TheVariants.{Free};
-ghost use Rattle.zp_model.specs.Block.{IsBlock, has, largest_order};
+ghost use Rattle.zp_model.specs.Block.{IsBlock, has};
 ghost use Rattle.zp_model.specs.BlockSet.{Starts, cover, lowest, largest_in};
 ghost use Rattle.zp_model.specs.Rows.{IsLoose, IsOn, IsRow, after, front, state_at};
 ghost use Rattle.zp_model.specs.Described.{IsLinkedAt};
 ghost use Rattle.zp_model.specs.Frames.{IsNote};
-ghost use Rattle.zp_model.specs.Area.{list_number, lists_count, pageblock_pages, size_in};
+ghost use Rattle.zp_model.specs.Area.{list_number, lists_count, size_in};
 ghost use Rattle.zp_tree.specs.Blocks.{IsBeside};
 ghost use Rattle.zp_frames.specs.Given.{IsClearRun};
 ghost use Rattle.zp_area.specs.Blocks.{block_set, count_of, free_list_of, side_list_of, no_blocks, added, removed, noted, side_pushed, side_popped};
@@ -41,6 +41,7 @@ pub struct FreeArea {
 }
 
 impl Model for FreeArea {
+    ghost use Rattle.zp_model.specs.declared.constants.TheConstants.{LARGEST_ORDER};
     ghost use Rattle.zp_area.specs.Blocks.{Blocks};
     ghost use Rattle.zp_area.specs.OneSet.{IsKept};
 
@@ -48,7 +49,7 @@ impl Model for FreeArea {
 
     ghost view = { λ a. record { rows = a.lists; kinds = a.kinds.items } };
 
-    ghost invariant = { λ a. IsKept (record { rows = a.lists; kinds = a.kinds.items }) a.tree a.counts a.free_in.items };
+    ghost invariant = { λ a. IsKept LARGEST_ORDER (record { rows = a.lists; kinds = a.kinds.items }) a.tree a.counts a.free_in.items };
 }
 
 impl FreeArea {
@@ -56,7 +57,7 @@ impl FreeArea {
     pub fn new(alloc: Global, pages: u32, side: usize) -> Result<FreeArea, AllocError>
         requires pages { pages ≤ MAX_PAGES }
         requires side { side < 2 ^ 32 }
-        ensures { IfOk result (λ a. a ≡ no_blocks pages side) }
+        ensures { IfOk result (λ a. a ≡ no_blocks LARGEST_ORDER pages side) }
     {
         let pageblocks = pages.div_ceil(PAGEBLOCK_PAGES) as usize;
         let kinds = Vec::from_elem(alloc, MigrateType::Movable, pageblocks)?;
@@ -77,7 +78,7 @@ impl FreeArea {
     pub fn pages(&self) -> u32
         ensures pages { result ≡ length self.now.rows.states }
         ensures within { result ≤ MAX_PAGES }
-        ensures one { IsOneSet self.now }
+        ensures one { IsOneSet LARGEST_ORDER self.now }
         ensures row { IsRow self.now.rows.lists (length self.now.rows.states) }
     {
         self.lists.pages() as u32
@@ -86,20 +87,20 @@ impl FreeArea {
     /// How many pageblocks there are. Each block lies in one of them.
     pub fn pageblocks(&self) -> usize
         ensures same { result ≡ length self.now.kinds }
-        ensures blocks { (h k : ℕ) → Starts (block_set self.now) h k → h / pageblock_pages < result }
+        ensures blocks { (h k : ℕ) → Starts (block_set self.now) h k → h / PAGEBLOCK_PAGES < result }
     {
         self.kinds.len()
     }
 
     /// Takes a block into the set. Its head comes in front of the list of its order and its pageblock's type.
     pub fn add(&mut self, at: PageAt, order: Order)
-        requires block { IsBlock (length self.old.rows.states) at order }
-        requires clear { IsClearRun self.old.rows.states self.old.rows.lists at order }
-        ensures after { self.new ≡ added self.old at order }
+        requires block { IsBlock LARGEST_ORDER (length self.old.rows.states) at order }
+        requires clear { IsClearRun LARGEST_ORDER self.old.rows.states self.old.rows.lists at order }
+        ensures after { self.new ≡ added LARGEST_ORDER self.old at order }
 
         // What the calls after it can rest on.
         ensures held { Starts (block_set self.new) at order }
-        ensures still_clear { (h k : ℕ) → IsClearRun self.old.rows.states self.old.rows.lists h k → IsBeside h k at order → IsClearRun self.new.rows.states self.new.rows.lists h k }
+        ensures still_clear { (h k : ℕ) → IsClearRun LARGEST_ORDER self.old.rows.states self.old.rows.lists h k → IsBeside h k at order → IsClearRun LARGEST_ORDER self.new.rows.states self.new.rows.lists h k }
     {
         let pageblock = pageblock_of(at);
         let list = list_of(order, self.kinds[pageblock]);
@@ -113,11 +114,11 @@ impl FreeArea {
     /// Takes a block out of the set. No list is searched.
     pub fn remove(&mut self, at: PageAt, order: Order)
         requires { Starts (block_set self.old) at order }
-        ensures after { self.new ≡ removed self.old at order }
+        ensures after { self.new ≡ removed LARGEST_ORDER self.old at order }
 
         // What the calls after it can rest on.
-        ensures clear { IsClearRun self.new.rows.states self.new.rows.lists at order }
-        ensures still_clear { (h k : ℕ) → IsClearRun self.old.rows.states self.old.rows.lists h k → IsClearRun self.new.rows.states self.new.rows.lists h k }
+        ensures clear { IsClearRun LARGEST_ORDER self.new.rows.states self.new.rows.lists at order }
+        ensures still_clear { (h k : ℕ) → IsClearRun LARGEST_ORDER self.old.rows.states self.old.rows.lists h k → IsClearRun LARGEST_ORDER self.new.rows.states self.new.rows.lists h k }
     {
         let pageblock = pageblock_of(at);
         let list = list_of(order, self.kinds[pageblock]);
@@ -131,7 +132,7 @@ impl FreeArea {
     /// Gives a pageblock a type. Where it is another one, its blocks go to the lists of the type, the highest in front.
     pub fn retype(&mut self, pageblock: usize, kind: MigrateType)
         requires { pageblock < length self.old.kinds }
-        ensures after { self.new ≡ retyped self.old pageblock kind }
+        ensures after { self.new ≡ retyped LARGEST_ORDER self.old pageblock kind }
         ensures same { kind ≡ slice_index_or self.old.kinds pageblock Movable → self.new ≡ self.old }
     {
         if self.kinds[pageblock] != kind {
@@ -156,7 +157,7 @@ impl FreeArea {
     /// How many pages of a pageblock are in blocks.
     pub fn free_in(&self, pageblock: usize) -> u32
         requires { pageblock < length self.now.kinds }
-        ensures { result ≡ size_in (cover (block_set self.now)) pageblock }
+        ensures { result ≡ size_in LARGEST_ORDER (cover (block_set self.now)) pageblock }
     {
         self.free_in[pageblock]
     }
@@ -172,9 +173,9 @@ impl FreeArea {
     /// The largest order of a block in a pageblock. One node of the tree is read.
     pub fn largest_in(&self, pageblock: usize) -> Option<Order>
         requires { pageblock < length self.now.kinds }
-        ensures answer { result ≡ largest_in (block_set self.now) (pageblock * pageblock_pages) largest_order }
-        ensures held { IfSome result (λ o. (h : ℕ) × Starts (block_set self.now) h o × (h / pageblock_pages ≡ pageblock)) }
-        ensures most { (h k : ℕ) → Starts (block_set self.now) h k → h / pageblock_pages ≡ pageblock → (o : ℕ) × (result ≡ Some o) × (k ≤ o) }
+        ensures answer { result ≡ largest_in (block_set self.now) (pageblock * PAGEBLOCK_PAGES) LARGEST_ORDER }
+        ensures held { IfSome result (λ o. (h : ℕ) × Starts (block_set self.now) h o × (h / PAGEBLOCK_PAGES ≡ pageblock)) }
+        ensures most { (h k : ℕ) → Starts (block_set self.now) h k → h / PAGEBLOCK_PAGES ≡ pageblock → (o : ℕ) × (result ≡ Some o) × (k ≤ o) }
     {
         // a clause of this call says how many pageblocks there can be
         let _pages = self.pages();
@@ -223,7 +224,7 @@ impl FreeArea {
         requires used { has (cover (block_set self.old)) at ≡ false }
         requires note { IsNote state }
         ensures after { self.new ≡ noted self.old at state }
-        ensures still_clear { (h k : ℕ) → IsClearRun self.old.rows.states self.old.rows.lists h k → IsClearRun self.new.rows.states self.new.rows.lists h k }
+        ensures still_clear { (h k : ℕ) → IsClearRun LARGEST_ORDER self.old.rows.states self.old.rows.lists h k → IsClearRun LARGEST_ORDER self.new.rows.states self.new.rows.lists h k }
     {
         self.lists.set_state(at, state);
     }
@@ -251,20 +252,20 @@ impl FreeArea {
 
     /// Puts a page that is in no block and on no list at the end of a further list.
     pub fn side_push_back(&mut self, list: usize, at: PageAt)
-        requires list { lists_count + list < length self.old.rows.lists }
+        requires list { lists_count LARGEST_ORDER + list < length self.old.rows.lists }
         requires page { at < length self.old.rows.states }
         requires used { has (cover (block_set self.old)) at ≡ false }
         requires loose { IsLoose self.old.rows.lists at }
-        ensures { self.new ≡ side_pushed self.old list at }
+        ensures { self.new ≡ side_pushed LARGEST_ORDER self.old list at }
     {
         self.lists.push_back(FREE_LISTS + list, at);
     }
 
     /// Takes the page in front of a further list.
     pub fn side_pop_front(&mut self, list: usize) -> Option<PageAt>
-        requires { lists_count + list < length self.old.rows.lists }
-        ensures answer { result ≡ front (side_list_of self.old list) }
-        ensures after { self.new ≡ side_popped self.old list }
+        requires { lists_count LARGEST_ORDER + list < length self.old.rows.lists }
+        ensures answer { result ≡ front (side_list_of LARGEST_ORDER self.old list) }
+        ensures after { self.new ≡ side_popped LARGEST_ORDER self.old list }
         ensures page { IfSome result (λ at. at < length self.new.rows.states) }
         ensures loose { IfSome result (IsLoose self.new.rows.lists) }
     {
@@ -273,8 +274,8 @@ impl FreeArea {
 
     /// The page in front of a further list.
     pub fn side_front(&self, list: usize) -> Option<PageAt>
-        requires { lists_count + list < length self.now.rows.lists }
-        ensures { result ≡ front (side_list_of self.now list) }
+        requires { lists_count LARGEST_ORDER + list < length self.now.rows.lists }
+        ensures { result ≡ front (side_list_of LARGEST_ORDER self.now list) }
     {
         self.lists.front(FREE_LISTS + list)
     }

@@ -2,6 +2,7 @@
 //!
 //! In Linux: `move_freepages_block`.
 ghost use Rattle.std.specs.Prelude.{◌≡◌, ◌≢◌, ◌<◌, ◌≤◌, ℕ, length, slice_index_or, slice_set};
+ghost use Rattle.zp_model.specs.declared.constants.TheConstants.{LARGEST_ORDER};
 ghost use Rattle.zp_model.specs.declared.state.State.TheVariants.{Free};
 ghost use Rattle.zp_model.specs.declared.migrate_type.MigrateType.TheVariants.{Movable};
 ghost use Rattle.zp_model.specs.Rows.{state_at, IsOn};
@@ -18,7 +19,7 @@ use zp_model::{MigrateType, PAGEBLOCK_PAGES, PageAt, State};
 /// it has, or 1 where none starts.
 fn move_block(lists: &mut Lists, at: PageAt, from: MigrateType, to: MigrateType) -> u32
     requires page { at < length lists.old.states }
-    requires table { lists_count ≤ length lists.old.lists }
+    requires table { lists_count LARGEST_ORDER ≤ length lists.old.lists }
     requires listed { (k : ℕ) → state_at lists.old.states at ≡ Free k → IsOn lists.old.lists (list_number k from) at }
     ensures after { lists.new ≡ moved lists.old at from to (state_at lists.old.states at) }
     ensures pages { result ≡ pages_seen (state_at lists.old.states at) }
@@ -37,12 +38,12 @@ fn move_block(lists: &mut Lists, at: PageAt, from: MigrateType, to: MigrateType)
 #[cold]
 #[inline(never)]
 pub fn retype(lists: &mut Lists, kinds: &mut Vec<MigrateType>, pageblock: usize, kind: MigrateType)
-    requires one { IsOneSet (record { rows = lists.old; kinds = kinds.old.items }) }
+    requires one { IsOneSet LARGEST_ORDER (record { rows = lists.old; kinds = kinds.old.items }) }
     requires pageblock { pageblock < length kinds.old.items }
     requires other { kind ≢ slice_index_or kinds.old.items pageblock Movable }
     ensures states { lists.new.states ≡ lists.old.states }
     ensures kinds { kinds.new.items ≡ slice_set kinds.old.items pageblock kind }
-    ensures lists { lists.new.lists ≡ all_relisted (record { rows = lists.old; kinds = kinds.old.items }) kinds.new.items }
+    ensures lists { lists.new.lists ≡ all_relisted LARGEST_ORDER (record { rows = lists.old; kinds = kinds.old.items }) kinds.new.items }
 {
     let from = kinds[pageblock];
     let first = pageblock * PAGEBLOCK_PAGES as usize;

@@ -5,13 +5,11 @@ use Rattle.std.specs.Option.{option_or}
 use Rattle.std.proofs.lemmas.Bool.{cases_eq, cases_lt, leb-true, le-leb, false≢true, both_ways}
 use Rattle.zp_model.specs.declared.migrate_type.MigrateType.{MigrateType}
 use Rattle.zp_model.specs.declared.migrate_type.MigrateType.TheVariants.{Unmovable, Reclaimable, Movable}
-use Rattle.zp_model.specs.declared.constants.TheConstants.{LEAST_MOVABLE_CLAIM, CLAIM_PAGES}
-use Rattle.zp_model.specs.Block.{largest_order}
 use Rattle.zp_model.specs.BlockSet.{Starts, cover, first_of, larger}
 use Rattle.zp_model.specs.MigrateType.{foreign, same_type, type_number, types_count}
 use Rattle.zp_model.specs.Rows.{stands_in}
 use Rattle.zp_model.specs.Area.{list_number, kind_at, pageblock_pages, size_in}
-use Rattle.zp_model.specs.Choose.{claim}
+use Rattle.zp_model.specs.Choose.{least_movable_claim, claim_pages, claim}
 use Rattle.zp_model.proofs.Settles.{stands_cases}
 use Rattle.zp_frames.proofs.Halves.{type_below}
 use Rattle.zp_frames.proofs.Taken.{row_below}
@@ -24,70 +22,70 @@ use Rattle.zp_buddy.specs.declared.choice.FreeBlock.{FreeBlock}
 use Rattle.zp_buddy.proofs.Finders.{claim_half_free, claim_never, claim_some, claim_none}
 
 -- the same among the first n pageblocks
-abbrev pub IsLargestBelow : Blocks → MigrateType → ℕ → Option ℕ → Type 0
-IsLargestBelow a t n None = (h j : ℕ) → IsInClaimable a t h j → h / pageblock_pages < n → ⊥
-IsLargestBelow a t n (Some o) = ((h : ℕ) × IsInClaimable a t h o) × ((h j : ℕ) → IsInClaimable a t h j → h / pageblock_pages < n → j ≤ o)
+abbrev pub IsLargestBelow : ℕ → Blocks → MigrateType → ℕ → Option ℕ → Type 0
+IsLargestBelow m a t n None = (h j : ℕ) → IsInClaimable m a t h j → h / pageblock_pages m < n → ⊥
+IsLargestBelow m a t n (Some o) = ((h : ℕ) × IsInClaimable m a t h o) × ((h j : ℕ) → IsInClaimable m a t h j → h / pageblock_pages m < n → j ≤ o)
 
-pub largest_none : (a : Blocks) (t : MigrateType) → IsLargestBelow a t 0 None
-largest_none a t h j x lt = omega arith
+pub largest_none : (m : ℕ) (a : Blocks) (t : MigrateType) → IsLargestBelow m a t 0 None
+largest_none m a t h j x lt = omega arith
 
 -- a pageblock that may not be claimed adds nothing
-pub largest_same : (a : Blocks) (t : MigrateType) (n : ℕ) (o : Option ℕ) → IsLargestBelow a t n o → ((h j : ℕ) → IsInClaimable a t h j → h / pageblock_pages ≡ n → ⊥) →
-    IsLargestBelow a t (n + 1) o
-largest_same a t n None x out =
-    λ h j y lt. elim (cases_eq (h / pageblock_pages) n) [ inl same ↦ out h j y same | inr ne ↦ x h j y (omega arith) ]
-largest_same a t n (Some o) x out =
-    (x.0, λ h j y lt. elim (cases_eq (h / pageblock_pages) n) [ inl same ↦ absurd (out h j y same) | inr ne ↦ x.1 h j y (omega arith) ])
+pub largest_same : (m : ℕ) (a : Blocks) (t : MigrateType) (n : ℕ) (o : Option ℕ) → IsLargestBelow m a t n o → ((h j : ℕ) → IsInClaimable m a t h j → h / pageblock_pages m ≡ n → ⊥) →
+    IsLargestBelow m a t (n + 1) o
+largest_same m a t n None x out =
+    λ h j y lt. elim (cases_eq (h / pageblock_pages m) n) [ inl same ↦ out h j y same | inr ne ↦ x h j y (omega arith) ]
+largest_same m a t n (Some o) x out =
+    (x.0, λ h j y lt. elim (cases_eq (h / pageblock_pages m) n) [ inl same ↦ absurd (out h j y same) | inr ne ↦ x.1 h j y (omega arith) ])
 
 -- what a look into the pageblock finds: the largest order of its blocks
-pub record IsLargestThere (a : Blocks) (n : ℕ) (o : Option ℕ) : Type 0 where
-  pub held : (k : ℕ) → o ≡ Some k → (h : ℕ) × Starts (block_set a) h k × (h / pageblock_pages ≡ n)
-  pub most : (h k : ℕ) → Starts (block_set a) h k → h / pageblock_pages ≡ n → (j : ℕ) × (o ≡ Some j) × (k ≤ j)
+pub record IsLargestThere (m : ℕ) (a : Blocks) (n : ℕ) (o : Option ℕ) : Type 0 where
+  pub held : (k : ℕ) → o ≡ Some k → (h : ℕ) × Starts (block_set a) h k × (h / pageblock_pages m ≡ n)
+  pub most : (h k : ℕ) → Starts (block_set a) h k → h / pageblock_pages m ≡ n → (j : ℕ) × (o ≡ Some j) × (k ≤ j)
 
-in_claimable : (a : Blocks) (t : MigrateType) (n h j : ℕ) → slice_index_or a.kinds n Movable ≢ t → CLAIM_PAGES ≤ size_in (cover (block_set a)) n → Starts (block_set a) h j →
-    h / pageblock_pages ≡ n → IsInClaimable a t h j
-in_claimable a t n h j other enough s e = record {
+in_claimable : (m : ℕ) (a : Blocks) (t : MigrateType) (n h j : ℕ) → slice_index_or a.kinds n Movable ≢ t → claim_pages m ≤ size_in m (cover (block_set a)) n → Starts (block_set a) h j →
+    h / pageblock_pages m ≡ n → IsInClaimable m a t h j
+in_claimable m a t n h j other enough s e = record {
   starts = s;
   other = λ f. other (ap (λ q. slice_index_or a.kinds q Movable) (sym e) ∙ f);
-  enough = let P : ℕ → Type 0 = λ q. CLAIM_PAGES ≤ size_in (cover (block_set a)) q in le-leb _ _ (subst P (sym e) enough);
+  enough = let P : ℕ → Type 0 = λ q. claim_pages m ≤ size_in m (cover (block_set a)) q in le-leb _ _ (subst P (sym e) enough);
 }
 
-pub there_of : (a : Blocks) (n : ℕ) (o : Option ℕ) → IfSome o (λ k. (h : ℕ) × Starts (block_set a) h k × (h / pageblock_pages ≡ n)) →
-    ((h k : ℕ) → Starts (block_set a) h k → h / pageblock_pages ≡ n → (j : ℕ) × (o ≡ Some j) × (k ≤ j)) → IsLargestThere a n o
-there_of a n None x y = record { held = λ k e. no_some k e; most = y }
+pub there_of : (m : ℕ) (a : Blocks) (n : ℕ) (o : Option ℕ) → IfSome o (λ k. (h : ℕ) × Starts (block_set a) h k × (h / pageblock_pages m ≡ n)) →
+    ((h k : ℕ) → Starts (block_set a) h k → h / pageblock_pages m ≡ n → (j : ℕ) × (o ≡ Some j) × (k ≤ j)) → IsLargestThere m a n o
+there_of m a n None x y = record { held = λ k e. no_some k e; most = y }
   where
-    no_some : (k : ℕ) → None ≡ Some k → (h : ℕ) × Starts (block_set a) h k × (h / pageblock_pages ≡ n)
+    no_some : (k : ℕ) → None ≡ Some k → (h : ℕ) × Starts (block_set a) h k × (h / pageblock_pages m ≡ n)
     no_some k e = cc
-there_of a n (Some j) x y = record {
+there_of m a n (Some j) x y = record {
   held = λ k e.
       let f : j ≡ k = cc in
-      let P : ℕ → Type 0 = λ q. (h : ℕ) × Starts (block_set a) h q × (h / pageblock_pages ≡ n) in
+      let P : ℕ → Type 0 = λ q. (h : ℕ) × Starts (block_set a) h q × (h / pageblock_pages m ≡ n) in
       subst P f x;
   most = y;
 }
 
 -- a pageblock of the request's own type, and one with too few free pages, may not be claimed
-pub out_by_type : (a : Blocks) (t : MigrateType) (n : ℕ) → slice_index_or a.kinds n Movable ≡ t → (h j : ℕ) → IsInClaimable a t h j → h / pageblock_pages ≡ n → ⊥
-out_by_type a t n e h j x there = x.other (ap (λ q. slice_index_or a.kinds q Movable) there ∙ e)
+pub out_by_type : (m : ℕ) (a : Blocks) (t : MigrateType) (n : ℕ) → slice_index_or a.kinds n Movable ≡ t → (h j : ℕ) → IsInClaimable m a t h j → h / pageblock_pages m ≡ n → ⊥
+out_by_type m a t n e h j x there = x.other (ap (λ q. slice_index_or a.kinds q Movable) there ∙ e)
 
-pub out_by_pages : (a : Blocks) (t : MigrateType) (n : ℕ) → size_in (cover (block_set a)) n < CLAIM_PAGES → (h j : ℕ) → IsInClaimable a t h j → h / pageblock_pages ≡ n → ⊥
-out_by_pages a t n few h j x there =
-    let P : ℕ → Type 0 = λ q. size_in (cover (block_set a)) q < CLAIM_PAGES in
-    let less : size_in (cover (block_set a)) (h / pageblock_pages) < CLAIM_PAGES = subst P (sym there) few in
-    let most : CLAIM_PAGES ≤ size_in (cover (block_set a)) (h / pageblock_pages) = leb-true CLAIM_PAGES _ x.enough in
+pub out_by_pages : (m : ℕ) (a : Blocks) (t : MigrateType) (n : ℕ) → size_in m (cover (block_set a)) n < claim_pages m → (h j : ℕ) → IsInClaimable m a t h j → h / pageblock_pages m ≡ n → ⊥
+out_by_pages m a t n few h j x there =
+    let P : ℕ → Type 0 = λ q. size_in m (cover (block_set a)) q < claim_pages m in
+    let less : size_in m (cover (block_set a)) (h / pageblock_pages m) < claim_pages m = subst P (sym there) few in
+    let most : claim_pages m ≤ size_in m (cover (block_set a)) (h / pageblock_pages m) = leb-true (claim_pages m) _ x.enough in
     omega arith
 
-pub largest_more : (a : Blocks) (t : MigrateType) (n : ℕ) (o p : Option ℕ) → IsLargestBelow a t n o → slice_index_or a.kinds n Movable ≢ t →
-    CLAIM_PAGES ≤ size_in (cover (block_set a)) n → IsLargestThere a n p → IsLargestBelow a t (n + 1) (larger o p)
-largest_more a t n None None x other enough y =
-    largest_same a t n None x (λ h j z e. let w = y.most h j z.starts e in no_some w.0 w.1)
+pub largest_more : (m : ℕ) (a : Blocks) (t : MigrateType) (n : ℕ) (o p : Option ℕ) → IsLargestBelow m a t n o → slice_index_or a.kinds n Movable ≢ t →
+    claim_pages m ≤ size_in m (cover (block_set a)) n → IsLargestThere m a n p → IsLargestBelow m a t (n + 1) (larger o p)
+largest_more m a t n None None x other enough y =
+    largest_same m a t n None x (λ h j z e. let w = y.most h j z.starts e in no_some w.0 w.1)
   where
     no_some : (j : ℕ) → None ≡ Some j → ⊥
     no_some j e = cc
-largest_more a t n None (Some k) x other enough y =
+largest_more m a t n None (Some k) x other enough y =
     let w = y.held k refl in (
-      (w.0, in_claimable a t n w.0 k other enough w.1 w.2),
-      λ h j z lt. elim (cases_eq (h / pageblock_pages) n) [
+      (w.0, in_claimable m a t n w.0 k other enough w.1 w.2),
+      λ h j z lt. elim (cases_eq (h / pageblock_pages m) n) [
         | inl same ↦ let v = y.most h j z.starts same in some_le j k v.0 v.1 v.2
         | inr ne ↦ absurd (x h j z (omega arith))
       ],
@@ -95,19 +93,19 @@ largest_more a t n None (Some k) x other enough y =
   where
     some_le : (j k i : ℕ) → Some k ≡ Some i → j ≤ i → j ≤ k
     some_le j k i e le = let f : k ≡ i = cc in omega arith
-largest_more a t n (Some o) None x other enough y =
-    largest_same a t n (Some o) x (λ h j z e. let w = y.most h j z.starts e in no_some w.0 w.1)
+largest_more m a t n (Some o) None x other enough y =
+    largest_same m a t n (Some o) x (λ h j z e. let w = y.most h j z.starts e in no_some w.0 w.1)
   where
     no_some : (j : ℕ) → None ≡ Some j → ⊥
     no_some j e = cc
-largest_more a t n (Some o) (Some k) x other enough y =
+largest_more m a t n (Some o) (Some k) x other enough y =
     let w = y.held k refl in (
       elim (cases_lt o k) [
-        | inl lt ↦ let e : k ≡ max o k = omega arith in let P : ℕ → Type 0 = λ q. (h : ℕ) × IsInClaimable a t h q in
-            subst P e (w.0, in_claimable a t n w.0 k other enough w.1 w.2)
-        | inr ge ↦ let e : o ≡ max o k = omega arith in let P : ℕ → Type 0 = λ q. (h : ℕ) × IsInClaimable a t h q in subst P e x.0
+        | inl lt ↦ let e : k ≡ max o k = omega arith in let P : ℕ → Type 0 = λ q. (h : ℕ) × IsInClaimable m a t h q in
+            subst P e (w.0, in_claimable m a t n w.0 k other enough w.1 w.2)
+        | inr ge ↦ let e : o ≡ max o k = omega arith in let P : ℕ → Type 0 = λ q. (h : ℕ) × IsInClaimable m a t h q in subst P e x.0
       ],
-      λ h j z lt. elim (cases_eq (h / pageblock_pages) n) [
+      λ h j z lt. elim (cases_eq (h / pageblock_pages m) n) [
         | inl same ↦ let v = y.most h j z.starts same in let b : j ≤ k = some_le j k v.0 v.1 v.2 in omega arith
         | inr ne ↦ let b : j ≤ o = x.1 h j z (omega arith) in omega arith
       ],
@@ -116,9 +114,9 @@ largest_more a t n (Some o) (Some k) x other enough y =
     some_le : (j k i : ℕ) → Some k ≡ Some i → j ≤ i → j ≤ k
     some_le j k i e le = let f : k ≡ i = cc in omega arith
 
-pub largest_all : (a : Blocks) (t : MigrateType) (n : ℕ) (o : Option ℕ) → ((h k : ℕ) → Starts (block_set a) h k → h / pageblock_pages < n) → IsLargestBelow a t n o → IsLargestClaimable a t o
-largest_all a t n None in_all x = λ h j y. x h j y (in_all h j y.starts)
-largest_all a t n (Some o) in_all x = (x.0, λ h j y. x.1 h j y (in_all h j y.starts))
+pub largest_all : (m : ℕ) (a : Blocks) (t : MigrateType) (n : ℕ) (o : Option ℕ) → ((h k : ℕ) → Starts (block_set a) h k → h / pageblock_pages m < n) → IsLargestBelow m a t n o → IsLargestClaimable m a t o
+largest_all m a t n None in_all x = λ h j y. x h j y (in_all h j y.starts)
+largest_all m a t n (Some o) in_all x = (x.0, λ h j y. x.1 h j y (in_all h j y.starts))
 
 one_of_two : (o p : Option ℕ) (h : ℕ) → option_or o (option_or p None) ≡ Some h → (o ≡ Some h) ⊎ (p ≡ Some h)
 one_of_two None None h e = cc
@@ -186,52 +184,52 @@ none_passes p (x ∷ xs) h e on t =
     ]
 
 -- a block on a foreign list in whose pageblock half of the pages are free
-half_free_in : (a : Blocks) (t : MigrateType) (o h : ℕ) → IsOneSet a → o ≤ largest_order → half_free_of_order a (foreign t) o ≡ Some h → IsInClaimable a t h o
-half_free_in a t o h x le e =
-    let w = found_foreign t (λ f. find (is_half_free a) (free_list_of a o f)) h e in
-    let here = listed_starts a h o w.0 x le (found_stands (is_half_free a) (free_list_of a o w.0) h w.2) in
+half_free_in : (m : ℕ) (a : Blocks) (t : MigrateType) (o h : ℕ) → IsOneSet m a → o ≤ m → half_free_of_order m a (foreign t) o ≡ Some h → IsInClaimable m a t h o
+half_free_in m a t o h x le e =
+    let w = found_foreign t (λ f. find (is_half_free m a) (free_list_of a o f)) h e in
+    let here = listed_starts m a h o w.0 x le (found_stands (is_half_free m a) (free_list_of a o w.0) h w.2) in
     record {
       starts = here.0;
       other = λ q. w.1 (sym here.1 ∙ q);
-      enough = found_passes (is_half_free a) (free_list_of a o w.0) h w.2;
+      enough = found_passes (is_half_free m a) (free_list_of a o w.0) h w.2;
     }
 
-half_free_none : (a : Blocks) (t : MigrateType) (o h : ℕ) → IsOneSet a → o ≤ largest_order → half_free_of_order a (foreign t) o ≡ None → IsInClaimable a t h o → ⊥
-half_free_none a t o h x le e y =
-    let f : MigrateType = kind_at a.kinds h in
+half_free_none : (m : ℕ) (a : Blocks) (t : MigrateType) (o h : ℕ) → IsOneSet m a → o ≤ m → half_free_of_order m a (foreign t) o ≡ None → IsInClaimable m a t h o → ⊥
+half_free_none m a t o h x le e y =
+    let f : MigrateType = kind_at m a.kinds h in
     let b : type_number f < types_count = type_below f in
     let d : list_number o f / types_count ≡ o = omega arith in
-    let m : list_number o f % types_count ≡ type_number f = omega arith in
+    let n : list_number o f % types_count ≡ type_number f = omega arith in
     let P : ℕ → Type 0 = λ q. Starts (block_set a) h q in
-    let on : stands_in h (free_list_of a o f) ≡ true = (x.listed (list_number o f) (row_below o f le)).from h (subst P (sym d) y.starts, sym m) in
-    none_passes (is_half_free a) (free_list_of a o f) h (none_foreign t (λ g. find (is_half_free a) (free_list_of a o g)) e f y.other) on y.enough
+    let on : stands_in h (free_list_of a o f) ≡ true = (x.listed (list_number o f) (row_below m o f le)).from h (subst P (sym d) y.starts, sym n) in
+    none_passes (is_half_free m a) (free_list_of a o f) h (none_foreign t (λ g. find (is_half_free m a) (free_list_of a o g)) e f y.other) on y.enough
 
 -- no block of this order may be claimed where none is in a pageblock that may be
-order_unclaimed : (a : Blocks) (t : MigrateType) (o : ℕ) → IsOneSet a → o ≤ largest_order → ((h : ℕ) → IsInClaimable a t h o → ⊥) → claimable_of_order (area_in a) t o ≡ None
-order_unclaimed a t o x le none = by_test (leb LEAST_MOVABLE_CLAIM o || not (same_type t Movable)) refl
+order_unclaimed : (m : ℕ) (a : Blocks) (t : MigrateType) (o : ℕ) → IsOneSet m a → o ≤ m → ((h : ℕ) → IsInClaimable m a t h o → ⊥) → claimable_of_order (area_in m a) t o ≡ None
+order_unclaimed m a t o x le none = by_test (leb (least_movable_claim m) o || not (same_type t Movable)) refl
   where
-    by_find : (r : Option ℕ) → half_free_of_order a (foreign t) o ≡ r → r ≡ None
+    by_find : (r : Option ℕ) → half_free_of_order m a (foreign t) o ≡ r → r ≡ None
     by_find None e = refl
-    by_find (Some h) e = absurd (none h (half_free_in a t o h x le e))
+    by_find (Some h) e = absurd (none h (half_free_in m a t o h x le e))
 
-    by_test : (b : Bool) → (leb LEAST_MOVABLE_CLAIM o || not (same_type t Movable)) ≡ b → claimable_of_order (area_in a) t o ≡ None
-    by_test true e = sym (claim_half_free a t o le e) ∙ by_find (half_free_of_order a (foreign t) o) refl
-    by_test false e = claim_never (area_in a) t o e
+    by_test : (b : Bool) → (leb (least_movable_claim m) o || not (same_type t Movable)) ≡ b → claimable_of_order (area_in m a) t o ≡ None
+    by_test true e = sym (claim_half_free m a t o le e) ∙ by_find (half_free_of_order m a (foreign t) o) refl
+    by_test false e = claim_never (area_in m a) t o e
 
-pub nothing_claimed : (a : Blocks) (k : ℕ) (t : MigrateType) → IsOneSet a → IsLargestClaimable a t None → claim (area_in a) k t ≡ None
-nothing_claimed a k t x none = claim_none (area_in a) k t (λ o p q. order_unclaimed a t o x q (λ h. none h o))
+pub nothing_claimed : (m : ℕ) (a : Blocks) (k : ℕ) (t : MigrateType) → IsOneSet m a → IsLargestClaimable m a t None → claim (area_in m a) k t ≡ None
+nothing_claimed m a k t x none = claim_none (area_in m a) k t (λ o p q. order_unclaimed m a t o x q (λ h. none h o))
 
 -- the largest order is less than the one asked for
-pub too_small : (a : Blocks) (k m : ℕ) (t : MigrateType) → IsOneSet a → IsLargestClaimable a t (Some m) → m < k → claim (area_in a) k t ≡ None
-too_small a k m t x y lt = claim_none (area_in a) k t (λ o p q. order_unclaimed a t o x q (λ h z. let b : o ≤ m = y.1 h o z in let bad : ⊥ = omega arith in bad))
+pub too_small : (m : ℕ) (a : Blocks) (k n : ℕ) (t : MigrateType) → IsOneSet m a → IsLargestClaimable m a t (Some n) → n < k → claim (area_in m a) k t ≡ None
+too_small m a k n t x y lt = claim_none (area_in m a) k t (λ o p q. order_unclaimed m a t o x q (λ h z. let b : o ≤ n = y.1 h o z in let bad : ⊥ = omega arith in bad))
 
 -- no block of the largest order, and so none of a smaller one, may be claimed for this type at all
-pub may_not : (a : Blocks) (k m : ℕ) (t : MigrateType) → IsOneSet a → IsLargestClaimable a t (Some m) → (leb LEAST_MOVABLE_CLAIM m || not (same_type t Movable)) ≡ false →
-    claim (area_in a) k t ≡ None
-may_not a k m t x y never =
-    claim_none (area_in a) k t (λ o p q. elim (cases_lt m o) [
-      | inl lt ↦ order_unclaimed a t o x q (λ h z. let b : o ≤ m = y.1 h o z in let bad : ⊥ = omega arith in bad)
-      | inr ge ↦ claim_never (area_in a) t o (smaller (leb LEAST_MOVABLE_CLAIM o) (leb LEAST_MOVABLE_CLAIM m) (not (same_type t Movable)) (λ e. le-leb LEAST_MOVABLE_CLAIM m (let b : LEAST_MOVABLE_CLAIM ≤ o = leb-true LEAST_MOVABLE_CLAIM o e in omega arith)) never)
+pub may_not : (m : ℕ) (a : Blocks) (k n : ℕ) (t : MigrateType) → IsOneSet m a → IsLargestClaimable m a t (Some n) → (leb (least_movable_claim m) n || not (same_type t Movable)) ≡ false →
+    claim (area_in m a) k t ≡ None
+may_not m a k n t x y never =
+    claim_none (area_in m a) k t (λ o p q. elim (cases_lt n o) [
+      | inl lt ↦ order_unclaimed m a t o x q (λ h z. let b : o ≤ n = y.1 h o z in let bad : ⊥ = omega arith in bad)
+      | inr ge ↦ claim_never (area_in m a) t o (smaller (leb (least_movable_claim m) o) (leb (least_movable_claim m) n) (not (same_type t Movable)) (λ e. le-leb (least_movable_claim m) n (let b : least_movable_claim m ≤ o = leb-true (least_movable_claim m) o e in omega arith)) never)
     ])
   where
     smaller : (p q r : Bool) → (p ≡ true → q ≡ true) → (q || r) ≡ false → (p || r) ≡ false
@@ -243,16 +241,16 @@ may_not a k m t x y never =
     smaller true q r f e = let t : (true || r) ≡ false = ap (λ b. b || r) (sym (f refl)) ∙ e in cc
 
 -- the first block of the largest order that may be claimed is the one that is claimed
-pub claimed_largest : (a : Blocks) (k m : ℕ) (t : MigrateType) (r : Option ℕ) → IsOneSet a → IsLargestClaimable a t (Some m) → m ≤ largest_order → k ≤ m →
-    (leb LEAST_MOVABLE_CLAIM m || not (same_type t Movable)) ≡ true → half_free_of_order a (foreign t) m ≡ r → claim (area_in a) k t ≡ r
-claimed_largest a k m t None x y le up may e = absurd (half_free_none a t m y.0.0 x le e y.0.1)
-claimed_largest a k m t (Some h) x y le up may e =
-    claim_some (area_in a) k m h t up le (sym (claim_half_free a t m le may) ∙ e)
-    (λ o p q. order_unclaimed a t o x q (λ g z. let b : o ≤ m = y.1 g o z in let bad : ⊥ = omega arith in bad))
+pub claimed_largest : (m : ℕ) (a : Blocks) (k n : ℕ) (t : MigrateType) (r : Option ℕ) → IsOneSet m a → IsLargestClaimable m a t (Some n) → n ≤ m → k ≤ n →
+    (leb (least_movable_claim m) n || not (same_type t Movable)) ≡ true → half_free_of_order m a (foreign t) n ≡ r → claim (area_in m a) k t ≡ r
+claimed_largest m a k n t None x y le up may e = absurd (half_free_none m a t n y.0.0 x le e y.0.1)
+claimed_largest m a k n t (Some h) x y le up may e =
+    claim_some (area_in m a) k n h t up le (sym (claim_half_free m a t n le may) ∙ e)
+    (λ o p q. order_unclaimed m a t o x q (λ g z. let b : o ≤ n = y.1 g o z in let bad : ⊥ = omega arith in bad))
 
-pub claimed_found : (a : Blocks) (k m : ℕ) (t : MigrateType) (r : Option FreeBlock) → IsOneSet a → IsLargestClaimable a t (Some m) → m ≤ largest_order → k ≤ m →
-    (leb LEAST_MOVABLE_CLAIM m || not (same_type t Movable)) ≡ true → IsFoundAs a m (half_free_of_order a (foreign t) m) r → IsFoundAs a k (claim (area_in a) k t) r
-claimed_found a k m t None x y le up may e = claimed_largest a k m t None x y le up may e
-claimed_found a k m t (Some b) x y le up may e =
-    let more : m ≤ b.order = e.1.enough in
-    (claimed_largest a k m t (Some b.head) x y le up may e.0, record { enough = omega arith; starts = e.1.starts })
+pub claimed_found : (m : ℕ) (a : Blocks) (k n : ℕ) (t : MigrateType) (r : Option FreeBlock) → IsOneSet m a → IsLargestClaimable m a t (Some n) → n ≤ m → k ≤ n →
+    (leb (least_movable_claim m) n || not (same_type t Movable)) ≡ true → IsFoundAs a n (half_free_of_order m a (foreign t) n) r → IsFoundAs a k (claim (area_in m a) k t) r
+claimed_found m a k n t None x y le up may e = claimed_largest m a k n t None x y le up may e
+claimed_found m a k n t (Some b) x y le up may e =
+    let more : n ≤ b.order = e.1.enough in
+    (claimed_largest m a k n t (Some b.head) x y le up may e.0, record { enough = omega arith; starts = e.1.starts })

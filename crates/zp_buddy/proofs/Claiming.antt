@@ -3,7 +3,7 @@ use Rattle.std.proofs.Common.{ℕ, ◌/◌, ◌%◌, ◌≡◌, ◌≤◌, ◌<�
 use Rattle.std.specs.List.{filter}
 use Rattle.std.proofs.lemmas.Bool.{both_ways, eqb-true, eq-eqb, false≢true}
 use Rattle.zp_model.specs.declared.migrate_type.MigrateType.{MigrateType}
-use Rattle.zp_model.specs.Block.{largest_order, is_max}
+use Rattle.zp_model.specs.Block.{is_max}
 use Rattle.zp_model.specs.BlockSet.{Starts, cover, is_order}
 use Rattle.zp_model.specs.Frames.{with_area}
 use Rattle.zp_model.specs.MigrateType.{type_number, types_count}
@@ -32,52 +32,52 @@ order_is k None e = absurd (false≢true e)
 order_is k (Some j) e = ap (λ n. Some n) (eqb-true j k e)
 
 -- what is to stand on a list belongs on it
-stands_belongs : (a : Blocks) (kinds : List MigrateType) (r h : ℕ) → IsSound a.rows.states a.kinds a.rows.lists →
-    is_to_stand (block_set a) kinds r h ≡ belongs (cover (block_set a)) kinds r h
+stands_belongs : (m : ℕ) (a : Blocks) (kinds : List MigrateType) (r h : ℕ) → IsSound m a.rows.states a.kinds a.rows.lists →
+    is_to_stand m (block_set a) kinds r h ≡ belongs m (cover (block_set a)) kinds r h
 unfolding belongs
-stands_belongs a kinds r h x =
+stands_belongs m a kinds r h x =
     let k : ℕ = r / types_count in
-    let u = max-unique largest_order (Starts (block_set a)) (cover (block_set a)) x.normal h k in
-    ap (λ b. b && (type_number (kind_at kinds h) == r % types_count))
-    (same_tests (is_order k (get_or (block_set a) h None)) (is_max largest_order (cover (block_set a)) h k)
+    let u = max-unique m (Starts (block_set a)) (cover (block_set a)) x.normal h k in
+    ap (λ b. b && (type_number (kind_at m kinds h) == r % types_count))
+    (same_tests (is_order k (get_or (block_set a) h None)) (is_max m (cover (block_set a)) h k)
     (λ e. u.0 (order_is k (get_or (block_set a) h None) e))
     (λ e. ap (is_order k) (u.1 e) ∙ eq-eqb k k refl))
 
-relisted_settled : (a : Blocks) (kinds : List MigrateType) (r : ℕ) (old : List ℕ) → IsSound a.rows.states a.kinds a.rows.lists →
-    relisted (block_set a) kinds r old ≡ settled (cover (block_set a)) kinds r old
+relisted_settled : (m : ℕ) (a : Blocks) (kinds : List MigrateType) (r : ℕ) (old : List ℕ) → IsSound m a.rows.states a.kinds a.rows.lists →
+    relisted m (block_set a) kinds r old ≡ settled m (cover (block_set a)) kinds r old
 unfolding relisted settled
-relisted_settled a kinds r old x =
+relisted_settled m a kinds r old x =
     let s = block_set a in
     let u = cover s in
-    ap (λ n. filter (λ h. is_to_stand s kinds r h && not (stands_in h old)) (falling n) ++ filter (is_to_stand s kinds r) old) (sym (length-cover s))
-    ∙ ap (λ xs. xs ++ filter (is_to_stand s kinds r) old)
-    (filter_same (λ h. is_to_stand s kinds r h && not (stands_in h old)) (λ h. belongs u kinds r h && not (stands_in h old)) (falling (length u))
-    (λ h on. ap (λ b. b && not (stands_in h old)) (stands_belongs a kinds r h x)))
-    ∙ ap (λ xs. filter (λ h. belongs u kinds r h && not (stands_in h old)) (falling (length u)) ++ xs)
-    (filter_same (is_to_stand s kinds r) (belongs u kinds r) old (λ h on. stands_belongs a kinds r h x))
+    ap (λ n. filter (λ h. is_to_stand m s kinds r h && not (stands_in h old)) (falling n) ++ filter (is_to_stand m s kinds r) old) (sym (length-cover s))
+    ∙ ap (λ xs. xs ++ filter (is_to_stand m s kinds r) old)
+    (filter_same (λ h. is_to_stand m s kinds r h && not (stands_in h old)) (λ h. belongs m u kinds r h && not (stands_in h old)) (falling (length u))
+    (λ h on. ap (λ b. b && not (stands_in h old)) (stands_belongs m a kinds r h x)))
+    ∙ ap (λ xs. filter (λ h. belongs m u kinds r h && not (stands_in h old)) (falling (length u)) ++ xs)
+    (filter_same (is_to_stand m s kinds r) (belongs m u kinds r) old (λ h on. stands_belongs m a kinds r h x))
 
-pub retyped_frames : (a : Blocks) (b : ℕ) (t : MigrateType) → IsSound a.rows.states a.kinds a.rows.lists →
-    frames_in (retyped a b t) ≡ with_area (frames_in a) (retype (frames_in a).area b t)
+pub retyped_frames : (m : ℕ) (a : Blocks) (b : ℕ) (t : MigrateType) → IsSound m a.rows.states a.kinds a.rows.lists →
+    frames_in m (retyped m a b t) ≡ with_area (frames_in m a) (retype (frames_in m a).area b t)
 unfolding retype settle
-retyped_frames a b t x =
+retyped_frames m a b t x =
     let kinds : List MigrateType = set a.kinds b t in
-    let l : List (List ℕ) = all_relisted a kinds in
-    let n : length (all_relisted a (set a.kinds b t)) ≡ length a.rows.lists = length-relisted a kinds x.table in
-    let table : lists_count ≤ length a.rows.lists = x.table in
+    let l : List (List ℕ) = all_relisted m a kinds in
+    let n : length (all_relisted m a (set a.kinds b t)) ≡ length a.rows.lists = length-relisted m a kinds x.table in
+    let table : lists_count m ≤ length a.rows.lists = x.table in
     let u : List Bool = cover (block_set a) in
-    let f : ℕ → List ℕ = λ r. settled u kinds r (list_at (take lists_count a.rows.lists) r) in
-    let each : (r : ℕ) → r < lists_count → list_at l r ≡ f r = λ r lt.
-    free-relisted a kinds r lt
-    ∙ relisted_settled a kinds r (list_at a.rows.lists r) x
-    ∙ ap (λ q. settled u kinds r q) (sym (get_or-take lists_count a.rows.lists r [] lt)) in
-    frames _ _ _ _ _ _ (areas _ _ kinds _ _ refl (free_lists l f (omega arith) each))
-    (restated_from a.rows.states a.rows.states x.normal refl (λ g. free_or_same (get_or a.rows.states g _)))
-    (sides_same a.rows.lists l n (λ r ge. aside-relisted a kinds r ge))
+    let f : ℕ → List ℕ = λ r. settled m u kinds r (list_at (take (lists_count m) a.rows.lists) r) in
+    let each : (r : ℕ) → r < lists_count m → list_at l r ≡ f r = λ r lt.
+    free-relisted m a kinds r lt
+    ∙ relisted_settled m a kinds r (list_at a.rows.lists r) x
+    ∙ ap (λ q. settled m u kinds r q) (sym (get_or-take (lists_count m) a.rows.lists r [] lt)) in
+    frames _ _ _ _ _ _ (areas m _ _ kinds _ _ refl (free_lists m l f (omega arith) each))
+    (restated_from m a.rows.states a.rows.states x.normal refl (λ g. free_or_same (get_or a.rows.states g _)))
+    (sides_same m a.rows.lists l n (λ r ge. aside-relisted m a kinds r ge))
 
 -- the area is sound under the new types
-pub sound_retyped : (a n : Blocks) (b : ℕ) (t : MigrateType) → IsSound a.rows.states a.kinds a.rows.lists → n ≡ retyped a b t → IsOneSet n → IsSound n.rows.states n.kinds n.rows.lists
-sound_retyped a n b t x e one =
-    let P : List State → Type 0 = λ s. IsNormal largest_order (Starts (blocks_of s)) (In (cover (blocks_of s))) in
+pub sound_retyped : (m : ℕ) (a n : Blocks) (b : ℕ) (t : MigrateType) → IsSound m a.rows.states a.kinds a.rows.lists → n ≡ retyped m a b t → IsOneSet m n → IsSound m n.rows.states n.kinds n.rows.lists
+sound_retyped m a n b t x e one =
+    let P : List State → Type 0 = λ s. IsNormal m (Starts (blocks_of s)) (In (cover (blocks_of s))) in
     record {
       pages = one.pages;
       table = one.table;

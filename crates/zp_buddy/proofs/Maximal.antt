@@ -5,7 +5,7 @@ use Rattle.std.proofs.lemmas.Bool.{false_from_ne_true, false≢true, eqb-true, e
 use Rattle.std.proofs.lemmas.List.Sums.{sum_by-cons}
 use Rattle.std.proofs.lemmas.List.FromFn.{length-map-range_with_len}
 use Rattle.std.proofs.lemmas.List.{ext_get_or}
-use Rattle.zp_model.specs.Block.{largest_order, is_max}
+use Rattle.zp_model.specs.Block.{is_max}
 use Rattle.zp_model.specs.BlockSet.{Starts, cover, is_order, max_blocks}
 use Rattle.zp_model.specs.Frames.{Frames, IsFramed}
 use Rattle.zp_model.specs.Info.{blocks_of_order}
@@ -19,26 +19,26 @@ use Rattle.zp_area.specs.Blocks.{Blocks, block_set, count_of}
 use Rattle.zp_buddy.specs.Choices.{frames_in}
 use Rattle.zp_buddy.specs.Held.{IsHeld}
 
-length-max : (u : List Bool) → length (max_blocks u) ≡ length u
+length-max : (m : ℕ) (u : List Bool) → length (max_blocks m u) ≡ length u
 unfolding max_blocks
-length-max u = length-map-range_with_len _ 0 (length u)
+length-max m u = length-map-range_with_len _ 0 (length u)
 
 -- the set is that of the maximal blocks
-pub set_maximal : (a : Blocks) → IsSound a.rows.states a.kinds a.rows.lists → block_set a ≡ max_blocks (cover (block_set a))
-set_maximal a x =
+pub set_maximal : (m : ℕ) (a : Blocks) → IsSound m a.rows.states a.kinds a.rows.lists → block_set a ≡ max_blocks m (cover (block_set a))
+set_maximal m a x =
     let u : List Bool = cover (block_set a) in
     let n : length (cover (block_set a)) ≡ length (block_set a) = length-cover (block_set a) in
-    let m : length (max_blocks (cover (block_set a))) ≡ length (cover (block_set a)) = length-max u in
-    ext_get_or None (block_set a) (max_blocks u) (omega arith) (λ h lt. at_page h (omega arith) (get_or (block_set a) h None) refl)
+    let d : length (max_blocks m (cover (block_set a))) ≡ length (cover (block_set a)) = length-max m u in
+    ext_get_or None (block_set a) (max_blocks m u) (omega arith) (λ h lt. at_page h (omega arith) (get_or (block_set a) h None) refl)
   where
     no_some : (k : ℕ) → None ≡ Some k → ⊥
     no_some k e = cc
 
-    at_page : (h : ℕ) → h < length (cover (block_set a)) → (o : Option ℕ) → get_or (block_set a) h None ≡ o → get_or (block_set a) h None ≡ get_or (max_blocks (cover (block_set a))) h None
-    at_page h lt (Some k) e = e ∙ sym (max_block_some (cover (block_set a)) h k lt ((max-unique largest_order (Starts (block_set a)) (cover (block_set a)) x.normal h k).0 e))
+    at_page : (h : ℕ) → h < length (cover (block_set a)) → (o : Option ℕ) → get_or (block_set a) h None ≡ o → get_or (block_set a) h None ≡ get_or (max_blocks m (cover (block_set a))) h None
+    at_page h lt (Some k) e = e ∙ sym (max_block_some m (cover (block_set a)) h k lt ((max-unique m (Starts (block_set a)) (cover (block_set a)) x.normal h k).0 e))
     at_page h lt None e =
-        e ∙ sym (max_block_none (cover (block_set a)) h lt (λ k. false_from_ne_true _ (λ t.
-        let st : Starts (block_set a) h k = (max-unique largest_order (Starts (block_set a)) (cover (block_set a)) x.normal h k).1 t in
+        e ∙ sym (max_block_none m (cover (block_set a)) h lt (λ k. false_from_ne_true _ (λ t.
+        let st : Starts (block_set a) h k = (max-unique m (Starts (block_set a)) (cover (block_set a)) x.normal h k).1 t in
         no_some k (sym e ∙ st))))
 
 counts_at : (s : List (Option ℕ)) (p : ℕ → Bool) (k a : ℕ) → ((i : ℕ) → is_order k (get_or s i None) ≡ p (a + i)) → count_of s k ≡ count_by p (range_with_len a (length s))
@@ -53,22 +53,22 @@ counts_at (o ∷ s) p k a e =
     omega (arith, x, y, rest)
 
 -- how many blocks of an order there are
-pub count_maximal : (a : Blocks) (k : ℕ) → IsSound a.rows.states a.kinds a.rows.lists → count_of (block_set a) k ≡ blocks_of_order (cover (block_set a)) k
+pub count_maximal : (m : ℕ) (a : Blocks) (k : ℕ) → IsSound m a.rows.states a.kinds a.rows.lists → count_of (block_set a) k ≡ blocks_of_order m (cover (block_set a)) k
 unfolding blocks_of_order
-count_maximal a k x =
+count_maximal m a k x =
     let u : List Bool = cover (block_set a) in
-    counts_at (block_set a) (λ h. is_max largest_order u h k) k 0
-    (λ h. ap (λ q. q) (same_tests (is_order k (get_or (block_set a) h None)) (is_max largest_order u h k)
-    (λ e. (max-unique largest_order (Starts (block_set a)) u x.normal h k).0 (order_is k (get_or (block_set a) h None) e))
-    (λ e. ap (is_order k) ((max-unique largest_order (Starts (block_set a)) u x.normal h k).1 e) ∙ eq-eqb k k refl)) ∙ ap (λ q. is_max largest_order u q k) (let z : h ≡ 0 + h = omega arith in z))
-    ∙ ap (λ n. count_by (λ h. is_max largest_order u h k) (range_with_len 0 n)) (sym (length-cover (block_set a)))
+    counts_at (block_set a) (λ h. is_max m u h k) k 0
+    (λ h. ap (λ q. q) (same_tests (is_order k (get_or (block_set a) h None)) (is_max m u h k)
+    (λ e. (max-unique m (Starts (block_set a)) u x.normal h k).0 (order_is k (get_or (block_set a) h None) e))
+    (λ e. ap (is_order k) ((max-unique m (Starts (block_set a)) u x.normal h k).1 e) ∙ eq-eqb k k refl)) ∙ ap (λ q. is_max m u q k) (let z : h ≡ 0 + h = omega arith in z))
+    ∙ ap (λ n. count_by (λ h. is_max m u h k) (range_with_len 0 n)) (sym (length-cover (block_set a)))
   where
     order_is : (k : ℕ) (o : Option ℕ) → is_order k o ≡ true → o ≡ Some k
     order_is k None e = absurd (false≢true e)
     order_is k (Some j) e = ap (λ n. Some n) (eqb-true j k e)
 
 -- the frames note as free what is free
-pub held_framed : (a : Blocks) (free : ℕ) (f : Frames) → IsHeld a free → frames_in a ≡ f → IsFramed f
-held_framed a free f x e =
+pub held_framed : (m : ℕ) (a : Blocks) (free : ℕ) (f : Frames) → IsHeld m a free → frames_in m a ≡ f → IsFramed f
+held_framed m a free f x e =
     let P : Frames → Type 0 = λ q. IsFramed q in
-    subst P e (framed a.rows.states a.kinds a.rows.lists x.sound x.typed)
+    subst P e (framed m a.rows.states a.kinds a.rows.lists x.sound x.typed)

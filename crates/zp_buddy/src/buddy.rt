@@ -2,6 +2,7 @@
 //!
 //! In Linux: the `free_area` of a `struct zone`, `__rmqueue` and `__free_one_page`.
 ghost use Rattle.std.specs.Prelude.{ℕ, ◌≡◌, ◌<◌, ◌≤◌, ◌++◌, ◌^◌, ◌↔◌, false, length, slice_get, slice_set, IfOk, IfSome, IsTrue};
+ghost use Rattle.zp_model.specs.declared.constants.TheConstants.{LARGEST_ORDER};
 ghost use Rattle.zp_model.specs.Block.{has, size};
 ghost use Rattle.zp_model.specs.Info.{counts};
 ghost use Rattle.zp_model.specs.Rows.{IsLoose, IsOn, after, front, list_at, state_at};
@@ -32,15 +33,16 @@ pub struct Buddy {
 }
 
 impl Model for Buddy {
+    ghost use Rattle.zp_model.specs.declared.constants.TheConstants.{LARGEST_ORDER};
     ghost use Rattle.zp_model.specs.Frames.{Frames};
     ghost use Rattle.zp_buddy.specs.Choices.{frames_in};
     ghost use Rattle.zp_buddy.specs.Held.{IsHeld};
 
     ghost Value = { Frames };
 
-    ghost view = { λ b. frames_in b.area };
+    ghost view = { λ b. frames_in LARGEST_ORDER b.area };
 
-    ghost invariant = { λ b. IsHeld b.area b.free };
+    ghost invariant = { λ b. IsHeld LARGEST_ORDER b.area b.free };
 }
 
 impl Buddy {
@@ -48,7 +50,7 @@ impl Buddy {
     pub fn new(alloc: Global, pages: u32, side: usize) -> Result<Buddy, AllocError>
         requires pages { pages ≤ MAX_PAGES }
         requires side { side < 2 ^ 32 }
-        ensures { IfOk result (λ b. b ≡ frames_opening pages side) }
+        ensures { IfOk result (λ b. b ≡ frames_opening LARGEST_ORDER pages side) }
     {
         let mut area = FreeArea::new(alloc, pages, side)?;
         add_all_pages(&mut area);
@@ -129,7 +131,7 @@ impl Buddy {
     /// The type of a page's pageblock.
     pub fn type_of(&self, at: PageAt) -> MigrateType
         requires { at < length self.now.states }
-        ensures { result ≡ kind_at self.now.area.kinds at }
+        ensures { result ≡ kind_at self.now.area.largest self.now.area.kinds at }
     {
         // a clause of this call says that each pageblock has a type
         let _pages = self.area.pages();
@@ -180,7 +182,7 @@ impl Buddy {
 
     /// How many free blocks of each order there are, and how many free pages.
     pub fn counts(&self) -> Counts
-        ensures { result ≡ counts self.now.area.free }
+        ensures { result ≡ counts self.now.area.largest self.now.area.free }
     {
         let mut by_order = [0u32; ORDERS];
         let mut order = Order::zero();

@@ -3,6 +3,7 @@
 //! In Linux: `__rmqueue_smallest`, and `find_suitable_fallback` with `__rmqueue_fallback`.
 ghost use Rattle.std.specs.Prelude.{◌≡◌, ◌≤◌, ◌||◌, not, leb, IfSome};
 ghost use Rattle.std.specs.List.{find};
+ghost use Rattle.zp_model.specs.declared.constants.TheConstants.{LARGEST_ORDER};
 ghost use Rattle.zp_model.specs.declared.migrate_type.MigrateType.TheVariants.{Movable};
 ghost use Rattle.zp_model.specs.BlockSet.{first_of, larger, orders_from, Starts};
 ghost use Rattle.zp_model.specs.MigrateType.{foreign, same_type};
@@ -60,7 +61,7 @@ fn front_of(area: &FreeArea, order: Order, kinds: &[MigrateType]) -> Option<Free
 
 /// The same over the orders from `order` on, the least first.
 fn first_front(area: &FreeArea, order: Order, kinds: &[MigrateType]) -> Option<FreeBlock>
-    ensures { IsFoundAs area.now order (first_of (front_of_order area.now kinds.now) (orders_from order)) result }
+    ensures { IsFoundAs area.now order (first_of (front_of_order area.now kinds.now) (orders_from LARGEST_ORDER order)) result }
 {
     let mut found = order;
     'orders: loop {
@@ -76,21 +77,21 @@ fn first_front(area: &FreeArea, order: Order, kinds: &[MigrateType]) -> Option<F
 
 /// The smallest block that serves of the request's own type.
 fn own_block(area: &FreeArea, order: Order, kind: MigrateType) -> Option<FreeBlock>
-    ensures { IsFoundAs area.now order (own (area_in area.now) order kind) result }
+    ensures { IsFoundAs area.now order (own (area_in LARGEST_ORDER area.now) order kind) result }
 {
     first_front(area, order, &[kind])
 }
 
 /// The smallest block that serves of another type.
 fn borrowed_block(area: &FreeArea, order: Order, kind: MigrateType) -> Option<FreeBlock>
-    ensures { IsFoundAs area.now order (borrow (area_in area.now) order kind) result }
+    ensures { IsFoundAs area.now order (borrow (area_in LARGEST_ORDER area.now) order kind) result }
 {
     first_front(area, order, &foreign(kind))
 }
 
 /// The first block of a list in whose pageblock half of the pages are free.
 fn half_free_on(area: &FreeArea, order: Order, kind: MigrateType) -> Option<PageAt>
-    ensures found { result ≡ find (is_half_free area.now) (free_list_of area.now order kind) }
+    ensures found { result ≡ find (is_half_free LARGEST_ORDER area.now) (free_list_of area.now order kind) }
     ensures starts { IfSome result (λ at. Starts (block_set area.now) at order) }
 {
     // a clause of this call says that no page stands twice
@@ -107,7 +108,7 @@ fn half_free_on(area: &FreeArea, order: Order, kind: MigrateType) -> Option<Page
 
 /// The first block of this order and of one of these types in whose pageblock half of the pages are free.
 fn half_free_of(area: &FreeArea, order: Order, kinds: &[MigrateType]) -> Option<FreeBlock>
-    ensures { IsFoundAs area.now order (half_free_of_order area.now kinds.now order) result }
+    ensures { IsFoundAs area.now order (half_free_of_order LARGEST_ORDER area.now kinds.now order) result }
 {
     'kinds: for kind in kinds {
         if let Some(head) = half_free_on(area, order, *kind) {
@@ -119,7 +120,7 @@ fn half_free_of(area: &FreeArea, order: Order, kinds: &[MigrateType]) -> Option<
 
 /// The largest order of a block in a pageblock of another type that has the free pages that a claim needs. No list is walked.
 fn largest_claimable(area: &FreeArea, kind: MigrateType) -> Option<Order>
-    ensures { IsLargestClaimable area.now kind result }
+    ensures { IsLargestClaimable LARGEST_ORDER area.now kind result }
 {
     let mut largest = None;
     'pageblocks: for pageblock in 0..area.pageblocks() {
@@ -146,7 +147,7 @@ fn larger(one: Option<Order>, other: Option<Order>) -> Option<Order>
 #[cold]
 #[inline(never)]
 fn claimed_block(area: &FreeArea, order: Order, kind: MigrateType) -> Option<FreeBlock>
-    ensures { IsFoundAs area.now order (claim (area_in area.now) order kind) result }
+    ensures { IsFoundAs area.now order (claim (area_in LARGEST_ORDER area.now) order kind) result }
 {
     // a clause of this call says that the lists hold the heads of the blocks
     let _pages = area.pages();
@@ -159,7 +160,7 @@ fn claimed_block(area: &FreeArea, order: Order, kind: MigrateType) -> Option<Fre
 
 /// The block that a request for a block of this order and type takes.
 pub fn choose(area: &FreeArea, order: Order, kind: MigrateType) -> Option<Choice>
-    ensures { IsChosen area.now order kind result }
+    ensures { IsChosen LARGEST_ORDER area.now order kind result }
 {
     if let Some(block) = own_block(area, order, kind) {
         return Some(Choice {

@@ -2,6 +2,7 @@
 //!
 //! In Linux: `del_page_from_free_list` and `expand`.
 ghost use Rattle.std.specs.Prelude.{◌≡◌, ◌≤◌, length};
+ghost use Rattle.zp_model.specs.declared.constants.TheConstants.{LARGEST_ORDER};
 ghost use Rattle.zp_model.specs.Block.{IsBlock};
 ghost use Rattle.zp_model.specs.BlockSet.{Starts};
 ghost use Rattle.zp_model.specs.Area.{kind_at, lists_count};
@@ -20,10 +21,10 @@ use zp_model::{Order, PageAt};
 /// not in the area.
 fn split(area: &mut FreeArea, head: PageAt, from: Order, to: Order)
     requires down { to ≤ from }
-    requires block { IsBlock (length area.old.rows.states) head from }
-    requires clear { IsClearRun area.old.rows.states area.old.rows.lists head from }
-    requires table { lists_count ≤ length area.old.rows.lists }
-    ensures halves { IsSplit head to from (kind_at area.old.kinds head) area.old.rows.states area.new.rows.states area.old.rows.lists area.new.rows.lists }
+    requires block { IsBlock LARGEST_ORDER (length area.old.rows.states) head from }
+    requires clear { IsClearRun LARGEST_ORDER area.old.rows.states area.old.rows.lists head from }
+    requires table { lists_count LARGEST_ORDER ≤ length area.old.rows.lists }
+    ensures halves { IsSplit head to from (kind_at LARGEST_ORDER area.old.kinds head) area.old.rows.states area.new.rows.states area.old.rows.lists area.new.rows.lists }
     ensures kinds { area.new.kinds ≡ area.old.kinds }
 {
     let mut order = from;
@@ -37,11 +38,11 @@ fn split(area: &mut FreeArea, head: PageAt, from: Order, to: Order)
 pub fn take_block(area: &mut FreeArea, head: PageAt, found: Order, order: Order)
     requires down { order ≤ found }
     requires free { Starts (block_set area.old) head found }
-    requires sound { IsSound area.old.rows.states area.old.kinds area.old.rows.lists }
-    ensures sound { IsSound area.new.rows.states area.new.kinds area.new.rows.lists }
+    requires sound { IsSound LARGEST_ORDER area.old.rows.states area.old.kinds area.old.rows.lists }
+    ensures sound { IsSound LARGEST_ORDER area.new.rows.states area.new.kinds area.new.rows.lists }
     ensures pages { length area.new.rows.states ≡ length area.old.rows.states }
     ensures kinds { area.new.kinds ≡ area.old.kinds }
-    ensures after { frames_in area.new ≡ with_area (frames_in area.old) (leave (frames_in area.old).area head order) }
+    ensures after { frames_in LARGEST_ORDER area.new ≡ with_area (frames_in LARGEST_ORDER area.old) (leave (frames_in LARGEST_ORDER area.old).area head order) }
 {
     area.remove(head, found);
     split(area, head, found, order);

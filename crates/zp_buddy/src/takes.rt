@@ -3,6 +3,7 @@
 //! In Linux: `steal_suitable_fallback`, then `expand`.
 ghost use Rattle.std.specs.Prelude.{◌≡◌, length, Some};
 ghost use Rattle.zp_model.specs.Area.{pageblocks_of};
+ghost use Rattle.zp_model.specs.declared.constants.TheConstants.{LARGEST_ORDER};
 ghost use Rattle.zp_model.specs.Frames.{with_area};
 ghost use Rattle.zp_model.specs.Take.{taken};
 ghost use Rattle.zp_frames.specs.Sound.{IsSound};
@@ -17,12 +18,12 @@ use zp_model::{MigrateType, Order, PageAt};
 /// Takes the low run of order `order` of the chosen block, and answers its head. A pageblock that is claimed gets the request's type first.
 pub fn take_chosen(area: &mut FreeArea, chosen: Choice, order: Order, kind: MigrateType) -> PageAt
     requires chosen { IsFreeBlock area.old order chosen.block }
-    requires sound { IsSound area.old.rows.states area.old.kinds area.old.rows.lists }
-    ensures sound { IsSound area.new.rows.states area.new.kinds area.new.rows.lists }
+    requires sound { IsSound LARGEST_ORDER area.old.rows.states area.old.kinds area.old.rows.lists }
+    ensures sound { IsSound LARGEST_ORDER area.new.rows.states area.new.kinds area.new.rows.lists }
     ensures head { result ≡ chosen.block.head }
     ensures pages { length area.new.rows.states ≡ length area.old.rows.states }
     ensures typed { length area.new.kinds ≡ length area.old.kinds }
-    ensures after { frames_in area.new ≡ with_area (frames_in area.old) (taken (frames_in area.old).area order kind (Some (chosen_of chosen))) }
+    ensures after { frames_in LARGEST_ORDER area.new ≡ with_area (frames_in LARGEST_ORDER area.old) (taken (frames_in LARGEST_ORDER area.old).area order kind (Some (chosen_of chosen))) }
 {
     // clauses of this call say that each pageblock has a type, and after a change of type that the lists are of the set
     let _pages = area.pages();

@@ -7,10 +7,10 @@ use Rattle.std.proofs.lemmas.List.{get_or_past, get_or-replicate, length-replica
 use Rattle.zp_model.specs.declared.migrate_type.MigrateType.TheVariants.{Movable}
 use Rattle.zp_model.specs.declared.state.State.{State}
 use Rattle.zp_model.specs.declared.state.State.TheVariants.{Tail, Free}
-use Rattle.zp_model.specs.Block.{largest_order, head, is_max}
+use Rattle.zp_model.specs.Block.{head, is_max}
 use Rattle.zp_model.specs.MigrateType.{type_number, types_count}
 use Rattle.zp_model.specs.Rows.{Rows, list_at, state_at, stands_in, with_state, with_list, IsLoose}
-use Rattle.zp_model.specs.Area.{lists_count, list_number, kind_at, pageblocks_of, belongs, falling}
+use Rattle.zp_model.specs.Area.{lists_count, list_number, kind_at, pageblock_pages, pageblocks_of, belongs, falling}
 use Rattle.zp_model.proofs.Heads.{head_self, aligned_down}
 use Rattle.zp_model.proofs.Normal.{Filled}
 use Rattle.zp_model.proofs.Pages.{In, is_max-to, is_max-from}
@@ -27,19 +27,19 @@ pub all_below : (n i : ℕ) → In (all_pages n) i → i < n
 all_below n i e = let a : i < length (all_pages n) = has_below (all_pages n) i e in let b : length (all_pages n) ≡ n = length-replicate n true in omega arith
 
 -- the largest block that fits at a page which is aligned as far as the rest of the zone asks for
-pub fits_max : (n a o k : ℕ) → a % 2 ^ o ≡ 0 → o ≤ largest_order → (o ≡ largest_order) ⊎ (n - a < 2 ^ o) → k ≤ o → a + 2 ^ k ≤ n →
-    (k ≡ o) ⊎ (n - a < 2 ^ (k + 1)) → is_max largest_order (all_pages n) a k ≡ true
-fits_max n a o k al oo bound le fits most =
-    is_max-from largest_order (all_pages n) a k (record {
+pub fits_max : (m n a o k : ℕ) → a % 2 ^ o ≡ 0 → o ≤ m → (o ≡ m) ⊎ (n - a < 2 ^ o) → k ≤ o → a + 2 ^ k ≤ n →
+    (k ≡ o) ⊎ (n - a < 2 ^ (k + 1)) → is_max m (all_pages n) a k ≡ true
+fits_max m n a o k al oo bound le fits most =
+    is_max-from m (all_pages n) a k (record {
       order = omega arith;
       aligned = aligned_down k o a le al;
       inside = λ i p q. in_all n i (omega arith);
-      alone = λ lt f. not_doubled n a o k al oo bound le fits most lt f;
+      alone = λ lt f. not_doubled m n a o k al oo bound le fits most lt f;
     })
   where
-    not_doubled : (n a o k : ℕ) → a % 2 ^ o ≡ 0 → o ≤ largest_order → (o ≡ largest_order) ⊎ (n - a < 2 ^ o) → k ≤ o → a + 2 ^ k ≤ n →
-        (k ≡ o) ⊎ (n - a < 2 ^ (k + 1)) → k < largest_order → Filled (In (all_pages n)) (head a (k + 1)) (k + 1) → ⊥
-    not_doubled n a o k al oo bound le fits most lt f =
+    not_doubled : (m n a o k : ℕ) → a % 2 ^ o ≡ 0 → o ≤ m → (o ≡ m) ⊎ (n - a < 2 ^ o) → k ≤ o → a + 2 ^ k ≤ n →
+        (k ≡ o) ⊎ (n - a < 2 ^ (k + 1)) → k < m → Filled (In (all_pages n)) (head a (k + 1)) (k + 1) → ⊥
+    not_doubled m n a o k al oo bound le fits most lt f =
         elim most [
           | inl same ↦
               elim bound [
@@ -63,18 +63,18 @@ fits_max n a o k al oo bound le fits most =
         ]
 
 -- past the head of a maximal block no other starts in it
-pub no_head_inside : (n a k g j : ℕ) → is_max largest_order (all_pages n) a k ≡ true → a < g → g < a + 2 ^ k → is_max largest_order (all_pages n) g j ≡ false
-no_head_inside n a k g j x lo hi =
+pub no_head_inside : (m n a k g j : ℕ) → is_max m (all_pages n) a k ≡ true → a < g → g < a + 2 ^ k → is_max m (all_pages n) g j ≡ false
+no_head_inside m n a k g j x lo hi =
     false_from_ne_true _ (λ y.
-    let e = maximal-apart largest_order (In (all_pages n)) a k g j g (is_max-to largest_order (all_pages n) a k x) (is_max-to largest_order (all_pages n) g j y)
+    let e = maximal-apart m (In (all_pages n)) a k g j g (is_max-to m (all_pages n) a k x) (is_max-to m (all_pages n) g j y)
     (omega arith) hi (omega arith) (omega (arith, pow_pos j)) in
     let s : a ≡ g = e.0 in omega arith)
 
-pub kind-movable : (n h : ℕ) → kind_at (all_movable n) h ≡ Movable
-kind-movable n h =
-    elim (cases_lt (h / 1024) (pageblocks_of n)) [
-      | inl lt ↦ get_or-replicate (pageblocks_of n) (h / 1024) Movable Movable lt
-      | inr ge ↦ get_or_past (all_movable n) (h / 1024) Movable (let e : length (all_movable n) ≡ pageblocks_of n = length-replicate (pageblocks_of n) Movable in omega arith)
+pub kind-movable : (m n h : ℕ) → kind_at m (all_movable m n) h ≡ Movable
+kind-movable m n h =
+    elim (cases_lt (h / pageblock_pages m) (pageblocks_of m n)) [
+      | inl lt ↦ get_or-replicate (pageblocks_of m n) (h / pageblock_pages m) Movable Movable lt
+      | inr ge ↦ get_or_past (all_movable m n) (h / pageblock_pages m) Movable (let e : length (all_movable m n) ≡ pageblocks_of m n = length-replicate (pageblocks_of m n) Movable in omega arith)
     ]
 
 -- the numbers below a filter's next head
@@ -91,34 +91,34 @@ filter_falling p a zero pos f = absurd (omega arith)
 filter_falling p a (suc d) pos f = filter_gap p a d f
 
 -- the list of an order and Movable gets the block's head; the others stay
-belongs-head : (n a k r j : ℕ) → is_max largest_order (all_pages n) a k ≡ true → r / types_count ≡ j → (k ≡ j → ⊥) → belongs (all_pages n) (all_movable n) r a ≡ false
+belongs-head : (m n a k r j : ℕ) → is_max m (all_pages n) a k ≡ true → r / types_count ≡ j → (k ≡ j → ⊥) → belongs m (all_pages n) (all_movable m n) r a ≡ false
 unfolding belongs
-belongs-head n a k r j x er ne =
+belongs-head m n a k r j x er ne =
     false_from_ne_true _ (λ e.
     let b = and_parts _ _ e in
-    let P : ℕ → Type 0 = λ q. is_max largest_order (all_pages n) a q ≡ true in
-    ne (one_order (all_pages n) a j k (subst P er b.0) x))
+    let P : ℕ → Type 0 = λ q. is_max m (all_pages n) a q ≡ true in
+    ne (one_order m (all_pages n) a j k (subst P er b.0) x))
 
-belongs-inside : (n a k r g : ℕ) → is_max largest_order (all_pages n) a k ≡ true → a < g → g < a + 2 ^ k → belongs (all_pages n) (all_movable n) r g ≡ false
+belongs-inside : (m n a k r g : ℕ) → is_max m (all_pages n) a k ≡ true → a < g → g < a + 2 ^ k → belongs m (all_pages n) (all_movable m n) r g ≡ false
 unfolding belongs
-belongs-inside n a k r g x lo hi = rw (no_head_inside n a k g (r / types_count) x lo hi) refl
+belongs-inside m n a k r g x lo hi = rw (no_head_inside m n a k g (r / types_count) x lo hi) refl
 
-belongs-at : (n a k : ℕ) → is_max largest_order (all_pages n) a k ≡ true → k ≤ largest_order → belongs (all_pages n) (all_movable n) (list_number k Movable) a ≡ true
+belongs-at : (m n a k : ℕ) → is_max m (all_pages n) a k ≡ true → k ≤ m → belongs m (all_pages n) (all_movable m n) (list_number k Movable) a ≡ true
 unfolding belongs
-belongs-at n a k x le =
+belongs-at m n a k x le =
     let d : list_number k Movable / types_count ≡ k = omega arith in
-    let m : list_number k Movable % types_count ≡ 2 = omega arith in
-    rw (d, x, m, kind-movable n a) refl
+    let e : list_number k Movable % types_count ≡ 2 = omega arith in
+    rw (d, x, e, kind-movable m n a) refl
 
-belongs-movable : (n r g : ℕ) → r < lists_count → belongs (all_pages n) (all_movable n) r g ≡ true → r % types_count ≡ 2
+belongs-movable : (m n r g : ℕ) → r < lists_count m → belongs m (all_pages n) (all_movable m n) r g ≡ true → r % types_count ≡ 2
 unfolding belongs
-belongs-movable n r g lt e =
+belongs-movable m n r g lt e =
     let b = and_parts _ _ e in
-    let t : type_number (kind_at (all_movable n) g) ≡ r % types_count = eqb-true _ _ b.1 in
-    sym t ∙ ap type_number (kind-movable n g)
+    let t : type_number (kind_at m (all_movable m n) g) ≡ r % types_count = eqb-true _ _ b.1 in
+    sym t ∙ ap type_number (kind-movable m n g)
 
-pub opened_none : (n count : ℕ) → IsOpenedTo n 0 (replicate n Tail) (replicate count [])
-opened_none n count = record {
+pub opened_none : (m n count : ℕ) → IsOpenedTo m n 0 (replicate n Tail) (replicate count [])
+opened_none m n count = record {
   heads = λ g k lt. absurd (omega arith);
   others = λ g. inr (tail_at n g);
   tails = λ g le. tail_at n g;
@@ -139,25 +139,25 @@ opened_none n count = record {
       | inr ge ↦ get_or_past (replicate count []) r [] (let e : length (replicate {A = List ℕ} count []) ≡ count = length-replicate count [] in omega arith)
     ]
 
-pub opened_more : (n a k r : ℕ) (s : List State) (l : List (List ℕ)) → IsOpenedTo n a s l → a < n → is_max largest_order (all_pages n) a k ≡ true →
-    r ≡ list_number k Movable → lists_count ≤ length l → IsOpenedTo n (a + 2 ^ k) (set s a (Free k)) (set l r (a ∷ list_at l r))
-opened_more n a k r s l x lt m er tl = record {
+pub opened_more : (m n a k r : ℕ) (s : List State) (l : List (List ℕ)) → IsOpenedTo m n a s l → a < n → is_max m (all_pages n) a k ≡ true →
+    r ≡ list_number k Movable → lists_count m ≤ length l → IsOpenedTo m n (a + 2 ^ k) (set s a (Free k)) (set l r (a ∷ list_at l r))
+opened_more m n a k r s l x lt d er tl = record {
   heads = λ g j b. elim (cases_lt g a) [
     | inl low ↦
         let ne : g ≢ a = omega arith in
-        let P : State → Type 0 = λ q. (is_max largest_order (all_pages n) g j ≡ true) ↔ (q ≡ Free j) in
+        let P : State → Type 0 = λ q. (is_max m (all_pages n) g j ≡ true) ↔ (q ≡ Free j) in
         subst P (sym (get_or-set_other s a g (Free k) Tail ne)) (x.heads g j low)
     | inr ge ↦ elim (cases_eq g a) [
       | inl same ↦
-          let P : ℕ → Type 0 = λ q. (is_max largest_order (all_pages n) q j ≡ true) ↔ (state_at (set s a (Free k)) q ≡ Free j) in
+          let P : ℕ → Type 0 = λ q. (is_max m (all_pages n) q j ≡ true) ↔ (state_at (set s a (Free k)) q ≡ Free j) in
           let now : state_at (set s a (Free k)) a ≡ Free k = get_or-set_same s a (Free k) Tail (let p : length s ≡ n = x.pages in omega arith) in
           subst P (sym same) (
-            λ e. now ∙ ap (λ q. Free q) (one_order (all_pages n) a j k e m),
+            λ e. now ∙ ap (λ q. Free q) (one_order m (all_pages n) a j k e d),
             λ e. let f : Free k ≡ Free j = sym now ∙ e in let kj : k ≡ j = cc in
-                let Q : ℕ → Type 0 = λ q. is_max largest_order (all_pages n) a q ≡ true in subst Q kj m,
+                let Q : ℕ → Type 0 = λ q. is_max m (all_pages n) a q ≡ true in subst Q kj d,
           )
       | inr ne ↦
-          let off : is_max largest_order (all_pages n) g j ≡ false = no_head_inside n a k g j m (omega arith) b in
+          let off : is_max m (all_pages n) g j ≡ false = no_head_inside m n a k g j d (omega arith) b in
           let st : state_at (set s a (Free k)) g ≡ Tail = get_or-set_other s a g (Free k) Tail ne ∙ x.tails g ge in
           (λ e. absurd (both_ways _ off e), λ e. absurd (tail_not_free j (sym st ∙ e)))
     ]
@@ -176,26 +176,26 @@ opened_more n a k r s l x lt m er tl = record {
       get_or-set_other s a g (Free k) Tail ne ∙ x.tails g (omega arith);
   listed = λ q b.
       let pos : 0 < 2 ^ k = pow_pos k in
-      let step = filter_falling (belongs (all_pages n) (all_movable n) q) a (2 ^ k) pos (λ i lo hi. belongs-inside n a k q i m lo hi) in
+      let step = filter_falling (belongs m (all_pages n) (all_movable m n) q) a (2 ^ k) pos (λ i lo hi. belongs-inside m n a k q i d lo hi) in
       elim (cases_eq q r) [
         | inl same ↦
-            let here : belongs (all_pages n) (all_movable n) q a ≡ true =
-            (let P : ℕ → Type 0 = λ z. belongs (all_pages n) (all_movable n) z a ≡ true in subst P (sym (same ∙ er)) (belongs-at n a k m (is_max-to largest_order (all_pages n) a k m).order)) in
+            let here : belongs m (all_pages n) (all_movable m n) q a ≡ true =
+            (let P : ℕ → Type 0 = λ z. belongs m (all_pages n) (all_movable m n) z a ≡ true in subst P (sym (same ∙ er)) (belongs-at m n a k d (is_max-to m (all_pages n) a k d).order)) in
             let P : ℕ → Type 0 = λ z. list_at (set l r (a ∷ list_at l r)) z ≡ a ∷ list_at l z in
             subst P (sym same) (get_or-set_same l r (a ∷ list_at l r) [] (omega arith))
             ∙ ap (λ z. a ∷ z) (x.listed q b)
             ∙ sym (step ∙ rw here refl)
         | inr ne ↦
-            let off : belongs (all_pages n) (all_movable n) q a ≡ false = false_from_ne_true _ (λ e.
-            let two : q % types_count ≡ 2 = belongs-movable n q a b e in
+            let off : belongs m (all_pages n) (all_movable m n) q a ≡ false = false_from_ne_true _ (λ e.
+            let two : q % types_count ≡ 2 = belongs-movable m n q a b e in
             elim (cases_eq k (q / types_count)) [
               | inl ord ↦ let e3 : q ≡ list_number k Movable = omega arith in ne (e3 ∙ sym er)
-              | inr nk ↦ both_ways _ (belongs-head n a k q (q / types_count) m refl nk) e
+              | inr nk ↦ both_ways _ (belongs-head m n a k q (q / types_count) d refl nk) e
             ]) in
             get_or-set_other l r q (a ∷ list_at l r) [] ne ∙ x.listed q b ∙ sym (step ∙ rw off refl)
       ];
   aside = λ q ge.
-      let le : k ≤ largest_order = (is_max-to largest_order (all_pages n) a k m).order in
+      let le : k ≤ m = (is_max-to m (all_pages n) a k d).order in
       let ne : q ≢ r = omega arith in
       get_or-set_other l r q (a ∷ list_at l r) [] ne ∙ x.aside q ge;
   pages = length-set s a (Free k) ∙ x.pages;
@@ -205,13 +205,13 @@ opened_more n a k r s l x lt m er tl = record {
     tail_not_free j e = cc
 
 -- a page that is not reached is on no list
-pub opened_loose : (n a : ℕ) (s : List State) (l : List (List ℕ)) → IsOpenedTo n a s l → IsLoose l a
-opened_loose n a s l x r =
-    elim (cases_lt r lists_count) [
+pub opened_loose : (m n a : ℕ) (s : List State) (l : List (List ℕ)) → IsOpenedTo m n a s l → IsLoose l a
+opened_loose m n a s l x r =
+    elim (cases_lt r (lists_count m)) [
       | inl lt ↦
           let P : List ℕ → Type 0 = λ z. stands_in a z ≡ false in
           subst P (sym (x.listed r lt)) (false_from_ne_true _ (λ e.
-          let f : stands_in a (falling a) ≡ true = (stands_filter-to (belongs (all_pages n) (all_movable n) r) a (falling a) e).0 in
+          let f : stands_in a (falling a) ≡ true = (stands_filter-to (belongs m (all_pages n) (all_movable m n) r) a (falling a) e).0 in
           not_falling a a f (omega arith)))
       | inr ge ↦ let P : List ℕ → Type 0 = λ z. stands_in a z ≡ false in subst P (sym (x.aside r ge)) refl
     ]
@@ -220,14 +220,14 @@ opened_loose n a s l x r =
     not_falling h zero e le = false≢true e
     not_falling h (suc n) e le = elim (stands_cases h n (falling n) e) [ inl same ↦ omega arith | inr later ↦ not_falling h n later (omega arith) ]
 
-pub opened_turn : (n a k g m r : ℕ) (w v u : Rows) → IsOpenedTo n a w.states w.lists → a < n → is_max largest_order (all_pages n) a k ≡ true →
-    g ≡ a → m ≡ 2 ^ k → r ≡ list_number k Movable → lists_count ≤ length w.lists → v ≡ with_state w g (Free k) → u ≡ with_list v r (g ∷ list_at v.lists r) →
-    (IsOpenedTo n (a + m) u.states u.lists) × (length u.lists ≡ length w.lists)
-opened_turn n a k g m r w v u x lt y eg em er tl ev eu =
-    let P : Rows → Type 0 = λ q. IsOpenedTo n (a + m) q.states q.lists in
-    let Q : Rows → Type 0 = λ q. IsOpenedTo n (a + m) q.states (set q.lists r (g ∷ list_at q.lists r)) in
-    let R : ℕ → Type 0 = λ q. IsOpenedTo n (a + m) (set w.states q (Free k)) (set w.lists r (q ∷ list_at w.lists r)) in
-    let S : ℕ → Type 0 = λ q. IsOpenedTo n (a + q) (set w.states a (Free k)) (set w.lists r (a ∷ list_at w.lists r)) in (
-      subst P (sym eu) (subst Q (sym ev) (subst R (sym eg) (subst S (sym em) (opened_more n a k r w.states w.lists x lt y er tl)))),
+pub opened_turn : (m n a k g d r : ℕ) (w v u : Rows) → IsOpenedTo m n a w.states w.lists → a < n → is_max m (all_pages n) a k ≡ true →
+    g ≡ a → d ≡ 2 ^ k → r ≡ list_number k Movable → lists_count m ≤ length w.lists → v ≡ with_state w g (Free k) → u ≡ with_list v r (g ∷ list_at v.lists r) →
+    (IsOpenedTo m n (a + d) u.states u.lists) × (length u.lists ≡ length w.lists)
+opened_turn m n a k g d r w v u x lt y eg ed er tl ev eu =
+    let P : Rows → Type 0 = λ q. IsOpenedTo m n (a + d) q.states q.lists in
+    let Q : Rows → Type 0 = λ q. IsOpenedTo m n (a + d) q.states (set q.lists r (g ∷ list_at q.lists r)) in
+    let R : ℕ → Type 0 = λ q. IsOpenedTo m n (a + d) (set w.states q (Free k)) (set w.lists r (q ∷ list_at w.lists r)) in
+    let S : ℕ → Type 0 = λ q. IsOpenedTo m n (a + q) (set w.states a (Free k)) (set w.lists r (a ∷ list_at w.lists r)) in (
+      subst P (sym eu) (subst Q (sym ev) (subst R (sym eg) (subst S (sym ed) (opened_more m n a k r w.states w.lists x lt y er tl)))),
       ap (λ (q : Rows). length q.lists) eu ∙ length-set v.lists r _ ∙ ap (λ (q : Rows). length q.lists) ev,
     )

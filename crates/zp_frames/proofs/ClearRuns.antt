@@ -5,7 +5,7 @@ use Rattle.std.proofs.lemmas.List.{length-map, get_or-drop}
 use Rattle.zp_model.specs.declared.migrate_type.MigrateType.{MigrateType}
 use Rattle.zp_model.specs.declared.state.State.{State}
 use Rattle.zp_model.specs.declared.state.State.TheVariants.{Free}
-use Rattle.zp_model.specs.Block.{largest_order, has, head, IsBlock}
+use Rattle.zp_model.specs.Block.{has, head, IsBlock}
 use Rattle.zp_model.specs.BlockSet.{cover, some_below, is_order}
 use Rattle.zp_model.specs.Rows.{list_at, state_at, stands_in, IsOn}
 use Rattle.zp_model.specs.Area.{lists_count}
@@ -24,37 +24,37 @@ order_is k None e = absurd (false≢true e)
 order_is k (Some j) e = ap (λ n. Some n) (eqb-true j k e)
 
 -- no free block has a page where none of any order starts at the head around it
-pub free_none : (s : List State) (i : ℕ) → i < length s → ((k : ℕ) → k ≤ largest_order → state_at s (head i k) ≡ Free k → ⊥) → has (cover (blocks_of s)) i ≡ false
+pub free_none : (s : List State) (i : ℕ) → i < length s → ((k : ℕ) → state_at s (head i k) ≡ Free k → ⊥) → has (cover (blocks_of s)) i ≡ false
 free_none s i lt f =
     let n : length (blocks_of s) ≡ length s = length-map s free_order in
     has-cover (blocks_of s) i (omega arith)
-    ∙ some_none _ (largest_order + 1) (λ k below. false_from_ne_true _ (λ e. f k (omega arith) (starts-to s (head i k) k (order_is k _ e))))
+    ∙ some_none _ (length (blocks_of s)) (λ k below. false_from_ne_true _ (λ e. f k (starts-to s (head i k) k (order_is k _ e))))
 
-pub free_some : (s : List State) (i k : ℕ) → i < length s → k ≤ largest_order → state_at s (head i k) ≡ Free k → has (cover (blocks_of s)) i ≡ true
-free_some s i k lt le e =
+pub free_some : (s : List State) (i k : ℕ) → i < length s → k < length s → state_at s (head i k) ≡ Free k → has (cover (blocks_of s)) i ≡ true
+free_some s i k lt room e =
     let n : length (blocks_of s) ≡ length s = length-map s free_order in
-    cover-from (blocks_of s) i k (omega arith) le (starts-from s (head i k) k e)
+    cover-from (blocks_of s) i k (omega arith) (omega arith) (starts-from s (head i k) k e)
 
 -- the lists past the free ones, by their own numbers
-pub aside_some : (l : List (List ℕ)) (r i : ℕ) → lists_count ≤ r → IsOn l r i → (q : ℕ) × (stands_in i (list_at (drop lists_count l) q) ≡ true)
-aside_some l r i ge on =
-    let e : lists_count + (r - lists_count) ≡ r = omega arith in
+pub aside_some : (m : ℕ) (l : List (List ℕ)) (r i : ℕ) → lists_count m ≤ r → IsOn l r i → (q : ℕ) × (stands_in i (list_at (drop (lists_count m) l) q) ≡ true)
+aside_some m l r i ge on =
+    let e : lists_count m + (r - lists_count m) ≡ r = omega arith in
     let P : List ℕ → Type 0 = λ xs. stands_in i xs ≡ true in
-    (r - lists_count, subst P (sym (get_or-drop lists_count l (r - lists_count) [] ∙ ap (λ q. list_at l q) e)) on)
+    (r - lists_count m, subst P (sym (get_or-drop (lists_count m) l (r - lists_count m) [] ∙ ap (λ q. list_at l q) e)) on)
 
 -- the looks at the block and at its pages decide whether it is clear
-pub clear_from : (h k : ℕ) (s : List State) (kinds : List MigrateType) (l : List (List ℕ)) → IsBlock (length s) h k →
-    IsClearRun s l h k → IsClear (frames_of s kinds l) h k
-clear_from h k s kinds l b f =
+pub clear_from : (m h k : ℕ) (s : List State) (kinds : List MigrateType) (l : List (List ℕ)) → IsBlock m (length s) h k →
+    IsClearRun m s l h k → IsClear (frames_of m s kinds l) h k
+clear_from m h k s kinds l b f =
     let n : length s ≡ length (cover (blocks_of s)) = sym (length-cover (blocks_of s) ∙ length-map s free_order) in
-    let P : ℕ → Type 0 = λ m. IsBlock m h k in
+    let P : ℕ → Type 0 = λ e. IsBlock m e h k in
     record { block = subst P n b; free = λ i p q. (f i p q).0; aside = λ r i p q. (f i p q).1 r }
 
-pub clear_block : (h k : ℕ) (s : List State) (kinds : List MigrateType) (l : List (List ℕ)) → IsClear (frames_of s kinds l) h k → IsBlock (length s) h k
-clear_block h k s kinds l x =
+pub clear_block : (m h k : ℕ) (s : List State) (kinds : List MigrateType) (l : List (List ℕ)) → IsClear (frames_of m s kinds l) h k → IsBlock m (length s) h k
+clear_block m h k s kinds l x =
     let n : length (cover (blocks_of s)) ≡ length s = length-cover (blocks_of s) ∙ length-map s free_order in
-    let P : ℕ → Type 0 = λ m. IsBlock m h k in
+    let P : ℕ → Type 0 = λ e. IsBlock m e h k in
     subst P n x.block
 
-pub clear_run : (h k : ℕ) (s : List State) (kinds : List MigrateType) (l : List (List ℕ)) → IsClear (frames_of s kinds l) h k → IsClearRun s l h k
-clear_run h k s kinds l x = λ i p q. (x.free i p q, λ r. x.aside r i p q)
+pub clear_run : (m h k : ℕ) (s : List State) (kinds : List MigrateType) (l : List (List ℕ)) → IsClear (frames_of m s kinds l) h k → IsClearRun m s l h k
+clear_run m h k s kinds l x = λ i p q. (x.free i p q, λ r. x.aside r i p q)

@@ -7,7 +7,7 @@ use Rattle.std.proofs.lemmas.List.{length-map}
 use Rattle.zp_model.specs.declared.migrate_type.MigrateType.{MigrateType}
 use Rattle.zp_model.specs.declared.state.State.{State}
 use Rattle.zp_model.specs.declared.state.State.TheVariants.{Tail, Free}
-use Rattle.zp_model.specs.Block.{largest_order, head, with_run}
+use Rattle.zp_model.specs.Block.{head, with_run}
 use Rattle.zp_model.specs.MigrateType.{type_number, types_count}
 use Rattle.zp_model.specs.Rows.{list_at, state_at, stands_in, IsOn, IsLoose}
 use Rattle.zp_model.specs.Area.{list_number, lists_count, kind_at, belongs, settled, settle}
@@ -26,28 +26,28 @@ use Rattle.zp_frames.proofs.Taken.{row_below, starts-to, starts-from, free_free,
 use Rattle.zp_frames.proofs.Restating.{restate_not_free}
 use Rattle.zp_frames.proofs.Counting.{same_tests}
 use Rattle.zp_frames.proofs.Filters.{filter_same, stands_filter-to, stands_filter-from, distinct_filter}
-use Rattle.zp_frames.proofs.Joining.{IsBack, IsJoining, outside, outside-to, outside-from, buddy_unique}
+use Rattle.zp_frames.proofs.Joining.{IsBack, IsJoining, is_outside, outside-to, outside-from, buddy_unique}
 
 -- the joining has stopped at (b, j), which is then free and in front of its list
-pub record IsEnded (h k b j : ℕ) (t : MigrateType) (s s' : List State) (kinds : List MigrateType) (l l' : List (List ℕ)) : Type 0 where
-  pub back : IsBack h k s kinds l
-  pub kind : kind_at kinds h ≡ t
-  pub joining : IsJoining h k b j s s' l l'
-  pub stop : (c d : ℕ) → j < largest_order → IsBuddy b j c d → state_at s' c ≡ Free j → ⊥
+pub record IsEnded (m h k b j : ℕ) (t : MigrateType) (s s' : List State) (kinds : List MigrateType) (l l' : List (List ℕ)) : Type 0 where
+  pub back : IsBack m h k s kinds l
+  pub kind : kind_at m kinds h ≡ t
+  pub joining : IsJoining m h k b j s s' l l'
+  pub stop : (c d : ℕ) → j < m → IsBuddy b j c d → state_at s' c ≡ Free j → ⊥
 
 -- the run's own head and h lie in it
-head_in : (h k b j : ℕ) (t : MigrateType) (s s' : List State) (kinds : List MigrateType) (l l' : List (List ℕ)) → IsEnded h k b j t s s' kinds l l' →
+head_in : (m h k b j : ℕ) (t : MigrateType) (s s' : List State) (kinds : List MigrateType) (l l' : List (List ℕ)) → IsEnded m h k b j t s s' kinds l l' →
     (b ≤ h) × (h < b + 2 ^ j) × (b % 2 ^ j ≡ 0)
-head_in h k b j t s s' kinds l l' x =
+head_in m h k b j t s s' kinds l l' x =
     let e : b ≡ head h j = x.joining.at in
     let lo : head h j ≤ h = head_le h j in
     let hi : h < head h j + 2 ^ j = lt_head h j in
     let P : ℕ → Type 0 = λ n. n % 2 ^ j ≡ 0 in
     (omega arith, omega arith, subst P (sym e) (head_aligned h j))
 
-grown : (h k b j : ℕ) (t : MigrateType) (s s' : List State) (kinds : List MigrateType) (l l' : List (List ℕ)) → IsEnded h k b j t s s' kinds l l' →
-    IsGrown largest_order (Starts (blocks_of s)) (In (cover (blocks_of s))) h k b j
-grown h k b j t s s' kinds l l' x =
+grown : (m h k b j : ℕ) (t : MigrateType) (s s' : List State) (kinds : List MigrateType) (l l' : List (List ℕ)) → IsEnded m h k b j t s s' kinds l l' →
+    IsGrown m (Starts (blocks_of s)) (In (cover (blocks_of s))) h k b j
+grown m h k b j t s s' kinds l l' x =
     let pos : 0 < 2 ^ j = pow_pos j in
     record {
       aligned = x.back.aligned;
@@ -63,28 +63,28 @@ grown h k b j t s s' kinds l l' x =
     }
 
 -- no block of the set before was the run
-not_before : (h k b j : ℕ) (t : MigrateType) (s s' : List State) (kinds : List MigrateType) (l l' : List (List ℕ)) → IsEnded h k b j t s s' kinds l l' →
+not_before : (m h k b j : ℕ) (t : MigrateType) (s s' : List State) (kinds : List MigrateType) (l l' : List (List ℕ)) → IsEnded m h k b j t s s' kinds l l' →
     Starts (blocks_of s) b j → ⊥
-not_before h k b j t s s' kinds l l' x w =
-    let i : (b ≤ h) × (h < b + 2 ^ j) × (b % 2 ^ j ≡ 0) = head_in h k b j t s s' kinds l l' x in
+not_before m h k b j t s s' kinds l l' x w =
+    let i : (b ≤ h) × (h < b + 2 ^ j) × (b % 2 ^ j ≡ 0) = head_in m h k b j t s s' kinds l l' x in
     x.back.clear h (omega arith) (omega (arith, pow_pos k)) (x.back.sound.normal.inside b j w h i.0 i.1)
 
-b_below : (h k b j : ℕ) (t : MigrateType) (s s' : List State) (kinds : List MigrateType) (l l' : List (List ℕ)) → IsEnded h k b j t s s' kinds l l' → b < length s'
-b_below h k b j t s s' kinds l l' x =
-    let i : (b ≤ h) × (h < b + 2 ^ j) × (b % 2 ^ j ≡ 0) = head_in h k b j t s s' kinds l l' x in
+b_below : (m h k b j : ℕ) (t : MigrateType) (s s' : List State) (kinds : List MigrateType) (l l' : List (List ℕ)) → IsEnded m h k b j t s s' kinds l l' → b < length s'
+b_below m h k b j t s s' kinds l l' x =
+    let i : (b ≤ h) × (h < b + 2 ^ j) × (b % 2 ^ j ≡ 0) = head_in m h k b j t s s' kinds l l' x in
     let a : h + 2 ^ k ≤ length s = x.back.inside in
     let p : length s' ≡ length s = x.joining.pages in
     omega (arith, pow_pos k)
 
-ended-to : (h k b j : ℕ) (t : MigrateType) (s s' : List State) (kinds : List MigrateType) (l l' : List (List ℕ)) → IsEnded h k b j t s s' kinds l l' →
+ended-to : (m h k b j : ℕ) (t : MigrateType) (s s' : List State) (kinds : List MigrateType) (l l' : List (List ℕ)) → IsEnded m h k b j t s s' kinds l l' →
     (g i : ℕ) → Starts (blocks_of (set s' b (Free j))) g i → AfterJoin (Starts (blocks_of s)) b j g i
-ended-to h k b j t s s' kinds l l' x g i w =
+ended-to m h k b j t s s' kinds l l' x g i w =
     let e : state_at (set s' b (Free j)) g ≡ Free i = starts-to (set s' b (Free j)) g i w in
     elim (cases_eq g b) [
       | inl same ↦
           let P : ℕ → Type 0 = λ n. state_at (set s' b (Free j)) n ≡ Free i in
           let f : state_at (set s' b (Free j)) b ≡ Free i = subst P same e in
-          inr (same, sym (free_free j i (sym (get_or-set_same s' b (Free j) Tail (b_below h k b j t s s' kinds l l' x)) ∙ f)))
+          inr (same, sym (free_free j i (sym (get_or-set_same s' b (Free j) Tail (b_below m h k b j t s s' kinds l l' x)) ∙ f)))
       | inr ne ↦
           let f : state_at s' g ≡ Free i = sym (get_or-set_other s' b g (Free j) Tail ne) ∙ e in
           elim (cases_lt g b) [
@@ -96,13 +96,13 @@ ended-to h k b j t s s' kinds l l' x g i w =
           ]
     ]
 
-ended-from : (h k b j : ℕ) (t : MigrateType) (s s' : List State) (kinds : List MigrateType) (l l' : List (List ℕ)) → IsEnded h k b j t s s' kinds l l' →
+ended-from : (m h k b j : ℕ) (t : MigrateType) (s s' : List State) (kinds : List MigrateType) (l l' : List (List ℕ)) → IsEnded m h k b j t s s' kinds l l' →
     (g i : ℕ) → AfterJoin (Starts (blocks_of s)) b j g i → Starts (blocks_of (set s' b (Free j))) g i
-ended-from h k b j t s s' kinds l l' x g i (inr w) =
+ended-from m h k b j t s s' kinds l l' x g i (inr w) =
     let P : ℕ → Type 0 = λ n. state_at (set s' b (Free j)) n ≡ Free i in
     starts-from (set s' b (Free j)) g i
-    (subst P (sym w.0) (get_or-set_same s' b (Free j) Tail (b_below h k b j t s s' kinds l l' x) ∙ ap (λ n. Free n) (sym w.1)))
-ended-from h k b j t s s' kinds l l' x g i (inl w) =
+    (subst P (sym w.0) (get_or-set_same s' b (Free j) Tail (b_below m h k b j t s s' kinds l l' x) ∙ ap (λ n. Free n) (sym w.1)))
+ended-from m h k b j t s s' kinds l l' x g i (inl w) =
     let ne : g ≢ b = λ e. w.1 (omega arith) (omega (arith, pow_pos j)) in
     let out : (g < b) ⊎ (b + 2 ^ j ≤ g) = elim (cases_lt g b) [
       | inl lt ↦ inl lt
@@ -110,121 +110,121 @@ ended-from h k b j t s s' kinds l l' x g i (inl w) =
     ] in
     starts-from (set s' b (Free j)) g i (get_or-set_other s' b g (Free j) Tail ne ∙ x.joining.others g out ∙ starts-to s g i w.0)
 
-pub ended_cover : (h k b j : ℕ) (t : MigrateType) (s s' : List State) (kinds : List MigrateType) (l l' : List (List ℕ)) → IsEnded h k b j t s s' kinds l l' →
-    (IsNormal largest_order (Starts (blocks_of (set s' b (Free j)))) (In (cover (blocks_of (set s' b (Free j)))))) × (cover (blocks_of (set s' b (Free j))) ≡ with_run (cover (blocks_of s)) h k)
-ended_cover h k b j t s s' kinds l l' x =
+pub ended_cover : (m h k b j : ℕ) (t : MigrateType) (s s' : List State) (kinds : List MigrateType) (l l' : List (List ℕ)) → IsEnded m h k b j t s s' kinds l l' →
+    (IsNormal m (Starts (blocks_of (set s' b (Free j)))) (In (cover (blocks_of (set s' b (Free j)))))) × (cover (blocks_of (set s' b (Free j))) ≡ with_run (cover (blocks_of s)) h k)
+ended_cover m h k b j t s s' kinds l l' x =
     let ls : length (blocks_of s) ≡ length s = length-map s free_order in
     let a : h + 2 ^ k ≤ length s = x.back.inside in
-    cover-join (blocks_of s) (blocks_of (set s' b (Free j))) h k b j x.back.sound.normal (omega arith) (grown h k b j t s s' kinds l l' x)
+    cover-join m (blocks_of s) (blocks_of (set s' b (Free j))) h k b j x.back.sound.normal (omega arith) (grown m h k b j t s s' kinds l l' x)
     (length-map (set s' b (Free j)) free_order ∙ length-set s' b (Free j) ∙ x.joining.pages ∙ sym ls)
-    (ended-to h k b j t s s' kinds l l' x) (ended-from h k b j t s s' kinds l l' x)
+    (ended-to m h k b j t s s' kinds l l' x) (ended-from m h k b j t s s' kinds l l' x)
 
-pub record ListEnded (s2 : List State) (kinds : List MigrateType) (l l2 : List (List ℕ)) (r : ℕ) : Type 0 where
-  pub settles : settled (cover (blocks_of s2)) kinds r (list_at l r) ≡ list_at l2 r
-  pub listed : IsListed (blocks_of s2) kinds r (list_at l2 r)
+pub record ListEnded (m : ℕ) (s2 : List State) (kinds : List MigrateType) (l l2 : List (List ℕ)) (r : ℕ) : Type 0 where
+  pub settles : settled m (cover (blocks_of s2)) kinds r (list_at l r) ≡ list_at l2 r
+  pub listed : IsListed m (blocks_of s2) kinds r (list_at l2 r)
 
-pub ended_list : (h k b j : ℕ) (t : MigrateType) (s s' : List State) (kinds : List MigrateType) (l l' : List (List ℕ)) → IsEnded h k b j t s s' kinds l l' →
-    (r : ℕ) → r < lists_count → ListEnded (set s' b (Free j)) kinds l (set l' (list_number j t) (b ∷ list_at l' (list_number j t))) r
-ended_list h k b j t s s' kinds l l' x r below =
+pub ended_list : (m h k b j : ℕ) (t : MigrateType) (s s' : List State) (kinds : List MigrateType) (l l' : List (List ℕ)) → IsEnded m h k b j t s s' kinds l l' →
+    (r : ℕ) → r < lists_count m → ListEnded m (set s' b (Free j)) kinds l (set l' (list_number j t) (b ∷ list_at l' (list_number j t))) r
+ended_list m h k b j t s s' kinds l l' x r below =
     let s2 : List State = set s' b (Free j) in
     let v : List ℕ = b ∷ list_at l' (list_number j t) in
     let l2 : List (List ℕ) = set l' (list_number j t) v in
-    let n : IsNormal largest_order (Starts (blocks_of s2)) (In (cover (blocks_of s2))) = (ended_cover h k b j t s s' kinds l l' x).0 in
+    let n : IsNormal m (Starts (blocks_of s2)) (In (cover (blocks_of s2))) = (ended_cover m h k b j t s s' kinds l l' x).0 in
     let xs : List ℕ = list_at l r in
-    let ys : List ℕ = filter (outside b j) xs in
-    let old : IsListed (blocks_of s) kinds r xs = x.back.sound.listed r below in
+    let ys : List ℕ = filter (is_outside b j) xs in
+    let old : IsListed m (blocks_of s) kinds r xs = x.back.sound.listed r below in
     let bt : type_number t < 3 = type_below t in
-    let hi : (b ≤ h) × (h < b + 2 ^ j) × (b % 2 ^ j ≡ 0) = head_in h k b j t s s' kinds l l' x in
+    let hi : (b ≤ h) × (h < b + 2 ^ j) × (b % 2 ^ j ≡ 0) = head_in m h k b j t s s' kinds l l' x in
     let pos : 0 < 2 ^ j = pow_pos j in
-    let kb : kind_at kinds h ≡ kind_at kinds b = kind_inside kinds b j h hi.2 x.joining.order hi.0 hi.1 in
+    let kb : kind_at m kinds h ≡ kind_at m kinds b = kind_inside m kinds b j h hi.2 x.joining.order hi.0 hi.1 in
     let rest : list_at l' r ≡ ys = x.joining.listed r below in
     -- a head that stood on the list before isn't the run's
     let fresh : (g : ℕ) → stands_in g xs ≡ true → (g ≡ b) × (r / types_count ≡ j) → ⊥ = λ g e same.
     let P : ℕ → Type 0 = λ q. Starts (blocks_of s) q (r / types_count) in
     let Q : ℕ → Type 0 = λ q. Starts (blocks_of s) b q in
-    not_before h k b j t s s' kinds l l' x (subst Q same.1 (subst P same.0 (old.to g e).0)) in
-    let out : (g : ℕ) → (b ≤ g → g < b + 2 ^ j → ⊥) → outside b j g ≡ true = λ g f.
+    not_before m h k b j t s s' kinds l l' x (subst Q same.1 (subst P same.0 (old.to g e).0)) in
+    let out : (g : ℕ) → (b ≤ g → g < b + 2 ^ j → ⊥) → is_outside b j g ≡ true = λ g f.
     outside-from b j g (elim (cases_lt g b) [ inl lt ↦ inl lt | inr ge ↦ elim (cases_lt g (b + 2 ^ j)) [ inl lt ↦ absurd (f ge lt) | inr past ↦ inr past ] ]) in
-    let not_out : (g : ℕ) → outside b j g ≡ true → b ≤ g → g < b + 2 ^ j → ⊥ = λ g e p q.
+    let not_out : (g : ℕ) → is_outside b j g ≡ true → b ≤ g → g < b + 2 ^ j → ⊥ = λ g e p q.
     elim (outside-to b j g e) [ inl u ↦ omega arith | inr u ↦ omega arith ] in
-    let stays : (g : ℕ) → stands_in g xs ≡ true → outside b j g ≡ true → Here (blocks_of s2) kinds r g = λ g e o.
-    let w : Here (blocks_of s) kinds r g = old.to g e in
-    (ended-from h k b j t s s' kinds l l' x g (r / types_count) (inl (w.0, not_out g o)), w.1) in
-    let kept : filter (belongs (cover (blocks_of s2)) kinds r) xs ≡ ys =
-    filter_same (belongs (cover (blocks_of s2)) kinds r) (outside b j) xs (λ g e.
+    let stays : (g : ℕ) → stands_in g xs ≡ true → is_outside b j g ≡ true → Here m (blocks_of s2) kinds r g = λ g e o.
+    let w : Here m (blocks_of s) kinds r g = old.to g e in
+    (ended-from m h k b j t s s' kinds l l' x g (r / types_count) (inl (w.0, not_out g o)), w.1) in
+    let kept : filter (belongs m (cover (blocks_of s2)) kinds r) xs ≡ ys =
+    filter_same (belongs m (cover (blocks_of s2)) kinds r) (is_outside b j) xs (λ g e.
     same_tests _ _
-    (λ f. let w : Here (blocks_of s2) kinds r g = belongs-to (blocks_of s2) kinds r g n f in
-    elim (ended-to h k b j t s s' kinds l l' x g (r / types_count) w.0) [ inl u ↦ out g u.1 | inr u ↦ absurd (fresh g e u) ])
-    (λ f. belongs-from (blocks_of s2) kinds r g n (stays g e f))) in
-    let dys : IsDistinct (λ x y. x == y) ys = distinct_filter (outside b j) xs old.distinct in
+    (λ f. let w : Here m (blocks_of s2) kinds r g = belongs-to m (blocks_of s2) kinds r g n f in
+    elim (ended-to m h k b j t s s' kinds l l' x g (r / types_count) w.0) [ inl u ↦ out g u.1 | inr u ↦ absurd (fresh g e u) ])
+    (λ f. belongs-from m (blocks_of s2) kinds r g n (stays g e f))) in
+    let dys : IsDistinct (λ x y. x == y) ys = distinct_filter (is_outside b j) xs old.distinct in
     elim (cases_eq r (list_number j t)) [
       | inl same ↦
           let rj : r ≡ 3 * j + type_number t = same in
           let dj : r / types_count ≡ j = omega arith in
-          let m : r % types_count ≡ type_number t = omega arith in
+          let d : r % types_count ≡ type_number t = omega arith in
           let tb : length l' ≡ length l = x.joining.table in
-          let tl : lists_count ≤ length l = x.back.sound.table in
+          let tl : lists_count m ≤ length l = x.back.sound.table in
           let P : ℕ → Type 0 = λ q. list_at l2 q ≡ b ∷ list_at l' q in
           let e : list_at l2 r ≡ b ∷ list_at l' r = subst P (sym same) (get_or-set_same l' (list_number j t) v [] (omega arith)) in
           let eh : list_at l2 r ≡ b ∷ ys = e ∙ ap (λ q. b ∷ q) rest in
           let new : stands_in b xs ≡ true → ⊥ = λ f. fresh b f (refl, dj) in
-          let here : Here (blocks_of s2) kinds r b =
-          (ended-from h k b j t s s' kinds l l' x b (r / types_count) (inr (refl, dj)), ap type_number (sym kb ∙ x.kind) ∙ sym m) in
-          let Q : List ℕ → Type 0 = λ q. IsListed (blocks_of s2) kinds r q in
-          let cases : (g : ℕ) → Here (blocks_of s2) kinds r g → (g ≡ b) ⊎ ((stands_in g xs ≡ true) × (outside b j g ≡ true)) = λ g w.
-          elim (ended-to h k b j t s s' kinds l l' x g (r / types_count) w.0) [
+          let here : Here m (blocks_of s2) kinds r b =
+          (ended-from m h k b j t s s' kinds l l' x b (r / types_count) (inr (refl, dj)), ap type_number (sym kb ∙ x.kind) ∙ sym d) in
+          let Q : List ℕ → Type 0 = λ q. IsListed m (blocks_of s2) kinds r q in
+          let cases : (g : ℕ) → Here m (blocks_of s2) kinds r g → (g ≡ b) ⊎ ((stands_in g xs ≡ true) × (is_outside b j g ≡ true)) = λ g w.
+          elim (ended-to m h k b j t s s' kinds l l' x g (r / types_count) w.0) [
             | inl u ↦ inr (old.from g (u.0, w.1), out g u.1)
             | inr u ↦ inl u.0
           ] in
           record {
-            settles = settled_new (blocks_of s2) kinds r b xs ys n kept here new (λ g w. elim (cases g w) [ inl q ↦ inl q | inr q ↦ inr q.0 ]) ∙ sym eh;
+            settles = settled_new m (blocks_of s2) kinds r b xs ys n kept here new (λ g w. elim (cases g w) [ inl q ↦ inl q | inr q ↦ inr q.0 ]) ∙ sym eh;
             listed = subst Q (sym eh) (record {
-              distinct = distinct_more b ys dys (λ f. new (stands_filter-to (outside b j) b xs f).0);
+              distinct = distinct_more b ys dys (λ f. new (stands_filter-to (is_outside b j) b xs f).0);
               to = λ g f. elim (stands_cases g b ys f) [
-                | inl q ↦ let R : ℕ → Type 0 = λ a. Here (blocks_of s2) kinds r a in subst R (sym q) here
-                | inr q ↦ let a = stands_filter-to (outside b j) g xs q in stays g a.0 a.1
+                | inl q ↦ let R : ℕ → Type 0 = λ a. Here m (blocks_of s2) kinds r a in subst R (sym q) here
+                | inr q ↦ let a = stands_filter-to (is_outside b j) g xs q in stays g a.0 a.1
               ];
               from = λ g w. elim (cases g w) [
                 | inl q ↦ let R : ℕ → Type 0 = λ a. stands_in a (b ∷ ys) ≡ true in subst R (sym q) (stands_first b ys)
-                | inr q ↦ stands_later g b ys (stands_filter-from (outside b j) g xs q.0 q.1)
+                | inr q ↦ stands_later g b ys (stands_filter-from (is_outside b j) g xs q.0 q.1)
               ];
             });
           }
       | inr other ↦
           let e : list_at l2 r ≡ list_at l' r = get_or-set_other l' (list_number j t) r v [] other in
           let eh : list_at l2 r ≡ ys = e ∙ rest in
-          let Q : List ℕ → Type 0 = λ q. IsListed (blocks_of s2) kinds r q in
-          let cases : (g : ℕ) → Here (blocks_of s2) kinds r g → (stands_in g xs ≡ true) × (outside b j g ≡ true) = λ g w.
-          elim (ended-to h k b j t s s' kinds l l' x g (r / types_count) w.0) [
+          let Q : List ℕ → Type 0 = λ q. IsListed m (blocks_of s2) kinds r q in
+          let cases : (g : ℕ) → Here m (blocks_of s2) kinds r g → (stands_in g xs ≡ true) × (is_outside b j g ≡ true) = λ g w.
+          elim (ended-to m h k b j t s s' kinds l l' x g (r / types_count) w.0) [
             | inl u ↦ (old.from g (u.0, w.1), out g u.1)
             | inr u ↦
                 let dj : r / types_count ≡ j = u.1 in
-                let m : type_number t ≡ r % types_count = ap type_number (sym x.kind ∙ kb) ∙ ap (λ q. type_number (kind_at kinds q)) (sym u.0) ∙ w.1 in
+                let d : type_number t ≡ r % types_count = ap type_number (sym x.kind ∙ kb) ∙ ap (λ q. type_number (kind_at m kinds q)) (sym u.0) ∙ w.1 in
                 let e3 : r ≡ 3 * j + type_number t = omega arith in
                 absurd (other e3)
           ] in
           record {
-            settles = settled_kept (blocks_of s2) kinds r xs ys n kept (λ g w. (cases g w).0) ∙ sym eh;
+            settles = settled_kept m (blocks_of s2) kinds r xs ys n kept (λ g w. (cases g w).0) ∙ sym eh;
             listed = subst Q (sym eh) (record {
               distinct = dys;
-              to = λ g f. let a = stands_filter-to (outside b j) g xs f in stays g a.0 a.1;
-              from = λ g w. let q = cases g w in stands_filter-from (outside b j) g xs q.0 q.1;
+              to = λ g f. let a = stands_filter-to (is_outside b j) g xs f in stays g a.0 a.1;
+              from = λ g w. let q = cases g w in stands_filter-from (is_outside b j) g xs q.0 q.1;
             });
           }
     ]
 
 -- a list past the free ones stays
-pub ended_aside : (h k b j : ℕ) (t : MigrateType) (s s' : List State) (kinds : List MigrateType) (l l' : List (List ℕ)) → IsEnded h k b j t s s' kinds l l' →
-    (r : ℕ) → lists_count ≤ r → list_at (set l' (list_number j t) (b ∷ list_at l' (list_number j t))) r ≡ list_at l r
-ended_aside h k b j t s s' kinds l l' x r ge =
-    let below : list_number j t < lists_count = row_below j t x.joining.order in
+pub ended_aside : (m h k b j : ℕ) (t : MigrateType) (s s' : List State) (kinds : List MigrateType) (l l' : List (List ℕ)) → IsEnded m h k b j t s s' kinds l l' →
+    (r : ℕ) → lists_count m ≤ r → list_at (set l' (list_number j t) (b ∷ list_at l' (list_number j t))) r ≡ list_at l r
+ended_aside m h k b j t s s' kinds l l' x r ge =
+    let below : list_number j t < lists_count m = row_below m j t x.joining.order in
     let ne : r ≢ list_number j t = omega arith in
     get_or-set_other l' (list_number j t) r _ [] ne ∙ x.joining.sides r ge
 
 -- no page that is free now is on a list past the free ones
-clear_aside : (h k : ℕ) (s : List State) (kinds : List MigrateType) (l : List (List ℕ)) → IsBack h k s kinds l → (r p : ℕ) → lists_count ≤ r →
+clear_aside : (m h k : ℕ) (s : List State) (kinds : List MigrateType) (l : List (List ℕ)) → IsBack m h k s kinds l → (r p : ℕ) → lists_count m ≤ r →
     IsOn l r p → In (with_run (cover (blocks_of s)) h k) p → ⊥
-clear_aside h k s kinds l x r p ge on u =
+clear_aside m h k s kinds l x r p ge on u =
     let lt : p < length (with_run (cover (blocks_of s)) h k) = has_below (with_run (cover (blocks_of s)) h k) p u in
     let n : length (with_run (cover (blocks_of s)) h k) ≡ length (cover (blocks_of s)) = length-with (cover (blocks_of s)) h k in
     elim ((with-decides (cover (blocks_of s)) h k p (omega arith)).0 u) [
@@ -232,47 +232,47 @@ clear_aside h k s kinds l x r p ge on u =
       | inr run ↦ x.aside r p ge run.0 run.1 on
     ]
 
-pub ended_sound : (h k b j : ℕ) (t : MigrateType) (s s' : List State) (kinds : List MigrateType) (l l' : List (List ℕ)) → IsEnded h k b j t s s' kinds l l' →
-    IsSound (set s' b (Free j)) kinds (set l' (list_number j t) (b ∷ list_at l' (list_number j t)))
-ended_sound h k b j t s s' kinds l l' x =
+pub ended_sound : (m h k b j : ℕ) (t : MigrateType) (s s' : List State) (kinds : List MigrateType) (l l' : List (List ℕ)) → IsEnded m h k b j t s s' kinds l l' →
+    IsSound m (set s' b (Free j)) kinds (set l' (list_number j t) (b ∷ list_at l' (list_number j t)))
+ended_sound m h k b j t s s' kinds l l' x =
     let ls : length (set s' b (Free j)) ≡ length s = length-set s' b (Free j) ∙ x.joining.pages in
     let ll : length (set l' (list_number j t) (b ∷ list_at l' (list_number j t))) ≡ length l = length-set l' (list_number j t) _ ∙ x.joining.table in
     record {
       pages = let a : length s ≤ 65536 = x.back.sound.pages in omega arith;
-      table = let a : lists_count ≤ length l = x.back.sound.table in omega arith;
-      normal = (ended_cover h k b j t s s' kinds l l' x).0;
-      listed = λ r lt. (ended_list h k b j t s s' kinds l l' x r lt).listed;
+      table = let a : lists_count m ≤ length l = x.back.sound.table in omega arith;
+      normal = (ended_cover m h k b j t s s' kinds l l' x).0;
+      listed = λ r lt. (ended_list m h k b j t s s' kinds l l' x r lt).listed;
       aside = λ r p ge on u.
           let P : List ℕ → Type 0 = λ q. stands_in p q ≡ true in
           let Q : List Bool → Type 0 = λ q. In q p in
-          clear_aside h k s kinds l x.back r p ge (subst P (ended_aside h k b j t s s' kinds l l' x r ge) on)
-          (subst Q (ended_cover h k b j t s s' kinds l l' x).1 u);
+          clear_aside m h k s kinds l x.back r p ge (subst P (ended_aside m h k b j t s s' kinds l l' x r ge) on)
+          (subst Q (ended_cover m h k b j t s s' kinds l l' x).1 u);
     }
 
-pub ended_area : (h k b j : ℕ) (t : MigrateType) (s s' : List State) (kinds : List MigrateType) (l l' : List (List ℕ)) → IsEnded h k b j t s s' kinds l l' →
-    area_of (set s' b (Free j)) kinds (set l' (list_number j t) (b ∷ list_at l' (list_number j t))) ≡ give (area_of s kinds l) h k
+pub ended_area : (m h k b j : ℕ) (t : MigrateType) (s s' : List State) (kinds : List MigrateType) (l l' : List (List ℕ)) → IsEnded m h k b j t s s' kinds l l' →
+    area_of m (set s' b (Free j)) kinds (set l' (list_number j t) (b ∷ list_at l' (list_number j t))) ≡ give (area_of m s kinds l) h k
 unfolding give settle
-ended_area h k b j t s s' kinds l l' x =
+ended_area m h k b j t s s' kinds l l' x =
     let s2 : List State = set s' b (Free j) in
     let l2 : List (List ℕ) = set l' (list_number j t) (b ∷ list_at l' (list_number j t)) in
-    let c : cover (blocks_of s2) ≡ with_run (cover (blocks_of s)) h k = (ended_cover h k b j t s s' kinds l l' x).1 in
-    let f : ℕ → List ℕ = λ r. settled (with_run (cover (blocks_of s)) h k) kinds r (list_at (take lists_count l) r) in
-    let each : (r : ℕ) → r < lists_count → list_at l2 r ≡ f r = λ r lt.
-    sym (ended_list h k b j t s s' kinds l l' x r lt).settles
-    ∙ ap (λ q. settled q kinds r (list_at l r)) c
-    ∙ ap (λ q. settled (with_run (cover (blocks_of s)) h k) kinds r q) (sym (get_or-take lists_count l r [] lt)) in
-    let len : lists_count ≤ length l2 = (ended_sound h k b j t s s' kinds l l' x).table in
-    areas _ _ kinds _ _ c (free_lists l2 f len each)
+    let c : cover (blocks_of s2) ≡ with_run (cover (blocks_of s)) h k = (ended_cover m h k b j t s s' kinds l l' x).1 in
+    let f : ℕ → List ℕ = λ r. settled m (with_run (cover (blocks_of s)) h k) kinds r (list_at (take (lists_count m) l) r) in
+    let each : (r : ℕ) → r < lists_count m → list_at l2 r ≡ f r = λ r lt.
+    sym (ended_list m h k b j t s s' kinds l l' x r lt).settles
+    ∙ ap (λ q. settled m q kinds r (list_at l r)) c
+    ∙ ap (λ q. settled m (with_run (cover (blocks_of s)) h k) kinds r q) (sym (get_or-take (lists_count m) l r [] lt)) in
+    let len : lists_count m ≤ length l2 = (ended_sound m h k b j t s s' kinds l l' x).table in
+    areas m _ _ kinds _ _ c (free_lists m l2 f len each)
 
 -- the head of the joined block stands on no list before it is put on its own
-pub ended_loose : (h k b j : ℕ) (s s' : List State) (kinds : List MigrateType) (l l' : List (List ℕ)) → IsBack h k s kinds l → IsJoining h k b j s s' l l' →
+pub ended_loose : (m h k b j : ℕ) (s s' : List State) (kinds : List MigrateType) (l l' : List (List ℕ)) → IsBack m h k s kinds l → IsJoining m h k b j s s' l l' →
     IsLoose l' b
-ended_loose h k b j s s' kinds l l' x z r =
+ended_loose m h k b j s s' kinds l l' x z r =
     let pos : 0 < 2 ^ j = pow_pos j in
-    false_from_ne_true _ (λ on. elim (cases_lt r lists_count) [
+    false_from_ne_true _ (λ on. elim (cases_lt r (lists_count m)) [
       | inl below ↦
           let P : List ℕ → Type 0 = λ q. stands_in b q ≡ true in
-          let o : outside b j b ≡ true = (stands_filter-to (outside b j) b (list_at l r) (subst P (z.listed r below) on)).1 in
+          let o : is_outside b j b ≡ true = (stands_filter-to (is_outside b j) b (list_at l r) (subst P (z.listed r below) on)).1 in
           elim (outside-to b j b o) [ inl lt ↦ omega arith | inr ge ↦ omega arith ]
       | inr ge ↦
           let P : List ℕ → Type 0 = λ q. stands_in b q ≡ true in

@@ -9,7 +9,7 @@ use Rattle.zp_model.specs.declared.migrate_type.MigrateType.{MigrateType}
 use Rattle.zp_model.specs.declared.state.State.{State}
 use Rattle.zp_model.specs.declared.state.State.TheVariants.{Tail, Free}
 use Rattle.zp_model.specs.declared.constants.TheConstants.{MAX_PAGES}
-use Rattle.zp_model.specs.Block.{largest_order, head, in_run}
+use Rattle.zp_model.specs.Block.{head, in_run}
 use Rattle.zp_model.specs.MigrateType.{type_number, types_count}
 use Rattle.zp_model.specs.Rows.{Rows, list_at, state_at, stands_in, IsOn, without_page, with_list, with_state}
 use Rattle.zp_model.specs.Area.{list_number, lists_count, kind_at}
@@ -29,32 +29,32 @@ use Rattle.zp_frames.proofs.Counting.{same_tests}
 use Rattle.zp_frames.proofs.Filters.{filter_same, filter_twice, stands_filter-from}
 
 -- whether a head stands outside the run (b, j)
-abbrev pub outside : ℕ → ℕ → ℕ → Bool
-outside b j x = not (in_run b j x)
+abbrev pub is_outside : ℕ → ℕ → ℕ → Bool
+is_outside b j x = not (in_run b j x)
 
 -- the run (h, k) has grown to (b, j): no state of that run says free, and the heads in it are gone from the lists
-pub record IsJoining (h k b j : ℕ) (s s' : List State) (l l' : List (List ℕ)) : Type 0 where
+pub record IsJoining (m h k b j : ℕ) (s s' : List State) (l l' : List (List ℕ)) : Type 0 where
   pub up : k ≤ j
-  pub order : j ≤ largest_order
+  pub order : j ≤ m
   pub at : b ≡ head h j
   pub filled : Filled (Joined (In (cover (blocks_of s))) h k) b j
   pub within : (g : ℕ) → b ≤ g → g < b + 2 ^ j → state_at s' g ≡ restate None (state_at s g)
   pub others : (g : ℕ) → (g < b) ⊎ (b + 2 ^ j ≤ g) → state_at s' g ≡ state_at s g
-  pub listed : (r : ℕ) → r < lists_count → list_at l' r ≡ filter (outside b j) (list_at l r)
-  pub sides : (r : ℕ) → lists_count ≤ r → list_at l' r ≡ list_at l r
+  pub listed : (r : ℕ) → r < lists_count m → list_at l' r ≡ filter (is_outside b j) (list_at l r)
+  pub sides : (r : ℕ) → lists_count m ≤ r → list_at l' r ≡ list_at l r
   pub pages : length s' ≡ length s
   pub table : length l' ≡ length l
 
 -- what is known of the run that comes back
-pub record IsBack (h k : ℕ) (s : List State) (kinds : List MigrateType) (l : List (List ℕ)) : Type 0 where
-  pub sound : IsSound s kinds l
+pub record IsBack (m h k : ℕ) (s : List State) (kinds : List MigrateType) (l : List (List ℕ)) : Type 0 where
+  pub sound : IsSound m s kinds l
   pub aligned : h % 2 ^ k ≡ 0
-  pub order : k ≤ largest_order
+  pub order : k ≤ m
   pub inside : h + 2 ^ k ≤ length s
   pub clear : (i : ℕ) → h ≤ i → i < h + 2 ^ k → In (cover (blocks_of s)) i → ⊥
-  pub aside : (r i : ℕ) → lists_count ≤ r → h ≤ i → i < h + 2 ^ k → IsOn l r i → ⊥
+  pub aside : (r i : ℕ) → lists_count m ≤ r → h ≤ i → i < h + 2 ^ k → IsOn l r i → ⊥
 
-pub outside-to : (b j x : ℕ) → outside b j x ≡ true → (x < b) ⊎ (b + 2 ^ j ≤ x)
+pub outside-to : (b j x : ℕ) → is_outside b j x ≡ true → (x < b) ⊎ (b + 2 ^ j ≤ x)
 outside-to b j x e =
     elim (cases_lt x b) [
       | inl lt ↦ inl lt
@@ -65,7 +65,7 @@ outside-to b j x e =
           ]
     ]
 
-pub outside-from : (b j x : ℕ) → (x < b) ⊎ (b + 2 ^ j ≤ x) → outside b j x ≡ true
+pub outside-from : (b j x : ℕ) → (x < b) ⊎ (b + 2 ^ j ≤ x) → is_outside b j x ≡ true
 outside-from b j x w =
     rw (false_from_ne_true (in_run b j x) (λ e.
     let a = and_parts _ _ e in
@@ -74,23 +74,23 @@ outside-from b j x w =
     elim w [ inl lt ↦ omega arith | inr ge ↦ omega arith ])) refl
 
 -- the head of a block of the set is a page of it
-pub start_in : (h k : ℕ) (s : List State) (kinds : List MigrateType) (l : List (List ℕ)) → IsSound s kinds l → (g i : ℕ) → Starts (blocks_of s) g i → In (cover (blocks_of s)) g
-start_in h k s kinds l x g i w = x.normal.inside g i w g (omega arith) (omega (arith, pow_pos i))
+pub start_in : (m h k : ℕ) (s : List State) (kinds : List MigrateType) (l : List (List ℕ)) → IsSound m s kinds l → (g i : ℕ) → Starts (blocks_of s) g i → In (cover (blocks_of s)) g
+start_in m h k s kinds l x g i w = x.normal.inside g i w g (omega arith) (omega (arith, pow_pos i))
 
-pub joining_none : (h k : ℕ) (s : List State) (kinds : List MigrateType) (l : List (List ℕ)) → IsBack h k s kinds l → IsJoining h k h k s s l l
-joining_none h k s kinds l x = record {
+pub joining_none : (m h k : ℕ) (s : List State) (kinds : List MigrateType) (l : List (List ℕ)) → IsBack m h k s kinds l → IsJoining m h k h k s s l l
+joining_none m h k s kinds l x = record {
   up = omega arith;
   order = x.order;
   at = sym (head_self h k x.aligned);
   filled = λ i a b. inr (a, b);
-  within = λ g a b. restate_same (state_at s g) (λ i e. x.clear g a b (start_in h k s kinds l x.sound g i (starts-from s g i e)));
+  within = λ g a b. restate_same (state_at s g) (λ i e. x.clear g a b (start_in m h k s kinds l x.sound g i (starts-from s g i e)));
   others = λ g w. refl;
-  listed = λ r lt. sym (filter_all (outside h k) (list_at l r) (λ g e.
-      let w : Here (blocks_of s) kinds r g = (x.sound.listed r lt).to g e in
+  listed = λ r lt. sym (filter_all (is_outside h k) (list_at l r) (λ g e.
+      let w : Here m (blocks_of s) kinds r g = (x.sound.listed r lt).to g e in
       outside-from h k g (elim (cases_lt g h) [
         | inl below ↦ inl below
         | inr ge ↦ elim (cases_lt g (h + 2 ^ k)) [
-          | inl b ↦ absurd (x.clear g ge b (start_in h k s kinds l x.sound g (r / types_count) w.0))
+          | inl b ↦ absurd (x.clear g ge b (start_in m h k s kinds l x.sound g (r / types_count) w.0))
           | inr past ↦ inr past
         ]
       ])));
@@ -137,17 +137,17 @@ in_halves b j c d y =
     ]
 
 -- the buddy's block, as the states before had it
-buddy_starts : (h k b j c d : ℕ) (s s' : List State) (kinds : List MigrateType) (l l' : List (List ℕ)) → IsBack h k s kinds l → IsJoining h k b j s s' l l' → IsBuddy b j c d →
+buddy_starts : (m h k b j c d : ℕ) (s s' : List State) (kinds : List MigrateType) (l l' : List (List ℕ)) → IsBack m h k s kinds l → IsJoining m h k b j s s' l l' → IsBuddy b j c d →
     state_at s' c ≡ Free j → Starts (blocks_of s) c j
-buddy_starts h k b j c d s s' kinds l l' x z y e =
+buddy_starts m h k b j c d s s' kinds l l' x z y e =
     starts-from s c j (sym (z.others c (apart_halves b j c d y c (omega arith) (omega (arith, pow_pos j)))) ∙ e)
 
 -- what stays past the double is what stays past the run and isn't the buddy
-outside_both : (b j c d x : ℕ) → IsBuddy b j c d → (c ≤ x → x < c + 2 ^ j → x ≡ c) → (outside b j x && not (x == c)) ≡ outside d (j + 1) x
+outside_both : (b j c d x : ℕ) → IsBuddy b j c d → (c ≤ x → x < c + 2 ^ j → x ≡ c) → (is_outside b j x && not (x == c)) ≡ is_outside d (j + 1) x
 outside_both b j c d x y only =
     let hs : (d ≤ b) × (b + 2 ^ j ≤ d + 2 ^ (j + 1)) × (d ≤ c) × (c + 2 ^ j ≤ d + 2 ^ (j + 1)) = in_halves b j c d y in
     let pos : 0 < 2 ^ j = pow_pos j in
-    same_tests (outside b j x && not (x == c)) (outside d (j + 1) x)
+    same_tests (is_outside b j x && not (x == c)) (is_outside d (j + 1) x)
     (λ e.
     let a = and_parts _ _ e in
     outside-from d (j + 1) x (elim (cases_lt x d) [
@@ -165,7 +165,7 @@ outside_both b j c d x y only =
     let o = past_double b j c d y x w in
     and_from _ _ (outside-from b j x o.0) (rw (false_from_ne_true (x == c) (λ f. let g : x ≡ c = eqb-true x c f in elim w [ inl u ↦ omega arith | inr u ↦ omega arith ])) refl))
 
-outside_one : (b j c d x : ℕ) → IsBuddy b j c d → (c ≤ x → x < c + 2 ^ j → ⊥) → outside b j x ≡ outside d (j + 1) x
+outside_one : (b j c d x : ℕ) → IsBuddy b j c d → (c ≤ x → x < c + 2 ^ j → ⊥) → is_outside b j x ≡ is_outside d (j + 1) x
 outside_one b j c d x y none =
     same_tests _ _
     (λ e.
@@ -181,22 +181,22 @@ outside_one b j c d x y none =
     ]))
     (λ e. outside-from b j x (past_double b j c d y x (outside-to d (j + 1) x e)).0)
 
-pub joining_more : (h k b j c d : ℕ) (t : MigrateType) (s s' : List State) (kinds : List MigrateType) (l l' : List (List ℕ)) →
-    IsBack h k s kinds l → kind_at kinds h ≡ t → IsJoining h k b j s s' l l' → IsBuddy b j c d → j < largest_order → state_at s' c ≡ Free j →
-    IsJoining h k d (j + 1) s (set s' c Tail) l (set l' (list_number j t) (without_page c (list_at l' (list_number j t))))
-joining_more h k b j c d t s s' kinds l l' x kt z y lt e =
-    let w : Starts (blocks_of s) c j = buddy_starts h k b j c d s s' kinds l l' x z y e in
+pub joining_more : (m h k b j c d : ℕ) (t : MigrateType) (s s' : List State) (kinds : List MigrateType) (l l' : List (List ℕ)) →
+    IsBack m h k s kinds l → kind_at m kinds h ≡ t → IsJoining m h k b j s s' l l' → IsBuddy b j c d → j < m → state_at s' c ≡ Free j →
+    IsJoining m h k d (j + 1) s (set s' c Tail) l (set l' (list_number j t) (without_page c (list_at l' (list_number j t))))
+joining_more m h k b j c d t s s' kinds l l' x kt z y lt e =
+    let w : Starts (blocks_of s) c j = buddy_starts m h k b j c d s s' kinds l l' x z y e in
     let bt : type_number t < 3 = type_below t in
     let hs : (d ≤ b) × (b + 2 ^ j ≤ d + 2 ^ (j + 1)) × (d ≤ c) × (c + 2 ^ j ≤ d + 2 ^ (j + 1)) = in_halves b j c d y in
     let pos : 0 < 2 ^ j = pow_pos j in
-    let ord : j ≤ largest_order = z.order in
+    let ord : j ≤ m = z.order in
     let atb : b ≡ head h j = z.at in
     let h1 : head h j ≤ h = head_le h j in
     let h2 : h < head h j + 2 ^ j = lt_head h j in
     let atd : head h (j + 1) ≡ d = head_of d h (j + 1) y.double (omega arith) (omega arith) in
     let up : k ≤ j = z.up in
     let len : length l' ≡ length l = z.table in
-    let tab : lists_count ≤ length l = x.sound.table in
+    let tab : lists_count m ≤ length l = x.sound.table in
     let v : List ℕ = without_page c (list_at l' (list_number j t)) in
     -- another head in the buddy's run is the buddy
     let only : (g i : ℕ) → Starts (blocks_of s) g i → c ≤ g → g < c + 2 ^ j → (g ≡ c) × (i ≡ j) = λ g i u p q.
@@ -227,7 +227,7 @@ joining_more h k b j c d t s s' kinds l l' x kt z y lt e =
           let ne : g ≢ c = λ same. elim o.1 [ inl a ↦ omega arith | inr a ↦ omega arith ] in
           get_or-set_other s' c g Tail Tail ne ∙ z.others g o.0;
       listed = λ r below.
-          let old : IsListed (blocks_of s) kinds r (list_at l r) = x.sound.listed r below in
+          let old : IsListed m (blocks_of s) kinds r (list_at l r) = x.sound.listed r below in
           elim (cases_eq r (list_number j t)) [
             | inl same ↦
                 let rj : r ≡ 3 * j + type_number t = same in
@@ -237,24 +237,24 @@ joining_more h k b j c d t s s' kinds l l' x kt z y lt e =
                 subst P (sym same) (get_or-set_same l' (list_number j t) v [] (omega arith)) in
                 vr
                 ∙ ap (λ xs. filter (λ x. not (x == c)) xs) (z.listed r below)
-                ∙ filter_twice (λ x. not (x == c)) (outside b j) (list_at l r)
-                ∙ filter_same _ (outside d (j + 1)) (list_at l r) (λ g f.
+                ∙ filter_twice (λ x. not (x == c)) (is_outside b j) (list_at l r)
+                ∙ filter_same _ (is_outside d (j + 1)) (list_at l r) (λ g f.
                 outside_both b j c d g y (λ p q. (only g (r / types_count) (old.to g f).0 p q).0))
             | inr other ↦
                 get_or-set_other l' (list_number j t) r v [] other
                 ∙ z.listed r below
-                ∙ filter_same (outside b j) (outside d (j + 1)) (list_at l r) (λ g f.
+                ∙ filter_same (is_outside b j) (is_outside d (j + 1)) (list_at l r) (λ g f.
                 outside_one b j c d g y (λ p q.
-                let u : Here (blocks_of s) kinds r g = old.to g f in
+                let u : Here m (blocks_of s) kinds r g = old.to g f in
                 let on : (g ≡ c) × (r / types_count ≡ j) = only g (r / types_count) u.0 p q in
-                let kc : kind_at kinds g ≡ kind_at kinds d = kind_inside kinds d (j + 1) g y.double (omega arith) (omega arith) (omega arith) in
-                let kh : kind_at kinds h ≡ kind_at kinds d = kind_inside kinds d (j + 1) h y.double (omega arith) (omega arith) (omega arith) in
-                let m : type_number t ≡ r % types_count = ap type_number (sym kt ∙ kh ∙ sym kc) ∙ u.1 in
+                let kc : kind_at m kinds g ≡ kind_at m kinds d = kind_inside m kinds d (j + 1) g y.double (omega arith) (omega arith) (omega arith) in
+                let kh : kind_at m kinds h ≡ kind_at m kinds d = kind_inside m kinds d (j + 1) h y.double (omega arith) (omega arith) (omega arith) in
+                let typed : type_number t ≡ r % types_count = ap type_number (sym kt ∙ kh ∙ sym kc) ∙ u.1 in
                 let e3 : r ≡ 3 * j + type_number t = omega arith in
                 other e3))
           ];
       sides = λ r ge.
-          let bl : list_number j t < lists_count = row_below j t ord in
+          let bl : list_number j t < lists_count m = row_below m j t ord in
           let other : r ≢ list_number j t = omega arith in
           get_or-set_other l' (list_number j t) r v [] other ∙ z.sides r ge;
       pages = length-set s' c Tail ∙ z.pages;
@@ -268,27 +268,27 @@ joining_more h k b j c d t s s' kinds l l' x kt z y lt e =
     ]
 
 -- the free buddy stands on its list
-pub buddy_on : (h k b j c d : ℕ) (t : MigrateType) (s s' : List State) (kinds : List MigrateType) (l l' : List (List ℕ)) →
-    IsBack h k s kinds l → kind_at kinds h ≡ t → IsJoining h k b j s s' l l' → IsBuddy b j c d → j < largest_order → state_at s' c ≡ Free j →
+pub buddy_on : (m h k b j c d : ℕ) (t : MigrateType) (s s' : List State) (kinds : List MigrateType) (l l' : List (List ℕ)) →
+    IsBack m h k s kinds l → kind_at m kinds h ≡ t → IsJoining m h k b j s s' l l' → IsBuddy b j c d → j < m → state_at s' c ≡ Free j →
     IsOn l' (list_number j t) c
-buddy_on h k b j c d t s s' kinds l l' x kt z y lt e =
-    let w : Starts (blocks_of s) c j = buddy_starts h k b j c d s s' kinds l l' x z y e in
+buddy_on m h k b j c d t s s' kinds l l' x kt z y lt e =
+    let w : Starts (blocks_of s) c j = buddy_starts m h k b j c d s s' kinds l l' x z y e in
     let bt : type_number t < 3 = type_below t in
     let hs : (d ≤ b) × (b + 2 ^ j ≤ d + 2 ^ (j + 1)) × (d ≤ c) × (c + 2 ^ j ≤ d + 2 ^ (j + 1)) = in_halves b j c d y in
     let pos : 0 < 2 ^ j = pow_pos j in
     let atb : b ≡ head h j = z.at in
     let h1 : head h j ≤ h = head_le h j in
     let h2 : h < head h j + 2 ^ j = lt_head h j in
-    let kc : kind_at kinds c ≡ kind_at kinds d = kind_inside kinds d (j + 1) c y.double (omega arith) (omega arith) (omega arith) in
-    let kh : kind_at kinds h ≡ kind_at kinds d = kind_inside kinds d (j + 1) h y.double (omega arith) (omega arith) (omega arith) in
+    let kc : kind_at m kinds c ≡ kind_at m kinds d = kind_inside m kinds d (j + 1) c y.double (omega arith) (omega arith) (omega arith) in
+    let kh : kind_at m kinds h ≡ kind_at m kinds d = kind_inside m kinds d (j + 1) h y.double (omega arith) (omega arith) (omega arith) in
     let dj : list_number j t / types_count ≡ j = omega arith in
     let mj : list_number j t % types_count ≡ type_number t = omega arith in
-    let below : list_number j t < lists_count = row_below j t z.order in
+    let below : list_number j t < lists_count m = row_below m j t z.order in
     let P : ℕ → Type 0 = λ n. Starts (blocks_of s) c n in
     let Q : List ℕ → Type 0 = λ xs. stands_in c xs ≡ true in
-    let here : Here (blocks_of s) kinds (list_number j t) c = (subst P (sym dj) w, ap type_number (kc ∙ sym kh ∙ kt) ∙ sym mj) in
+    let here : Here m (blocks_of s) kinds (list_number j t) c = (subst P (sym dj) w, ap type_number (kc ∙ sym kh ∙ kt) ∙ sym mj) in
     subst Q (sym (z.listed (list_number j t) below))
-    (stands_filter-from (outside b j) c (list_at l (list_number j t)) ((x.sound.listed (list_number j t) below).from c here)
+    (stands_filter-from (is_outside b j) c (list_at l (list_number j t)) ((x.sound.listed (list_number j t) below).from c here)
     (outside-from b j c (apart_halves b j c d y c (omega arith) (omega arith))))
 
 pub buddy_low : (b j : ℕ) → b % 2 ^ (j + 1) ≡ 0 → IsBuddy b j (b + 2 ^ j) b
@@ -330,8 +330,8 @@ buddy_unique b j c d e f x y =
     ]
 
 -- the buddy of a page that a zone can have is one too
-pub buddy_below : (b j n : ℕ) → n ≡ 2 ^ j → j < largest_order → b < MAX_PAGES → b % (2 * n) ≡ 0 → b + n < MAX_PAGES
-buddy_below b j n e lt le al =
+pub buddy_below : (m b j n : ℕ) → m ≤ 16 → n ≡ 2 ^ j → j < m → b < MAX_PAGES → b % (2 * n) ≡ 0 → b + n < MAX_PAGES
+buddy_below m b j n top e lt le al =
     let t : 2 ^ (j + 1) ≡ 2 ^ j + 2 ^ j = two j in
     let f : 2 * n ≡ 2 ^ (j + 1) = omega arith in
     let r : b + 2 ^ (j + 1) ≤ head b 16 + 2 ^ 16 = head_room b (j + 1) 16 (omega arith) (sym (ap (λ q. b % q) f) ∙ al) in
@@ -370,15 +370,15 @@ pub record IsReckoned (b j n c : ℕ) : Type 0 where
   pub buddy : c ≡ b + n - 2 * (b % (2 * n)) → IsBuddy b j c (min b c)
   pub below : b < MAX_PAGES → b + n - 2 * (b % (2 * n)) < MAX_PAGES
 
-pub reckoned : (b j n c : ℕ) → n ≡ 2 ^ j → j < largest_order → b % 2 ^ j ≡ 0 → IsReckoned b j n c
-reckoned b j n c e lt al =
+pub reckoned : (m b j n c : ℕ) → m ≤ 16 → n ≡ 2 ^ j → j < m → b % 2 ^ j ≡ 0 → IsReckoned b j n c
+reckoned m b j n c top e lt al =
     let both = buddy_at b j n e al in
     let P : ℕ → Type 0 = λ q. IsBuddy b j q (min b q) in
     elim (half_off b j n e al) [
       | inl low ↦ record {
         within = omega arith;
         buddy = λ is. let same : b + n ≡ c = omega arith in subst P same (both.0 low);
-        below = λ fits. let r : b + n < MAX_PAGES = buddy_below b j n e lt fits low in omega arith;
+        below = λ fits. let r : b + n < MAX_PAGES = buddy_below m b j n top e lt fits low in omega arith;
       }
       | inr high ↦ record {
         within = omega (arith, high.1, high.2);
@@ -388,9 +388,9 @@ reckoned b j n c e lt al =
     ]
 
 -- where the run stands while it grows
-pub joining_place : (h k b j : ℕ) (s s' : List State) (kinds : List MigrateType) (l l' : List (List ℕ)) → IsBack h k s kinds l → IsJoining h k b j s s' l l' →
-    (b % 2 ^ j ≡ 0) × (b < length s) × (j ≤ largest_order)
-joining_place h k b j s s' kinds l l' x z =
+pub joining_place : (m h k b j : ℕ) (s s' : List State) (kinds : List MigrateType) (l l' : List (List ℕ)) → IsBack m h k s kinds l → IsJoining m h k b j s s' l l' →
+    (b % 2 ^ j ≡ 0) × (b < length s) × (j ≤ m)
+joining_place m h k b j s s' kinds l l' x z =
     let e : b ≡ head h j = z.at in
     let lo : head h j ≤ h = head_le h j in
     let a : h + 2 ^ k ≤ length s = x.inside in
@@ -398,15 +398,15 @@ joining_place h k b j s s' kinds l l' x z =
     (subst P (sym e) (head_aligned h j), omega (arith, pow_pos k), z.order)
 
 -- in the words of the code: the buddy leaves its list, and is noted as a tail
-pub joining_step : (h k b j c d n r : ℕ) (t : MigrateType) (s : List State) (kinds : List MigrateType) (l : List (List ℕ)) (w v u : Rows) →
-    IsBack h k s kinds l → kind_at kinds h ≡ t → IsJoining h k b j s w.states l w.lists → IsBuddy b j c d → j < largest_order → state_at w.states c ≡ Free j →
+pub joining_step : (m h k b j c d n r : ℕ) (t : MigrateType) (s : List State) (kinds : List MigrateType) (l : List (List ℕ)) (w v u : Rows) →
+    IsBack m h k s kinds l → kind_at m kinds h ≡ t → IsJoining m h k b j s w.states l w.lists → IsBuddy b j c d → j < m → state_at w.states c ≡ Free j →
     n ≡ j + 1 → r ≡ list_number j t → v ≡ with_list w r (without_page c (list_at w.lists r)) → u ≡ with_state v c Tail →
-    IsJoining h k d n s u.states l u.lists
-joining_step h k b j c d n r t s kinds l w v u x kt z y lt e en er ev eu =
+    IsJoining m h k d n s u.states l u.lists
+joining_step m h k b j c d n r t s kinds l w v u x kt z y lt e en er ev eu =
     let f : u ≡ record { lists = set w.lists (list_number j t) (without_page c (list_at w.lists (list_number j t))); states = set w.states c Tail } =
     eu
     ∙ ap (λ q. with_state q c Tail) ev
-    ∙ ap (λ q. let m : Rows = record { lists = set w.lists q (without_page c (list_at w.lists q)); states = set w.states c Tail } in m) er in
-    let P : Rows → Type 0 = λ q. IsJoining h k d n s q.states l q.lists in
-    let Q : ℕ → Type 0 = λ q. IsJoining h k d q s (set w.states c Tail) l (set w.lists (list_number j t) (without_page c (list_at w.lists (list_number j t)))) in
-    subst P (sym f) (subst Q (sym en) (joining_more h k b j c d t s w.states kinds l w.lists x kt z y lt e))
+    ∙ ap (λ q. let g : Rows = record { lists = set w.lists q (without_page c (list_at w.lists q)); states = set w.states c Tail } in g) er in
+    let P : Rows → Type 0 = λ q. IsJoining m h k d n s q.states l q.lists in
+    let Q : ℕ → Type 0 = λ q. IsJoining m h k d q s (set w.states c Tail) l (set w.lists (list_number j t) (without_page c (list_at w.lists (list_number j t)))) in
+    subst P (sym f) (subst Q (sym en) (joining_more m h k b j c d t s w.states kinds l w.lists x kt z y lt e))

@@ -6,7 +6,7 @@ use Rattle.std.proofs.Math.Bool.{and-true}
 use Rattle.zp_model.specs.declared.state.State.{State}
 use Rattle.zp_model.specs.declared.state.State.TheVariants.{Tail, Free}
 use Rattle.zp_model.specs.declared.constants.TheConstants.{MAX_PAGES}
-use Rattle.zp_model.specs.Block.{largest_order, size}
+use Rattle.zp_model.specs.Block.{size}
 use Rattle.zp_model.specs.BlockSet.{Starts, cover}
 use Rattle.zp_model.specs.Rows.{list_at, state_at, stands_in}
 use Rattle.zp_model.specs.Area.{lists_count, belongs, settled, settle, opening, falling}
@@ -32,8 +32,8 @@ use Rattle.std.proofs.lemmas.Nat.{pow_pos}
 use Rattle.std.specs.List.{count_by}
 
 -- the free blocks are the maximal blocks of all pages
-blocks-to : (n : ℕ) (s : List State) (l : List (List ℕ)) → IsOpenedTo n n s l → (g k : ℕ) → Starts (blocks_of s) g k → Max largest_order (all_pages n) g k
-blocks-to n s l x g k e =
+blocks-to : (m n : ℕ) (s : List State) (l : List (List ℕ)) → IsOpenedTo m n n s l → (g k : ℕ) → Starts (blocks_of s) g k → Max m (all_pages n) g k
+blocks-to m n s l x g k e =
     let f : state_at s g ≡ Free k = starts-to s g k e in
     elim (cases_lt g n) [
       | inl lt ↦ (x.heads g k lt).1 f
@@ -43,50 +43,50 @@ blocks-to n s l x g k e =
     not_free : (k : ℕ) → Tail ≡ Free k → ⊥
     not_free k e = cc
 
-blocks-from : (n : ℕ) (s : List State) (l : List (List ℕ)) → IsOpenedTo n n s l → (g k : ℕ) → Max largest_order (all_pages n) g k → Starts (blocks_of s) g k
-blocks-from n s l x g k e =
-    let lt : g < n = all_below n g ((is_max-to largest_order (all_pages n) g k e).inside g (omega arith) (omega (arith, pow_pos k))) in
+blocks-from : (m n : ℕ) (s : List State) (l : List (List ℕ)) → IsOpenedTo m n n s l → (g k : ℕ) → Max m (all_pages n) g k → Starts (blocks_of s) g k
+blocks-from m n s l x g k e =
+    let lt : g < n = all_below n g ((is_max-to m (all_pages n) g k e).inside g (omega arith) (omega (arith, pow_pos k))) in
     starts-from s g k ((x.heads g k lt).0 e)
 
-pub opened_cover : (n : ℕ) (s : List State) (l : List (List ℕ)) → IsOpenedTo n n s l →
-    (IsNormal largest_order (Starts (blocks_of s)) (In (cover (blocks_of s)))) × (cover (blocks_of s) ≡ all_pages n)
-opened_cover n s l x =
+pub opened_cover : (m n : ℕ) (s : List State) (l : List (List ℕ)) → IsOpenedTo m n n s l →
+    (IsNormal m (Starts (blocks_of s)) (In (cover (blocks_of s)))) × (cover (blocks_of s) ≡ all_pages n)
+opened_cover m n s l x =
     let ls : length (blocks_of s) ≡ n = length-map s free_order ∙ x.pages in
-    let c = normal_cover (blocks_of s) (Max largest_order (all_pages n)) (In (all_pages n)) (max-normal largest_order (all_pages n))
-    (blocks-to n s l x) (blocks-from n s l x) (λ i v. let lt : i < n = all_below n i v in omega arith) in
+    let c = normal_cover m (blocks_of s) (Max m (all_pages n)) (In (all_pages n)) (max-normal m (all_pages n))
+    (blocks-to m n s l x) (blocks-from m n s l x) (λ i v. let lt : i < n = all_below n i v in omega arith) in
     (c.0, same_pages (cover (blocks_of s)) (all_pages n) (length-cover (blocks_of s) ∙ ls ∙ sym (length-replicate n true)) c.1 c.2)
 
-opened_listed : (n : ℕ) (s : List State) (l : List (List ℕ)) → IsOpenedTo n n s l → (r : ℕ) → r < lists_count → IsListed (blocks_of s) (all_movable n) r (list_at l r)
-opened_listed n s l x r lt =
-    let c = opened_cover n s l x in
-    let P : List ℕ → Type 0 = λ q. IsListed (blocks_of s) (all_movable n) r q in
-    let p : ℕ → Bool = belongs (all_pages n) (all_movable n) r in
-    let same : (g : ℕ) → belongs (cover (blocks_of s)) (all_movable n) r g ≡ p g = λ g. ap (λ u. belongs u (all_movable n) r g) c.1 in
+opened_listed : (m n : ℕ) (s : List State) (l : List (List ℕ)) → IsOpenedTo m n n s l → (r : ℕ) → r < lists_count m → IsListed m (blocks_of s) (all_movable m n) r (list_at l r)
+opened_listed m n s l x r lt =
+    let c = opened_cover m n s l x in
+    let P : List ℕ → Type 0 = λ q. IsListed m (blocks_of s) (all_movable m n) r q in
+    let p : ℕ → Bool = belongs m (all_pages n) (all_movable m n) r in
+    let same : (g : ℕ) → belongs m (cover (blocks_of s)) (all_movable m n) r g ≡ p g = λ g. ap (λ u. belongs m u (all_movable m n) r g) c.1 in
     let len : length (all_pages n) ≡ n = length-replicate n true in
     subst P (sym (x.listed r lt)) (record {
       distinct = distinct_filter p (falling n) (distinct-falling n);
-      to = λ g e. belongs-to (blocks_of s) (all_movable n) r g c.0 (same g ∙ (stands_filter-to p g (falling n) e).1);
+      to = λ g e. belongs-to m (blocks_of s) (all_movable m n) r g c.0 (same g ∙ (stands_filter-to p g (falling n) e).1);
       from = λ g w.
-          let b : p g ≡ true = sym (same g) ∙ belongs-from (blocks_of s) (all_movable n) r g c.0 w in
-          let below : g < length (all_pages n) = belongs_below (all_pages n) (all_movable n) r g b in
+          let b : p g ≡ true = sym (same g) ∙ belongs-from m (blocks_of s) (all_movable m n) r g c.0 w in
+          let below : g < length (all_pages n) = belongs_below m (all_pages n) (all_movable m n) r g b in
           stands_filter-from p g (falling n) (stands-falling g n ∙ lt-ltb g n (omega arith)) b;
     })
 
-pub opened_sound : (n : ℕ) (s : List State) (l : List (List ℕ)) → IsOpenedTo n n s l → n ≤ MAX_PAGES → lists_count ≤ length l → IsSound s (all_movable n) l
-opened_sound n s l x le tl = record {
+pub opened_sound : (m n : ℕ) (s : List State) (l : List (List ℕ)) → IsOpenedTo m n n s l → n ≤ MAX_PAGES → lists_count m ≤ length l → IsSound m s (all_movable m n) l
+opened_sound m n s l x le tl = record {
   pages = let p : length s ≡ n = x.pages in omega arith;
   table = tl;
-  normal = (opened_cover n s l x).0;
-  listed = opened_listed n s l x;
+  normal = (opened_cover m n s l x).0;
+  listed = opened_listed m n s l x;
   aside = λ r p ge on u. let P : List ℕ → Type 0 = λ q. stands_in p q ≡ true in false≢true (subst P (x.aside r ge) on);
 }
 
-settled_fresh : (n r : ℕ) → settled (all_pages n) (all_movable n) r [] ≡ filter (belongs (all_pages n) (all_movable n) r) (falling n)
+settled_fresh : (m n r : ℕ) → settled m (all_pages n) (all_movable m n) r [] ≡ filter (belongs m (all_pages n) (all_movable m n) r) (falling n)
 unfolding settled
-settled_fresh n r =
+settled_fresh m n r =
     append-nil _
-    ∙ filter_same (λ h. belongs (all_pages n) (all_movable n) r h && not (stands_in h [])) (belongs (all_pages n) (all_movable n) r) (falling (length (all_pages n))) (λ h e. and-true _)
-    ∙ ap (λ m. filter (belongs (all_pages n) (all_movable n) r) (falling m)) (length-replicate n true)
+    ∙ filter_same (λ h. belongs m (all_pages n) (all_movable m n) r h && not (stands_in h [])) (belongs m (all_pages n) (all_movable m n) r) (falling (length (all_pages n))) (λ h e. and-true _)
+    ∙ ap (λ d. filter (belongs m (all_pages n) (all_movable m n) r) (falling d)) (length-replicate n true)
 
 empty_at : (count r : ℕ) → list_at (replicate count []) r ≡ []
 empty_at count r = elim (cases_lt r count) [
@@ -94,16 +94,16 @@ empty_at count r = elim (cases_lt r count) [
   | inr ge ↦ get_or_past (replicate count []) r [] (let e : length (replicate {A = List ℕ} count []) ≡ count = length-replicate count [] in omega arith)
 ]
 
-opened_area : (n : ℕ) (s : List State) (l : List (List ℕ)) → IsOpenedTo n n s l → lists_count ≤ length l → area_of s (all_movable n) l ≡ opening n
+opened_area : (m n : ℕ) (s : List State) (l : List (List ℕ)) → IsOpenedTo m n n s l → lists_count m ≤ length l → area_of m s (all_movable m n) l ≡ opening m n
 unfolding opening settle
-opened_area n s l x tl =
-    areas _ _ (all_movable n) _ _ (opened_cover n s l x).1
-    (free_lists l (λ r. settled (all_pages n) (all_movable n) r (list_at (replicate lists_count []) r)) tl
-    (λ r lt. x.listed r lt ∙ sym (settled_fresh n r) ∙ ap (λ q. settled (all_pages n) (all_movable n) r q) (sym (empty_at lists_count r))))
+opened_area m n s l x tl =
+    areas m _ _ (all_movable m n) _ _ (opened_cover m n s l x).1
+    (free_lists m l (λ r. settled m (all_pages n) (all_movable m n) r (list_at (replicate (lists_count m) []) r)) tl
+    (λ r lt. x.listed r lt ∙ sym (settled_fresh m n r) ∙ ap (λ q. settled m (all_pages n) (all_movable m n) r q) (sym (empty_at (lists_count m) r))))
 
-pub opened_frames : (n side : ℕ) (s : List State) (l : List (List ℕ)) → IsOpenedTo n n s l → length l ≡ lists_count + side → frames_of s (all_movable n) l ≡ frames_opening n side
-opened_frames n side s l x len =
-    let c = opened_cover n s l x in
+pub opened_frames : (m n side : ℕ) (s : List State) (l : List (List ℕ)) → IsOpenedTo m n n s l → length l ≡ lists_count m + side → frames_of m s (all_movable m n) l ≡ frames_opening m n side
+opened_frames m n side s l x len =
+    let c = opened_cover m n s l x in
     let tails : (g : ℕ) → state_at (replicate n Tail) g ≡ Tail = λ g. elim (cases_lt g n) [
       | inl lt ↦ get_or-replicate n g Tail Tail lt
       | inr ge ↦ get_or_past (replicate n Tail) g Tail (let e : length (replicate n Tail) ≡ n = length-replicate n Tail in omega arith)
@@ -112,12 +112,12 @@ opened_frames n side s l x len =
       | inl y ↦ inl y
       | inr y ↦ inr (y ∙ sym (ap (λ q. restate None q) (tails g)))
     ] in
-    let ld : length (drop lists_count l) ≡ length l - lists_count = length-drop lists_count l in
+    let ld : length (drop (lists_count m) l) ≡ length l - lists_count m = length-drop (lists_count m) l in
     let lr : length (replicate {A = List ℕ} side []) ≡ side = length-replicate side [] in
-    frames _ _ _ _ _ _ (opened_area n s l x (omega arith))
-    (restated_from (replicate n Tail) s c.0 (x.pages ∙ sym (length-replicate n Tail)) each ∙ ap (λ u. restated u (replicate n Tail)) c.1)
-    (ext_get_or [] (drop lists_count l) (replicate side []) (omega arith)
-    (λ i lt. get_or-drop lists_count l i [] ∙ x.aside (lists_count + i) (omega arith) ∙ sym (empty_at side i)))
+    frames _ _ _ _ _ _ (opened_area m n s l x (omega arith))
+    (restated_from m (replicate n Tail) s c.0 (x.pages ∙ sym (length-replicate n Tail)) each ∙ ap (λ u. restated m u (replicate n Tail)) c.1)
+    (ext_get_or [] (drop (lists_count m) l) (replicate side []) (omega arith)
+    (λ i lt. get_or-drop (lists_count m) l i [] ∙ x.aside (lists_count m + i) (omega arith) ∙ sym (empty_at side i)))
 
 count-true : (n : ℕ) → count_by (λ b. b) (replicate n true) ≡ n
 count-true zero = refl
@@ -130,5 +130,5 @@ size-all : (n : ℕ) → size (all_pages n) ≡ n
 unfolding size
 size-all n = count-true n
 
-pub opened_counted : (n : ℕ) (s : List State) (l : List (List ℕ)) → IsOpenedTo n n s l → n ≡ size (cover (blocks_of s))
-opened_counted n s l x = sym (ap size (opened_cover n s l x).1 ∙ size-all n)
+pub opened_counted : (m n : ℕ) (s : List State) (l : List (List ℕ)) → IsOpenedTo m n n s l → n ≡ size (cover (blocks_of s))
+opened_counted m n s l x = sym (ap size (opened_cover m n s l x).1 ∙ size-all n)

@@ -7,7 +7,7 @@ use Rattle.std.proofs.lemmas.List.{length-map, ext_get_or, get_or-drop, length-d
 use Rattle.std.proofs.lemmas.List.FromFn.{get_or-map-range_with_len, fill_by_all}
 use Rattle.zp_model.specs.declared.state.State.{State}
 use Rattle.zp_model.specs.declared.state.State.TheVariants.{Tail, Free, Out, Posted}
-use Rattle.zp_model.specs.Block.{largest_order, is_max}
+use Rattle.zp_model.specs.Block.{is_max}
 use Rattle.zp_model.specs.BlockSet.{Starts, cover, max_blocks, orders_from}
 use Rattle.zp_model.specs.Rows.{state_at, list_at}
 use Rattle.zp_model.specs.Area.{lists_count}
@@ -37,23 +37,23 @@ find_only p a (suc n) k le lt e f =
           rw pa (find_only p (a + 1) n k (omega arith) (omega arith) e f)
     ]
 
-pub one_order : (u : List Bool) (h k j : ℕ) → is_max largest_order u h k ≡ true → is_max largest_order u h j ≡ true → j ≡ k
-one_order u h k j a b =
-    (maximal-apart largest_order (In u) h j h k h (is_max-to largest_order u h j b) (is_max-to largest_order u h k a)
+pub one_order : (m : ℕ) (u : List Bool) (h k j : ℕ) → is_max m u h k ≡ true → is_max m u h j ≡ true → j ≡ k
+one_order m u h k j a b =
+    (maximal-apart m (In u) h j h k h (is_max-to m u h j b) (is_max-to m u h k a)
     (omega arith) (omega (arith, pow_pos j)) (omega arith) (omega (arith, pow_pos k))).1
 
-pub max_block_some : (u : List Bool) (h k : ℕ) → h < length u → is_max largest_order u h k ≡ true → get_or (max_blocks u) h None ≡ Some k
+pub max_block_some : (m : ℕ) (u : List Bool) (h k : ℕ) → h < length u → is_max m u h k ≡ true → get_or (max_blocks m u) h None ≡ Some k
 unfolding max_blocks
-max_block_some u h k lt e =
-    let le : k ≤ largest_order = (is_max-to largest_order u h k e).order in
-    get_or-map-range_with_len (λ h. find (is_max largest_order u h) (orders_from 0)) 0 (length u) h h None lt (omega arith)
-    ∙ find_only (is_max largest_order u h) 0 (largest_order + 1) k (omega arith) (omega arith) e (λ i f. one_order u h k i e f)
+max_block_some m u h k lt e =
+    let le : k ≤ m = (is_max-to m u h k e).order in
+    get_or-map-range_with_len (λ h. find (is_max m u h) (orders_from m 0)) 0 (length u) h h None lt (omega arith)
+    ∙ find_only (is_max m u h) 0 (m + 1 - 0) k (omega arith) (omega arith) e (λ i f. one_order m u h k i e f)
 
-pub max_block_none : (u : List Bool) (h : ℕ) → h < length u → ((k : ℕ) → is_max largest_order u h k ≡ false) → get_or (max_blocks u) h None ≡ None
+pub max_block_none : (m : ℕ) (u : List Bool) (h : ℕ) → h < length u → ((k : ℕ) → is_max m u h k ≡ false) → get_or (max_blocks m u) h None ≡ None
 unfolding max_blocks
-max_block_none u h lt f =
-    get_or-map-range_with_len (λ h. find (is_max largest_order u h) (orders_from 0)) 0 (length u) h h None lt (omega arith)
-    ∙ find_none (is_max largest_order u h) 0 (largest_order + 1) f
+max_block_none m u h lt f =
+    get_or-map-range_with_len (λ h. find (is_max m u h) (orders_from m 0)) 0 (length u) h h None lt (omega arith)
+    ∙ find_none (is_max m u h) 0 (m + 1 - 0) f
 
 pub restate_not_free : (s : State) (k : ℕ) → restate None s ≡ Free k → ⊥
 restate_not_free Tail k e = cc
@@ -78,30 +78,30 @@ free_or_same (Posted j t w) = inr refl
 abbrev pub IsRestated : List State → List State → Type 0
 IsRestated s s2 = (g : ℕ) → ((k : ℕ) × (state_at s2 g ≡ Free k)) ⊎ (state_at s2 g ≡ restate None (state_at s g))
 
-pub restated_from : (s s2 : List State) → IsNormal largest_order (Starts (blocks_of s2)) (In (cover (blocks_of s2))) → length s2 ≡ length s →
-    IsRestated s s2 → s2 ≡ restated (cover (blocks_of s2)) s
+pub restated_from : (m : ℕ) (s s2 : List State) → IsNormal m (Starts (blocks_of s2)) (In (cover (blocks_of s2))) → length s2 ≡ length s →
+    IsRestated s s2 → s2 ≡ restated m (cover (blocks_of s2)) s
 unfolding restated
-restated_from s s2 n len each =
-    fill_by_all (λ h. restate (get_or (max_blocks (cover (blocks_of s2))) h None) (state_at s h)) s2 (length s) Tail len
+restated_from m s s2 n len each =
+    fill_by_all (λ h. restate (get_or (max_blocks m (cover (blocks_of s2))) h None) (state_at s h)) s2 (length s) Tail len
     (λ g lt.
     let lc : length (cover (blocks_of s2)) ≡ length s2 = length-cover (blocks_of s2) ∙ length-map s2 free_order in
     elim (each g) [
       | inl y ↦
-          let m : is_max largest_order (cover (blocks_of s2)) g y.0 ≡ true =
-          (max-unique largest_order (Starts (blocks_of s2)) (cover (blocks_of s2)) n g y.0).0 (starts-from s2 g y.0 y.1) in
-          y.1 ∙ ap (λ o. restate o (state_at s g)) (sym (max_block_some (cover (blocks_of s2)) g y.0 (omega arith) m))
+          let d : is_max m (cover (blocks_of s2)) g y.0 ≡ true =
+          (max-unique m (Starts (blocks_of s2)) (cover (blocks_of s2)) n g y.0).0 (starts-from s2 g y.0 y.1) in
+          y.1 ∙ ap (λ o. restate o (state_at s g)) (sym (max_block_some m (cover (blocks_of s2)) g y.0 (omega arith) d))
       | inr y ↦
-          let none : (k : ℕ) → is_max largest_order (cover (blocks_of s2)) g k ≡ false = λ k. false_from_ne_true _ (λ e.
-          let st : Starts (blocks_of s2) g k = (max-unique largest_order (Starts (blocks_of s2)) (cover (blocks_of s2)) n g k).1 e in
+          let none : (k : ℕ) → is_max m (cover (blocks_of s2)) g k ≡ false = λ k. false_from_ne_true _ (λ e.
+          let st : Starts (blocks_of s2) g k = (max-unique m (Starts (blocks_of s2)) (cover (blocks_of s2)) n g k).1 e in
           restate_not_free (state_at s g) k (sym y ∙ starts-to s2 g k st)) in
-          y ∙ ap (λ o. restate o (state_at s g)) (sym (max_block_none (cover (blocks_of s2)) g (omega arith) none))
+          y ∙ ap (λ o. restate o (state_at s g)) (sym (max_block_none m (cover (blocks_of s2)) g (omega arith) none))
     ])
 
 -- the further lists stay where each of them stays
-pub sides_same : (l l' : List (List ℕ)) → length l' ≡ length l → ((r : ℕ) → lists_count ≤ r → list_at l' r ≡ list_at l r) →
-    drop lists_count l' ≡ drop lists_count l
-sides_same l l' len f =
-    let a : length (drop lists_count l') ≡ length l' - lists_count = length-drop lists_count l' in
-    let b : length (drop lists_count l) ≡ length l - lists_count = length-drop lists_count l in
-    ext_get_or [] (drop lists_count l') (drop lists_count l) (omega arith)
-    (λ i lt. get_or-drop lists_count l' i [] ∙ f (lists_count + i) (omega arith) ∙ sym (get_or-drop lists_count l i []))
+pub sides_same : (m : ℕ) (l l' : List (List ℕ)) → length l' ≡ length l → ((r : ℕ) → lists_count m ≤ r → list_at l' r ≡ list_at l r) →
+    drop (lists_count m) l' ≡ drop (lists_count m) l
+sides_same m l l' len f =
+    let a : length (drop (lists_count m) l') ≡ length l' - lists_count m = length-drop (lists_count m) l' in
+    let b : length (drop (lists_count m) l) ≡ length l - lists_count m = length-drop (lists_count m) l in
+    ext_get_or [] (drop (lists_count m) l') (drop (lists_count m) l) (omega arith)
+    (λ i lt. get_or-drop (lists_count m) l' i [] ∙ f (lists_count m + i) (omega arith) ∙ sym (get_or-drop (lists_count m) l i []))

@@ -5,8 +5,8 @@ use Rattle.zp_model.specs.BlockSet.{cover}
 use Rattle.zp_model.specs.Area.{pageblocks_of, size_in}
 use Rattle.zp_frames.specs.Sound.{blocks_of}
 
-pub record IsCounted (states : List State) (free_in : List ℕ) : Type 0 where
+pub record IsCounted (m : ℕ) (states : List State) (free_in : List ℕ) : Type 0 where
   -- there is a number for each pageblock
-  pub blocks : length free_in ≡ pageblocks_of (length states)
+  pub blocks : length free_in ≡ pageblocks_of m (length states)
   -- it is that of the free pages there
-  pub each : (b : ℕ) → slice_index free_in b ≡ size_in (cover (blocks_of states)) b
+  pub each : (b : ℕ) → slice_index free_in b ≡ size_in m (cover (blocks_of states)) b

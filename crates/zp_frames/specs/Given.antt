@@ -8,9 +8,9 @@ use Rattle.zp_model.specs.Area.{lists_count}
 use Rattle.zp_frames.specs.Sound.{blocks_of}
 
 -- page i is not free, and on no list past the free ones
-abbrev pub IsClearPage : List State → List (List ℕ) → ℕ → Type 0
-IsClearPage states lists i = (has (cover (blocks_of states)) i ≡ false) × ((r : ℕ) → stands_in i (list_at (drop lists_count lists) r) ≡ false)
+abbrev pub IsClearPage : ℕ → List State → List (List ℕ) → ℕ → Type 0
+IsClearPage m states lists i = (has (cover (blocks_of states)) i ≡ false) × ((r : ℕ) → stands_in i (list_at (drop (lists_count m) lists) r) ≡ false)
 
 -- that of each page of a run
-abbrev pub IsClearRun : List State → List (List ℕ) → ℕ → ℕ → Type 0
-IsClearRun states lists h k = (i : ℕ) → h ≤ i → i < h + 2 ^ k → IsClearPage states lists i
+abbrev pub IsClearRun : ℕ → List State → List (List ℕ) → ℕ → ℕ → Type 0
+IsClearRun m states lists h k = (i : ℕ) → h ≤ i → i < h + 2 ^ k → IsClearPage m states lists i

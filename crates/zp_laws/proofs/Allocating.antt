@@ -9,7 +9,7 @@ use Rattle.zp_model.specs.Mark.{passes}
 use Rattle.zp_model.specs.Zone.{PlainZone, workers_of}
 use Rattle.zp_model.specs.Step.{alloc, alloc_chosen, refuse}
 use Rattle.zp_model.specs.Lawful.{IsLawful}
-use Rattle.zp_laws.proofs.Areas.{free-taken, kinds-taken, lists-taken}
+use Rattle.zp_laws.proofs.Areas.{free-taken, largest-taken, kinds-taken, lists-taken}
 use Rattle.zp_laws.proofs.Choosing.{choose_found, found_block, found_free}
 use Rattle.zp_laws.proofs.Keeping.{goes_out}
 
@@ -17,8 +17,8 @@ chosen_lawful : (z : PlainZone) (w k : ℕ) (t : MigrateType) (o : Option Chosen
 chosen_lawful z w k t None e l lt = l
 chosen_lawful z w k t (Some c) e l lt =
     let f = choose_found z.area k t c l.lists e in
-    goes_out z (taken z.area k t (Some c)) c.head k t w l lt (found_block z.area.free k c.head f) (found_free z.area.free k c.head f)
-    (lists-taken z.area k t c l.lists) (free-taken z.area k t c) (kinds-taken z.area k t c)
+    goes_out z (taken z.area k t (Some c)) w c.head k t l lt (found_block z.area.largest z.area.free k c.head f) (found_free z.area.largest z.area.free k c.head f)
+    (lists-taken z.area k t c l.lists) (largest-taken z.area k t c) (free-taken z.area k t c) (kinds-taken z.area k t c)
 
 pub alloc_lawful : (z : PlainZone) (w k : ℕ) (t : MigrateType) (m : Mark) → IsLawful z → w < workers_of z → IsLawful (alloc z w k t m).zone
 unfolding alloc

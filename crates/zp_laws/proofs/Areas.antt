@@ -9,7 +9,7 @@ use Rattle.zp_model.specs.Area.{Area, pageblock_pages}
 use Rattle.zp_model.specs.Choose.{Chosen}
 use Rattle.zp_model.specs.Take.{leave, give, retype, taken}
 use Rattle.zp_model.specs.Lawful.{IsListedArea}
-use Rattle.zp_laws.proofs.Settling.{settle_lists, free-settle, kinds-settle}
+use Rattle.zp_laws.proofs.Settling.{settle_lists, free-settle, largest-settle, kinds-settle}
 
 pub has-without : (u : List Bool) (h k i : ℕ) → i < length u → has (without u h k) i ≡ (has u i && not (in_run h k i))
 unfolding without
@@ -18,6 +18,10 @@ has-without u h k i lt = get_or-map-range_with_len (λ i. has u i && not (in_run
 pub free-leave : (a : Area) (h k : ℕ) → (leave a h k).free ≡ without a.free h k
 unfolding leave
 free-leave a h k = free-settle (record a { free = without a.free h k })
+
+pub largest-leave : (a : Area) (h k : ℕ) → (leave a h k).largest ≡ a.largest
+unfolding leave
+largest-leave a h k = largest-settle (record a { free = without a.free h k })
 
 pub kinds-leave : (a : Area) (h k : ℕ) → (leave a h k).kinds ≡ a.kinds
 unfolding leave
@@ -31,6 +35,10 @@ pub free-give : (a : Area) (h k : ℕ) → (give a h k).free ≡ with_run a.free
 unfolding give
 free-give a h k = free-settle (record a { free = with_run a.free h k })
 
+pub largest-give : (a : Area) (h k : ℕ) → (give a h k).largest ≡ a.largest
+unfolding give
+largest-give a h k = largest-settle (record a { free = with_run a.free h k })
+
 pub kinds-give : (a : Area) (h k : ℕ) → (give a h k).kinds ≡ a.kinds
 unfolding give
 kinds-give a h k = kinds-settle (record a { free = with_run a.free h k })
@@ -42,6 +50,10 @@ lists-give a h k l = settle_lists (record a { free = with_run a.free h k }) l.di
 pub free-retype : (a : Area) (b : ℕ) (t : MigrateType) → (retype a b t).free ≡ a.free
 unfolding retype
 free-retype a b t = free-settle (record a { kinds = slice_set a.kinds b t })
+
+pub largest-retype : (a : Area) (b : ℕ) (t : MigrateType) → (retype a b t).largest ≡ a.largest
+unfolding retype
+largest-retype a b t = largest-settle (record a { kinds = slice_set a.kinds b t })
 
 pub kinds-retype : (a : Area) (b : ℕ) (t : MigrateType) → (retype a b t).kinds ≡ slice_set a.kinds b t
 unfolding retype
@@ -59,6 +71,10 @@ free-claimed : (a : Area) (b : ℕ) (t : MigrateType) (claims : Bool) → (claim
 free-claimed a b t true = free-retype a b t
 free-claimed a b t false = refl
 
+largest-claimed : (a : Area) (b : ℕ) (t : MigrateType) (claims : Bool) → (claimed a b t claims).largest ≡ a.largest
+largest-claimed a b t true = largest-retype a b t
+largest-claimed a b t false = refl
+
 kinds-claimed : (a : Area) (b : ℕ) (t : MigrateType) (claims : Bool) → length (claimed a b t claims).kinds ≡ length a.kinds
 kinds-claimed a b t true = ap length (kinds-retype a b t) ∙ length-set a.kinds b t
 kinds-claimed a b t false = refl
@@ -70,20 +86,26 @@ lists-claimed a b t false l = l
 pub free-taken : (a : Area) (k : ℕ) (t : MigrateType) (c : Chosen) → (taken a k t (Some c)).free ≡ without a.free c.head k
 unfolding taken
 free-taken a k t c =
-    free-leave (claimed a (c.head / pageblock_pages) t c.claims) c.head k
-    ∙ ap (λ (u : List Bool). without u c.head k) (free-claimed a (c.head / pageblock_pages) t c.claims)
+    free-leave (claimed a (c.head / pageblock_pages a.largest) t c.claims) c.head k
+    ∙ ap (λ (u : List Bool). without u c.head k) (free-claimed a (c.head / pageblock_pages a.largest) t c.claims)
+
+pub largest-taken : (a : Area) (k : ℕ) (t : MigrateType) (c : Chosen) → (taken a k t (Some c)).largest ≡ a.largest
+unfolding taken
+largest-taken a k t c =
+    largest-leave (claimed a (c.head / pageblock_pages a.largest) t c.claims) c.head k
+    ∙ largest-claimed a (c.head / pageblock_pages a.largest) t c.claims
 
 pub kinds-taken : (a : Area) (k : ℕ) (t : MigrateType) (c : Chosen) → length (taken a k t (Some c)).kinds ≡ length a.kinds
 unfolding taken
 kinds-taken a k t c =
-    ap length (kinds-leave (claimed a (c.head / pageblock_pages) t c.claims) c.head k) ∙ kinds-claimed a (c.head / pageblock_pages) t c.claims
+    ap length (kinds-leave (claimed a (c.head / pageblock_pages a.largest) t c.claims) c.head k) ∙ kinds-claimed a (c.head / pageblock_pages a.largest) t c.claims
 
 pub kinds-unclaimed : (a : Area) (k : ℕ) (t : MigrateType) (c : Chosen) → c.claims ≡ false → (taken a k t (Some c)).kinds ≡ a.kinds
 unfolding taken
 kinds-unclaimed a k t c e =
-    kinds-leave (claimed a (c.head / pageblock_pages) t c.claims) c.head k ∙ ap (λ b. (claimed a (c.head / pageblock_pages) t b).kinds) e
+    kinds-leave (claimed a (c.head / pageblock_pages a.largest) t c.claims) c.head k ∙ ap (λ b. (claimed a (c.head / pageblock_pages a.largest) t b).kinds) e
 
 pub lists-taken : (a : Area) (k : ℕ) (t : MigrateType) (c : Chosen) → IsListedArea a → IsListedArea (taken a k t (Some c))
 unfolding taken
 lists-taken a k t c l =
-    lists-leave (claimed a (c.head / pageblock_pages) t c.claims) c.head k (lists-claimed a (c.head / pageblock_pages) t c.claims l)
+    lists-leave (claimed a (c.head / pageblock_pages a.largest) t c.claims) c.head k (lists-claimed a (c.head / pageblock_pages a.largest) t c.claims l)

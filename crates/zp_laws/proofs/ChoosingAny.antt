@@ -7,11 +7,11 @@ use Rattle.std.proofs.lemmas.List.FromFn.{get_or-range_with_len, length-range_wi
 use Rattle.zp_model.specs.declared.migrate_type.MigrateType.{MigrateType}
 use Rattle.zp_model.specs.declared.migrate_type.MigrateType.TheVariants.{Unmovable, Reclaimable, Movable}
 use Rattle.zp_model.specs.MigrateType.{types_count, type_number, foreign}
-use Rattle.zp_model.specs.Block.{largest_order, is_max}
+use Rattle.zp_model.specs.Block.{is_max}
 use Rattle.zp_model.specs.BlockSet.{first_of, orders_from}
 use Rattle.zp_model.specs.Rows.{stands_in, front}
 use Rattle.zp_model.specs.Area.{Area, belongs, free_list, list_number, kind_at}
-use Rattle.zp_model.specs.Choose.{chosen, own, claim, borrow, choose}
+use Rattle.zp_model.specs.Choose.{chosen_at, own, claim, borrow, choose}
 use Rattle.zp_model.specs.Lawful.{IsListedArea}
 use Rattle.zp_model.proofs.Pages.{is_max-to}
 use Rattle.zp_laws.specs.Found.{IsFound}
@@ -31,7 +31,7 @@ front-none : (xs : List ℕ) (h : ℕ) → front xs ≡ None → stands_in h xs 
 front-none [] h e = refl
 front-none (x ∷ xs) h e = absurd (none-some x (sym e))
 
-chosen-none : (claims : Bool) (o : Option ℕ) → chosen claims o ≡ None → o ≡ None
+chosen-none : (claims : Bool) (o : Option ℕ) → chosen_at claims o ≡ None → o ≡ None
 chosen-none claims None e = refl
 chosen-none claims (Some h) e = absurd (none-some _ (sym e))
 
@@ -48,10 +48,10 @@ each_type P Movable Reclaimable p f = f 0 Movable (omega arith)
 each_type P Movable Movable p f = p
 
 -- what holds of each order from k on holds of each order between k and the largest
-each_order : (P : ℕ → Type 0) (k o : ℕ) → k ≤ o → o ≤ largest_order → All P (orders_from k) → P o
-each_order P k o up le all =
-    let n : length (orders_from k) ≡ largest_order + 1 - k = length-range_with_len k (largest_order + 1 - k) in
-    let e : get_or (orders_from k) (o - k) 0 ≡ k + (o - k) = get_or-range_with_len k (largest_order + 1 - k) (o - k) 0 (omega arith) in
+each_order : (m : ℕ) (P : ℕ → Type 0) (k o : ℕ) → k ≤ o → o ≤ m → All P (orders_from m k) → P o
+each_order m P k o up le all =
+    let n : length (orders_from m k) ≡ m + 1 - k = length-range_with_len k (m + 1 - k) in
+    let e : get_or (orders_from m k) (o - k) 0 ≡ k + (o - k) = get_or-range_with_len k (m + 1 - k) (o - k) 0 (omega arith) in
     let f : k + (o - k) ≡ o = omega arith in
     subst P (e ∙ f) (all (o - k) 0 (omega arith))
 
@@ -59,31 +59,31 @@ list_type : (o t : ℕ) → t < types_count → (types_count * o + t) % types_co
 list_type o t lt = omega arith
 
 -- a free block stands on the list of its order and its pageblock's type
-pub found_listed : (a : Area) (k h : ℕ) → IsListedArea a → (x : IsFound a.free k h) → stands_in h (free_list a x.order (kind_at a.kinds h)) ≡ true
+pub found_listed : (a : Area) (k h : ℕ) → IsListedArea a → (x : IsFound a.largest a.free k h) → stands_in h (free_list a x.order (kind_at a.largest a.kinds h)) ≡ true
 unfolding belongs
 found_listed a k h l x =
-    let s = kind_at a.kinds h in
-    let le : x.order ≤ largest_order = (is_max-to largest_order a.free h x.order x.maximal).order in
-    let P : ℕ → Type 0 = λ n. is_max largest_order a.free h n ≡ true in
-    let b : belongs a.free a.kinds (list_number x.order s) h ≡ true =
+    let s = kind_at a.largest a.kinds h in
+    let le : x.order ≤ a.largest = (is_max-to a.largest a.free h x.order x.maximal).order in
+    let P : ℕ → Type 0 = λ n. is_max a.largest a.free h n ≡ true in
+    let b : belongs a.largest a.free a.kinds (list_number x.order s) h ≡ true =
     and_from _ _ (subst P (sym (list_order x.order (type_number s) (number_below s))) x.maximal)
     (eq-eqb (type_number s) (list_number x.order s % types_count) (sym (list_type x.order (type_number s) (number_below s)))) in
-    l.held (list_number x.order s) h (list_below x.order (type_number s) le (number_below s)) ∙ b
+    l.held (list_number x.order s) h (list_below a.largest x.order (type_number s) le (number_below s)) ∙ b
 
 -- where none is chosen, no free block is large enough
-pub choose_none : (a : Area) (k : ℕ) (t : MigrateType) (h : ℕ) → IsListedArea a → choose a k t ≡ None → IsFound a.free k h → ⊥
+pub choose_none : (a : Area) (k : ℕ) (t : MigrateType) (h : ℕ) → IsListedArea a → choose a k t ≡ None → IsFound a.largest a.free k h → ⊥
 unfolding choose own borrow
 choose_none a k t h l e x =
-    let s = kind_at a.kinds h in
-    let c = or_None (chosen false (own a k t)) (option_or (chosen true (claim a k t)) (chosen false (borrow a k t))) e in
-    let d = or_None (chosen true (claim a k t)) (chosen false (borrow a k t)) c.1 in
-    let le : x.order ≤ largest_order = (is_max-to largest_order a.free h x.order x.maximal).order in
+    let s = kind_at a.largest a.kinds h in
+    let c = or_None (chosen_at false (own a k t)) (option_or (chosen_at true (claim a k t)) (chosen_at false (borrow a k t))) e in
+    let d = or_None (chosen_at true (claim a k t)) (chosen_at false (borrow a k t)) c.1 in
+    let le : x.order ≤ a.largest = (is_max-to a.largest a.free h x.order x.maximal).order in
     let mine : front (free_list a x.order t) ≡ None =
-    each_order (λ o. front (free_list a o t) ≡ None) k x.order x.enough le
-    (first_of-none (λ o. front (free_list a o t)) (orders_from k) (chosen-none false (own a k t) c.0)) in
+    each_order a.largest (λ o. front (free_list a o t) ≡ None) k x.order x.enough le
+    (first_of-none (λ o. front (free_list a o t)) (orders_from a.largest k) (chosen-none false (own a k t) c.0)) in
     let others : first_of (λ f. front (free_list a x.order f)) (foreign t) ≡ None =
-    each_order (λ o. first_of (λ f. front (free_list a o f)) (foreign t) ≡ None) k x.order x.enough le
-    (first_of-none (λ o. first_of (λ f. front (free_list a o f)) (foreign t)) (orders_from k) (chosen-none false (borrow a k t) d.1)) in
+    each_order a.largest (λ o. first_of (λ f. front (free_list a o f)) (foreign t) ≡ None) k x.order x.enough le
+    (first_of-none (λ o. first_of (λ f. front (free_list a o f)) (foreign t)) (orders_from a.largest k) (chosen-none false (borrow a k t) d.1)) in
     let none : front (free_list a x.order s) ≡ None =
     each_type (λ f. front (free_list a x.order f) ≡ None) t s mine (first_of-none (λ f. front (free_list a x.order f)) (foreign t) others) in
     false≢true (sym (front-none (free_list a x.order s) h none) ∙ found_listed a k h l x)

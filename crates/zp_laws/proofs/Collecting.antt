@@ -39,9 +39,9 @@ front_lawful : (z : PlainZone) (w : ℕ) (ps : List PostedBlock) → posted_to z
 front_lawful z w [] e l lt = l
 front_lawful z w (p ∷ ps) e l lt =
     let x : Holding = record { order = p.order; kind = p.kind; worker = w } in
-    let P : List PostedBlock → Type 0 = λ qs. AllPosted (pages_of z) qs in
-    let all : AllPosted (pages_of z) (p ∷ ps) = subst P e (l.posted w) in
-    let block : IsBlock (pages_of z) p.head p.order = All-head (λ (q : PostedBlock). IsBlock (pages_of z) q.head q.order) p ps all in
+    let P : List PostedBlock → Type 0 = λ qs. AllPosted z.area.largest (pages_of z) qs in
+    let all : AllPosted z.area.largest (pages_of z) (p ∷ ps) = subst P e (l.posted w) in
+    let block : IsBlock z.area.largest (pages_of z) p.head p.order = All-head (λ (q : PostedBlock). IsBlock z.area.largest (pages_of z) q.head q.order) p ps all in
     let places : length z.out ≡ pages_of z = l.places in
     let room : p.head + 2 ^ p.order ≤ pages_of z = block.inside in
     let below : p.head < length z.out = omega (arith, pow_pos p.order) in
@@ -50,8 +50,8 @@ front_lawful z w (p ∷ ps) e l lt =
     record {
       places = length-set z.out p.head (Some x) ∙ places;
       kinds = l.kinds;
-      out = λ g y q. let o = out_more (pages_of z) (workers_of z) z.out p.head x below block lt l.out g y q in (o.0, omega (arith, o.1));
-      posted = posted_set (pages_of z) z.posted w ps lt (All-tail (λ (q : PostedBlock). IsBlock (pages_of z) q.head q.order) p ps all) l.posted;
+      out = λ g y q. let o = out_more z.area.largest (pages_of z) (workers_of z) z.out p.head x below block lt l.out g y q in (o.0, omega (arith, o.1));
+      posted = posted_set z.area.largest (pages_of z) z.posted w ps lt (All-tail (λ (q : PostedBlock). IsBlock z.area.largest (pages_of z) q.head q.order) p ps all) l.posted;
       once = λ i under.
           let a = times_out-more z.out p.head i x below none in
           let b = times_posted-set z.posted w i ps lt in

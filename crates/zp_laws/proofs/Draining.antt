@@ -36,4 +36,4 @@ drained_lawful z w (p ∷ ps) e d l =
     let o = out-to z w p 0 a.0 in
     drained_lawful (freed z (p - z.base) 0) w ps
     (all_kept (λ q. is_out z w q 0) (λ q. is_out (freed z (p - z.base) 0) w q 0) p ps (not-true _ b.0) (λ q ne out. still_out z w p 0 q 0 o.0 ne out) a.1) b.1
-    (freed_lawful z (p - z.base) 0 w l (held-to z w (p - z.base) 0 o.1))
+    (freed_lawful z w (p - z.base) 0 l (held-to z w (p - z.base) 0 o.1))

@@ -2,44 +2,44 @@
 use Rattle.std.proofs.Common.{ℕ, ◌-◌, ◌≡◌, ◌≤◌, ◌==◌, refl, sym, ap, subst, arith, Bool, true, false, Option, Some, None}
 use Rattle.std.proofs.lemmas.Bool.{and_parts, eqb-true, leb-true, false≢true}
 use Rattle.zp_model.specs.Block.{has, in_run, IsBlock}
-use Rattle.zp_model.specs.Zone.{PlainZone, Holding, holding_at, is_of, is_held, pages_of}
+use Rattle.zp_model.specs.Zone.{PlainZone, Holding, holding_at, is_of, holds, pages_of}
 use Rattle.zp_model.specs.Run.{is_out}
 use Rattle.zp_model.specs.Lawful.{times, times_out, IsLawful}
 use Rattle.zp_laws.proofs.HandedOut.{one_if, times-parts, out-has}
 use Rattle.zp_laws.proofs.Keeping.{block-inside}
 
--- the block out at page h is of order k
-pub record IsHolding (z : PlainZone) (h k w : ℕ) : Type 0 where
+-- the block out at page h is of order k, in worker w's name
+pub record IsHolding (z : PlainZone) (w h k : ℕ) : Type 0 where
   pub holding : Holding
   pub at : holding_at z.out h ≡ Some holding
   pub order : holding.order ≡ k
   pub worker : holding.worker ≡ w
 
-pub held-to : (z : PlainZone) (w h k : ℕ) → is_held z w h k ≡ true → IsHolding z h k w
+pub held-to : (z : PlainZone) (w h k : ℕ) → holds z w h k ≡ true → IsHolding z w h k
 held-to z w h k e = go z w h k (holding_at z.out h) refl e
   where
-    go : (z : PlainZone) (w h k : ℕ) (o : Option Holding) → holding_at z.out h ≡ o → is_of w k o ≡ true → IsHolding z h k w
+    go : (z : PlainZone) (w h k : ℕ) (o : Option Holding) → holding_at z.out h ≡ o → is_of w k o ≡ true → IsHolding z w h k
     go z w h k None q e = absurd (false≢true e)
     go z w h k (Some x) q e =
         let a = and_parts (x.order == k) (x.worker == w) e in
         record { holding = x; at = q; order = eqb-true x.order k a.0; worker = eqb-true x.worker w a.1 }
 
-pub out-to : (z : PlainZone) (w p k : ℕ) → is_out z w p k ≡ true → (z.base ≤ p) × (is_held z w (p - z.base) k ≡ true)
+pub out-to : (z : PlainZone) (w p k : ℕ) → is_out z w p k ≡ true → (z.base ≤ p) × (holds z w (p - z.base) k ≡ true)
 out-to z w p k e = let a = and_parts _ _ e in (leb-true z.base p a.0, a.1)
 
-pub held_block : (z : PlainZone) (h k w : ℕ) → IsLawful z → IsHolding z h k w → IsBlock (pages_of z) h k
-held_block z h k w l x =
-    let P : ℕ → Type 0 = λ n. IsBlock (pages_of z) h n in
+pub held_block : (z : PlainZone) (w h k : ℕ) → IsLawful z → IsHolding z w h k → IsBlock z.area.largest (pages_of z) h k
+held_block z w h k l x =
+    let P : ℕ → Type 0 = λ n. IsBlock z.area.largest (pages_of z) h n in
     subst P x.order (l.out h x.holding x.at).0
 
 -- no page of a block out is free
-pub held-not_free : (z : PlainZone) (h k w i : ℕ) → IsLawful z → IsHolding z h k w → in_run h k i ≡ true → has z.area.free i ≡ false
-held-not_free z h k w i l x r = go z h k w i l x r (has z.area.free i) refl
+pub held-not_free : (z : PlainZone) (w h k i : ℕ) → IsLawful z → IsHolding z w h k → in_run h k i ≡ true → has z.area.free i ≡ false
+held-not_free z w h k i l x r = go z w h k i l x r (has z.area.free i) refl
   where
-    go : (z : PlainZone) (h k w i : ℕ) → IsLawful z → IsHolding z h k w → in_run h k i ≡ true → (b : Bool) → has z.area.free i ≡ b → b ≡ false
-    go z h k w i l x r false e = refl
-    go z h k w i l x r true e =
-        let b = block-inside (pages_of z) h k i (held_block z h k w l x) r in
+    go : (z : PlainZone) (w h k i : ℕ) → IsLawful z → IsHolding z w h k → in_run h k i ≡ true → (b : Bool) → has z.area.free i ≡ b → b ≡ false
+    go z w h k i l x r false e = refl
+    go z w h k i l x r true e =
+        let b = block-inside z.area.largest (pages_of z) h k i (held_block z w h k l x) r in
         let P : ℕ → Type 0 = λ n. in_run h n i ≡ true in
         let c : 1 ≤ times_out z.out i = out-has z.out h i x.holding x.at (subst P (sym x.order) r) in
         let d : one_if (has z.area.free i) ≡ 1 = ap one_if e in

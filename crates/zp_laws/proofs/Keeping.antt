@@ -17,28 +17,28 @@ use Rattle.zp_laws.proofs.Areas.{has-without}
 use Rattle.zp_laws.proofs.HandedOut.{one_if, times_out-more, times_out-less, times-parts, held_below, out-has, in_run-head}
 
 -- the blocks out are blocks of a zone of so many pages, in the name of its so many workers
-abbrev pub AllOut : ℕ → ℕ → List (Option Holding) → Type 0
-AllOut pages workers out = (h : ℕ) (x : Holding) → holding_at out h ≡ Some x → IsBlock pages h x.order × (x.worker < workers)
+abbrev pub AllOut : ℕ → ℕ → ℕ → List (Option Holding) → Type 0
+AllOut m pages workers out = (h : ℕ) (x : Holding) → holding_at out h ≡ Some x → IsBlock m pages h x.order × (x.worker < workers)
 
 -- some posted blocks are blocks of a zone of so many pages
-abbrev pub AllPosted : ℕ → List PostedBlock → Type 0
-AllPosted pages ps = All (λ (p : PostedBlock). IsBlock pages p.head p.order) ps
+abbrev pub AllPosted : ℕ → ℕ → List PostedBlock → Type 0
+AllPosted m pages ps = All (λ (p : PostedBlock). IsBlock m pages p.head p.order) ps
 
-pub out_more : (pages workers : ℕ) (out : List (Option Holding)) (h : ℕ) (x : Holding) → h < length out → IsBlock pages h x.order → x.worker < workers →
-    AllOut pages workers out → AllOut pages workers (slice_set out h (Some x))
-out_more pages workers out h x lt b w all g y e =
+pub out_more : (m pages workers : ℕ) (out : List (Option Holding)) (h : ℕ) (x : Holding) → h < length out → IsBlock m pages h x.order → x.worker < workers →
+    AllOut m pages workers out → AllOut m pages workers (slice_set out h (Some x))
+out_more m pages workers out h x lt b w all g y e =
     elim (cases_eq g h) [
       | inl same ↦
           let P : ℕ → Type 0 = λ n. holding_at (slice_set out h (Some x)) n ≡ Some y in
           let s : x ≡ y = same_Some x y (sym (get_or-set_same out h (Some x) None lt) ∙ subst P same e) in
-          let Q : Holding → Type 0 = λ v. IsBlock pages h v.order × (v.worker < workers) in
-          let R : ℕ → Type 0 = λ n. IsBlock pages n y.order × (y.worker < workers) in
+          let Q : Holding → Type 0 = λ v. IsBlock m pages h v.order × (v.worker < workers) in
+          let R : ℕ → Type 0 = λ n. IsBlock m pages n y.order × (y.worker < workers) in
           subst R (sym same) (subst Q s (b, w))
       | inr other ↦ all g y (sym (get_or-set_other out h g (Some x) None other) ∙ e)
     ]
 
-pub out_less : (pages workers : ℕ) (out : List (Option Holding)) (h : ℕ) → h < length out → AllOut pages workers out → AllOut pages workers (slice_set out h None)
-out_less pages workers out h lt all g y e =
+pub out_less : (m pages workers : ℕ) (out : List (Option Holding)) (h : ℕ) → h < length out → AllOut m pages workers out → AllOut m pages workers (slice_set out h None)
+out_less m pages workers out h lt all g y e =
     elim (cases_eq g h) [
       | inl same ↦
           let P : ℕ → Type 0 = λ n. holding_at (slice_set out h None) n ≡ Some y in
@@ -46,13 +46,13 @@ out_less pages workers out h lt all g y e =
       | inr other ↦ all g y (sym (get_or-set_other out h g None None other) ∙ e)
     ]
 
-pub posted_set : (pages : ℕ) (posted : List (List PostedBlock)) (w : ℕ) (ps : List PostedBlock) → w < length posted → AllPosted pages ps →
-    ((v : ℕ) → AllPosted pages (get_or posted v [])) → (v : ℕ) → AllPosted pages (get_or (slice_set posted w ps) v [])
-posted_set pages posted w ps lt a all v =
-    let P : List PostedBlock → Type 0 = λ qs. AllPosted pages qs in
+pub posted_set : (m pages : ℕ) (posted : List (List PostedBlock)) (w : ℕ) (ps : List PostedBlock) → w < length posted → AllPosted m pages ps →
+    ((v : ℕ) → AllPosted m pages (get_or posted v [])) → (v : ℕ) → AllPosted m pages (get_or (slice_set posted w ps) v [])
+posted_set m pages posted w ps lt a all v =
+    let P : List PostedBlock → Type 0 = λ qs. AllPosted m pages qs in
     elim (cases_eq v w) [
       | inl same ↦
-          let Q : ℕ → Type 0 = λ n. AllPosted pages (get_or (slice_set posted w ps) n []) in
+          let Q : ℕ → Type 0 = λ n. AllPosted m pages (get_or (slice_set posted w ps) n []) in
           subst Q (sym same) (subst P (sym (get_or-set_same posted w ps [] lt)) a)
       | inr other ↦ subst P (sym (get_or-set_other posted w v ps [] other)) (all v)
     ]
@@ -70,8 +70,8 @@ once_back false f' true o o' p e q s = rw e (omega arith)
 once_back true f' false o o' p e q s = rw e (omega arith)
 once_back false f' false o o' p e q s = rw e (omega arith)
 
-pub block-inside : (pages h k i : ℕ) → IsBlock pages h k → in_run h k i ≡ true → (h ≤ i) × (i < h + 2 ^ k) × (i < pages)
-block-inside pages h k i b e =
+pub block-inside : (m pages h k i : ℕ) → IsBlock m pages h k → in_run h k i ≡ true → (h ≤ i) × (i < h + 2 ^ k) × (i < pages)
+block-inside m pages h k i b e =
     let a = and_parts _ _ e in
     let lo : h ≤ i = leb-true h i a.0 in
     let hi : i < h + 2 ^ k = ltb-true i (h + 2 ^ k) a.1 in
@@ -92,44 +92,48 @@ free-not_out z h l lt f = go z h l lt f (holding_at z.out h) refl
         absurd (omega (arith, a, b, c, d))
 
 -- the pages of a run of free ones go out to a worker as a block
-pub goes_out : (z : PlainZone) (a : Area) (h k : ℕ) (t : MigrateType) (w : ℕ) → IsLawful z → w < workers_of z → IsBlock (pages_of z) h k → Filled (In z.area.free) h k →
-    IsListedArea a → a.free ≡ without z.area.free h k → length a.kinds ≡ length z.area.kinds → IsLawful (hand_out (record z { area = a }) h k t w)
-goes_out z a h k t w l lt b full lists free kinds =
+pub goes_out : (z : PlainZone) (a : Area) (w h k : ℕ) (t : MigrateType) → IsLawful z → w < workers_of z → IsBlock z.area.largest (pages_of z) h k → Filled (In z.area.free) h k →
+    IsListedArea a → a.largest ≡ z.area.largest → a.free ≡ without z.area.free h k → length a.kinds ≡ length z.area.kinds → IsLawful (hand_out (record z { area = a }) w h k t)
+goes_out z a w h k t l lt b full lists largest free kinds =
     let x : Holding = record { order = k; kind = t; worker = w } in
     let pages : length a.free ≡ pages_of z = ap length free ∙ length-without z.area.free h k in
     let places : length z.out ≡ pages_of z = l.places in
     let room : h + 2 ^ k ≤ pages_of z = b.inside in
     let below : h < length z.out = omega (arith, pow_pos k) in
     let none : holding_at z.out h ≡ None = free-not_out z h l (omega (arith, pow_pos k)) (full h (omega arith) (omega (arith, pow_pos k))) in
-    let O : ℕ → Type 0 = λ n. AllOut n (workers_of z) (slice_set z.out h (Some x)) in
-    let Q : ℕ → Type 0 = λ n. (v : ℕ) → AllPosted n (posted_to z v) in
+    let O : ℕ → Type 0 = λ n. AllOut z.area.largest n (workers_of z) (slice_set z.out h (Some x)) in
+    let Q : ℕ → Type 0 = λ n. (v : ℕ) → AllPosted z.area.largest n (posted_to z v) in
+    let OM : ℕ → Type 0 = λ m. AllOut m (length a.free) (workers_of z) (slice_set z.out h (Some x)) in
+    let QM : ℕ → Type 0 = λ m. (v : ℕ) → AllPosted m (length a.free) (posted_to z v) in
     record {
       places = length-set z.out h (Some x) ∙ places ∙ sym pages;
-      kinds = kinds ∙ l.kinds ∙ ap pageblocks_of (sym pages);
-      out = subst O (sym pages) (out_more (pages_of z) (workers_of z) z.out h x below b lt l.out);
-      posted = subst Q (sym pages) l.posted;
+      kinds = kinds ∙ l.kinds ∙ ap (pageblocks_of z.area.largest) (sym pages) ∙ ap (λ m. pageblocks_of m (length a.free)) (sym largest);
+      out = subst OM (sym largest) (subst O (sym pages) (out_more z.area.largest (pages_of z) (workers_of z) z.out h x below b lt l.out));
+      posted = subst QM (sym largest) (subst Q (sym pages) l.posted);
       once = λ i under.
           let inside : i < pages_of z = omega arith in
           let f : has a.free i ≡ (has z.area.free i && not (in_run h k i)) = ap (λ (u : List Bool). has u i) free ∙ has-without z.area.free h k i inside in
-          times-parts (hand_out (record z { area = a }) h k t w) i
+          times-parts (hand_out (record z { area = a }) w h k t) i
           ∙ once_out (has z.area.free i) (has a.free i) (in_run h k i) (times_out z.out i) (times_out (slice_set z.out h (Some x)) i) (times_posted z.posted i)
-          f (λ e. let r = block-inside (pages_of z) h k i b e in full i r.0 r.1) (times_out-more z.out h i x below none) (sym (times-parts z i) ∙ l.once i inside);
+          f (λ e. let r = block-inside z.area.largest (pages_of z) h k i b e in full i r.0 r.1) (times_out-more z.out h i x below none) (sym (times-parts z i) ∙ l.once i inside);
       lists = lists;
     }
 
 -- the pages of a block out become free
 pub comes_back : (z : PlainZone) (a : Area) (h : ℕ) (x : Holding) → IsLawful z → holding_at z.out h ≡ Some x →
-    IsListedArea a → a.free ≡ with_run z.area.free h x.order → length a.kinds ≡ length z.area.kinds → IsLawful (take_back (record z { area = a }) h)
-comes_back z a h x l held lists free kinds =
+    IsListedArea a → a.largest ≡ z.area.largest → a.free ≡ with_run z.area.free h x.order → length a.kinds ≡ length z.area.kinds → IsLawful (take_back (record z { area = a }) h)
+comes_back z a h x l held lists largest free kinds =
     let pages : length a.free ≡ pages_of z = ap length free ∙ length-with z.area.free h x.order in
     let below : h < length z.out = held_below z.out h x held in
-    let O : ℕ → Type 0 = λ n. AllOut n (workers_of z) (slice_set z.out h None) in
-    let Q : ℕ → Type 0 = λ n. (v : ℕ) → AllPosted n (posted_to z v) in
+    let O : ℕ → Type 0 = λ n. AllOut z.area.largest n (workers_of z) (slice_set z.out h None) in
+    let Q : ℕ → Type 0 = λ n. (v : ℕ) → AllPosted z.area.largest n (posted_to z v) in
+    let OM : ℕ → Type 0 = λ m. AllOut m (length a.free) (workers_of z) (slice_set z.out h None) in
+    let QM : ℕ → Type 0 = λ m. (v : ℕ) → AllPosted m (length a.free) (posted_to z v) in
     record {
       places = length-set z.out h None ∙ l.places ∙ sym pages;
-      kinds = kinds ∙ l.kinds ∙ ap pageblocks_of (sym pages);
-      out = subst O (sym pages) (out_less (pages_of z) (workers_of z) z.out h below l.out);
-      posted = subst Q (sym pages) l.posted;
+      kinds = kinds ∙ l.kinds ∙ ap (pageblocks_of z.area.largest) (sym pages) ∙ ap (λ m. pageblocks_of m (length a.free)) (sym largest);
+      out = subst OM (sym largest) (subst O (sym pages) (out_less z.area.largest (pages_of z) (workers_of z) z.out h below l.out));
+      posted = subst QM (sym largest) (subst Q (sym pages) l.posted);
       once = λ i under.
           let inside : i < pages_of z = omega arith in
           let f : has a.free i ≡ (has z.area.free i || in_run h x.order i) = ap (λ (u : List Bool). has u i) free ∙ has-with z.area.free h x.order i inside in

@@ -11,7 +11,7 @@ use Rattle.zp_model.specs.Block.{has, IsBlock}
 use Rattle.zp_model.specs.Area.{opening, pageblocks_of, lists_count}
 use Rattle.zp_model.specs.Zone.{Holding, PostedBlock, holding_at, zone_opening}
 use Rattle.zp_model.specs.Lawful.{holding_has, times_out, times_posted, IsLawful}
-use Rattle.zp_laws.proofs.Settling.{free-settle, kinds-settle, opening_lists}
+use Rattle.zp_laws.proofs.Settling.{free-settle, largest-settle, kinds-settle, opening_lists}
 use Rattle.zp_laws.proofs.HandedOut.{one_if, count_posted, times-parts}
 use Rattle.zp_laws.proofs.Keeping.{AllPosted}
 
@@ -37,28 +37,34 @@ unfolding times_posted
 none-posted zero i = refl
 none-posted (suc n) i = sum_by-cons (λ ps. count_posted ps i) [] (replicate n []) ∙ rw (none-posted n i) (omega arith)
 
-pub free-opening : (pages : ℕ) → (opening pages).free ≡ replicate pages true
+pub free-opening : (m pages : ℕ) → (opening m pages).free ≡ replicate pages true
 unfolding opening
-free-opening pages =
-    free-settle (record { free = replicate pages true; kinds = replicate (pageblocks_of pages) Movable; lists = replicate lists_count [] })
+free-opening m pages =
+    free-settle (record { largest = m; free = replicate pages true; kinds = replicate (pageblocks_of m pages) Movable; lists = replicate (lists_count m) [] })
 
-kinds-opening : (pages : ℕ) → (opening pages).kinds ≡ replicate (pageblocks_of pages) Movable
+pub largest-opening : (m pages : ℕ) → (opening m pages).largest ≡ m
 unfolding opening
-kinds-opening pages =
-    kinds-settle (record { free = replicate pages true; kinds = replicate (pageblocks_of pages) Movable; lists = replicate lists_count [] })
+largest-opening m pages =
+    largest-settle (record { largest = m; free = replicate pages true; kinds = replicate (pageblocks_of m pages) Movable; lists = replicate (lists_count m) [] })
 
-pub opening_lawful : (base pages min workers : ℕ) → IsLawful (zone_opening base pages min workers)
-opening_lawful base pages min workers =
-    let n : length (opening pages).free ≡ pages = ap length (free-opening pages) ∙ length-replicate pages true in
+pub kinds-opening : (m pages : ℕ) → (opening m pages).kinds ≡ replicate (pageblocks_of m pages) Movable
+unfolding opening
+kinds-opening m pages =
+    kinds-settle (record { largest = m; free = replicate pages true; kinds = replicate (pageblocks_of m pages) Movable; lists = replicate (lists_count m) [] })
+
+pub opening_lawful : (m base pages min workers : ℕ) → IsLawful (zone_opening m base pages min workers)
+opening_lawful m base pages min workers =
+    let n : length (opening m pages).free ≡ pages = ap length (free-opening m pages) ∙ length-replicate pages true in
     record {
       places = length-replicate pages None ∙ sym n;
-      kinds = ap length (kinds-opening pages) ∙ length-replicate (pageblocks_of pages) Movable ∙ ap pageblocks_of (sym n);
+      kinds = ap length (kinds-opening m pages) ∙ length-replicate (pageblocks_of m pages) Movable ∙ ap (pageblocks_of m) (sym n)
+          ∙ ap (λ q. pageblocks_of q (length (opening m pages).free)) (sym (largest-opening m pages));
       out = λ h x e. absurd (none-some x (sym (replicated pages h None) ∙ e));
       posted = λ w.
-          let P : List PostedBlock → Type 0 = λ ps. AllPosted (length (opening pages).free) ps in
-          subst P (sym (replicated workers w [])) (All-nil (λ (p : PostedBlock). IsBlock (length (opening pages).free) p.head p.order));
+          let P : List PostedBlock → Type 0 = λ ps. AllPosted (opening m pages).largest (length (opening m pages).free) ps in
+          subst P (sym (replicated workers w [])) (All-nil (λ (p : PostedBlock). IsBlock (opening m pages).largest (length (opening m pages).free) p.head p.order));
       once = λ i lt.
-          let f : has (opening pages).free i ≡ true = ap (λ (u : List Bool). has u i) (free-opening pages) ∙ get_or-replicate pages i true false (omega arith) in
-          times-parts (zone_opening base pages min workers) i ∙ rw (f, none-out pages i, none-posted workers i) (omega arith);
-      lists = opening_lists pages;
+          let f : has (opening m pages).free i ≡ true = ap (λ (u : List Bool). has u i) (free-opening m pages) ∙ get_or-replicate pages i true false (omega arith) in
+          times-parts (zone_opening m base pages min workers) i ∙ rw (f, none-out pages i, none-posted workers i) (omega arith);
+      lists = opening_lists m pages;
     }

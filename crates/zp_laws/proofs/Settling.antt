@@ -8,7 +8,6 @@ use Rattle.std.proofs.lemmas.List.FromFn.{get_or-map-range_with_len, length-map-
 use Rattle.zp_model.specs.declared.migrate_type.MigrateType.{MigrateType}
 use Rattle.zp_model.specs.declared.migrate_type.MigrateType.TheVariants.{Movable}
 use Rattle.zp_model.specs.MigrateType.{types_count}
-use Rattle.zp_model.specs.Block.{largest_order}
 use Rattle.zp_model.specs.Rows.{list_at, stands_in}
 use Rattle.zp_model.specs.Area.{Area, falling, belongs, settled, settle, opening, lists_count, pageblocks_of}
 use Rattle.zp_model.specs.Lawful.{IsListedArea}
@@ -103,20 +102,20 @@ distinct-append (x ∷ xs) ys d e f =
     each x [] ys a f = others x ys f
     each x (y ∷ xs) ys a f = (a.0, each x xs ys a.1 f)
 
-pub belongs_below : (free : List Bool) (kinds : List MigrateType) (r h : ℕ) → belongs free kinds r h ≡ true → h < length free
+pub belongs_below : (m : ℕ) (free : List Bool) (kinds : List MigrateType) (r h : ℕ) → belongs m free kinds r h ≡ true → h < length free
 unfolding belongs
-belongs_below free kinds r h e =
+belongs_below m free kinds r h e =
     let a = and_parts _ _ e in
-    let x = is_max-to largest_order free h (r / types_count) a.0 in
+    let x = is_max-to m free h (r / types_count) a.0 in
     has_below free h (x.inside h (omega arith) (omega (arith, pow_pos (r / types_count))))
 
 -- a settled list holds what belongs on it
-pub held-settled : (free : List Bool) (kinds : List MigrateType) (r h : ℕ) (old : List ℕ) → stands_in h (settled free kinds r old) ≡ belongs free kinds r h
+pub held-settled : (m : ℕ) (free : List Bool) (kinds : List MigrateType) (r h : ℕ) (old : List ℕ) → stands_in h (settled m free kinds r old) ≡ belongs m free kinds r h
 unfolding settled
-held-settled free kinds r h old =
-    let fresh : ℕ → Bool = λ x. belongs free kinds r x && not (stands_in x old) in
-    stands-append h (filter fresh (falling (length free))) (filter (belongs free kinds r) old)
-    ∙ rw (stands-filter fresh h (falling (length free)), stands-filter (belongs free kinds r) h old, stands-falling h (length free)) (both (belongs free kinds r h) (stands_in h old) (ltb h (length free)) (λ e. lt-ltb h (length free) (belongs_below free kinds r h e)))
+held-settled m free kinds r h old =
+    let fresh : ℕ → Bool = λ x. belongs m free kinds r x && not (stands_in x old) in
+    stands-append h (filter fresh (falling (length free))) (filter (belongs m free kinds r) old)
+    ∙ rw (stands-filter fresh h (falling (length free)), stands-filter (belongs m free kinds r) h old, stands-falling h (length free)) (both (belongs m free kinds r h) (stands_in h old) (ltb h (length free)) (λ e. lt-ltb h (length free) (belongs_below m free kinds r h e)))
   where
     both : (b s l : Bool) → (b ≡ true → l ≡ true) → (((b && not s) && l) || (b && s)) ≡ b
     both false s l f = refl
@@ -124,15 +123,15 @@ held-settled free kinds r h old =
     both true false l f = rw (f refl) refl
 
 -- a settled list holds nothing twice
-pub distinct-settled : (free : List Bool) (kinds : List MigrateType) (r : ℕ) (old : List ℕ) → IsDistinct (λ x y. x == y) old → IsDistinct (λ x y. x == y) (settled free kinds r old)
+pub distinct-settled : (m : ℕ) (free : List Bool) (kinds : List MigrateType) (r : ℕ) (old : List ℕ) → IsDistinct (λ x y. x == y) old → IsDistinct (λ x y. x == y) (settled m free kinds r old)
 unfolding settled
-distinct-settled free kinds r old d =
-    let fresh : ℕ → Bool = λ x. belongs free kinds r x && not (stands_in x old) in
-    distinct-append (filter fresh (falling (length free))) (filter (belongs free kinds r) old)
+distinct-settled m free kinds r old d =
+    let fresh : ℕ → Bool = λ x. belongs m free kinds r x && not (stands_in x old) in
+    distinct-append (filter fresh (falling (length free))) (filter (belongs m free kinds r) old)
     (distinct-filter fresh (falling (length free)) (distinct-falling (length free)))
-    (distinct-filter (belongs free kinds r) old d)
-    (λ h s t. apart (belongs free kinds r h) (stands_in h old) (stands_in h (falling (length free)))
-    (sym (stands-filter fresh h (falling (length free))) ∙ s) (sym (stands-filter (belongs free kinds r) h old) ∙ t))
+    (distinct-filter (belongs m free kinds r) old d)
+    (λ h s t. apart (belongs m free kinds r h) (stands_in h old) (stands_in h (falling (length free)))
+    (sym (stands-filter fresh h (falling (length free))) ∙ s) (sym (stands-filter (belongs m free kinds r) h old) ∙ t))
   where
     apart : (b s l : Bool) → ((b && not s) && l) ≡ true → (b && s) ≡ true → ⊥
     apart b s l x y =
@@ -143,41 +142,47 @@ pub free-settle : (a : Area) → (settle a).free ≡ a.free
 unfolding settle
 free-settle a = refl
 
+pub largest-settle : (a : Area) → (settle a).largest ≡ a.largest
+unfolding settle
+largest-settle a = refl
+
 pub kinds-settle : (a : Area) → (settle a).kinds ≡ a.kinds
 unfolding settle
 kinds-settle a = refl
 
-pub list-settle : (a : Area) (r : ℕ) → r < lists_count → list_at (settle a).lists r ≡ settled a.free a.kinds r (list_at a.lists r)
+pub list-settle : (a : Area) (r : ℕ) → r < lists_count a.largest → list_at (settle a).lists r ≡ settled a.largest a.free a.kinds r (list_at a.lists r)
 unfolding settle
-list-settle a r lt = get_or-map-range_with_len (λ q. settled a.free a.kinds q (list_at a.lists q)) 0 lists_count r r [] lt (omega arith)
+list-settle a r lt = get_or-map-range_with_len (λ q. settled a.largest a.free a.kinds q (list_at a.lists q)) 0 (lists_count a.largest) r r [] lt (omega arith)
 
-length-settle : (a : Area) → length (settle a).lists ≡ lists_count
+length-settle : (a : Area) → length (settle a).lists ≡ lists_count a.largest
 unfolding settle
-length-settle a = length-map-range_with_len (λ q. settled a.free a.kinds q (list_at a.lists q)) 0 lists_count
+length-settle a = length-map-range_with_len (λ q. settled a.largest a.free a.kinds q (list_at a.lists q)) 0 (lists_count a.largest)
 
 -- settling lists the area: from lists that hold nothing twice, each list comes to hold what belongs there, each once
-pub settle_lists : (a : Area) → ((r : ℕ) → r < lists_count → IsDistinct (λ x y. x == y) (list_at a.lists r)) → IsListedArea (settle a)
+pub settle_lists : (a : Area) → ((r : ℕ) → r < lists_count a.largest → IsDistinct (λ x y. x == y) (list_at a.lists r)) → IsListedArea (settle a)
 settle_lists a d = record {
-  table = length-settle a;
-  distinct = λ r lt.
+  table = length-settle a ∙ ap lists_count (sym (largest-settle a));
+  distinct = λ r under.
+      let lt : r < lists_count a.largest = rw (sym (largest-settle a)) under in
       let P : List ℕ → Type 0 = λ xs. IsDistinct (λ x y. x == y) xs in
-      subst P (sym (list-settle a r lt)) (distinct-settled a.free a.kinds r (list_at a.lists r) (d r lt));
-  held = λ r h lt.
-      ap (λ xs. stands_in h xs) (list-settle a r lt) ∙ held-settled a.free a.kinds r h (list_at a.lists r)
-      ∙ rw (free-settle a, kinds-settle a) refl;
+      subst P (sym (list-settle a r lt)) (distinct-settled a.largest a.free a.kinds r (list_at a.lists r) (d r lt));
+  held = λ r h under.
+      let lt : r < lists_count a.largest = rw (sym (largest-settle a)) under in
+      ap (λ xs. stands_in h xs) (list-settle a r lt) ∙ held-settled a.largest a.free a.kinds r h (list_at a.lists r)
+      ∙ rw (largest-settle a, free-settle a, kinds-settle a) refl;
 }
 
 distinct-nil : IsDistinct (λ x y. x == y) []
 unfolding IsDistinct
 distinct-nil = tt
 
-none : (r : ℕ) → r < lists_count → IsDistinct (λ x y. x == y) (list_at (replicate lists_count []) r)
-none r lt =
-    let e : list_at (replicate lists_count []) r ≡ [] = get_or-replicate lists_count r [] [] lt in
+none : (m r : ℕ) → r < lists_count m → IsDistinct (λ x y. x == y) (list_at (replicate (lists_count m) []) r)
+none m r lt =
+    let e : list_at (replicate (lists_count m) []) r ≡ [] = get_or-replicate (lists_count m) r [] [] lt in
     let P : List ℕ → Type 0 = λ xs. IsDistinct (λ x y. x == y) xs in
     subst P (sym e) distinct-nil
 
-pub opening_lists : (pages : ℕ) → IsListedArea (opening pages)
+pub opening_lists : (m pages : ℕ) → IsListedArea (opening m pages)
 unfolding opening
-opening_lists pages =
-    settle_lists (record { free = replicate pages true; kinds = replicate (pageblocks_of pages) Movable; lists = replicate lists_count [] }) none
+opening_lists m pages =
+    settle_lists (record { largest = m; free = replicate pages true; kinds = replicate (pageblocks_of m pages) Movable; lists = replicate (lists_count m) [] }) (none m)

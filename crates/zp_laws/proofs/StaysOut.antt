@@ -30,8 +30,8 @@ out-at_other : (z : PlainZone) (a : Area) (h : ℕ) (v : Option Holding) (w p k 
 out-at_other z a h v w p k ne e = ap (λ (o : Option Holding). leb z.base p && is_of w k o) (get_or-set_other z.out h (p - z.base) v None ne) ∙ e
 
 -- a block that goes out is out
-out-handed : (z : PlainZone) (a : Area) (h k : ℕ) (t : MigrateType) (w p : ℕ) → h < length z.out → p ≡ z.base + h → is_out (hand_out (record z { area = a }) h k t w) w p k ≡ true
-out-handed z a h k t w p lt e =
+out-handed : (z : PlainZone) (a : Area) (w h k : ℕ) (t : MigrateType) (p : ℕ) → h < length z.out → p ≡ z.base + h → is_out (hand_out (record z { area = a }) w h k t) w p k ≡ true
+out-handed z a w h k t p lt e =
     let x : Option Holding = Some (record { order = k; kind = t; worker = w }) in
     let place : p - z.base ≡ h = omega arith in
     let low : z.base ≤ p = omega arith in
@@ -45,13 +45,13 @@ not_out-where_none z w p k h none e same =
     false≢true (ap (λ (o : Option Holding). is_of w k o) (sym none) ∙ ap (λ n. is_of w k (holding_at z.out n)) (sym same) ∙ held)
 
 -- a free block starts at a page of the zone where none is out
-found_place : (z : PlainZone) (k h : ℕ) → IsFound z.area.free k h → IsLawful z → (h < length z.out) × (holding_at z.out h ≡ None)
+found_place : (z : PlainZone) (k h : ℕ) → IsFound z.area.largest z.area.free k h → IsLawful z → (h < length z.out) × (holding_at z.out h ≡ None)
 found_place z k h f l =
-    let b : IsBlock (pages_of z) h k = found_block z.area.free k h f in
+    let b : IsBlock z.area.largest (pages_of z) h k = found_block z.area.largest z.area.free k h f in
     let room : h + 2 ^ k ≤ pages_of z = b.inside in
     let some : 0 < 2 ^ k = pow_pos k in
     let places : length z.out ≡ pages_of z = l.places in
-    (omega arith, free-not_out z h l (omega arith) (found_free z.area.free k h f h (omega arith) (omega arith)))
+    (omega arith, free-not_out z h l (omega arith) (found_free z.area.largest z.area.free k h f h (omega arith) (omega arith)))
 
 chosen_place : (z : PlainZone) (k : ℕ) (t : MigrateType) (c : Chosen) → choose z.area k t ≡ Some c → IsLawful z → (c.head < length z.out) × (holding_at z.out c.head ≡ None)
 chosen_place z k t c e l = found_place z k c.head (choose_found z.area k t c l.lists e) l
@@ -77,7 +77,7 @@ chosen-out : (z : PlainZone) (w k : ℕ) (t : MigrateType) (o : Option Chosen) �
 chosen-out z w k t None e l p r = cc
 chosen-out z w k t (Some c) e l p r =
     let same : p ≡ z.base + c.head = cc in
-    out-handed z (taken z.area k t (Some c)) c.head k t w p (chosen_place z k t c e l).0 same
+    out-handed z (taken z.area k t (Some c)) w c.head k t p (chosen_place z k t c e l).0 same
 
 -- the block that is answered is out
 pub alloc-out : (z : PlainZone) (w k : ℕ) (t : MigrateType) (m : Mark) → IsLawful z → (p : ℕ) → Reply.Page p ≡ (alloc z w k t m).reply → is_out (alloc z w k t m).zone w p k ≡ true
@@ -114,7 +114,7 @@ low-kept : (z : PlainZone) (w k : ℕ) (o : Option ℕ) → take_low_answer z.ar
 low-kept z w k None e l v p j q = q
 low-kept z w k (Some h) e l v p j q =
     let place = low_place z k h e l in
-    out-at_other z (leave z.area h k) h (Some (record { order = k; kind = kind_at z.area.kinds h; worker = w })) v p j (not_out-where_none z v p j h place.1 q) q
+    out-at_other z (leave z.area h k) h (Some (record { order = k; kind = kind_at z.area.largest z.area.kinds h; worker = w })) v p j (not_out-where_none z v p j h place.1 q) q
 
 pub alloc_low-kept : (z : PlainZone) (w k : ℕ) → IsLawful z → (v p j : ℕ) → is_out z v p j ≡ true → is_out (step z w (request.AllocLow k)).zone v p j ≡ true
 alloc_low-kept z w k l v p j q = low-kept z w k (take_low_answer z.area k) refl l v p j q
@@ -124,9 +124,9 @@ low-out : (z : PlainZone) (w k : ℕ) (o : Option ℕ) → take_low_answer z.are
     (b.order ≡ k) × (is_out (alloc_low_at z w k o).zone w b.page k ≡ true)
 low-out z w k None e l b r = cc
 low-out z w k (Some h) e l b r =
-    let x : Block = record { page = z.base + h; order = k; kind = kind_at z.area.kinds h } in
+    let x : Block = record { page = z.base + h; order = k; kind = kind_at z.area.largest z.area.kinds h } in
     let same : b ≡ x = cc in
-    (ap (λ (y : Block). y.order) same, out-handed z (leave z.area h k) h k (kind_at z.area.kinds h) w b.page (low_place z k h e l).0 (ap (λ (y : Block). y.page) same))
+    (ap (λ (y : Block). y.order) same, out-handed z (leave z.area h k) w h k (kind_at z.area.largest z.area.kinds h) b.page (low_place z k h e l).0 (ap (λ (y : Block). y.page) same))
 
 pub alloc_low-out : (z : PlainZone) (w k : ℕ) → IsLawful z → (b : Block) → Reply.Block b ≡ (step z w (request.AllocLow k)).reply →
     (b.order ≡ k) × (is_out (step z w (request.AllocLow k)).zone w b.page k ≡ true)
@@ -136,7 +136,7 @@ low-fresh : (z : PlainZone) (w k : ℕ) (o : Option ℕ) → take_low_answer z.a
     (v j : ℕ) → is_out z v b.page j ≡ false
 low-fresh z w k None e l b r v j = cc
 low-fresh z w k (Some h) e l b r v j =
-    let x : Block = record { page = z.base + h; order = k; kind = kind_at z.area.kinds h } in
+    let x : Block = record { page = z.base + h; order = k; kind = kind_at z.area.largest z.area.kinds h } in
     let same : b ≡ x = cc in
     let at : b.page ≡ z.base + h = ap (λ (y : Block). y.page) same in
     let place : b.page - z.base ≡ h = omega arith in

@@ -43,7 +43,7 @@ chosen-moves : (z : PlainZone) (w k : ℕ) (t : MigrateType) (o : Option Chosen)
     IsMove z (alloc_chosen z w k t o).zone (paged k (alloc_chosen z w k t o).reply) none
 chosen-moves z w k t None e l = nothing z
 chosen-moves z w k t (Some c) e l =
-    move_out z (alloc_chosen z w k t (Some c)).zone c.head k refl (free-taken z.area k t c) (found_free z.area.free k c.head (choose_found z.area k t c l.lists e))
+    move_out z (alloc_chosen z w k t (Some c)).zone c.head k refl (free-taken z.area k t c) (found_free z.area.largest z.area.free k c.head (choose_found z.area k t c l.lists e))
 
 pub alloc-moves : (z : PlainZone) (w k : ℕ) (t : MigrateType) (m : Mark) → IsLawful z → IsMove z (alloc z w k t m).zone (paged k (alloc z w k t m).reply) none
 unfolding alloc
@@ -62,22 +62,22 @@ blocked k r p = false
 low-moves : (z : PlainZone) (w k : ℕ) (o : Option ℕ) → take_low_answer z.area k ≡ o → IsMove z (alloc_low_at z w k o).zone (blocked k (alloc_low_at z w k o).reply) none
 low-moves z w k None e = nothing z
 low-moves z w k (Some h) e =
-    move_out z (alloc_low_at z w k (Some h)).zone h k refl (free-leave z.area h k) (found_free z.area.free k h (take_low_found z.area k h e))
+    move_out z (alloc_low_at z w k (Some h)).zone h k refl (free-leave z.area h k) (found_free z.area.largest z.area.free k h (take_low_found z.area k h e))
 
 -- a block out comes back
 pub freed-moves : (z : PlainZone) (w p k : ℕ) → IsLawful z → is_out z w p k ≡ true → IsMove z (freed z (p - z.base) k) none (in_run p k)
 freed-moves z w p k l e =
     let o = out-to z w p k e in
     let low : z.base ≤ p = o.0 in
-    let x : IsHolding z (p - z.base) k w = held-to z w (p - z.base) k o.1 in
-    let b : IsBlock (pages_of z) (p - z.base) k = held_block z (p - z.base) k w l x in
+    let x : IsHolding z w (p - z.base) k = held-to z w (p - z.base) k o.1 in
+    let b : IsBlock z.area.largest (pages_of z) (p - z.base) k = held_block z w (p - z.base) k l x in
     let at : z.base + (p - z.base) ≡ p = omega arith in
     let P : ℕ → Type 0 = λ n. IsMove z (freed z (p - z.base) k) none (in_run n k) in
-    subst P at (move_back z (freed z (p - z.base) k) (p - z.base) k refl (free-give z.area (p - z.base) k) b.inside (λ i r. held-not_free z (p - z.base) k w i l x r))
+    subst P at (move_back z (freed z (p - z.base) k) (p - z.base) k refl (free-give z.area (p - z.base) k) b.inside (λ i r. held-not_free z w (p - z.base) k i l x r))
 
-posted-moves : (z : PlainZone) (h to : ℕ) (o : Option Holding) → IsMove z (handed_on z h to o) none none
-posted-moves z h to None = nothing z
-posted-moves z h to (Some x) = move_none z (handed_on z h to (Some x)) refl refl
+posted-moves : (z : PlainZone) (to h : ℕ) (o : Option Holding) → IsMove z (handed_on z to h o) none none
+posted-moves z to h None = nothing z
+posted-moves z to h (Some x) = move_none z (handed_on z to h (Some x)) refl refl
 
 collected-moves : (z : PlainZone) (w : ℕ) (ps : List PostedBlock) → IsMove z (collected z w ps).zone none none
 collected-moves z w [] = nothing z
@@ -105,7 +105,7 @@ drained-moves z w (q ∷ ps) e d l =
     let y = freed z (q - z.base) 0 in
     let rest : IsMove y (drained y ps) none (λ p. stands_in p ps) =
     drained-moves y w ps (all_kept (λ p. is_out z w p 0) (λ p. is_out y w p 0) q ps (not-true _ b.0) (λ p ne out. still_out z w q 0 p 0 o.0 ne out) a.1) b.1
-    (freed_lawful z (q - z.base) 0 w l (held-to z w (q - z.base) 0 o.1)) in
+    (freed_lawful z w (q - z.base) 0 l (held-to z w (q - z.base) 0 o.1)) in
     move_by z (drained y ps) none none (λ p. in_run q 0 p || stands_in p ps) (λ p. stands_in p (q ∷ ps))
     (move_back_back z y (drained y ps) (in_run q 0) (λ p. stands_in p ps) (freed-moves z w q 0 l a.0) rest)
     (λ p. refl) (λ p. rw (run-one q p) refl)
@@ -187,7 +187,7 @@ step_moves z w (Request.AllocLow k) l lt e =
     let o = alloc_low_at z w k (take_low_answer z.area k) in
     move_by z o.zone (blocked k o.reply) (handed_out (Request.AllocLow k) o.reply) none none (low-moves z w k (take_low_answer z.area k) refl) (low-hands k o.reply) (λ p. refl)
 step_moves z w (Request.Free p k) l lt e = freed-moves z w p k l e
-step_moves z w (Request.Post p k to) l lt e = posted-moves z (p - z.base) to (holding_at z.out (p - z.base))
+step_moves z w (Request.Post p k to) l lt e = posted-moves z to (p - z.base) (holding_at z.out (p - z.base))
 step_moves z w Request.Collect l lt e = collected-moves z w (posted_to z w)
 step_moves z w (Request.Refill t m n) l lt e =
     let o = refill z w t m [] n in

@@ -19,8 +19,8 @@ use Rattle.zp_laws.proofs.Draining.{drained_lawful}
 pub step_lawful : (z : PlainZone) (w : ℕ) (q : Request) → IsLawful z → w < workers_of z → may_ask z w q ≡ true → IsLawful (step z w q).zone
 step_lawful z w (Request.Alloc k t m) l lt e = alloc_lawful z w k t m l lt
 step_lawful z w (Request.AllocLow k) l lt e = alloc_low_lawful z w k l lt
-step_lawful z w (Request.Free p k) l lt e = freed_lawful z (p - z.base) k w l (held-to z w (p - z.base) k (out-to z w p k e).1)
-step_lawful z w (Request.Post p k to) l lt e = let a = and_parts _ _ e in post_lawful z (p - z.base) to l (ltb-true to (workers_of z) a.1)
+step_lawful z w (Request.Free p k) l lt e = freed_lawful z w (p - z.base) k l (held-to z w (p - z.base) k (out-to z w p k e).1)
+step_lawful z w (Request.Post p k to) l lt e = let a = and_parts _ _ e in post_lawful z to (p - z.base) l (ltb-true to (workers_of z) a.1)
 step_lawful z w Request.Collect l lt e = collect_lawful z w l lt
 step_lawful z w (Request.Refill t m n) l lt e = refill_lawful z w t m [] n l lt
 step_lawful z w (Request.Drain t ps) l lt e = let a = and_parts _ _ e in drained_lawful z w ps a.0 a.1 l

@@ -56,4 +56,4 @@ pub give_restores : (a : Area) (k : ℕ) (t : MigrateType) (c : Chosen) → IsLi
 unfolding take_after
 give_restores a k t c l e =
     let P : Option Chosen → Type 0 = λ o. IsRestored a (give (taken a k t o) c.head k) c in
-    subst P (sym e) (restored_at a k t c (found_free a.free k c.head (choose_found a k t c l e)))
+    subst P (sym e) (restored_at a k t c (found_free a.largest a.free k c.head (choose_found a k t c l e)))

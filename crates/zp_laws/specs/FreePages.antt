@@ -47,11 +47,12 @@ RefusalsChangeNothing =
 
 -- two moments of one zone
 pub record IsSameZone (before after : PlainZone) : Type 0 where
+  pub largest : after.area.largest ≡ before.area.largest
   pub pages : pages_of after ≡ pages_of before
   pub base : after.base ≡ before.base
   pub min : after.min ≡ before.min
   pub workers : workers_of after ≡ workers_of before
 
--- no step changes the size of a zone, its base, its least mark or the number of its workers
+-- no step changes the largest order of a zone, its size, its base, its least mark or the number of its workers
 abbrev pub StepsKeepTheZone : Type 0
 StepsKeepTheZone = (z : PlainZone) (w : ℕ) (q : Request) → IsSameZone z (step z w q).zone

@@ -15,22 +15,22 @@ use Rattle.zp_model.specs.Lawful.{IsListedArea, IsLawful}
 use Rattle.zp_laws.specs.Found.{IsFound}
 
 abbrev pub OpeningIsLawful : Type 0
-OpeningIsLawful = (base pages min workers : ℕ) → IsLawful (zone_opening base pages min workers)
+OpeningIsLawful = (m base pages min workers : ℕ) → IsLawful (zone_opening m base pages min workers)
 
 -- from lists that hold no head twice, settling makes lists that hold what belongs there, each once and nothing else
 abbrev pub SettlingListsTheArea : Type 0
 SettlingListsTheArea =
-    (a : Area) → ((r : ℕ) → r < lists_count → IsDistinct (λ x y. x == y) (list_at a.lists r)) → IsListedArea (settle a)
+    (a : Area) → ((r : ℕ) → r < lists_count a.largest → IsDistinct (λ x y. x == y) (list_at a.lists r)) → IsListedArea (settle a)
 
 -- what is chosen heads a free block that is large enough
 abbrev pub ChoosingFindsFree : Type 0
 ChoosingFindsFree =
-    (a : Area) (k : ℕ) (t : MigrateType) (c : Chosen) → IsListedArea a → choose a k t ≡ Some c → IsFound a.free k c.head
+    (a : Area) (k : ℕ) (t : MigrateType) (c : Chosen) → IsListedArea a → choose a k t ≡ Some c → IsFound a.largest a.free k c.head
 
 -- and where none is chosen, no free block is large enough
 abbrev pub ChoosingMissesNone : Type 0
 ChoosingMissesNone =
-    (a : Area) (k : ℕ) (t : MigrateType) (h : ℕ) → IsListedArea a → choose a k t ≡ None → IsFound a.free k h → ⊥
+    (a : Area) (k : ℕ) (t : MigrateType) (h : ℕ) → IsListedArea a → choose a k t ≡ None → IsFound a.largest a.free k h → ⊥
 
 abbrev pub AllocKeepsLawful : Type 0
 AllocKeepsLawful =

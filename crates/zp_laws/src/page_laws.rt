@@ -11,7 +11,7 @@ pub fn refusals_change_nothing()
     ensures { RefusalsChangeNothing }
 {}
 
-/// A zone keeps its size, its base, its least mark and its workers.
+/// A zone keeps its largest order, its size, its base, its least mark and its workers.
 pub fn steps_keep_the_zone()
     ensures { StepsKeepTheZone }
 {}

@@ -1,14 +1,15 @@
 -- The pages of a block set, and what they are after a split and after a join.
-use Rattle.std.proofs.Common.{ℕ, ◌+◌, ◌^◌, ◌≡◌, ◌≤◌, ◌<◌, inl, inr, refl, sym, ◌∙◌, ap, arith, Bool, true, false, List, length, not, ◌&&◌, ◌||◌, get_or, Option, Some, None}
+use Rattle.std.proofs.Common.{ℕ, ◌+◌, ◌-◌, ◌^◌, ◌≡◌, ◌≤◌, ◌<◌, inl, inr, refl, sym, ◌∙◌, ap, arith, Bool, true, false, List, length, not, ◌&&◌, ◌||◌, get_or, Option, Some, None}
 use Rattle.std.specs.Bool.{Decides}
+use Rattle.std.proofs.lemmas.Nat.{pow_pos}
 use Rattle.std.proofs.lemmas.Bool.{and_parts, and_from, or_cases, cases_lt, leb-true, le-leb, eqb-true, eq-eqb, ltb-true, lt-ltb, false≢true, not-true, both_ways}
 use Rattle.std.proofs.lemmas.Bool.Decides.{Decides-below_or, same_from_decides}
 use Rattle.std.proofs.lemmas.List.FromFn.{get_or-map-range_with_len, length-map-range_with_len}
 use Rattle.std.proofs.lemmas.List.{ext_get_or, get_or_past}
 use Rattle.zp_model.specs.Block.{has, head}
-use Rattle.zp_model.specs.Block.{largest_order, in_run, without, with_run}
+use Rattle.zp_model.specs.Block.{in_run, without, with_run}
 use Rattle.zp_model.specs.BlockSet.{some_below, Starts, is_order, is_covered, cover}
-use Rattle.zp_model.proofs.Heads.{head_le, lt_head}
+use Rattle.zp_model.proofs.Heads.{lt_pow, head_le, lt_head}
 use Rattle.zp_model.proofs.Normal.{IsNormal}
 use Rattle.zp_model.proofs.Pages.{In}
 use Rattle.zp_model.proofs.Split.{AfterSplit, Outside, split-normal}
@@ -41,12 +42,12 @@ pub cover-to : (s : List (Option ℕ)) (i : ℕ) → In (cover s) i → (k : ℕ
 cover-to s i e =
     let lt : i < length (cover s) = has_below (cover s) i e in
     let l : length (cover s) ≡ length s = length-cover s in
-    let w = (some_below-decides (λ k. is_order k (get_or s (head i k) None)) (largest_order + 1)).0 (sym (has-cover s i (omega arith)) ∙ e) in
+    let w = (some_below-decides (λ k. is_order k (get_or s (head i k) None)) (length s)).0 (sym (has-cover s i (omega arith)) ∙ e) in
     (w.0, is_order-to w.0 (get_or s (head i w.0) None) w.2)
 
-pub cover-from : (s : List (Option ℕ)) (i k : ℕ) → i < length s → k ≤ largest_order → Starts s (head i k) k → In (cover s) i
-cover-from s i k lt le e =
-    has-cover s i lt ∙ (some_below-decides (λ k. is_order k (get_or s (head i k) None)) (largest_order + 1)).1 (k, omega arith, is_order-from k (get_or s (head i k) None) e)
+pub cover-from : (s : List (Option ℕ)) (i k : ℕ) → i < length s → k < length s → Starts s (head i k) k → In (cover s) i
+cover-from s i k lt room e =
+    has-cover s i lt ∙ (some_below-decides (λ k. is_order k (get_or s (head i k) None)) (length s)).1 (k, room, is_order-from k (get_or s (head i k) None) e)
 
 -- a block set that says what a normal one says
 pub normal_by : (m : ℕ) (S T : ℕ → ℕ → Type 0) (U V : ℕ → Type 0) → IsNormal m S U →
@@ -60,18 +61,26 @@ normal_by m S T U V z to from more less = record {
   inside = λ h k t i a b. more i (z.inside h k (to h k t) i a b);
 }
 
+-- a block whose pages are inside the zone has an order below the zone's pages
+order_below : (m : ℕ) (s : List (Option ℕ)) (T : ℕ → ℕ → Type 0) (V : ℕ → Type 0) → IsNormal m T V → ((i : ℕ) → V i → i < length s) →
+    (h k : ℕ) → T h k → k < length s
+order_below m s T V z lt h k t =
+    let p : 0 < 2 ^ k = pow_pos k in
+    let last : h + 2 ^ k - 1 < length s = lt (h + 2 ^ k - 1) (z.inside h k t (h + 2 ^ k - 1) (omega arith) (omega arith)) in
+    omega (arith, lt_pow k)
+
 -- blocks that say what a normal set over U says have the pages of U, where U is inside the zone
-pub normal_cover : (s : List (Option ℕ)) (T : ℕ → ℕ → Type 0) (V : ℕ → Type 0) → IsNormal largest_order T V →
+pub normal_cover : (m : ℕ) (s : List (Option ℕ)) (T : ℕ → ℕ → Type 0) (V : ℕ → Type 0) → IsNormal m T V →
     ((h k : ℕ) → Starts s h k → T h k) → ((h k : ℕ) → T h k → Starts s h k) → ((i : ℕ) → V i → i < length s) →
-    (IsNormal largest_order (Starts s) (In (cover s))) × ((i : ℕ) → In (cover s) i → V i) × ((i : ℕ) → V i → In (cover s) i)
-normal_cover s T V z to from lt =
+    (IsNormal m (Starts s) (In (cover s))) × ((i : ℕ) → In (cover s) i → V i) × ((i : ℕ) → V i → In (cover s) i)
+normal_cover m s T V z to from lt =
     let less : (i : ℕ) → In (cover s) i → V i = λ i e.
     let c : (k : ℕ) × Starts s (head i k) k = cover-to s i e in
     z.inside (head i c.0) c.0 (to (head i c.0) c.0 c.1) i (head_le i c.0) (lt_head i c.0) in
     let more : (i : ℕ) → V i → In (cover s) i = λ i v.
     let c : (k : ℕ) × T (head i k) k = z.covers i v in
-    cover-from s i c.0 (lt i v) (z.order (head i c.0) c.0 c.1) (from (head i c.0) c.0 c.1) in
-    (normal_by largest_order T (Starts s) V (In (cover s)) z to from more less, less, more)
+    cover-from s i c.0 (lt i v) (order_below m s T V z lt (head i c.0) c.0 c.1) (from (head i c.0) c.0 c.1) in
+    (normal_by m T (Starts s) V (In (cover s)) z to from more less, less, more)
 
 in_run-to : (h k i : ℕ) → in_run h k i ≡ true → (h ≤ i) × (i < h + 2 ^ k)
 in_run-to h k i e = let a = and_parts _ _ e in (leb-true h i a.0, ltb-true i (h + 2 ^ k) a.1)
@@ -103,12 +112,12 @@ same_pages u v l to from =
     ext_get_or false u v l (λ i lt. same_from_decides {P = In v i} (has u i) (has v i) (λ e. to i e, λ e. from i e) (λ e. e, λ e. e))
 
 -- the pages left after a split
-pub cover-split : (s t : List (Option ℕ)) (h o k : ℕ) → IsNormal largest_order (Starts s) (In (cover s)) → Starts s h o → k ≤ o → length t ≡ length s →
+pub cover-split : (m : ℕ) (s t : List (Option ℕ)) (h o k : ℕ) → IsNormal m (Starts s) (In (cover s)) → Starts s h o → k ≤ o → length t ≡ length s →
     ((g j : ℕ) → Starts t g j → AfterSplit (Starts s) h k o g j) → ((g j : ℕ) → AfterSplit (Starts s) h k o g j → Starts t g j) →
-    (IsNormal largest_order (Starts t) (In (cover t))) × (cover t ≡ without (cover s) h k)
-cover-split s t h o k z x le len to from =
+    (IsNormal m (Starts t) (In (cover t))) × (cover t ≡ without (cover s) h k)
+cover-split m s t h o k z x le len to from =
     let l : length (cover s) ≡ length s = length-cover s in
-    let c = normal_cover t (AfterSplit (Starts s) h k o) (Outside (In (cover s)) h k) (split-normal largest_order (Starts s) (In (cover s)) z h o k x le) to from
+    let c = normal_cover m t (AfterSplit (Starts s) h k o) (Outside (In (cover s)) h k) (split-normal m (Starts s) (In (cover s)) z h o k x le) to from
     (λ i v. let b : i < length (cover s) = has_below (cover s) i v.0 in omega arith) in (
       c.0,
       same_pages (cover t) (without (cover s) h k) (length-cover t ∙ len ∙ sym l ∙ sym (length-without (cover s) h k))
@@ -141,14 +150,14 @@ with-decides u h k i lt = (
 )
 
 -- the pages after a join
-pub cover-join : (s t : List (Option ℕ)) (h k b j : ℕ) → IsNormal largest_order (Starts s) (In (cover s)) → h + 2 ^ k ≤ length s →
-    IsGrown largest_order (Starts s) (In (cover s)) h k b j → length t ≡ length s →
+pub cover-join : (m : ℕ) (s t : List (Option ℕ)) (h k b j : ℕ) → IsNormal m (Starts s) (In (cover s)) → h + 2 ^ k ≤ length s →
+    IsGrown m (Starts s) (In (cover s)) h k b j → length t ≡ length s →
     ((g i : ℕ) → Starts t g i → AfterJoin (Starts s) b j g i) → ((g i : ℕ) → AfterJoin (Starts s) b j g i → Starts t g i) →
-    (IsNormal largest_order (Starts t) (In (cover t))) × (cover t ≡ with_run (cover s) h k)
-cover-join s t h k b j z le x len to from =
+    (IsNormal m (Starts t) (In (cover t))) × (cover t ≡ with_run (cover s) h k)
+cover-join m s t h k b j z le x len to from =
     let l : length (cover s) ≡ length s = length-cover s in
     let below : (i : ℕ) → Joined (In (cover s)) h k i → i < length (cover s) = λ i v. elim v [ inl a ↦ has_below (cover s) i a | inr r ↦ omega arith ] in
-    let c = normal_cover t (AfterJoin (Starts s) b j) (Joined (In (cover s)) h k) (join-normal largest_order (Starts s) (In (cover s)) z h k b j x) to from
+    let c = normal_cover m t (AfterJoin (Starts s) b j) (Joined (In (cover s)) h k) (join-normal m (Starts s) (In (cover s)) z h k b j x) to from
     (λ i v. let a : i < length (cover s) = below i v in omega arith) in (
       c.0,
       same_pages (cover t) (with_run (cover s) h k) (length-cover t ∙ len ∙ sym l ∙ sym (length-with (cover s) h k))

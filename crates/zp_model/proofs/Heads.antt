@@ -1,12 +1,16 @@
 -- Where aligned runs begin, and how two of them lie.
-use Rattle.std.proofs.Common.{ℕ, suc, ◌+◌, ◌-◌, ◌*◌, ◌/◌, ◌%◌, ◌^◌, ◌≡◌, ◌≤◌, ◌<◌, ◌⊎◌, inl, inr, sym, ◌∙◌, ap, arith}
+use Rattle.std.proofs.Common.{ℕ, suc, zero, ◌+◌, ◌-◌, ◌*◌, ◌/◌, ◌%◌, ◌^◌, ◌≡◌, ◌≤◌, ◌<◌, ◌⊎◌, inl, inr, sym, ◌∙◌, ap, arith}
 use Rattle.std.proofs.lemmas.Nat.{shr_split, pow_pos, mod_below, shr_high, shr-shr, shl-shr, mod-pow-add}
 use Rattle.std.proofs.lemmas.Bool.{cases_lt}
-use Rattle.std.proofs.Math.Nat.{mul-mod_left, pow-suc, add-mod_right}
+use Rattle.std.proofs.Math.Nat.{mul-mod_left, mul-le-mul_right, pow-suc, add-mod_right}
 use Rattle.zp_model.specs.Block.{head}
 
 pub two : (k : ℕ) → 2 ^ (k + 1) ≡ 2 ^ k + 2 ^ k
 two k = let e : 2 ^ suc k ≡ 2 ^ k * 2 = pow-suc 2 k in let f : k + 1 ≡ suc k = omega arith in rw f (omega arith)
+
+pub lt_pow : (k : ℕ) → k < 2 ^ k
+lt_pow zero = omega arith
+lt_pow (suc k) = let e : suc k ≡ k + 1 = omega arith in rw e (omega (arith, lt_pow k, two k))
 
 pub head_le : (i k : ℕ) → head i k ≤ i
 head_le i k = omega (arith, shr_split i k)
@@ -17,15 +21,47 @@ lt_head i k = omega (arith, shr_split i k, mod_below i (2 ^ k) (pow_pos k))
 pub head_aligned : (i k : ℕ) → head i k % 2 ^ k ≡ 0
 head_aligned i k = mul-mod_left (i / 2 ^ k) (2 ^ k)
 
+-- the pages of the aligned run with number b have its number
+pub number_within : (b k i : ℕ) → b * 2 ^ k ≤ i → i < b * 2 ^ k + 2 ^ k → i / 2 ^ k ≡ b
+number_within b k i lo hi =
+    let r : (i - b * 2 ^ k) < 2 ^ k = omega arith in
+    let e : i ≡ b * 2 ^ k + (i - b * 2 ^ k) = omega arith in
+    ap (λ n. n / 2 ^ k) e ∙ shr_high b k (i - b * 2 ^ k) r
+
+-- so the pages of an aligned run have the number of its head
+number_same : (h i k : ℕ) → h % 2 ^ k ≡ 0 → h ≤ i → i < h + 2 ^ k → i / 2 ^ k ≡ h / 2 ^ k
+number_same h i k al lo hi = let s : h / 2 ^ k * 2 ^ k + h % 2 ^ k ≡ h = shr_split h k in number_within (h / 2 ^ k) k i (omega arith) (omega arith)
+
+-- also among larger runs
+pub number_around : (h i j k : ℕ) → j ≤ k → h % 2 ^ j ≡ 0 → h ≤ i → i < h + 2 ^ j → i / 2 ^ k ≡ h / 2 ^ k
+number_around h i j k le al lo hi =
+    let e : j + (k - j) ≡ k = omega arith in
+    let s : (n : ℕ) → n / 2 ^ j / 2 ^ (k - j) ≡ n / 2 ^ k = λ n. shr-shr n j (k - j) ∙ ap (λ m. n / 2 ^ m) e in
+    sym (s i) ∙ ap (λ n. n / 2 ^ (k - j)) (number_same h i j al lo hi) ∙ s h
+
+-- a run with a smaller number ends where one with a larger number begins, or before
+pub runs_apart : (a b k : ℕ) → a < b → a * 2 ^ k + 2 ^ k ≤ b * 2 ^ k
+runs_apart a b k lt = let le : a + 1 ≤ b = omega arith in let m : (a + 1) * 2 ^ k ≤ b * 2 ^ k = mul-le-mul_right (2 ^ k) le in omega arith
+
+-- the aligned runs of order k, as many as n pages take up, have all those pages
+pub runs_enough : (n b k : ℕ) → (n + (2 ^ k - 1)) / 2 ^ k ≤ b → n ≤ 2 ^ k * b
+runs_enough n b k le =
+    let p : 0 < 2 ^ k = pow_pos k in
+    let m : (n + (2 ^ k - 1)) / 2 ^ k * 2 ^ k ≤ b * 2 ^ k = mul-le-mul_right (2 ^ k) le in
+    omega (arith, shr_split (n + (2 ^ k - 1)) k, mod_below (n + (2 ^ k - 1)) (2 ^ k) p)
+
+pub number_lt : (n h k : ℕ) → h < n → h / 2 ^ k < (n + (2 ^ k - 1)) / 2 ^ k
+number_lt n h k lt =
+    elim (cases_lt (h / 2 ^ k) ((n + (2 ^ k - 1)) / 2 ^ k)) [
+      | inl below ↦ below
+      | inr past ↦ let le : n ≤ 2 ^ k * (h / 2 ^ k) = runs_enough n (h / 2 ^ k) k past in absurd (omega (arith, shr_split h k))
+    ]
+
 -- the aligned run around a page is the one that it lies in
 pub head_of : (h i k : ℕ) → h % 2 ^ k ≡ 0 → h ≤ i → i < h + 2 ^ k → head i k ≡ h
 head_of h i k al lo hi =
     let s : h / 2 ^ k * 2 ^ k + h % 2 ^ k ≡ h = shr_split h k in
-    let r : (i - h) < 2 ^ k = omega arith in
-    let e : i ≡ h / 2 ^ k * 2 ^ k + (i - h) = omega arith in
-    let q : (h / 2 ^ k * 2 ^ k + (i - h)) / 2 ^ k ≡ h / 2 ^ k = shr_high (h / 2 ^ k) k (i - h) r in
-    let f : i / 2 ^ k ≡ h / 2 ^ k = ap (λ n. n / 2 ^ k) e ∙ q in
-    ap (λ n. n * 2 ^ k) f ∙ omega arith
+    ap (λ n. n * 2 ^ k) (number_same h i k al lo hi) ∙ omega arith
 
 pub head_self : (h k : ℕ) → h % 2 ^ k ≡ 0 → head h k ≡ h
 head_self h k al = head_of h h k al (omega arith) (omega (arith, pow_pos k))

@@ -3,10 +3,9 @@ use Rattle.std.proofs.Common.{ℕ, ◌+◌, ◌^◌, ◌≡◌, ◌≤◌, ◌<�
 use Rattle.std.proofs.lemmas.Bool.{and_parts, and_from, leb-true, le-leb, ltb-true, lt-ltb}
 use Rattle.zp_model.specs.Block.{head, is_max}
 use Rattle.zp_model.specs.Block.{in_run, without, with_run}
-use Rattle.zp_model.specs.Block.{largest_order}
 use Rattle.zp_model.specs.BlockSet.{Starts, cover}
 use Rattle.zp_model.specs.Laws.{EachPageInOneBlock, IsUnjoined, UnjoinedAreMaximal}
-use Rattle.zp_model.proofs.Heads.{head_le, lt_head, head_of}
+use Rattle.zp_model.proofs.Heads.{lt_pow, head_le, lt_head, head_of}
 use Rattle.zp_model.proofs.Normal.{IsNormal, maximal_from, maximal_to}
 use Rattle.zp_model.proofs.Pages.{In, is_max-to, is_max-from}
 use Rattle.zp_model.proofs.Maximal.{Max, max-normal, maximal-covers, maximal-apart}
@@ -69,23 +68,22 @@ each_page_in_one_block m u i x =
           max-once m u g j c.0 c.1 i y.0 c.2 r.0 r.1 c.3 c.4,
     )
 
-unjoined-normal : (s : List (Option ℕ)) → IsUnjoined s → IsNormal largest_order (Starts s) (In (cover s))
-unjoined-normal s x = record {
+unjoined-normal : (m : ℕ) (s : List (Option ℕ)) → IsUnjoined m s → IsNormal m (Starts s) (In (cover s))
+unjoined-normal m s x = record {
   order = x.order;
   aligned = x.aligned;
-  apart = λ h k g j i a b p q r t. same s x h k g j i a b p q r t;
+  apart = λ h k g j i a b p q r t. same m s x h k g j i a b p q r t;
   unjoined = x.buddies;
   covers = λ i e. cover-to s i e;
   inside = λ h k a i p q.
-      let le : k ≤ largest_order = x.order h k a in
       let room : h + 2 ^ k ≤ length s = x.inside h k a in
       let e : head i k ≡ h = head_of h i k (x.aligned h k a) p q in
       let P : ℕ → Type 0 = λ n. Starts s n k in
-      cover-from s i k (omega arith) le (subst P (sym e) a);
+      cover-from s i k (omega arith) (omega (arith, lt_pow k)) (subst P (sym e) a);
 }
   where
-    same : (s : List (Option ℕ)) → IsUnjoined s → (h k g j i : ℕ) → Starts s h k → Starts s g j → h ≤ i → i < h + 2 ^ k → g ≤ i → i < g + 2 ^ j → (h ≡ g) × (k ≡ j)
-    same s x h k g j i a b p q r t =
+    same : (m : ℕ) (s : List (Option ℕ)) → IsUnjoined m s → (h k g j i : ℕ) → Starts s h k → Starts s g j → h ≤ i → i < h + 2 ^ k → g ≤ i → i < g + 2 ^ j → (h ≡ g) × (k ≡ j)
+    same m s x h k g j i a b p q r t =
         let e : h ≡ g = x.apart h k g j i a b (in_run-from h k i p q) (in_run-from g j i r t) in
         let P : ℕ → Type 0 = λ n. Starts s n k in
         let c : Starts s g k = subst P e a in
@@ -93,4 +91,4 @@ unjoined-normal s x = record {
         (e, cc)
 
 pub unjoined_are_maximal : UnjoinedAreMaximal
-unjoined_are_maximal s x h k = max-unique largest_order (Starts s) (cover s) (unjoined-normal s x) h k
+unjoined_are_maximal m s x h k = max-unique m (Starts s) (cover s) (unjoined-normal m s x) h k

@@ -59,15 +59,15 @@ around_more m S U n j lt each b al f =
     ]
 
 -- each aligned run of order at most m that lies in U lies in one block of S
-pub around : (m : ℕ) (S : ℕ → ℕ → Type 0) (U : ℕ → Type 0) → IsNormal m S U → (j : ℕ) → j ≤ m →
+pub run_in_block : (m : ℕ) (S : ℕ → ℕ → Type 0) (U : ℕ → Type 0) → IsNormal m S U → (j : ℕ) → j ≤ m →
     (b : ℕ) → b % 2 ^ j ≡ 0 → Filled U b j → Around S b j
-around m S U n zero le b al f =
+run_in_block m S U n zero le b al f =
     let c : (k : ℕ) × S (head b k) k = n.covers b (f b (omega arith) (omega (arith, pow_pos 0))) in
     (c.0, omega arith, c.1)
-around m S U n (suc j) le b al f =
+run_in_block m S U n (suc j) le b al f =
     let P : ℕ → Type 0 = λ q. b % 2 ^ q ≡ 0 → Filled U b q → Around S b q in
     let e : j + 1 ≡ suc j = omega arith in
-    subst P e (around_more m S U n j (omega arith) (around m S U n j (omega arith)) b) al f
+    subst P e (around_more m S U n j (omega arith) (run_in_block m S U n j (omega arith)) b) al f
 
 -- a block of S is maximal
 pub maximal_from : (m : ℕ) (S : ℕ → ℕ → Type 0) (U : ℕ → Type 0) → IsNormal m S U → (h k : ℕ) → S h k → IsMaximal m U h k
@@ -80,7 +80,7 @@ maximal_from m S U n h k s = record {
   where
     alone_from : (m : ℕ) (S : ℕ → ℕ → Type 0) (U : ℕ → Type 0) → IsNormal m S U → (h k : ℕ) → S h k → k < m → Filled U (head h (k + 1)) (k + 1) → ⊥
     alone_from m S U n h k s lt f =
-        let a : Around S (head h (k + 1)) (k + 1) = around m S U n (k + 1) (omega arith) (head h (k + 1)) (head_aligned h (k + 1)) f in
+        let a : Around S (head h (k + 1)) (k + 1) = run_in_block m S U n (k + 1) (omega arith) (head h (k + 1)) (head_aligned h (k + 1)) f in
         let e : head (head h (k + 1)) a.0 ≡ head h a.0 = head_head h (k + 1) a.0 a.1 in
         let P : ℕ → Type 0 = λ g. S g a.0 in
         let b : S (head h a.0) a.0 = subst P e a.2 in
@@ -91,7 +91,7 @@ maximal_from m S U n h k s = record {
 -- a maximal block is one of S
 pub maximal_to : (m : ℕ) (S : ℕ → ℕ → Type 0) (U : ℕ → Type 0) → IsNormal m S U → (h k : ℕ) → IsMaximal m U h k → S h k
 maximal_to m S U n h k x =
-    let a : Around S h k = around m S U n k x.order h x.aligned x.inside in
+    let a : Around S h k = run_in_block m S U n k x.order h x.aligned x.inside in
     elim (cases_lt k a.0) [
       | inl lt ↦
           let below : a.0 ≤ m = n.order (head h a.0) a.0 a.2 in

@@ -1,11 +1,6 @@
 -- Pages, runs of pages, blocks and the maximal blocks of a set of pages (Knowlton 1965). Pages are counted from the zone's base.
 use Rattle.std.specs.Prelude.{ℕ, suc, zero, ◌+◌, ◌*◌, ◌/◌, ◌%◌, ◌^◌, ◌≡◌, ◌≤◌, ◌==◌, ◌&&◌, ◌||◌, not, Bool, true, false, List, map, length, slice_index_or, leb, ltb}
 use Rattle.std.specs.List.{range_with_len, count_by}
-use Rattle.zp_model.specs.declared.constants.TheConstants.{LARGEST_ORDER}
-
--- the order of the largest block
-abbrev pub largest_order : ℕ
-largest_order = LARGEST_ORDER
 
 -- whether a test passes at each number below n
 abbrev pub all_below : (ℕ → Bool) → ℕ → Bool
@@ -29,9 +24,9 @@ has_run u h k = all_below (λ i. has u (h + i)) (2 ^ k)
 abbrev pub head : ℕ → ℕ → ℕ
 head i k = i / 2 ^ k * 2 ^ k
 
--- (h, k) is a block of a zone with so many pages
-pub record IsBlock (pages h k : ℕ) : Type 0 where
-  pub order : k ≤ largest_order
+-- (h, k) is a block of a zone with so many pages, where the largest block has order m
+pub record IsBlock (m pages h k : ℕ) : Type 0 where
+  pub order : k ≤ m
   pub aligned : h % 2 ^ k ≡ 0
   pub inside : h + 2 ^ k ≤ pages
 

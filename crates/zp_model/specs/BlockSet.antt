@@ -2,7 +2,7 @@
 use Rattle.std.specs.Prelude.{ℕ, suc, zero, ◌+◌, ◌-◌, ◌^◌, ◌≡◌, ◌==◌, ◌||◌, Bool, false, List, [], ◌∷◌, length, map, cond, max, slice_index_or, leb, Option, None, Some}
 use Rattle.std.specs.List.{range_with_len, find}
 use Rattle.std.specs.Option.{option_or}
-use Rattle.zp_model.specs.Block.{largest_order, head, is_max}
+use Rattle.zp_model.specs.Block.{head, is_max}
 
 -- whether a test passes at some number below n
 abbrev pub some_below : (ℕ → Bool) → ℕ → Bool
@@ -22,21 +22,21 @@ abbrev pub is_order : ℕ → Option ℕ → Bool
 is_order k None = false
 is_order k (Some j) = j == k
 
--- whether page i lies in some block of the set
+-- whether page i lies in some block of the set. A block of order k has 2 to the k pages, so in a zone of n pages its order is below n.
 abbrev pub is_covered : List (Option ℕ) → ℕ → Bool
-is_covered s i = some_below (λ k. is_order k (slice_index_or s (head i k) None)) (largest_order + 1)
+is_covered s i = some_below (λ k. is_order k (slice_index_or s (head i k) None)) (length s)
 
 -- the pages of the blocks of the set
 unfoldable pub cover : List (Option ℕ) → List Bool
 cover s = map (is_covered s) (range_with_len 0 (length s))
 
--- the orders from k on, the least first
-abbrev pub orders_from : ℕ → List ℕ
-orders_from k = range_with_len k (largest_order + 1 - k)
+-- the orders from k to m, the least first
+abbrev pub orders_from : ℕ → ℕ → List ℕ
+orders_from m k = range_with_len k (m + 1 - k)
 
--- the maximal blocks of a page set
-unfoldable pub max_blocks : List Bool → List (Option ℕ)
-max_blocks u = map (λ h. find (is_max largest_order u h) (orders_from 0)) (range_with_len 0 (length u))
+-- the maximal blocks of a page set, where no block has an order above m
+unfoldable pub max_blocks : ℕ → List Bool → List (Option ℕ)
+max_blocks m u = map (λ h. find (is_max m u h) (orders_from m 0)) (range_with_len 0 (length u))
 
 -- the block that starts at h, where one does that passes the test
 abbrev pub block_if : (ℕ → ℕ → Bool) → ℕ → Option ℕ → Option (ℕ × ℕ)

@@ -3,7 +3,7 @@ use Rattle.std.specs.Prelude.{ℕ, ◌≡◌, ◌↔◌, ◌++◌, true, false, 
 use Rattle.zp_model.specs.declared.migrate_type.MigrateType.{MigrateType}
 use Rattle.zp_model.specs.declared.state.State.{State}
 use Rattle.zp_model.specs.declared.state.State.TheVariants.{Tail, Free, Out, Posted}
-use Rattle.zp_model.specs.Block.{largest_order, is_max}
+use Rattle.zp_model.specs.Block.{is_max}
 use Rattle.zp_model.specs.Rows.{list_at, after, IsOn, IsLoose}
 use Rattle.zp_model.specs.Zone.{PlainZone, PostedBlock, holding_at, posted_to}
 
@@ -17,14 +17,14 @@ IsPostedTo z w h k t = (i : ℕ) × (slice_get (posted_to z w) i ≡ Some (recor
 
 -- page h heads no block, free, out or posted
 pub record HeadsNone (z : PlainZone) (h : ℕ) : Type 0 where
-  pub free : (k : ℕ) → is_max largest_order z.area.free h k ≡ false
+  pub free : (k : ℕ) → is_max z.area.largest z.area.free h k ≡ false
   pub out : holding_at z.out h ≡ None
   pub posted : (w k : ℕ) (t : MigrateType) → IsPostedTo z w h k t → ⊥
 
 -- what is noted of page h is the block that it heads, free, out or posted, or that it heads none
 pub record IsNoted (z : PlainZone) (h : ℕ) (state : State) : Type 0 where
   pub tail : (state ≡ Tail) ↔ HeadsNone z h
-  pub free : (k : ℕ) → (state ≡ Free k) ↔ (is_max largest_order z.area.free h k ≡ true)
+  pub free : (k : ℕ) → (state ≡ Free k) ↔ (is_max z.area.largest z.area.free h k ≡ true)
   pub out : (k : ℕ) (t : MigrateType) (w : ℕ) → (state ≡ Out k t w) ↔ IsOutFor z w h k t
   pub posted : (k : ℕ) (t : MigrateType) (w : ℕ) → (state ≡ Posted k t w) ↔ IsPostedTo z w h k t
 

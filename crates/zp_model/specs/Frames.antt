@@ -3,7 +3,7 @@ use Rattle.std.specs.Prelude.{ℕ, ◌≡◌, ◌<◌, ◌≤◌, ◌^◌, ◌+�
 use Rattle.std.specs.List.{range_with_len}
 use Rattle.zp_model.specs.declared.state.State.{State}
 use Rattle.zp_model.specs.declared.state.State.TheVariants.{Tail, Free, Out, Posted}
-use Rattle.zp_model.specs.Block.{largest_order, has, is_max, IsBlock}
+use Rattle.zp_model.specs.Block.{has, is_max, IsBlock}
 use Rattle.zp_model.specs.BlockSet.{max_blocks}
 use Rattle.zp_model.specs.Rows.{state_at, stands_in, list_at}
 use Rattle.zp_model.specs.Area.{Area, opening, pageblocks_of}
@@ -26,26 +26,26 @@ restate None (Out k t w) = Out k t w
 restate None (Posted k t w) = Posted k t w
 
 -- what is noted of each page, where these are the free pages now
-unfoldable pub restated : List Bool → List State → List State
-restated free states =
-    map (λ h. restate (slice_index_or (max_blocks free) h None) (state_at states h)) (range_with_len 0 (length states))
+unfoldable pub restated : ℕ → List Bool → List State → List State
+restated m free states =
+    map (λ h. restate (slice_index_or (max_blocks m free) h None) (state_at states h)) (range_with_len 0 (length states))
 
 -- the frames with another free area
 abbrev pub with_area : Frames → Area → Frames
-with_area f a = record f { area = a; states = restated a.free f.states }
+with_area f a = record f { area = a; states = restated a.largest a.free f.states }
 
 -- all pages free, and nothing on the further lists
-abbrev pub frames_opening : ℕ → ℕ → Frames
-frames_opening pages side =
+abbrev pub frames_opening : ℕ → ℕ → ℕ → Frames
+frames_opening m pages side =
     record {
-      area = opening pages;
-      states = restated (replicate pages true) (replicate pages Tail);
+      area = opening m pages;
+      states = restated m (replicate pages true) (replicate pages Tail);
       sides = replicate side [];
     }
 
 -- (h, k) is a block of the zone of which no page is free or on a further list
 pub record IsClear (f : Frames) (h k : ℕ) : Type 0 where
-  pub block : IsBlock (length f.area.free) h k
+  pub block : IsBlock f.area.largest (length f.area.free) h k
   pub free : (i : ℕ) → h ≤ i → i < h + 2 ^ k → has f.area.free i ≡ false
   pub aside : (r i : ℕ) → h ≤ i → i < h + 2 ^ k → stands_in i (list_at f.sides r) ≡ false
 
@@ -59,8 +59,8 @@ IsNote (Posted k t w) = Unit {0}
 -- what is noted as free are the heads of the maximal blocks of the free pages, and no page of a further list is free
 pub record IsFramed (f : Frames) : Type 0 where
   pub pages : length f.area.free ≡ length f.states
-  pub typed : length f.area.kinds ≡ pageblocks_of (length f.states)
-  pub noted : (g k : ℕ) → (state_at f.states g ≡ Free k) ↔ (is_max largest_order f.area.free g k ≡ true)
+  pub typed : length f.area.kinds ≡ pageblocks_of f.area.largest (length f.states)
+  pub noted : (g k : ℕ) → (state_at f.states g ≡ Free k) ↔ (is_max f.area.largest f.area.free g k ≡ true)
   pub beside : (r p : ℕ) → stands_in p (list_at f.sides r) ≡ true → has f.area.free p ≡ false
 
 -- a block given back: nothing is noted of its head any more, and its pages become free

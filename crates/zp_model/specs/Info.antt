@@ -4,15 +4,15 @@ use Rattle.std.specs.List.{range_with_len, count_by, flat_map}
 use Rattle.std.specs.Fmt.{decimal}
 use Rattle.zp_model.specs.declared.counts.Counts.{Counts}
 use Rattle.zp_model.specs.declared.constants.TheConstants.{NAME_PLACES, NUMBER_PLACES}
-use Rattle.zp_model.specs.Block.{largest_order, is_max, size}
+use Rattle.zp_model.specs.Block.{is_max, size}
 
 -- how many maximal blocks of order k the free pages have
-unfoldable pub blocks_of_order : List Bool → ℕ → ℕ
-blocks_of_order free k = count_by (λ h. is_max largest_order free h k) (range_with_len 0 (length free))
+unfoldable pub blocks_of_order : ℕ → List Bool → ℕ → ℕ
+blocks_of_order m free k = count_by (λ h. is_max m free h k) (range_with_len 0 (length free))
 
--- the counts of each order, the least first, and of the free pages
-abbrev pub counts : List Bool → Counts
-counts free = record { by_order = map (blocks_of_order free) (range_with_len 0 (largest_order + 1)); free = size free }
+-- the counts of each order from 0 to m, the least first, and of the free pages
+abbrev pub counts : ℕ → List Bool → Counts
+counts m free = record { by_order = map (blocks_of_order m free) (range_with_len 0 (m + 1)); free = size free }
 
 abbrev pub space : ℕ
 space = 32

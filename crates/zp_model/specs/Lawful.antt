@@ -24,17 +24,17 @@ times z i = cond (has z.area.free i) 1 0 + times_out z.out i + times_posted z.po
 
 -- the lists of an area hold the heads that belong there, each once, and nothing else
 pub record IsListedArea (a : Area) : Type 0 where
-  pub table : length a.lists ≡ lists_count
-  pub distinct : (r : ℕ) → r < lists_count → IsDistinct (λ x y. x == y) (list_at a.lists r)
-  pub held : (r h : ℕ) → r < lists_count → stands_in h (list_at a.lists r) ≡ belongs a.free a.kinds r h
+  pub table : length a.lists ≡ lists_count a.largest
+  pub distinct : (r : ℕ) → r < lists_count a.largest → IsDistinct (λ x y. x == y) (list_at a.lists r)
+  pub held : (r h : ℕ) → r < lists_count a.largest → stands_in h (list_at a.lists r) ≡ belongs a.largest a.free a.kinds r h
 
 pub record IsLawful (z : PlainZone) : Type 0 where
   -- there is a place for a holding at each page, and a type for each pageblock
   pub places : length z.out ≡ pages_of z
-  pub kinds : length z.area.kinds ≡ pageblocks_of (pages_of z)
+  pub kinds : length z.area.kinds ≡ pageblocks_of z.area.largest (pages_of z)
   -- what is out are blocks of the zone, in the name of its workers; what is posted are blocks of the zone
-  pub out : (h : ℕ) (x : Holding) → holding_at z.out h ≡ Some x → IsBlock (pages_of z) h x.order × (x.worker < workers_of z)
-  pub posted : (w : ℕ) → All (λ (p : PostedBlock). IsBlock (pages_of z) p.head p.order) (posted_to z w)
+  pub out : (h : ℕ) (x : Holding) → holding_at z.out h ≡ Some x → IsBlock z.area.largest (pages_of z) h x.order × (x.worker < workers_of z)
+  pub posted : (w : ℕ) → All (λ (p : PostedBlock). IsBlock z.area.largest (pages_of z) p.head p.order) (posted_to z w)
   -- each page lies in exactly one place
   pub once : (i : ℕ) → i < pages_of z → times z i ≡ 1
   pub lists : IsListedArea z.area

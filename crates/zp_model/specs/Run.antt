@@ -6,7 +6,7 @@ use Rattle.zp_model.specs.declared.request.Entry.{Entry}
 use Rattle.zp_model.specs.declared.request.Request.{Request}
 use Rattle.zp_model.specs.declared.request.Request.TheVariants.{Alloc, AllocLow, Free, Post, Collect, Refill, Drain}
 use Rattle.zp_model.specs.Rows.{stands_in}
-use Rattle.zp_model.specs.Zone.{PlainZone, is_held, workers_of}
+use Rattle.zp_model.specs.Zone.{PlainZone, holds, workers_of}
 use Rattle.zp_model.specs.Step.{step}
 
 abbrev pub is_distinct : List ℕ → Bool
@@ -15,7 +15,7 @@ is_distinct (x ∷ xs) = not (stands_in x xs) && is_distinct xs
 
 -- whether the block of order k at an absolute page is out in w's name
 abbrev pub is_out : PlainZone → ℕ → ℕ → ℕ → Bool
-is_out z w p k = leb z.base p && is_held z w (p - z.base) k
+is_out z w p k = leb z.base p && holds z w (p - z.base) k
 
 -- whether a worker of the zone may ask for it (this profile)
 abbrev pub may_ask : PlainZone → ℕ → Request → Bool

@@ -24,7 +24,7 @@ refuse z r = record { reply = Reply.Refused r; zone = z }
 abbrev pub alloc_chosen : PlainZone → ℕ → ℕ → MigrateType → Option Chosen → Outcome
 alloc_chosen z w k t None = refuse z NoBlock
 alloc_chosen z w k t (Some c) =
-    record { reply = Reply.Page (z.base + c.head); zone = hand_out (record z { area = taken z.area k t (Some c) }) c.head k t w }
+    record { reply = Reply.Page (z.base + c.head); zone = hand_out (record z { area = taken z.area k t (Some c) }) w c.head k t }
 
 unfoldable pub alloc : PlainZone → ℕ → ℕ → MigrateType → Mark → Outcome
 alloc z w k t m = cond (passes z k m) (alloc_chosen z w k t (choose z.area k t)) (refuse z BelowMark)
@@ -34,8 +34,8 @@ abbrev pub alloc_low_at : PlainZone → ℕ → ℕ → Option ℕ → Outcome
 alloc_low_at z w k None = refuse z NoBlock
 alloc_low_at z w k (Some h) =
     record {
-      reply = Reply.Block (record { page = z.base + h; order = k; kind = kind_at z.area.kinds h });
-      zone = hand_out (record z { area = leave z.area h k }) h k (kind_at z.area.kinds h) w;
+      reply = Reply.Block (record { page = z.base + h; order = k; kind = kind_at z.area.largest z.area.kinds h });
+      zone = hand_out (record z { area = leave z.area h k }) w h k (kind_at z.area.largest z.area.kinds h);
     }
 
 -- the block (h, k) is out no more, and its pages are free
@@ -48,15 +48,15 @@ post_to z w p = record z { posted = slice_set z.posted w (posted_to z w ++ p ∷
 
 -- the block out at h is out no more, and is posted to w
 abbrev pub handed_on : PlainZone → ℕ → ℕ → Option Holding → PlainZone
-handed_on z h w None = z
-handed_on z h w (Some x) = post_to (take_back z h) w (record { head = h; order = x.order; kind = x.kind })
+handed_on z w h None = z
+handed_on z w h (Some x) = post_to (take_back z h) w (record { head = h; order = x.order; kind = x.kind })
 
 abbrev pub collected : PlainZone → ℕ → List PostedBlock → Outcome
 collected z w [] = refuse z NothingPosted
 collected z w (p ∷ ps) =
     record {
       reply = Reply.Block (record { page = z.base + p.head; order = p.order; kind = p.kind });
-      zone = hand_out (record z { posted = slice_set z.posted w ps }) p.head p.order p.kind w;
+      zone = hand_out (record z { posted = slice_set z.posted w ps }) w p.head p.order p.kind;
     }
 
 -- what a refill answers that has got these pages, where one request more is answered so
@@ -84,7 +84,7 @@ step z w (Request.Alloc k t m) = alloc z w k t m
 step z w (Request.AllocLow k) = alloc_low_at z w k (take_low_answer z.area k)
 step z w (Request.Free p k) = record { reply = Reply.Freed; zone = freed z (p - z.base) k }
 step z w (Request.Post p k to) =
-    record { reply = Reply.Posted; zone = handed_on z (p - z.base) to (holding_at z.out (p - z.base)) }
+    record { reply = Reply.Posted; zone = handed_on z to (p - z.base) (holding_at z.out (p - z.base)) }
 step z w Request.Collect = collected z w (posted_to z w)
 step z w (Request.Refill t m n) = refill z w t m [] n
 step z w (Request.Drain t ps) = record { reply = Reply.Drained; zone = drained z ps }

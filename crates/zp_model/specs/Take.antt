@@ -22,7 +22,7 @@ retype a pageblock t = settle (record a { kinds = slice_set a.kinds pageblock t 
 -- what taking the chosen block for type t leaves
 unfoldable pub taken : Area → ℕ → MigrateType → Option Chosen → Area
 taken a k t None = a
-taken a k t (Some c) = leave (cond c.claims (retype a (c.head / pageblock_pages) t) a) c.head k
+taken a k t (Some c) = leave (cond c.claims (retype a (c.head / pageblock_pages a.largest) t) a) c.head k
 
 -- what taking a block of order k for type t answers and leaves
 unfoldable pub take_answer : Area → ℕ → MigrateType → Option ℕ
@@ -33,7 +33,7 @@ take_after a k t = taken a k t (choose a k t)
 
 -- the blocks of which the lowest is looked for: all maximal ones
 abbrev pub blocks_at_hand : Area → List (Option ℕ)
-blocks_at_hand a = max_blocks a.free
+blocks_at_hand a = max_blocks a.largest a.free
 
 -- the head of the lowest of them of order k or more, and what taking its low run of order k leaves
 unfoldable pub take_low_answer : Area → ℕ → Option ℕ

@@ -27,10 +27,10 @@ pub record PlainZone : Type 0 where
   -- the least mark
   pub min : ℕ
 
--- all pages free, nothing out and nothing posted
-abbrev pub zone_opening : ℕ → ℕ → ℕ → ℕ → PlainZone
-zone_opening base pages min workers =
-    record { area = opening pages; out = replicate pages None; posted = replicate workers []; base = base; min = min }
+-- all pages free, nothing out and nothing posted, where the largest block has order m
+abbrev pub zone_opening : ℕ → ℕ → ℕ → ℕ → ℕ → PlainZone
+zone_opening m base pages min workers =
+    record { area = opening m pages; out = replicate pages None; posted = replicate workers []; base = base; min = min }
 
 abbrev pub pages_of : PlainZone → ℕ
 pages_of z = length z.area.free
@@ -53,13 +53,13 @@ abbrev pub is_of : ℕ → ℕ → Option Holding → Bool
 is_of w k None = false
 is_of w k (Some x) = (x.order == k) && (x.worker == w)
 
--- whether the block (h, k) is out in w's name
-abbrev pub is_held : PlainZone → ℕ → ℕ → ℕ → Bool
-is_held z w h k = is_of w k (holding_at z.out h)
+-- whether worker w holds the block (h, k): it is out in the worker's name
+abbrev pub holds : PlainZone → ℕ → ℕ → ℕ → Bool
+holds z w h k = is_of w k (holding_at z.out h)
 
 -- the block (h, k) is out in w's name, with its type
-abbrev pub hand_out : PlainZone → ℕ → ℕ → MigrateType → ℕ → PlainZone
-hand_out z h k t w = record z { out = slice_set z.out h (Some (record { order = k; kind = t; worker = w })) }
+abbrev pub hand_out : PlainZone → ℕ → ℕ → ℕ → MigrateType → PlainZone
+hand_out z w h k t = record z { out = slice_set z.out h (Some (record { order = k; kind = t; worker = w })) }
 
 -- the block at h is out no more
 abbrev pub take_back : PlainZone → ℕ → PlainZone

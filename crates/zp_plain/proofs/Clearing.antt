@@ -11,16 +11,16 @@ use Rattle.zp_model.specs.Lawful.{IsListedArea}
 use Rattle.zp_model.specs.Take.{taken}
 use Rattle.zp_model.proofs.Covers.{has_below, length-without, without-decides}
 use Rattle.zp_laws.specs.Found.{IsFound}
-use Rattle.zp_laws.proofs.Areas.{free-taken}
+use Rattle.zp_laws.proofs.Areas.{free-taken, largest-taken}
 use Rattle.zp_laws.proofs.Choosing.{choose_found, found_block, found_free}
 use Rattle.zp_plain.specs.Clear.{open_frames, IsClearRun}
 
 -- the looks at the block and at its pages decide whether it is clear
-pub clear_by_pages : (free : List Bool) (sides : List (List ℕ)) (h k : ℕ) → IsBlock (length free) h k → IsClearRun free sides h k → IsClear (open_frames free sides) h k
-clear_by_pages free sides h k b x = record { block = b; free = λ i lo hi. (x i lo hi).0; aside = λ r i lo hi. (x i lo hi).1 r }
+pub clear_by_pages : (m : ℕ) (free : List Bool) (sides : List (List ℕ)) (h k : ℕ) → IsBlock m (length free) h k → IsClearRun free sides h k → IsClear (open_frames m free sides) h k
+clear_by_pages m free sides h k b x = record { block = b; free = λ i lo hi. (x i lo hi).0; aside = λ r i lo hi. (x i lo hi).1 r }
 
-pub clear_pages : (free : List Bool) (sides : List (List ℕ)) (h k : ℕ) → IsClear (open_frames free sides) h k → IsClearRun free sides h k
-clear_pages free sides h k x i lo hi = (x.free i lo hi, λ r. x.aside r i lo hi)
+pub clear_pages : (m : ℕ) (free : List Bool) (sides : List (List ℕ)) (h k : ℕ) → IsClear (open_frames m free sides) h k → IsClearRun free sides h k
+clear_pages m free sides h k x i lo hi = (x.free i lo hi, λ r. x.aside r i lo hi)
 
 -- a page of the run is not in the set without it, and a page that was not in the set is not there either
 gone : (u : List Bool) (h k i : ℕ) → h ≤ i → i < h + 2 ^ k → has (without u h k) i ≡ false
@@ -38,23 +38,26 @@ absent u h k i none =
     both_ways _ none ((without-decides u h k i (omega arith)).0 e).0)
 
 -- a free block that leaves is clear, where another area has all its pages but those
-pub clear_left : (f : Frames) (a : Area) (h k : ℕ) → IsFramed f → IsFound f.area.free k h → a.free ≡ without f.area.free h k → IsClear (with_area f a) h k
-clear_left f a h k x found free =
+pub clear_left : (f : Frames) (a : Area) (h k : ℕ) → IsFramed f → IsFound f.area.largest f.area.free k h → a.free ≡ without f.area.free h k → a.largest ≡ f.area.largest →
+    IsClear (with_area f a) h k
+clear_left f a h k x found free same =
     let n : length a.free ≡ length f.area.free = ap length free ∙ length-without f.area.free h k in
-    let P : ℕ → Type 0 = λ m. IsBlock m h k in
+    let P : ℕ → Type 0 = λ n. IsBlock f.area.largest n h k in
+    let Q : ℕ → Type 0 = λ m. IsBlock m (length a.free) h k in
     record {
-      block = subst P (sym n) (found_block f.area.free k h found);
+      block = subst Q (sym same) (subst P (sym n) (found_block f.area.largest f.area.free k h found));
       free = λ i lo hi. ap (λ (q : List Bool). has q i) free ∙ gone f.area.free h k i lo hi;
-      aside = λ r i lo hi. false_from_ne_true _ (λ on. both_ways _ (x.beside r i on) (found_free f.area.free k h found i lo hi));
+      aside = λ r i lo hi. false_from_ne_true _ (λ on. both_ways _ (x.beside r i on) (found_free f.area.largest f.area.free k h found i lo hi));
     }
 
 -- and each block that was clear before still is
-pub clear_kept : (f : Frames) (a : Area) (h k g j : ℕ) → a.free ≡ without f.area.free h k → IsClear f g j → IsClear (with_area f a) g j
-clear_kept f a h k g j free x =
+pub clear_kept : (f : Frames) (a : Area) (h k g j : ℕ) → a.free ≡ without f.area.free h k → a.largest ≡ f.area.largest → IsClear f g j → IsClear (with_area f a) g j
+clear_kept f a h k g j free same x =
     let n : length a.free ≡ length f.area.free = ap length free ∙ length-without f.area.free h k in
-    let P : ℕ → Type 0 = λ m. IsBlock m g j in
+    let P : ℕ → Type 0 = λ n. IsBlock f.area.largest n g j in
+    let Q : ℕ → Type 0 = λ m. IsBlock m (length a.free) g j in
     record {
-      block = subst P (sym n) x.block;
+      block = subst Q (sym same) (subst P (sym n) x.block);
       free = λ i lo hi. ap (λ (q : List Bool). has q i) free ∙ absent f.area.free h k i (x.free i lo hi);
       aside = x.aside;
     }

@@ -14,7 +14,7 @@ use Rattle.zp_model.specs.Choose.{Chosen}
 use Rattle.zp_model.specs.Take.{give, taken}
 use Rattle.zp_model.proofs.Pages.{In}
 use Rattle.zp_model.proofs.Covers.{has_below, length-with, length-without, with-decides, without-decides}
-use Rattle.zp_laws.proofs.Areas.{free-give, kinds-give, free-taken, kinds-taken}
+use Rattle.zp_laws.proofs.Areas.{free-give, kinds-give, free-taken, kinds-taken, largest-give, largest-taken}
 use Rattle.zp_plain.proofs.Noted.{framed_with, block_noted, max_has}
 
 pub kept_given : (f : Frames) (h k : ℕ) → IsFramed f → IsClear f h k → IsFramed (given f h k)
@@ -22,7 +22,8 @@ kept_given f h k x y =
     let n : length (give f.area h k).free ≡ length f.area.free = ap length (free-give f.area h k) ∙ length-with f.area.free h k in
     let w : length (set f.states h Tail) ≡ length f.states = length-set f.states h Tail in
     framed_with (record f { states = set f.states h Tail }) (give f.area h k) (n ∙ x.pages ∙ sym w)
-    (ap length (kinds-give f.area h k) ∙ x.typed ∙ ap (λ q. pageblocks_of q) (sym w))
+    (ap length (kinds-give f.area h k) ∙ x.typed ∙ ap (λ q. pageblocks_of f.area.largest q) (sym w)
+    ∙ ap (λ q. pageblocks_of q (length (set f.states h Tail))) (sym (largest-give f.area h k)))
     (λ r p e. false_from_ne_true _ (λ t. free_aside r p e (ap (λ u. has u p) (sym (free-give f.area h k)) ∙ t)))
   where
     free_aside : (r p : ℕ) → stands_in p (list_at f.sides r) ≡ true → In (with_run f.area.free h k) p → ⊥
@@ -35,10 +36,11 @@ kept_given f h k x y =
         ]
 
 -- a block leaves, and another area has all the free pages but those
-pub kept_left : (f : Frames) (a : Area) (h k : ℕ) → IsFramed f → a.free ≡ without f.area.free h k → length a.kinds ≡ length f.area.kinds → IsFramed (with_area f a)
-kept_left f a h k x free kinds =
+pub kept_left : (f : Frames) (a : Area) (h k : ℕ) → IsFramed f → a.free ≡ without f.area.free h k → length a.kinds ≡ length f.area.kinds → a.largest ≡ f.area.largest →
+    IsFramed (with_area f a)
+kept_left f a h k x free kinds same =
     let n : length a.free ≡ length f.area.free = ap length free ∙ length-without f.area.free h k in
-    framed_with f a (n ∙ x.pages) (kinds ∙ x.typed)
+    framed_with f a (n ∙ x.pages) (kinds ∙ x.typed ∙ ap (λ q. pageblocks_of q (length f.states)) (sym same))
     (λ r p e. false_from_ne_true _ (λ q. free_aside r p e (ap (λ u. has u p) (sym free) ∙ q)))
   where
     free_aside : (r p : ℕ) → stands_in p (list_at f.sides r) ≡ true → In (without f.area.free h k) p → ⊥
@@ -48,17 +50,17 @@ kept_left f a h k x free kinds =
         both_ways _ (x.beside r p e) ((without-decides f.area.free h k p (omega arith)).0 t).0
 
 pub kept_taken : (f : Frames) (k : ℕ) (t : MigrateType) (c : Chosen) → IsFramed f → IsFramed (with_area f (taken f.area k t (Some c)))
-kept_taken f k t c x = kept_left f (taken f.area k t (Some c)) c.head k x (free-taken f.area k t c) (kinds-taken f.area k t c)
+kept_taken f k t c x = kept_left f (taken f.area k t (Some c)) c.head k x (free-taken f.area k t c) (kinds-taken f.area k t c) (largest-taken f.area k t c)
 
 -- frames whose notes say what is free are restated as they are
 pub restated_same : (f : Frames) → IsFramed f → f ≡ with_area f f.area
 unfolding restated
 restated_same f x =
-    let e : f.states ≡ restated f.area.free f.states =
-    fill_by_all (λ h. restate (get_or (max_blocks f.area.free) h None) (state_at f.states h)) f.states (length f.states) Tail refl
+    let e : f.states ≡ restated f.area.largest f.area.free f.states =
+    fill_by_all (λ h. restate (get_or (max_blocks f.area.largest f.area.free) h None) (state_at f.states h)) f.states (length f.states) Tail refl
     (λ g lt.
     let m : length f.area.free ≡ length f.states = x.pages in
-    block_noted f.area.free g (state_at f.states g) (omega arith) (λ k. x.noted g k)) in
+    block_noted f.area.largest f.area.free g (state_at f.states g) (omega arith) (λ k. x.noted g k)) in
     ap (λ (q : List State). let y : Frames = record f { states = q } in y) e
 
 -- a note of a page that is not free
@@ -67,12 +69,12 @@ kept_held f h s x lt u note =
     let w : length (set f.states h s) ≡ length f.states = length-set f.states h s in
     record {
       pages = x.pages ∙ sym w;
-      typed = x.typed ∙ ap (λ q. pageblocks_of q) (sym w);
+      typed = x.typed ∙ ap (λ q. pageblocks_of f.area.largest q) (sym w);
       noted = λ g k. elim (cases_eq g h) [
         | inl same ↦
             let here : state_at (set f.states h s) g ≡ s = ap (λ q. state_at (set f.states h s) q) same ∙ get_or-set_same f.states h s Tail lt in
             let out : has f.area.free g ≡ false = ap (λ q. has f.area.free q) same ∙ u in
-            (λ e. absurd (not_free s k note (sym here ∙ e)), λ m. absurd (both_ways _ out (max_has f.area.free g k m)))
+            (λ e. absurd (not_free s k note (sym here ∙ e)), λ m. absurd (both_ways _ out (max_has f.area.largest f.area.free g k m)))
         | inr ne ↦
             let there : state_at (set f.states h s) g ≡ state_at f.states g = get_or-set_other f.states h g s Tail ne in
             (λ e. (x.noted g k).0 (sym there ∙ e), λ m. there ∙ (x.noted g k).1 m)

@@ -4,9 +4,9 @@ use Rattle.zp_model.specs.Block.{has}
 use Rattle.zp_model.specs.Rows.{list_at, stands_in}
 use Rattle.zp_model.specs.Frames.{Frames}
 
--- frames of these free pages and further lists; whether a block is clear reads nothing else
-abbrev pub open_frames : List Bool → List (List ℕ) → Frames
-open_frames free sides = record { area = record { free = free; kinds = []; lists = [] }; states = []; sides = sides }
+-- frames of this largest order, these free pages and further lists; whether a block is clear reads nothing else
+abbrev pub open_frames : ℕ → List Bool → List (List ℕ) → Frames
+open_frames m free sides = record { area = record { largest = m; free = free; kinds = []; lists = [] }; states = []; sides = sides }
 
 -- page i is not free, and on no further list
 abbrev pub IsClearPage : List Bool → List (List ℕ) → ℕ → Type 0

@@ -7,16 +7,16 @@ use Rattle.zp_model.specs.Rows.{list_at, stands_in}
 use Rattle.zp_model.specs.Area.{Area, lists_count, pageblocks_of}
 use Rattle.zp_model.specs.Lawful.{IsListedArea}
 
--- lists that may be settled for these free pages and types: each has each page once, and pages of the zone alone
-pub record IsTable (free : List Bool) (kinds : List MigrateType) (lists : List (List ℕ)) : Type 0 where
+-- lists that may be settled for this largest order, these free pages and types: each has each page once, and pages of the zone alone
+pub record IsTable (m : ℕ) (free : List Bool) (kinds : List MigrateType) (lists : List (List ℕ)) : Type 0 where
   pub small : length free ≤ MAX_PAGES
-  pub typed : length kinds ≡ pageblocks_of (length free)
-  pub table : length lists ≡ lists_count
-  pub distinct : (r : ℕ) → r < lists_count → IsDistinct (λ x y. x == y) (list_at lists r)
-  pub inside : (r p : ℕ) → r < lists_count → stands_in p (list_at lists r) ≡ true → p < length free
+  pub typed : length kinds ≡ pageblocks_of m (length free)
+  pub table : length lists ≡ lists_count m
+  pub distinct : (r : ℕ) → r < lists_count m → IsDistinct (λ x y. x == y) (list_at lists r)
+  pub inside : (r p : ℕ) → r < lists_count m → stands_in p (list_at lists r) ≡ true → p < length free
 
 -- the area is that of a zone, and its lists hold what belongs there
 pub record IsSoundArea (a : Area) : Type 0 where
   pub small : length a.free ≤ MAX_PAGES
-  pub typed : length a.kinds ≡ pageblocks_of (length a.free)
+  pub typed : length a.kinds ≡ pageblocks_of a.largest (length a.free)
   pub lists : IsListedArea a

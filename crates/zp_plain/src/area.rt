@@ -1,7 +1,7 @@
 //! Free lists and what settling makes of them: what `Area.antt` says, list by list.
 ghost use Rattle.std.specs.Prelude.{◌≡◌, ◌<◌, ◌≤◌, ◌==◌, ◌&&◌, ◌/◌, ℕ, true, not, [], ◌++◌, length, filter};
 ghost use Rattle.std.specs.List.{IsDistinct};
-ghost use Rattle.zp_model.specs.declared.constants.TheConstants.{MAX_PAGES, PAGEBLOCK_PAGES};
+ghost use Rattle.zp_model.specs.declared.constants.TheConstants.{LARGEST_ORDER, MAX_PAGES, PAGEBLOCK_PAGES};
 ghost use Rattle.zp_model.specs.Rows.{stands_in};
 ghost use Rattle.zp_model.specs.Area.{Area, belongs, falling, kind_at, list_number, lists_count, pageblocks_of, settle, settled, size_in};
 ghost use Rattle.zp_plain.specs.Sound.{IsTable};
@@ -14,7 +14,7 @@ use zp_model::{MAX_PAGES, MigrateType, ORDERS, Order, PAGEBLOCK_PAGES, PageAt, T
 /// The number of the free list of an order and a type.
 pub fn list_of(order: Order, kind: MigrateType) -> usize
     ensures number { result ≡ list_number order kind }
-    ensures within { result < lists_count }
+    ensures within { result < lists_count LARGEST_ORDER }
 {
     TYPES * usize::from(order.number()) + kind.number()
 }
@@ -22,7 +22,7 @@ pub fn list_of(order: Order, kind: MigrateType) -> usize
 /// The type of a page's pageblock.
 pub fn kind_at(kinds: &[MigrateType], head: PageAt) -> MigrateType
     requires { head / PAGEBLOCK_PAGES < length kinds.now }
-    ensures { result ≡ kind_at kinds.now head }
+    ensures { result ≡ kind_at LARGEST_ORDER kinds.now head }
 {
     kinds[head.index() / PAGEBLOCK_PAGES as usize]
 }
@@ -31,9 +31,9 @@ pub fn kind_at(kinds: &[MigrateType], head: PageAt) -> MigrateType
 #[tactic(auto, unfolding(zp_model::specs::Area::belongs))]
 fn belongs(free: &[bool], kinds: &[MigrateType], list: usize, head: PageAt) -> bool
     requires head { head < length free.now }
-    requires typed { length kinds.now ≡ pageblocks_of (length free.now) }
-    requires list { list < lists_count }
-    ensures { result ≡ belongs free.now kinds.now list head }
+    requires typed { length kinds.now ≡ pageblocks_of LARGEST_ORDER (length free.now) }
+    requires list { list < lists_count LARGEST_ORDER }
+    ensures { result ≡ belongs LARGEST_ORDER free.now kinds.now list head }
 {
     is_max(free, head, order_of(list / TYPES)) && kind_at(kinds, head).number() == list % TYPES
 }
@@ -49,9 +49,9 @@ pub fn stands_in(page: PageAt, pages: &[PageAt]) -> bool
 fn is_fresh(free: &[bool], kinds: &[MigrateType], list: usize, old: &[PageAt], head: PageAt) -> bool
     requires small { length free.now ≤ MAX_PAGES }
     requires head { head < length free.now }
-    requires typed { length kinds.now ≡ pageblocks_of (length free.now) }
-    requires list { list < lists_count }
-    ensures { result ≡ (belongs free.now kinds.now list head && not (stands_in head old.now)) }
+    requires typed { length kinds.now ≡ pageblocks_of LARGEST_ORDER (length free.now) }
+    requires list { list < lists_count LARGEST_ORDER }
+    ensures { result ≡ (belongs LARGEST_ORDER free.now kinds.now list head && not (stands_in head old.now)) }
 {
     belongs(free, kinds, list, head) && !stands_in(head, old)
 }
@@ -59,10 +59,10 @@ fn is_fresh(free: &[bool], kinds: &[MigrateType], list: usize, old: &[PageAt], h
 /// Puts the heads that belong on a list and are not on the old one onto an empty list, the highest first.
 fn put_fresh(free: &[bool], kinds: &[MigrateType], list: usize, old: &[PageAt], new: &mut PageRow)
     requires small { length free.now ≤ MAX_PAGES }
-    requires typed { length kinds.now ≡ pageblocks_of (length free.now) }
-    requires list { list < lists_count }
+    requires typed { length kinds.now ≡ pageblocks_of LARGEST_ORDER (length free.now) }
+    requires list { list < lists_count LARGEST_ORDER }
     requires empty { new.old ≡ [] }
-    ensures { new.new ≡ filter (λ h. belongs free.now kinds.now list h && not (stands_in h old.now)) (falling (length free.now)) }
+    ensures { new.new ≡ filter (λ h. belongs LARGEST_ORDER free.now kinds.now list h && not (stands_in h old.now)) (falling (length free.now)) }
 {
     let mut left = free.len();
     'fresh: while left > 0 {
@@ -76,11 +76,11 @@ fn put_fresh(free: &[bool], kinds: &[MigrateType], list: usize, old: &[PageAt], 
 
 /// Puts those of the old heads that still belong on a list behind the fresh ones, in their old order.
 fn put_kept(free: &[bool], kinds: &[MigrateType], list: usize, old: &[PageAt], new: &mut PageRow)
-    requires typed { length kinds.now ≡ pageblocks_of (length free.now) }
-    requires list { list < lists_count }
+    requires typed { length kinds.now ≡ pageblocks_of LARGEST_ORDER (length free.now) }
+    requires list { list < lists_count LARGEST_ORDER }
     requires inside { (p : ℕ) → stands_in p old.now ≡ true → p < length free.now }
-    requires room { length (new.old ++ filter (belongs free.now kinds.now list) old.now) ≤ MAX_PAGES }
-    ensures { new.new ≡ new.old ++ filter (belongs free.now kinds.now list) old.now }
+    requires room { length (new.old ++ filter (belongs LARGEST_ORDER free.now kinds.now list) old.now) ≤ MAX_PAGES }
+    ensures { new.new ≡ new.old ++ filter (belongs LARGEST_ORDER free.now kinds.now list) old.now }
 {
     'kept: for head in old {
         if belongs(free, kinds, list, *head) {
@@ -93,12 +93,12 @@ fn put_kept(free: &[bool], kinds: &[MigrateType], list: usize, old: &[PageAt], n
 /// ones that still belong, in their old order.
 fn settle_list(free: &[bool], kinds: &[MigrateType], list: usize, old: &[PageAt], new: &mut PageRow)
     requires small { length free.now ≤ MAX_PAGES }
-    requires typed { length kinds.now ≡ pageblocks_of (length free.now) }
-    requires list { list < lists_count }
+    requires typed { length kinds.now ≡ pageblocks_of LARGEST_ORDER (length free.now) }
+    requires list { list < lists_count LARGEST_ORDER }
     requires distinct { IsDistinct (λ x y. x == y) old.now }
     requires inside { (p : ℕ) → stands_in p old.now ≡ true → p < length free.now }
     requires empty { new.old ≡ [] }
-    ensures { new.new ≡ settled free.now kinds.now list old.now }
+    ensures { new.new ≡ settled LARGEST_ORDER free.now kinds.now list old.now }
 {
     put_fresh(free, kinds, list, old, new);
     put_kept(free, kinds, list, old, new);
@@ -106,8 +106,8 @@ fn settle_list(free: &[bool], kinds: &[MigrateType], list: usize, old: &[PageAt]
 
 /// Settles the lists.
 pub fn settle(free: &[bool], kinds: &[MigrateType], lists: &mut Vec<PageRow>, scratch: &mut PageRow)
-    requires { IsTable free.now kinds.now lists.old.items }
-    ensures { lists.new.items ≡ (settle (record { free = free.now; kinds = kinds.now; lists = lists.old.items })).lists }
+    requires { IsTable LARGEST_ORDER free.now kinds.now lists.old.items }
+    ensures { lists.new.items ≡ (settle (record { largest = LARGEST_ORDER; free = free.now; kinds = kinds.now; lists = lists.old.items })).lists }
 {
     'lists: for list in 0..TYPES * ORDERS {
         scratch.clear();
@@ -119,7 +119,7 @@ pub fn settle(free: &[bool], kinds: &[MigrateType], lists: &mut Vec<PageRow>, sc
 /// How many pages of a pageblock are in the set.
 pub fn size_in(set: &[bool], pageblock: usize) -> u32
     requires { pageblock < MAX_PAGES }
-    ensures { result ≡ size_in set.now pageblock }
+    ensures { result ≡ size_in LARGEST_ORDER set.now pageblock }
 {
     let first = pageblock * PAGEBLOCK_PAGES as usize;
     let mut pages = 0;

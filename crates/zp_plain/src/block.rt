@@ -1,7 +1,7 @@
 //! Sets of pages: what `Block.antt` says, page by page.
 ghost use Rattle.std.specs.Prelude.{◌≡◌, ◌<◌, ◌≤◌, ◌+◌, length};
 ghost use Rattle.zp_model.specs.declared.constants.TheConstants.{LARGEST_ORDER, MAX_PAGES};
-ghost use Rattle.zp_model.specs.Block.{has, has_run, in_run, is_max, head as head_of, largest_order, size, with_run, without};
+ghost use Rattle.zp_model.specs.Block.{has, has_run, in_run, is_max, head as head_of, size, with_run, without};
 
 use zp_model::{Order, PageAt};
 
@@ -40,7 +40,7 @@ fn has_double(set: &[bool], head: PageAt, order: Order) -> bool
 /// Whether this is a maximal block of the set.
 #[tactic(auto, unfolding(zp_model::specs::Block::is_max))]
 pub fn is_max(set: &[bool], head: PageAt, order: Order) -> bool
-    ensures { result ≡ is_max largest_order set.now head order }
+    ensures { result ≡ is_max LARGEST_ORDER set.now head order }
 {
     head.number() % order.pages() == 0
         && has_run(set, head, order)

@@ -1,5 +1,6 @@
 //! The free area of one zone.
 ghost use Rattle.std.specs.Prelude.{ℕ, ◌≡◌, ◌<◌, ◌≤◌, ◌^◌, ◌↔◌, false, length, slice_set, IfOk, IfSome, IsTrue};
+ghost use Rattle.zp_model.specs.declared.constants.TheConstants.{LARGEST_ORDER};
 ghost use Rattle.zp_model.specs.Block.{has, size};
 ghost use Rattle.zp_model.specs.Info.{counts};
 ghost use Rattle.zp_model.specs.Rows.{IsOn, after, front, state_at};
@@ -41,7 +42,7 @@ impl Buddy {
     pub fn new(alloc: Global, pages: u32, side: usize) -> Result<Buddy, AllocError>
         requires pages { pages ≤ MAX_PAGES }
         requires side { side < 2 ^ 32 }
-        ensures { IfOk result (λ b. b ≡ frames_opening pages side) }
+        ensures { IfOk result (λ b. b ≡ frames_opening LARGEST_ORDER pages side) }
     {
         let area = PlainArea::new(alloc, pages)?;
         let sides = empty_rows(alloc, side)?;
@@ -168,7 +169,7 @@ impl Buddy {
 
     /// How many free blocks of each order there are, and how many free pages.
     pub fn counts(&self) -> Counts
-        ensures { result ≡ counts self.now.area.free }
+        ensures { result ≡ counts self.now.area.largest self.now.area.free }
     {
         counts(self.area.marks())
     }

@@ -10,9 +10,7 @@ ghost use Rattle.zp_plain.specs.Chosen.{as_chosen, claimable_at, front_at};
 use crate::area::size_in;
 use crate::block::order_of;
 use crate::take::PlainArea;
-use zp_model::{
-    CLAIM_PAGES, LEAST_MOVABLE_CLAIM, MigrateType, ORDERS, Order, PAGEBLOCK_PAGES, PageAt,
-};
+use zp_model::{CLAIM_PAGES, LEAST_MOVABLE_CLAIM, MigrateType, Order, PAGEBLOCK_PAGES, PageAt};
 
 /// A chosen block's head, and whether its pageblock is claimed.
 #[derive(Clone, Copy, Drop)]
@@ -46,9 +44,10 @@ fn front_of(area: &PlainArea, order: Order, kinds: &[MigrateType]) -> Option<Pag
 
 /// The same over the orders from `order` on, the least first.
 fn first_front(area: &PlainArea, order: Order, kinds: &[MigrateType]) -> Option<PageAt>
-    ensures { result ≡ first_of (λ o. first_of (front_at area.now o) kinds.now) (orders_from order) }
+    ensures { result ≡ first_of (λ o. first_of (front_at area.now o) kinds.now) (orders_from area.now.largest order) }
 {
-    'orders: for number in usize::from(order.number())..ORDERS {
+    let end = area.orders();
+    'orders: for number in usize::from(order.number())..end {
         if let Some(head) = front_of(area, order_of(number), kinds) {
             return Some(head);
         }
@@ -74,8 +73,9 @@ fn borrow(area: &PlainArea, order: Order, kind: MigrateType) -> Option<PageAt>
 fn is_claimable(area: &PlainArea, kind: MigrateType, order: Order, head: PageAt) -> bool
     ensures { result ≡ is_claimable area.now kind order head }
 {
+    let free = area.marks();
     (order.number() >= LEAST_MOVABLE_CLAIM || kind != MigrateType::Movable)
-        && size_in(area.marks(), head.index() / PAGEBLOCK_PAGES as usize) >= CLAIM_PAGES
+        && size_in(free, head.index() / PAGEBLOCK_PAGES as usize) >= CLAIM_PAGES
 }
 
 /// The first block of a list that may be claimed.
@@ -116,7 +116,7 @@ fn claimable_of(
 fn claim(area: &PlainArea, order: Order, kind: MigrateType) -> Option<PageAt>
     ensures { result ≡ claim area.now order kind }
 {
-    let mut left = ORDERS;
+    let mut left = area.orders();
     'orders: while left > usize::from(order.number()) {
         left -= 1;
         if let Some(head) = claimable_of(area, kind, order_of(left), &foreign(kind)) {

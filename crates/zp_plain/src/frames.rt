@@ -1,6 +1,6 @@
 //! What is noted of each page, and which blocks are clear: what `Frames.antt` says, page by page.
 ghost use Rattle.std.specs.Prelude.{◌≡◌, ◌≤◌, ◌+◌, ◌^◌, ◌↔◌, ℕ, true, length, IsTrue};
-ghost use Rattle.zp_model.specs.declared.constants.TheConstants.{MAX_PAGES};
+ghost use Rattle.zp_model.specs.declared.constants.TheConstants.{LARGEST_ORDER, MAX_PAGES};
 ghost use Rattle.zp_model.specs.Block.{IsBlock};
 ghost use Rattle.zp_model.specs.Rows.{list_at, stands_in};
 ghost use Rattle.zp_model.specs.Frames.{restate, restated, IsClear};
@@ -31,7 +31,7 @@ fn restate(block: Option<Order>, note: State) -> State
 pub fn restate_all(free: &[bool], notes: &mut Vec<State>)
     requires pages { length notes.old.items ≡ length free.now }
     requires small { length free.now ≤ MAX_PAGES }
-    ensures { notes.new.items ≡ restated free.now notes.old.items }
+    ensures { notes.new.items ≡ restated LARGEST_ORDER free.now notes.old.items }
 {
     'pages: for i in 0..notes.len() {
         notes[i] = restate(block_at(free, PageAt::at(i as u32)), notes[i]);
@@ -40,7 +40,7 @@ pub fn restate_all(free: &[bool], notes: &mut Vec<State>)
 
 /// Whether this is a block of a zone of so many pages.
 fn is_block(pages: usize, head: PageAt, order: Order) -> bool
-    ensures { IsTrue result ↔ IsBlock pages head order }
+    ensures { IsTrue result ↔ IsBlock LARGEST_ORDER pages head order }
 {
     head.number() % order.pages() == 0 && head.index() + order.pages() as usize <= pages
 }
@@ -73,7 +73,7 @@ fn is_clear_run(free: &[bool], sides: &[PageRow], head: PageAt, order: Order) ->
 /// Whether this is a block of the zone of which no page is free or on a further list.
 pub fn is_clear(free: &[bool], sides: &[PageRow], head: PageAt, order: Order) -> bool
     requires { length free.now ≤ MAX_PAGES }
-    ensures { IsTrue result ↔ IsClear (open_frames free.now sides.now) head order }
+    ensures { IsTrue result ↔ IsClear (open_frames LARGEST_ORDER free.now sides.now) head order }
 {
     is_block(free.len(), head, order) && is_clear_run(free, sides, head, order)
 }

@@ -1,6 +1,6 @@
 //! The free area: what `Take.antt` says of giving and taking. Marks or types change, and the lists are settled anew.
-ghost use Rattle.std.specs.Prelude.{◌≡◌, ◌<◌, ◌≤◌, length, IfOk, Some};
-ghost use Rattle.zp_model.specs.declared.constants.TheConstants.{MAX_PAGES};
+ghost use Rattle.std.specs.Prelude.{◌≡◌, ◌<◌, ◌≤◌, ◌+◌, length, IfOk, Some};
+ghost use Rattle.zp_model.specs.declared.constants.TheConstants.{LARGEST_ORDER, MAX_PAGES, ORDERS};
 ghost use Rattle.zp_model.specs.Rows.{after, front};
 ghost use Rattle.zp_model.specs.Area.{free_list, kind_at, opening};
 ghost use Rattle.zp_model.specs.Take.{give, leave, retype, taken, take_low_after, take_low_answer};
@@ -26,21 +26,22 @@ pub struct PlainArea {
 }
 
 impl Model for PlainArea {
+    ghost use Rattle.zp_model.specs.declared.constants.TheConstants.{LARGEST_ORDER};
     ghost use Rattle.zp_model.specs.Area.{Area};
     ghost use Rattle.zp_plain.specs.Sound.{IsSoundArea};
 
     ghost Value = { Area };
 
-    ghost view = { λ a. record { free = a.free.items; kinds = a.kinds.items; lists = a.lists.items } };
+    ghost view = { λ a. record { largest = LARGEST_ORDER; free = a.free.items; kinds = a.kinds.items; lists = a.lists.items } };
 
-    ghost invariant = { λ a. IsSoundArea (record { free = a.free.items; kinds = a.kinds.items; lists = a.lists.items }) };
+    ghost invariant = { λ a. IsSoundArea (record { largest = LARGEST_ORDER; free = a.free.items; kinds = a.kinds.items; lists = a.lists.items }) };
 }
 
 impl PlainArea {
     /// All pages free, and all pageblocks Movable.
     pub fn new(alloc: Global, pages: u32) -> Result<PlainArea, AllocError>
         requires { pages ≤ MAX_PAGES }
-        ensures { IfOk result (λ a. a ≡ opening pages) }
+        ensures { IfOk result (λ a. a ≡ opening LARGEST_ORDER pages) }
     {
         let free = Vec::from_elem(alloc, true, pages as usize)?;
         let kinds = Vec::from_elem(
@@ -57,6 +58,14 @@ impl PlainArea {
             lists,
             scratch,
         })
+    }
+
+    /// How many orders its blocks may have.
+    pub fn orders(&self) -> usize
+        ensures largest { result ≡ self.now.largest + 1 }
+        ensures same { result ≡ ORDERS }
+    {
+        self.lists.len() / TYPES
     }
 
     /// The free list of an order and a type.
@@ -83,6 +92,7 @@ impl PlainArea {
     /// Whether each page is free.
     pub fn marks(&self) -> &[bool]
         ensures marks { result.now ≡ self.now.free }
+        ensures largest { self.now.largest ≡ LARGEST_ORDER }
         ensures sound { IsSoundArea self.now }
     {
         &self.free

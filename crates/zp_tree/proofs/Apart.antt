@@ -4,8 +4,8 @@ use Rattle.std.specs.Bool.{Decides}
 use Rattle.std.proofs.lemmas.Nat.{pow_pos}
 use Rattle.std.proofs.lemmas.Bool.{cases_eq, false≢true, false_from_ne_true, eq-eqb, eqb-true}
 use Rattle.std.proofs.lemmas.Bool.Decides.{Decides-below_or}
-use Rattle.std.proofs.lemmas.List.{get_or-set_same, get_or-set_other}
-use Rattle.zp_model.specs.Block.{IsBlock, largest_order, head}
+use Rattle.std.proofs.lemmas.List.{length-set, get_or-set_same, get_or-set_other}
+use Rattle.zp_model.specs.Block.{IsBlock, head}
 use Rattle.zp_model.specs.BlockSet.{Starts, some_below, is_order, is_covered}
 use Rattle.zp_model.proofs.Heads.{head_le, lt_head}
 use Rattle.zp_tree.specs.Blocks.{IsBlockSet, IsApart, IsBeside, with_block, without_block}
@@ -16,22 +16,21 @@ use Rattle.zp_tree.proofs.BlockSets.{same_page}
 abbrev is_around : List (Option ℕ) → ℕ → ℕ → Bool
 is_around s i k = is_order k (get_or s (head i k) None)
 
-covered-decides : (s : List (Option ℕ)) (i : ℕ) → Decides (is_covered s i) ((k : ℕ) × (k < largest_order + 1) × (is_around s i k ≡ true))
+covered-decides : (s : List (Option ℕ)) (i : ℕ) → Decides (is_covered s i) ((k : ℕ) × (k < length s) × (is_around s i k ≡ true))
 covered-decides s i =
-    Decides-below_or (is_around s i) (λ k. is_around s i k ≡ true) (some_below (is_around s i)) (λ k. (λ e. e, λ e. e)) refl (λ _. refl) (largest_order + 1)
+    Decides-below_or (is_around s i) (λ k. is_around s i k ≡ true) (some_below (is_around s i)) (λ k. (λ e. e, λ e. e)) refl (λ _. refl) (length s)
 
-uncovered-to : (s : List (Option ℕ)) (i k : ℕ) → is_covered s i ≡ false → k ≤ largest_order → Starts s (head i k) k → ⊥
-uncovered-to s i k e le st = false≢true (sym e ∙ (covered-decides s i).1 (k, omega arith, is_order-from (get_or s (head i k) None) st))
+uncovered-to : (s : List (Option ℕ)) (i k : ℕ) → is_covered s i ≡ false → k < length s → Starts s (head i k) k → ⊥
+uncovered-to s i k e lt st = false≢true (sym e ∙ (covered-decides s i).1 (k, lt, is_order-from (get_or s (head i k) None) st))
   where
     is_order-from : (o : Option ℕ) → o ≡ Some k → is_order k o ≡ true
     is_order-from o f = rw f (eq-eqb k k refl)
 
-pub uncovered-from : (s : List (Option ℕ)) (i : ℕ) → ((k : ℕ) → k ≤ largest_order → Starts s (head i k) k → ⊥) → is_covered s i ≡ false
+pub uncovered-from : (s : List (Option ℕ)) (i : ℕ) → ((k : ℕ) → k < length s → Starts s (head i k) k → ⊥) → is_covered s i ≡ false
 uncovered-from s i none =
     false_from_ne_true _ (λ e.
     let w = (covered-decides s i).0 e in
-    let lt : w.0 < largest_order + 1 = w.1 in
-    none w.0 (omega arith) (is_order-to w.0 (get_or s (head i w.0) None) w.2))
+    none w.0 w.1 (is_order-to w.0 (get_or s (head i w.0) None) w.2))
   where
     is_order-to : (k : ℕ) (o : Option ℕ) → is_order k o ≡ true → o ≡ Some k
     is_order-to k None f = absurd (false≢true f)
@@ -58,36 +57,36 @@ clear-starts s p g j lt st =
       | inr ne ↦ (ne, sym (get_or-set_other s p g None None ne) ∙ st)
     ]
 
-head_start : (s : List (Option ℕ)) (p k : ℕ) → IsBlock (length s) p k → p < length s
-head_start s p k b = let room : p + 2 ^ k ≤ length s = b.inside in let pos : 0 < 2 ^ k = pow_pos k in omega arith
+head_start : (m : ℕ) (s : List (Option ℕ)) (p k : ℕ) → IsBlock m (length s) p k → p < length s
+head_start m s p k b = let room : p + 2 ^ k ≤ length s = b.inside in let pos : 0 < 2 ^ k = pow_pos k in omega arith
 
 -- a run beside the block that is set stays apart
-pub set_still_apart : (s : List (Option ℕ)) (p k h j : ℕ) → IsBlock (length s) p k → IsApart s h j → IsBeside h j p k → IsApart (with_block s p k) h j
-set_still_apart s p k h j b a beside i from to =
-    uncovered-from (with_block s p k) i (λ o le st. elim (set-starts s p k (head i o) o (head_start s p k b) st) [
+pub set_still_apart : (m : ℕ) (s : List (Option ℕ)) (p k h j : ℕ) → IsBlock m (length s) p k → IsApart s h j → IsBeside h j p k → IsApart (with_block s p k) h j
+set_still_apart m s p k h j b a beside i from to =
+    uncovered-from (with_block s p k) i (λ o lt st. elim (set-starts s p k (head i o) o (head_start m s p k b) st) [
       | inl e ↦
           let lo : head i o ≤ i = head_le i o in
           let hi : i < head i o + 2 ^ o = lt_head i o in
           let q : 2 ^ o ≡ 2 ^ k = ap (λ n. 2 ^ n) e.1 in
           elim beside [ inl before ↦ omega (arith, e.0) | inr behind ↦ omega (arith, e.0) ]
-      | inr old ↦ uncovered-to s i o (a i from to) le old
+      | inr old ↦ uncovered-to s i o (a i from to) (omega (arith, lt, length-set s p (Some k))) old
     ])
 
 -- each run that was apart stays so where a block is cleared
-pub clear_still_apart : (s : List (Option ℕ)) (p k h j : ℕ) → IsBlock (length s) p k → IsApart s h j → IsApart (without_block s p) h j
-clear_still_apart s p k h j b a i from to =
-    uncovered-from (without_block s p) i (λ o le st. uncovered-to s i o (a i from to) le (clear-starts s p (head i o) o (head_start s p k b) st).1)
+pub clear_still_apart : (m : ℕ) (s : List (Option ℕ)) (p k h j : ℕ) → IsBlock m (length s) p k → IsApart s h j → IsApart (without_block s p) h j
+clear_still_apart m s p k h j b a i from to =
+    uncovered-from (without_block s p) i (λ o lt st. uncovered-to s i o (a i from to) (omega (arith, lt, length-set s p None)) (clear-starts s p (head i o) o (head_start m s p k b) st).1)
 
 -- the pages of the block that is cleared are in no block then
-pub clear_apart : (s : List (Option ℕ)) (p k : ℕ) → IsBlockSet s → Starts s p k → IsApart (without_block s p) p k
-clear_apart s p k x st i from to =
-    uncovered-from (without_block s p) i (λ o le y.
-    let old = clear-starts s p (head i o) o (head_start s p k (x.block p k st)) y in
-    old.0 (same_page s (head i o) o p k i x old.1 st (head_le i o) (lt_head i o) from to))
+pub clear_apart : (m : ℕ) (s : List (Option ℕ)) (p k : ℕ) → IsBlockSet m s → Starts s p k → IsApart (without_block s p) p k
+clear_apart m s p k x st i from to =
+    uncovered-from (without_block s p) i (λ o lt y.
+    let old = clear-starts s p (head i o) o (head_start m s p k (x.block p k st)) y in
+    old.0 (same_page m s (head i o) o p k i x old.1 st (head_le i o) (lt_head i o) from to))
 
 -- of no blocks each run is apart
 pub none_apart : (n h k : ℕ) → IsApart (replicate n None) h k
-none_apart n h k i from to = uncovered-from (replicate n None) i (λ o le st. no_start n (head i o) o st)
+none_apart n h k i from to = uncovered-from (replicate n None) i (λ o lt st. no_start n (head i o) o st)
 
-pub set_held : (s : List (Option ℕ)) (p k : ℕ) → IsBlock (length s) p k → Starts (with_block s p k) p k
-set_held s p k b = get_or-set_same s p (Some k) None (head_start s p k b)
+pub set_held : (m : ℕ) (s : List (Option ℕ)) (p k : ℕ) → IsBlock m (length s) p k → Starts (with_block s p k) p k
+set_held m s p k b = get_or-set_same s p (Some k) None (head_start m s p k b)

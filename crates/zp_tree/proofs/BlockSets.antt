@@ -35,9 +35,9 @@ same_block h ns a k b j i x f g from to from_b to_b =
       ]
     ]
 
-pub tree_set : (h pages : ℕ) (ns : List ℕ) (s : List (Option ℕ)) → IsTreeOf h pages ns s → IsBlockSet s
-tree_set h pages ns s t = record {
-  block = λ a k y. let P : ℕ → Type 0 = λ n. IsBlock n a k in subst P (sym t.pages_of) (t.inside a k y);
+pub tree_set : (m h pages : ℕ) (ns : List ℕ) (s : List (Option ℕ)) → IsTreeOf m h pages ns s → IsBlockSet m s
+tree_set m h pages ns s t = record {
+  block = λ a k y. let P : ℕ → Type 0 = λ n. IsBlock m n a k in subst P (sym t.pages_of) (t.inside a k y);
   apart = λ a k b j i y z u v.
       let p = in_run-to a k i u in
       let q = in_run-to b j i v in
@@ -48,8 +48,8 @@ tree_set h pages ns s t = record {
     in_run-to h k i e = let a = and_parts _ _ e in (leb-true h i a.0, ltb-true i (h + 2 ^ k) a.1)
 
 -- blocks of a set with a page in common start at one page
-pub same_page : (s : List (Option ℕ)) (a k b j i : ℕ) → IsBlockSet s → Starts s a k → Starts s b j → a ≤ i → i < a + 2 ^ k → b ≤ i → i < b + 2 ^ j → a ≡ b
-same_page s a k b j i x y z from to from_b to_b = x.apart a k b j i y z (in_run-from a k i from to) (in_run-from b j i from_b to_b)
+pub same_page : (m : ℕ) (s : List (Option ℕ)) (a k b j i : ℕ) → IsBlockSet m s → Starts s a k → Starts s b j → a ≤ i → i < a + 2 ^ k → b ≤ i → i < b + 2 ^ j → a ≡ b
+same_page m s a k b j i x y z from to from_b to_b = x.apart a k b j i y z (in_run-from a k i from to) (in_run-from b j i from_b to_b)
   where
     in_run-from : (h k i : ℕ) → h ≤ i → i < h + 2 ^ k → in_run h k i ≡ true
     in_run-from h k i lo hi = and_from _ _ (le-leb h i lo) (lt-ltb i (h + 2 ^ k) hi)

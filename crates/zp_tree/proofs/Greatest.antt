@@ -18,13 +18,13 @@ larger_most None b w x y = y
 larger_most (Some j) None w x y = x
 larger_most (Some j) (Some k) w x y = let p : j ≤ w = x in let q : k ≤ w = y in omega arith
 
-at_most : (q : Option ℕ) (w : ℕ) → ((o : ℕ) → q ≡ Some o → o ≤ w) → AtMost q w
-at_most None w f = tt
-at_most (Some o) w f = f o refl
+most_from : (q : Option ℕ) (w : ℕ) → ((o : ℕ) → q ≡ Some o → o ≤ w) → AtMost q w
+most_from None w f = tt
+most_from (Some o) w f = f o refl
 
 greatest_most : (os : List (Option ℕ)) (w : ℕ) → ((i o : ℕ) → get_or os i None ≡ Some o → o ≤ w) → AtMost (greatest os) w
 greatest_most [] w f = tt
-greatest_most (q ∷ os) w f = larger_most q (greatest os) w (at_most q w (λ o e. f zero o e)) (greatest_most os w (λ i o e. f (suc i) o e))
+greatest_most (q ∷ os) w f = larger_most q (greatest os) w (most_from q w (λ o e. f zero o e)) (greatest_most os w (λ i o e. f (suc i) o e))
 
 larger_left : (w : ℕ) (b : Option ℕ) → AtMost b w → larger (Some w) b ≡ Some w
 larger_left w None y = refl
@@ -40,7 +40,7 @@ greatest_some (q ∷ os) zero w e f =
     let d : q ≡ Some w = e in
     rw d (larger_left w (greatest os) (greatest_most os w (λ j o y. f (suc j) o y)))
 greatest_some (q ∷ os) (suc i) w e f =
-    ap (λ z. larger q z) (greatest_some os i w e (λ j o y. f (suc j) o y)) ∙ larger_right w q (at_most q w (λ o y. f zero o y))
+    ap (λ z. larger q z) (greatest_some os i w e (λ j o y. f (suc j) o y)) ∙ larger_right w q (most_from q w (λ o y. f zero o y))
 
 pub greatest_is : (os : List (Option ℕ)) (v : ℕ) → ((i o : ℕ) → get_or os i None ≡ Some o → o < v) → ((w : ℕ) → v ≡ w + 1 → (i : ℕ) × (get_or os i None ≡ Some w)) → greatest os ≡ order_ranked v
 greatest_is os zero most some = greatest_none os (λ i o e. let lt : o < 0 = most i o e in omega arith)

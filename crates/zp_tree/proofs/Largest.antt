@@ -20,8 +20,8 @@ use Rattle.zp_tree.proofs.Inside.{inside}
 use Rattle.zp_tree.proofs.Greatest.{greatest_none, greatest_is}
 
 -- the root
-root_largest : (h pages : ℕ) (ns : List ℕ) (s : List (Option ℕ)) (v : ℕ) → IsTreeOf h pages ns s → v ≡ rank_at h ns h (0 / 2 ^ h) → largest s ≡ order_ranked v
-root_largest h pages ns s v t e =
+root_largest : (m h pages : ℕ) (ns : List ℕ) (s : List (Option ℕ)) (v : ℕ) → IsTreeOf m h pages ns s → v ≡ rank_at h ns h (0 / 2 ^ h) → largest s ≡ order_ranked v
+root_largest m h pages ns s v t e =
     let pos : 0 < 2 ^ h = pow_pos h in
     let z : 0 % 2 ^ h ≡ 0 = zero-mod (2 ^ h) in
     greatest_is s v
@@ -36,8 +36,8 @@ root_largest h pages ns s v t e =
     let r = inside h h ns h 0 w t.sound refl (omega arith) pos z (sym e ∙ y) in
     (r.0, (t.blocks r.0 w).0 r.1.block))
 
-pub root_read : (h pages : ℕ) (ns : List ℕ) (s : List (Option ℕ)) (v : ℕ) → IsTreeOf h pages ns s → v ≡ slice_index ns 1 → order_ranked v ≡ largest s
-root_read h pages ns s v t e = sym (root_largest h pages ns s v t (e ∙ ap (λ n. slice_index ns n) (root_number h)))
+pub root_read : (m h pages : ℕ) (ns : List ℕ) (s : List (Option ℕ)) (v : ℕ) → IsTreeOf m h pages ns s → v ≡ slice_index ns 1 → order_ranked v ≡ largest s
+root_read m h pages ns s v t e = sym (root_largest m h pages ns s v t (e ∙ ap (λ n. slice_index ns n) (root_number h)))
 
 -- the entries that largest_in goes over
 abbrev pub entry : List (Option ℕ) → ℕ → ℕ → ℕ → Option ℕ
@@ -72,20 +72,20 @@ entries-to s a r i o e =
           absurd (cc)
     ]
 
-past_end : (h pages : ℕ) (ns : List ℕ) (s : List (Option ℕ)) (a r : ℕ) → IsTreeOf h pages ns s → pages ≤ a → largest_in s a r ≡ None
+past_end : (m h pages : ℕ) (ns : List ℕ) (s : List (Option ℕ)) (a r : ℕ) → IsTreeOf m h pages ns s → pages ≤ a → largest_in s a r ≡ None
 unfolding largest_in
-past_end h pages ns s a r t past =
+past_end m h pages ns s a r t past =
     greatest_none (map (entry s a r) (range_with_len a (2 ^ r)))
     (λ i o e.
     let y = entries-to s a r i o e in
-    let b : IsBlock pages (a + i) o = t.inside (a + i) o y.0 in
+    let b : IsBlock m pages (a + i) o = t.inside (a + i) o y.0 in
     let room : a + i + 2 ^ o ≤ pages = b.inside in
     let pos : 0 < 2 ^ o = pow_pos o in
     let bad : ⊥ = omega arith in bad)
 
-node_largest_in : (h pages : ℕ) (ns : List ℕ) (s : List (Option ℕ)) (a r l v : ℕ) → IsTreeOf h pages ns s → a < pages → a % 2 ^ r ≡ 0 → l ≡ min r h → v ≡ rank_at h ns l (a / 2 ^ l) → largest_in s a r ≡ order_ranked v
+node_largest_in : (m h pages : ℕ) (ns : List ℕ) (s : List (Option ℕ)) (a r l v : ℕ) → IsTreeOf m h pages ns s → a < pages → a % 2 ^ r ≡ 0 → l ≡ min r h → v ≡ rank_at h ns l (a / 2 ^ l) → largest_in s a r ≡ order_ranked v
 unfolding largest_in
-node_largest_in h pages ns s a r l v t lt al e val =
+node_largest_in m h pages ns s a r l v t lt al e val =
     let lh : l ≤ h = omega arith in
     let lr : l ≤ r = omega arith in
     let room : pages ≤ 2 ^ h = t.room in
@@ -135,8 +135,8 @@ node_largest_in h pages ns s a r l v t lt al e val =
         sym e ∙ f
 
 -- past the zone's end there is none
-pub none_past_end : (h pages : ℕ) (ns : List ℕ) (s : List (Option ℕ)) (a r : ℕ) → IsTreeOf h pages ns s → pages ≤ a → None ≡ largest_in s a r
-none_past_end h pages ns s a r t past = sym (past_end h pages ns s a r t past)
+pub none_past_end : (m h pages : ℕ) (ns : List ℕ) (s : List (Option ℕ)) (a r : ℕ) → IsTreeOf m h pages ns s → pages ≤ a → None ≡ largest_in s a r
+none_past_end m h pages ns s a r t past = sym (past_end m h pages ns s a r t past)
 
-pub node_read : (h pages : ℕ) (ns : List ℕ) (s : List (Option ℕ)) (a r l n v : ℕ) → IsTreeOf h pages ns s → a < pages → a % 2 ^ r ≡ 0 → l ≡ min r h → n ≡ node_at h l (a / 2 ^ l) → v ≡ slice_index ns n → order_ranked v ≡ largest_in s a r
-node_read h pages ns s a r l n v t lt al e q w = sym (node_largest_in h pages ns s a r l v t lt al e (w ∙ ap (λ z. slice_index ns z) q))
+pub node_read : (m h pages : ℕ) (ns : List ℕ) (s : List (Option ℕ)) (a r l n v : ℕ) → IsTreeOf m h pages ns s → a < pages → a % 2 ^ r ≡ 0 → l ≡ min r h → n ≡ node_at h l (a / 2 ^ l) → v ≡ slice_index ns n → order_ranked v ≡ largest_in s a r
+node_read m h pages ns s a r l n v t lt al e q w = sym (node_largest_in m h pages ns s a r l v t lt al e (w ∙ ap (λ z. slice_index ns z) q))

@@ -34,28 +34,28 @@ too_small k h (Some o) f =
 large_enough : (k h o : ℕ) (q : Option ℕ) → q ≡ Some o → k ≤ o → block_if (λ g j. leb k j) h q ≡ Some (h, o)
 large_enough k h o q e le = rw e (rw (le-leb k o le) refl)
 
-none_lowest : (h pages : ℕ) (ns : List ℕ) (s : List (Option ℕ)) (k : ℕ) → IsTreeOf h pages ns s → ((i o : ℕ) → IsFull h ns i o → o < k) → lowest s k ≡ None
+none_lowest : (m h pages : ℕ) (ns : List ℕ) (s : List (Option ℕ)) (k : ℕ) → IsTreeOf m h pages ns s → ((i o : ℕ) → IsFull h ns i o → o < k) → lowest s k ≡ None
 unfolding lowest
-none_lowest h pages ns s k t f =
+none_lowest m h pages ns s k t f =
     first_none (λ g. block_if (λ x j. leb k j) g (get_or s g None)) 0 (length s)
     (λ i _ _. too_small k i (get_or s i None) (λ o y. f i o ((t.blocks i o).1 y)))
 
-some_lowest : (h pages : ℕ) (ns : List ℕ) (s : List (Option ℕ)) (k p o : ℕ) → IsTreeOf h pages ns s → IsFull h ns p o → k ≤ o → ((i j : ℕ) → IsFull h ns i j → i < p → j < k) → lowest s k ≡ Some (p, o)
+some_lowest : (m h pages : ℕ) (ns : List ℕ) (s : List (Option ℕ)) (k p o : ℕ) → IsTreeOf m h pages ns s → IsFull h ns p o → k ≤ o → ((i j : ℕ) → IsFull h ns i j → i < p → j < k) → lowest s k ≡ Some (p, o)
 unfolding lowest
-some_lowest h pages ns s k p o t f le before =
+some_lowest m h pages ns s k p o t f le before =
     let st : Starts s p o = (t.blocks p o).0 f in
-    let b : IsBlock pages p o = t.inside p o st in
+    let b : IsBlock m pages p o = t.inside p o st in
     let room : p + 2 ^ o ≤ pages = b.inside in
     let pos : 0 < 2 ^ o = pow_pos o in
     let len : length s ≡ pages = t.pages_of in
     first_some (λ g. block_if (λ x j. leb k j) g (get_or s g None)) 0 (length s) p (p, o) (omega arith) (omega arith) (large_enough k p o (get_or s p None) st le)
     (λ i _ l. too_small k i (get_or s i None) (λ j y. before i j ((t.blocks i j).1 y) l))
 
-pub first_lowest : (h pages : ℕ) (ns : List ℕ) (s : List (Option ℕ)) (k : ℕ) (q : Option (ℕ × ℕ)) → IsTreeOf h pages ns s → IsFirst h ns k q → q ≡ lowest s k
-first_lowest h pages ns s k None t f = sym (none_lowest h pages ns s k t f)
-first_lowest h pages ns s k (Some b) t f = sym (some_lowest h pages ns s k b.0 b.1 t f.0 f.1 f.2)
+pub first_lowest : (m h pages : ℕ) (ns : List ℕ) (s : List (Option ℕ)) (k : ℕ) (q : Option (ℕ × ℕ)) → IsTreeOf m h pages ns s → IsFirst h ns k q → q ≡ lowest s k
+first_lowest m h pages ns s k None t f = sym (none_lowest m h pages ns s k t f)
+first_lowest m h pages ns s k (Some b) t f = sym (some_lowest m h pages ns s k b.0 b.1 t f.0 f.1 f.2)
 
 -- it is in the set, and large enough
-pub first_starts : (h pages : ℕ) (ns : List ℕ) (s : List (Option ℕ)) (k : ℕ) (q : Option (ℕ × ℕ)) → IsTreeOf h pages ns s → IsFirst h ns k q → IfSome q (λ b. Starts s b.0 b.1 × (k ≤ b.1))
-first_starts h pages ns s k None t f = search rules
-first_starts h pages ns s k (Some b) t f = let st : Starts s b.0 b.1 = (t.blocks b.0 b.1).0 f.0 in let le : k ≤ b.1 = f.1 in search rules
+pub first_starts : (m h pages : ℕ) (ns : List ℕ) (s : List (Option ℕ)) (k : ℕ) (q : Option (ℕ × ℕ)) → IsTreeOf m h pages ns s → IsFirst h ns k q → IfSome q (λ b. Starts s b.0 b.1 × (k ≤ b.1))
+first_starts m h pages ns s k None t f = search rules
+first_starts m h pages ns s k (Some b) t f = let st : Starts s b.0 b.1 = (t.blocks b.0 b.1).0 f.0 in let le : k ≤ b.1 = f.1 in search rules

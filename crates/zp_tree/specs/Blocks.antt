@@ -4,9 +4,9 @@ use Rattle.std.specs.Prelude.{ℕ, ◌+◌, ◌^◌, ◌≡◌, ◌≤◌, ◌<�
 use Rattle.zp_model.specs.Block.{IsBlock, in_run}
 use Rattle.zp_model.specs.BlockSet.{Starts, is_covered}
 
--- each block lies in the zone, and no two have a page in common
-pub record IsBlockSet (s : List (Option ℕ)) : Type 0 where
-  pub block : (h k : ℕ) → Starts s h k → IsBlock (length s) h k
+-- each block lies in the zone and has an order of at most m, and no two have a page in common
+pub record IsBlockSet (m : ℕ) (s : List (Option ℕ)) : Type 0 where
+  pub block : (h k : ℕ) → Starts s h k → IsBlock m (length s) h k
   pub apart : (h k g j i : ℕ) → Starts s h k → Starts s g j → in_run h k i ≡ true → in_run g j i ≡ true → h ≡ g
 
 -- no page of the run of order k at h is in a block of the set

@@ -9,19 +9,19 @@ use Rattle.zp_tree.specs.Layout.{rank_at}
 use Rattle.zp_tree.specs.Sound.{IsFull, IsSound}
 
 -- whether a full node of level o begins at page i
-abbrev pub is_full : ℕ → List ℕ → ℕ → ℕ → Bool
-is_full h ns i o = (i % 2 ^ o == 0) && (rank_at h ns o (i / 2 ^ o) == o + 1)
+abbrev pub begins_full : ℕ → List ℕ → ℕ → ℕ → Bool
+begins_full h ns i o = (i % 2 ^ o == 0) && (rank_at h ns o (i / 2 ^ o) == o + 1)
 
 -- for each page the level of the full node that begins there, the least first
 unfoldable pub spelled : ℕ → ℕ → List ℕ → List (Option ℕ)
-spelled h pages ns = map (λ i. find (is_full h ns i) (range_with_len 0 (h + 1))) (range_with_len 0 pages)
+spelled h pages ns = map (λ i. find (begins_full h ns i) (range_with_len 0 (h + 1))) (range_with_len 0 pages)
 
--- the nodes are the tree of the block set
-pub record IsTreeOf (h pages : ℕ) (ns : List ℕ) (s : List (Option ℕ)) : Type 0 where
+-- the nodes are the tree of the block set, where no block has an order above m
+pub record IsTreeOf (m h pages : ℕ) (ns : List ℕ) (s : List (Option ℕ)) : Type 0 where
   pub height : h ≤ LARGEST_HEIGHT
   pub bounds : pages ≤ MAX_PAGES
   pub room : pages ≤ 2 ^ h
   pub pages_of : length s ≡ pages
   pub sound : IsSound h ns
-  pub inside : (i o : ℕ) → Starts s i o → IsBlock pages i o
+  pub inside : (i o : ℕ) → Starts s i o → IsBlock m pages i o
   pub blocks : (i o : ℕ) → IsFull h ns i o ↔ Starts s i o

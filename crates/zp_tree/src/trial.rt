@@ -1,10 +1,10 @@
 //! A status tree beside an array of its block starts, which is scanned for each answer.
-ghost use Rattle.std.specs.Prelude.{◌≡◌, ◌≤◌, length, false, IsTrue, IsNone, IfSome};
-ghost use Rattle.zp_model.specs.Block.{IsBlock};
-ghost use Rattle.zp_model.specs.BlockSet.{Starts, is_covered};
+ghost use Rattle.std.specs.Prelude.{◌≡◌, ◌≤◌, ℕ, length, IsTrue, IsNone, IfSome};
+ghost use Rattle.zp_model.specs.Block.{IsBlock, head};
+ghost use Rattle.zp_model.specs.BlockSet.{Starts};
 ghost use Rattle.zp_model.specs.Bounds.{IsPages};
-ghost use Rattle.zp_model.specs.declared.constants.TheConstants.{MAX_PAGES};
-ghost use Rattle.zp_tree.specs.Blocks.{IsApart};
+ghost use Rattle.zp_model.specs.declared.constants.TheConstants.{LARGEST_ORDER, MAX_PAGES};
+ghost use Rattle.zp_tree.specs.Blocks.{IsApart, IsBlockSet};
 
 use crate::constants::MOST_READS;
 use crate::meter::Meter;
@@ -17,7 +17,7 @@ use zp_model::{ORDERS, Order, PageAt};
 fn block_around(starts: &[Option<Order>], page: u32) -> Option<(PageAt, Order)>
     requires { length starts.now ≤ MAX_PAGES }
     ensures some { IfSome result (λ b. Starts starts.now b.0 b.1) }
-    ensures none { IsNone result → is_covered starts.now page ≡ false }
+    ensures none { IsNone result → (k : ℕ) → k ≤ LARGEST_ORDER → Starts starts.now (head page k) k → ⊥ }
 {
     for number in 0..ORDERS as u8 {
         let head = (page >> number) << number;
@@ -34,7 +34,8 @@ fn block_around(starts: &[Option<Order>], page: u32) -> Option<(PageAt, Order)>
 
 /// Whether no page of a run is in a block.
 fn is_apart(starts: &[Option<Order>], at: PageAt, order: Order) -> bool
-    requires { length starts.now ≤ MAX_PAGES }
+    requires small { length starts.now ≤ MAX_PAGES }
+    requires set { IsBlockSet LARGEST_ORDER starts.now }
     ensures { IsTrue result → IsApart starts.now at order }
 {
     for page in at.number()..at.number() + order.pages() {
@@ -48,7 +49,7 @@ fn is_apart(starts: &[Option<Order>], at: PageAt, order: Order) -> bool
 /// Whether a block lies in a zone of so many pages.
 fn is_block(pages: u32, at: PageAt, order: Order) -> bool
     requires { IsPages pages }
-    ensures { IsTrue result → IsBlock pages at order }
+    ensures { IsTrue result → IsBlock LARGEST_ORDER pages at order }
 {
     at.number() % order.pages() == 0 && at.number() + order.pages() <= pages
 }

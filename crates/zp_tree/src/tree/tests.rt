@@ -84,7 +84,7 @@ fn two_blocks_of_the_largest_zone(rt: HostRuntime) -> Result<(), Fail> {
 /// Sets the block where nothing is set yet, asks for the largest, and takes out the lowest.
 fn set_and_take(alloc: Global, pages: u32, at: PageAt, order: Order) -> Result<bool, AllocError>
     requires pages { IsPages pages }
-    requires block { IsBlock pages at order }
+    requires block { IsBlock LARGEST_ORDER pages at order }
 {
     let mut tree = OrderTree::new(alloc, pages)?;
     tree.set(at, order);

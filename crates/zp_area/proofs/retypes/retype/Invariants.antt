@@ -1,4 +1,5 @@
 use Rattle.std.proofs.Common.{◌-◌, ◌≡◌, ◌≤◌}
+use Rattle.zp_model.specs.declared.constants.TheConstants.{LARGEST_ORDER}
 use Rattle.zp_frames.specs.Sound.{blocks_of}
 use Rattle.zp_area.proofs.Relisting.{IsRelisting}
 use Rattle.zp_area.proofs.retypes.retype.Given as goal
@@ -9,7 +10,7 @@ invariant-pages l = record {
   from : l.first ≤ l.i;
   upto : l.i ≤ l.end;
   states : l.lists.states ≡ l.initial.lists.states;
-  moved : IsRelisting l.first l.i l.kind (blocks_of l.initial.lists.states) l.kinds.items l.initial.lists.lists l.lists.lists;
+  moved : IsRelisting LARGEST_ORDER l.first l.i l.kind (blocks_of l.initial.lists.states) l.kinds.items l.initial.lists.lists l.lists.lists;
 }
 
 abbrev pub decreases-pages : goal.decreases-pages

@@ -1,6 +1,6 @@
 use Rattle.std.proofs.Common.{◌≤◌, ◌<◌, List, Option, sym, subst, arith, ◌∙◌}
+use Rattle.zp_model.specs.declared.constants.TheConstants.{LARGEST_ORDER}
 use Rattle.zp_model.specs.declared.migrate_type.MigrateType.{MigrateType}
-use Rattle.zp_model.specs.Block.{largest_order}
 use Rattle.zp_model.specs.Choose.{claim}
 use Rattle.zp_buddy.specs.Choices.{IsFoundAs, area_in, half_free_of_order}
 use Rattle.zp_buddy.specs.declared.choice.FreeBlock.{FreeBlock}
@@ -10,8 +10,8 @@ use Rattle.zp_buddy.proofs.choice.claimed_block.Goals.{then-number-via-then-numb
 
 pub returns-in_err-largest : goal.returns-in_err-largest
 returns-in_err-largest c =
-    let P : Option FreeBlock → Type 0 = λ r. IsFoundAs c.args.area.now c.args.order (claim (area_in c.args.area.now) c.args.order c.args.kind) r in
-    subst P (sym c.from_residual.ensures) (nothing_claimed c.args.area.now c.args.order c.args.kind c.pages-pages.ensures.one c.in_err-largest.ensures)
+    let P : Option FreeBlock → Type 0 = λ r. IsFoundAs c.args.area.now c.args.order (claim (area_in LARGEST_ORDER c.args.area.now) c.args.order c.args.kind) r in
+    subst P (sym c.from_residual.ensures) (nothing_claimed LARGEST_ORDER c.args.area.now c.args.order c.args.kind c.pages-pages.ensures.one c.in_err-largest.ensures)
 
 pub returns-then-number : goal.returns-then-number
 returns-then-number c =
@@ -20,15 +20,15 @@ returns-then-number c =
     elim c.then-number.branch [
       | then-number-via-then-number w ↦
           let lt : c.in_ok-largest.largest < c.args.order = omega arith in
-          too_small c.args.area.now c.args.order c.in_ok-largest.largest c.args.kind one y lt
+          too_small LARGEST_ORDER c.args.area.now c.args.order c.in_ok-largest.largest c.args.kind one y lt
       | then-number-via-else-number+then-not-may_claim w ↦
-          may_not c.args.area.now c.args.order c.in_ok-largest.largest c.args.kind one y (sym w.may_claim.ensures ∙ w.if-not-may_claim.true)
+          may_not LARGEST_ORDER c.args.area.now c.args.order c.in_ok-largest.largest c.args.kind one y (sym w.may_claim.ensures ∙ w.if-not-may_claim.true)
     ]
 
 pub returns : goal.returns
 returns c =
-    let le : c.in_ok-largest.largest ≤ largest_order = omega arith in
+    let le : c.in_ok-largest.largest ≤ LARGEST_ORDER = omega arith in
     let up : c.args.order ≤ c.in_ok-largest.largest = omega arith in
-    let P : List MigrateType → Type 0 = λ ts. IsFoundAs c.args.area.now c.in_ok-largest.largest (half_free_of_order c.args.area.now ts c.in_ok-largest.largest) c.half_free_of.result in
-    claimed_found c.args.area.now c.args.order c.in_ok-largest.largest c.args.kind c.half_free_of.result c.pages-pages.ensures.one (c.in_ok-largest.ensures) le up
+    let P : List MigrateType → Type 0 = λ ts. IsFoundAs c.args.area.now c.in_ok-largest.largest (half_free_of_order LARGEST_ORDER c.args.area.now ts c.in_ok-largest.largest) c.half_free_of.result in
+    claimed_found LARGEST_ORDER c.args.area.now c.args.order c.in_ok-largest.largest c.args.kind c.half_free_of.result c.pages-pages.ensures.one (c.in_ok-largest.ensures) le up
     (sym c.may_claim.ensures ∙ c.if-not-may_claim.false) (subst P c.foreign.ensures c.half_free_of.ensures)

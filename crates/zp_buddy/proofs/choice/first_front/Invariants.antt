@@ -1,5 +1,5 @@
 use Rattle.std.proofs.Common.{◌≡◌, ◌≤◌, ◌<◌, ◌-◌, ℕ, None}
-use Rattle.zp_model.specs.Block.{largest_order}
+use Rattle.zp_model.specs.declared.constants.TheConstants.{LARGEST_ORDER}
 use Rattle.zp_buddy.specs.Choices.{front_of_order}
 use Rattle.zp_buddy.proofs.choice.first_front.Given as goal
 
@@ -7,9 +7,9 @@ use Rattle.zp_buddy.proofs.choice.first_front.Given as goal
 abbrev pub invariant-orders : goal.invariant-orders
 invariant-orders l = record {
   from : l.fn.order ≤ l.found;
-  order : l.found ≤ largest_order;
+  order : l.found ≤ LARGEST_ORDER;
   none : (o : ℕ) → l.fn.order ≤ o → o < l.found → front_of_order l.area l.kinds o ≡ None;
 }
 
 abbrev pub decreases-orders : goal.decreases-orders
-decreases-orders l = largest_order - l.found
+decreases-orders l = LARGEST_ORDER - l.found

@@ -1,5 +1,6 @@
 use Rattle.std.proofs.Common.{◌≡◌, length}
 use Rattle.std.specs.List.{find}
+use Rattle.zp_model.specs.declared.constants.TheConstants.{LARGEST_ORDER}
 use Rattle.zp_area.specs.Blocks.{free_list_of}
 use Rattle.zp_frames.proofs.Walks.{list_from, IsNext}
 use Rattle.zp_buddy.specs.Choices.{is_half_free}
@@ -9,8 +10,8 @@ use Rattle.zp_buddy.proofs.choice.half_free_on.Given as goal
 abbrev pub invariant-heads : goal.invariant-heads
 invariant-heads l = record {
   rest :
-      find (is_half_free l.area) (free_list_of l.area l.order l.kind)
-      ≡ find (is_half_free l.area) (list_from l.next (free_list_of l.area l.order l.kind));
+      find (is_half_free LARGEST_ORDER l.area) (free_list_of l.area l.order l.kind)
+      ≡ find (is_half_free LARGEST_ORDER l.area) (list_from l.next (free_list_of l.area l.order l.kind));
   next : IsNext l.next (free_list_of l.area l.order l.kind);
 }
 

@@ -1,7 +1,8 @@
 use Rattle.std.proofs.Common.{ℕ, ◌≡◌, ◌≤◌, ◌+◌, inl, inr, arith, sym, subst, ◌∙◌}
 use Rattle.std.proofs.lemmas.Bool.{both_ways, cases_lt, eqb-true, false≢true, not-false}
+use Rattle.zp_model.specs.declared.constants.TheConstants.{LARGEST_ORDER}
 use Rattle.zp_model.specs.declared.state.State.TheVariants.{Free}
-use Rattle.zp_model.specs.Block.{head, largest_order}
+use Rattle.zp_model.specs.Block.{head}
 use Rattle.zp_model.specs.Rows.{state_at}
 use Rattle.zp_frames.proofs.Taken.{starts-to}
 use Rattle.zp_buddy.proofs.clear.is_in_larger.Goals as goal
@@ -28,7 +29,7 @@ pub returns : goal.returns
 returns c =
     let i = c.orders.invariant in
     let last : c.orders.larger ≡ c.largest.result = eqb-true _ _ (not-false _ (sym c.ne.ensures ∙ c.orders-test.false)) in
-    let ten : c.largest.result ≡ largest_order = c.largest.ensures in (
+    let ten : c.largest.result ≡ LARGEST_ORDER = c.largest.ensures in (
       λ e. absurd (false≢true e),
-      λ w. let le : w.0 ≤ largest_order = w.2 in absurd (i.none w.0 w.1 (omega arith) w.3),
+      λ w. let le : w.0 ≤ LARGEST_ORDER = w.2 in absurd (i.none w.0 w.1 (omega arith) w.3),
     )

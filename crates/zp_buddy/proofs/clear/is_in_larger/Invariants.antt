@@ -1,5 +1,6 @@
 use Rattle.std.proofs.Common.{ℕ, ◌≤◌, ◌<◌, ◌-◌}
-use Rattle.zp_model.specs.Block.{head, largest_order}
+use Rattle.zp_model.specs.declared.constants.TheConstants.{LARGEST_ORDER}
+use Rattle.zp_model.specs.Block.{head}
 use Rattle.zp_model.specs.BlockSet.{Starts}
 use Rattle.zp_area.specs.Blocks.{block_set}
 use Rattle.zp_buddy.proofs.clear.is_in_larger.Given as goal
@@ -8,9 +9,9 @@ use Rattle.zp_buddy.proofs.clear.is_in_larger.Given as goal
 abbrev pub invariant-orders : goal.invariant-orders
 invariant-orders l = record {
   from : l.fn.order ≤ l.larger;
-  upto : l.larger ≤ largest_order;
+  upto : l.larger ≤ LARGEST_ORDER;
   none : (k : ℕ) → l.fn.order < k → k ≤ l.larger → Starts (block_set l.area) (head l.at k) k → ⊥;
 }
 
 abbrev pub decreases-orders : goal.decreases-orders
-decreases-orders l = 10 - l.larger
+decreases-orders l = LARGEST_ORDER - l.larger

@@ -1,7 +1,7 @@
 use Rattle.std.proofs.Common.{ℕ, ◌≡◌, ◌<◌, List, min, arith, refl, sym, ◌∙◌, ap, subst}
 use Rattle.std.proofs.lemmas.Bool.{both_ways}
+use Rattle.zp_model.specs.declared.constants.TheConstants.{LARGEST_ORDER}
 use Rattle.zp_model.specs.declared.migrate_type.MigrateType.{MigrateType}
-use Rattle.zp_model.specs.Block.{largest_order}
 use Rattle.zp_frames.specs.Join.{IsBuddy}
 use Rattle.zp_frames.specs.Sound.{frames_of, IsSound}
 use Rattle.zp_frames.proofs.ClearRuns.{clear_run}
@@ -14,45 +14,45 @@ use Rattle.zp_buddy.proofs.join.join.Goals as goal
 use Rattle.zp_buddy.proofs.join.join.Goals.{else-joins-test, then-joins-test+then-not-is_free}
 
 pub hold-requires-clause-page : goal.hold-requires-clause-page
-hold-requires-clause-page c = clear_below _ _ _ _ _ c.requires.clear
+hold-requires-clause-page c = clear_below LARGEST_ORDER _ _ _ _ _ c.requires.clear
 
 pub joins-init : goal.joins-init
 joins-init c = record {
-  joining = joining_none _ _ _ _ _ (back_noted c.args.area.now c.hold.new.self c.args.at c.args.order c.requires.sound c.requires.clear c.hold.ensures.after);
+  joining = joining_none LARGEST_ORDER _ _ _ _ _ (back_noted LARGEST_ORDER c.args.area.now c.hold.new.self c.args.at c.args.order c.requires.sound c.requires.clear c.hold.ensures.after);
   kinds = refl;
-  clear = c.hold.ensures.still_clear c.args.at c.args.order (clear_run _ _ _ _ _ c.requires.clear);
+  clear = c.hold.ensures.still_clear c.args.at c.args.order (clear_run LARGEST_ORDER _ _ _ _ _ c.requires.clear);
 }
 
 pub buddy_of-buddy-requires-clause-aligned : goal.buddy_of-buddy-requires-clause-aligned
 buddy_of-buddy-requires-clause-aligned c =
-    (joining_place _ _ _ _ _ _ _ _ _ (back_noted c.args.area.now c.hold.new.self c.args.at c.args.order c.requires.sound c.requires.clear c.hold.ensures.after) c.joins.invariant.joining).0
+    (joining_place LARGEST_ORDER _ _ _ _ _ _ _ _ _ (back_noted LARGEST_ORDER c.args.area.now c.hold.new.self c.args.at c.args.order c.requires.sound c.requires.clear c.hold.ensures.after) c.joins.invariant.joining).0
 
 pub joins-preserved : goal.joins-preserved
 joins-preserved c =
     let i = c.joins.invariant in
-    let lt : c.joins.joined < largest_order = omega arith in
+    let lt : c.joins.joined < LARGEST_ORDER = omega arith in
     let e : min c.joins.head c.buddy_of-buddy.result ≡ c.at-head.result = omega arith in
     let Q : ℕ → Type 0 = λ q. IsBuddy c.joins.head c.joins.joined c.buddy_of-buddy.result q in
     let buddy = subst Q e c.buddy_of-buddy.ensures in
-    let back = back_noted c.args.area.now c.hold.new.self c.args.at c.args.order c.requires.sound c.requires.clear c.hold.ensures.after in
-    let K : List MigrateType → Type 0 = λ q. IsBack c.args.at c.args.order c.hold.new.self.rows.states q c.hold.new.self.rows.lists in
+    let back = back_noted LARGEST_ORDER c.args.area.now c.hold.new.self c.args.at c.args.order c.requires.sound c.requires.clear c.hold.ensures.after in
+    let K : List MigrateType → Type 0 = λ q. IsBack LARGEST_ORDER c.args.at c.args.order c.hold.new.self.rows.states q c.hold.new.self.rows.lists in
     record {
-      joining = join_removed c.joins.area c.remove.new.self c.args.at c.args.order c.joins.head c.joins.joined c.buddy_of-buddy.result c.at-head.result c.higher-joined.result
+      joining = join_removed LARGEST_ORDER c.joins.area c.remove.new.self c.args.at c.args.order c.joins.head c.joins.joined c.buddy_of-buddy.result c.at-head.result c.higher-joined.result
           c.hold.new.self.rows.states c.hold.new.self.rows.lists (subst K (sym i.kinds) back) i.joining buddy lt
           (c.is_free.ensures.0 c.if-not-is_free.false) c.higher-joined.ensures c.remove.ensures.after;
       kinds = ap (λ (q : Blocks). q.kinds) c.remove.ensures.after ∙ i.kinds;
-      clear = clear_double c.remove.new.self.rows.states c.remove.new.self.rows.lists c.joins.head c.joins.joined c.buddy_of-buddy.result c.at-head.result c.higher-joined.result buddy c.higher-joined.ensures
+      clear = clear_double LARGEST_ORDER c.remove.new.self.rows.states c.remove.new.self.rows.lists c.joins.head c.joins.joined c.buddy_of-buddy.result c.at-head.result c.higher-joined.result buddy c.higher-joined.ensures
           (c.remove.ensures.still_clear c.joins.head c.joins.joined i.clear) c.remove.ensures.clear;
     }
 
 pub add-requires-clause-block : goal.add-requires-clause-block
 add-requires-clause-block c =
-    grown_block _ _ _ _ _ _ _ _ _ (back_noted c.args.area.now c.hold.new.self c.args.at c.args.order c.requires.sound c.requires.clear c.hold.ensures.after) c.joins.invariant.joining
+    grown_block LARGEST_ORDER _ _ _ _ _ _ _ _ _ (back_noted LARGEST_ORDER c.args.area.now c.hold.new.self c.args.at c.args.order c.requires.sound c.requires.clear c.hold.ensures.after) c.joins.invariant.joining
 
 pub returns : goal.returns
 returns c =
     let i = c.joins.invariant in
-    let y = given_added c.args.area.now c.hold.new.self c.joins.area c.add.new.self c.args.at c.args.order c.joins.head c.joins.joined c.requires.sound c.requires.clear
+    let y = given_added LARGEST_ORDER c.args.area.now c.hold.new.self c.joins.area c.add.new.self c.args.at c.args.order c.joins.head c.joins.joined c.requires.sound c.requires.clear
     c.hold.ensures.after i.kinds i.joining
     (elim c.joins-test.branch [
       | else-joins-test w ↦ λ e d lt z f. let bad : ⊥ = omega arith in bad
@@ -62,11 +62,11 @@ returns c =
     c.add.ensures.after in
     let a = c.args.area.now in
     let n = c.add.new.self in
-    let P : List MigrateType → Type 0 = λ q. IsSound n.rows.states q n.rows.lists in
+    let P : List MigrateType → Type 0 = λ q. IsSound LARGEST_ORDER n.rows.states q n.rows.lists in
     record {
       sound = subst P (sym y.1) y.0.sound;
       pages = y.0.pages;
       kinds = y.1;
       size = y.0.size;
-      after = ap (λ q. frames_of n.rows.states q n.rows.lists) y.1 ∙ y.0.after;
+      after = ap (λ q. frames_of LARGEST_ORDER n.rows.states q n.rows.lists) y.1 ∙ y.0.after;
     }

@@ -1,7 +1,8 @@
 use Rattle.std.proofs.Common.{ℕ, ◌≡◌, ◌≤◌, ◌<◌, ◌+◌, ◌-◌, ◌%◌, ◌^◌, ◌⊎◌, inl, inr, refl, true, length, ap, sym, subst, ◌∙◌, arith}
 use Rattle.std.proofs.Math.Nat.{add-mod_right, zero-mod}
 use Rattle.std.proofs.lemmas.Bool.{cases_lt}
-use Rattle.zp_model.specs.Block.{largest_order, is_max, IsBlock}
+use Rattle.zp_model.specs.declared.constants.TheConstants.{LARGEST_ORDER}
+use Rattle.zp_model.specs.Block.{is_max, IsBlock}
 use Rattle.zp_model.specs.Area.{lists_count}
 use Rattle.zp_model.proofs.Heads.{two, aligned_down}
 use Rattle.zp_frames.specs.Opened.{all_pages}
@@ -12,7 +13,7 @@ use Rattle.zp_buddy.proofs.opening.add_all_pages.Goals as goal
 
 pub heads-init : goal.heads-init
 heads-init c =
-    let ten : c.largest-order.result ≡ largest_order = c.largest-order.ensures in
+    let ten : c.largest-order.result ≡ LARGEST_ORDER = c.largest-order.ensures in
     record {
       opened = c.requires.bare;
       table = refl;
@@ -21,7 +22,7 @@ heads-init c =
       order = omega arith;
       aligned = zero-mod (2 ^ c.largest-order.result);
       bound = inl ten;
-      rest = λ i lo hi. opened_clear _ _ _ c.requires.bare i hi;
+      rest = λ i lo hi. opened_clear LARGEST_ORDER _ _ _ c.requires.bare i hi;
     }
 
 pub add-requires-clause-block : goal.add-requires-clause-block
@@ -32,8 +33,8 @@ add-requires-clause-block c =
     let fits : 2 ^ c.fitting-order.result ≤ c.pages-pages.result - c.heads.at = c.fitting-order.ensures.fits in
     let len : length c.heads.area.rows.states ≡ length c.args.area.now.rows.states = i.opened.pages in
     let al : c.heads.at % 2 ^ c.fitting-order.result ≡ 0 = aligned_down c.fitting-order.result c.heads.order c.heads.at within i.aligned in
-    let le : c.heads.order ≤ largest_order = i.order in
-    let P : ℕ → Type 0 = λ q. IsBlock (length c.heads.area.rows.states) q c.fitting-order.result in
+    let le : c.heads.order ≤ LARGEST_ORDER = i.order in
+    let P : ℕ → Type 0 = λ q. IsBlock LARGEST_ORDER (length c.heads.area.rows.states) q c.fitting-order.result in
     subst P (sym c.at.ensures) (record { order = omega arith; aligned = al; inside = omega arith })
 
 pub add-requires-clause-clear : goal.add-requires-clause-clear
@@ -42,7 +43,7 @@ add-requires-clause-clear c =
     let pages : c.pages-pages.result ≡ length c.args.area.now.rows.states = c.pages-pages.ensures.pages in
     let fits : 2 ^ c.fitting-order.result ≤ c.pages-pages.result - c.heads.at = c.fitting-order.ensures.fits in
     let e : c.at.result ≡ c.heads.at = c.at.ensures in
-    run_clear c.heads.area.rows.states c.heads.area.rows.lists c.at.result c.fitting-order.result (λ q lo hi. i.rest q (omega arith) (omega arith))
+    run_clear LARGEST_ORDER c.heads.area.rows.states c.heads.area.rows.lists c.at.result c.fitting-order.result (λ q lo hi. i.rest q (omega arith) (omega arith))
 
 pub heads-preserved : goal.heads-preserved
 heads-preserved c =
@@ -59,14 +60,14 @@ heads-preserved c =
       | inl lt ↦ let l : c.pages-pages.result - c.heads.at < 2 ^ (c.fitting-order.result + 1) = c.fitting-order.ensures.largest lt in inr (omega arith)
       | inr ge ↦ inl (omega arith)
     ] in
-    let x : is_max largest_order (all_pages n) c.heads.at c.fitting-order.result ≡ true =
-    fits_max n c.heads.at c.heads.order c.fitting-order.result i.aligned i.order i.bound within (omega arith) most in
+    let x : is_max LARGEST_ORDER (all_pages n) c.heads.at c.fitting-order.result ≡ true =
+    fits_max LARGEST_ORDER n c.heads.at c.heads.order c.fitting-order.result i.aligned i.order i.bound within (omega arith) most in
     let len : length c.heads.area.rows.lists ≡ length c.args.area.now.rows.lists = i.table in
-    let tl : lists_count ≤ length c.args.area.now.rows.lists = c.requires.table in
-    let t = opened_added n c.heads.at c.fitting-order.result c.at.result c.pages-at.result c.heads.area c.add.new.self i.opened below x c.at.ensures m (omega arith)
+    let tl : lists_count LARGEST_ORDER ≤ length c.args.area.now.rows.lists = c.requires.table in
+    let t = opened_added LARGEST_ORDER n c.heads.at c.fitting-order.result c.at.result c.pages-at.result c.heads.area c.add.new.self i.opened below x c.at.ensures m (omega arith)
     (i.kinds ∙ c.requires.movable) c.add.ensures.after in
     let al : c.heads.at % 2 ^ c.fitting-order.result ≡ 0 = aligned_down c.fitting-order.result c.heads.order c.heads.at within i.aligned in
-    let le : c.heads.order ≤ largest_order = i.order in
+    let le : c.heads.order ≤ LARGEST_ORDER = i.order in
     let e : c.at.result ≡ c.heads.at = c.at.ensures in
     record {
       opened = t.0;

@@ -1,5 +1,6 @@
 use Rattle.std.proofs.Common.{◌≡◌, ap, ◌∙◌}
 use Rattle.std.proofs.lemmas.Bool.{not-true, not-false}
+use Rattle.zp_model.specs.declared.constants.TheConstants.{LARGEST_ORDER}
 use Rattle.zp_model.specs.Frames.{with_area}
 use Rattle.zp_model.specs.Take.{retype}
 use Rattle.zp_area.specs.Blocks.{Blocks}
@@ -11,14 +12,14 @@ use Rattle.zp_buddy.proofs.takes.take_chosen.Goals as goal
 pub returns-then-not-chosen-clause-after : goal.returns-then-not-chosen-clause-after
 returns-then-not-chosen-clause-after c =
     c.take_block.ensures.after
-    ∙ taken_plain (frames_in c.args.area.now) c.args.order c.args.chosen.block.head c.args.kind c.args.chosen.claims (not-true _ c.if-not-chosen.true)
+    ∙ taken_plain (frames_in LARGEST_ORDER c.args.area.now) c.args.order c.args.chosen.block.head c.args.kind c.args.chosen.claims (not-true _ c.if-not-chosen.true)
 
 pub returns-clause-after : goal.returns-clause-after
 returns-clause-after c =
     let a = c.args.area.now in
     let n = c.retype.new.self in
-    let e : frames_in n ≡ with_area (frames_in a) (retype (frames_in a).area c.pageblock_of.result c.args.kind) =
-    ap frames_in c.retype.ensures.after ∙ retyped_frames a c.pageblock_of.result c.args.kind c.requires.sound in
+    let e : frames_in LARGEST_ORDER n ≡ with_area (frames_in LARGEST_ORDER a) (retype (frames_in LARGEST_ORDER a).area c.pageblock_of.result c.args.kind) =
+    ap (frames_in LARGEST_ORDER) c.retype.ensures.after ∙ retyped_frames LARGEST_ORDER a c.pageblock_of.result c.args.kind c.requires.sound in
     c.take_block-2.ensures.after
-    ∙ taken_claimed (frames_in a) (frames_in n) c.args.order c.args.chosen.block.head c.pageblock_of.result c.args.kind c.args.chosen.claims (not-false _ c.if-not-chosen.false)
+    ∙ taken_claimed (frames_in LARGEST_ORDER a) (frames_in LARGEST_ORDER n) c.args.order c.args.chosen.block.head c.pageblock_of.result c.args.kind c.args.chosen.claims (not-false _ c.if-not-chosen.false)
     c.pageblock_of.ensures e (ap (λ (q : Blocks). q.rows.states) c.retype.ensures.after)

@@ -2,6 +2,7 @@ use Rattle.std.proofs.Common.{ℕ, ◌≡◌, ◌≢◌, ◌==◌, length, List,
 use Rattle.std.specs.List.{IsDistinct}
 use Rattle.std.proofs.lemmas.List.{get_or_default}
 use Rattle.std.proofs.lemmas.List.FromFn.{fill_by_all}
+use Rattle.zp_model.specs.declared.constants.TheConstants.{LARGEST_ORDER}
 use Rattle.zp_model.specs.Rows.{list_at, stands_in}
 use Rattle.zp_model.specs.Area.{settled, settle}
 use Rattle.zp_plain.proofs.area.settle.Goals as goal
@@ -26,8 +27,8 @@ lists-preserved c =
     let n : length c.lists.lists.items ≡ 33 = c.lists.invariant.table in
     let e : c.as_slice.result.now ≡ list_at c.args.lists.now.items c.lists.list =
     c.as_slice.ensures ∙ c.index.ensures ∙ get_or_default c.lists.lists.items c.lists.list _ [] (omega arith) ∙ c.lists.invariant.left c.lists.list (omega arith) in
-    let new : c.swap.new.x ≡ settled c.args.free.now c.args.kinds.now c.lists.list (list_at c.args.lists.now.items c.lists.list) =
-    c.swap.ensures.x_after ∙ c.settle_list.ensures ∙ ap (λ xs. settled c.args.free.now c.args.kinds.now c.lists.list xs) e in
+    let new : c.swap.new.x ≡ settled LARGEST_ORDER c.args.free.now c.args.kinds.now c.lists.list (list_at c.args.lists.now.items c.lists.list) =
+    c.swap.ensures.x_after ∙ c.settle_list.ensures ∙ ap (λ xs. settled LARGEST_ORDER c.args.free.now c.args.kinds.now c.lists.list xs) e in
     record {
       table = length-set _ _ _ ∙ n;
       done =
@@ -44,5 +45,5 @@ lists-preserved c =
 pub returns : goal.returns
 unfolding settle
 returns c =
-    fill_by_all (λ r. settled c.args.free.now c.args.kinds.now r (list_at c.args.lists.now.items r)) c.lists.lists.items 33 [] c.lists.invariant.table
+    fill_by_all (λ r. settled LARGEST_ORDER c.args.free.now c.args.kinds.now r (list_at c.args.lists.now.items r)) c.lists.lists.items 33 [] c.lists.invariant.table
     (λ q lt. c.lists.invariant.done q (omega arith))

@@ -11,7 +11,7 @@ invariant-orders l = record {
   from : l.order ≤ l.left;
   within : l.left ≤ 11;
   rest :
-      first_of (λ o. first_of (claimable_at l.area l.kind o) (foreign l.kind)) (reverse (orders_from l.order))
+      first_of (λ o. first_of (claimable_at l.area l.kind o) (foreign l.kind)) (reverse (orders_from l.area.largest l.order))
       ≡ first_of (λ o. first_of (claimable_at l.area l.kind o) (foreign l.kind)) (reverse (range_with_len l.order (l.left - l.order)));
 }
 

@@ -8,10 +8,10 @@ pub returns-in-Some : goal.returns-in-Some
 returns-in-Some c =
     let f : ℕ → Option ℕ = λ o. first_of (front_at c.args.area.now o) c.args.kinds.now in
     let e : f c.orders.number ≡ Some c.in-Some.head = ap f (sym c.order_of.ensures) ∙ sym c.front_of.ensures ∙ c.in-Some.is in
-    sym (c.orders.invariant ∙ first_here f c.orders.number c.in-Some.head (omega arith) e)
+    sym (c.orders.invariant ∙ first_here c.args.area.now.largest f c.orders.number c.in-Some.head (omega arith) e)
 
 pub orders-preserved : goal.orders-preserved
 orders-preserved c =
     let f : ℕ → Option ℕ = λ o. first_of (front_at c.args.area.now o) c.args.kinds.now in
     let e : f c.orders.number ≡ None = ap f (sym c.order_of.ensures) ∙ sym c.front_of.ensures ∙ c.in_default.is in
-    c.orders.invariant ∙ first_later f c.orders.number (omega arith) e
+    c.orders.invariant ∙ first_later c.args.area.now.largest f c.orders.number (omega arith) e

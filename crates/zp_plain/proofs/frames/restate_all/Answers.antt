@@ -2,8 +2,9 @@ use Rattle.std.proofs.Common.{◌≡◌, ◌≢◌, ◌<◌, length, arith, sym,
 use Rattle.std.specs.List.{find}
 use Rattle.std.proofs.lemmas.List.{get_or_default}
 use Rattle.std.proofs.lemmas.List.FromFn.{fill_by_all}
+use Rattle.zp_model.specs.declared.constants.TheConstants.{LARGEST_ORDER}
 use Rattle.zp_model.specs.declared.state.State.TheVariants.{Tail}
-use Rattle.zp_model.specs.Block.{is_max, largest_order}
+use Rattle.zp_model.specs.Block.{is_max}
 use Rattle.zp_model.specs.BlockSet.{max_blocks, orders_from}
 use Rattle.zp_model.specs.Rows.{state_at}
 use Rattle.zp_model.specs.Frames.{restate, restated}
@@ -14,12 +15,12 @@ pub pages-preserved : goal.pages-preserved
 pages-preserved c =
     let n : length c.pages.notes.items ≡ length c.args.notes.now.items = c.pages.invariant.pages in
     let lt : c.pages.i < length c.args.free.now = omega arith in
-    let block : c.block_at.result ≡ get_or (max_blocks c.args.free.now) c.pages.i None =
-    c.block_at.ensures ∙ ap (λ h. find (is_max largest_order c.args.free.now h) (orders_from 0)) c.at.ensures ∙ sym (max_block c.args.free.now c.pages.i lt) in
+    let block : c.block_at.result ≡ get_or (max_blocks LARGEST_ORDER c.args.free.now) c.pages.i None =
+    c.block_at.ensures ∙ ap (λ h. find (is_max LARGEST_ORDER c.args.free.now h) (orders_from LARGEST_ORDER 0)) c.at.ensures ∙ sym (max_block LARGEST_ORDER c.args.free.now c.pages.i lt) in
     let note : c.index.result.now ≡ state_at c.args.notes.now.items c.pages.i =
     c.index.ensures ∙ get_or_default c.pages.notes.items c.pages.i _ Tail (omega arith) ∙ c.pages.invariant.left c.pages.i (omega arith) in
-    let new : c.restate.result ≡ restate (get_or (max_blocks c.args.free.now) c.pages.i None) (state_at c.args.notes.now.items c.pages.i) =
-    c.restate.ensures ∙ ap (λ o. restate o c.index.result.now) block ∙ ap (λ s. restate (get_or (max_blocks c.args.free.now) c.pages.i None) s) note in
+    let new : c.restate.result ≡ restate (get_or (max_blocks LARGEST_ORDER c.args.free.now) c.pages.i None) (state_at c.args.notes.now.items c.pages.i) =
+    c.restate.ensures ∙ ap (λ o. restate o c.index.result.now) block ∙ ap (λ s. restate (get_or (max_blocks LARGEST_ORDER c.args.free.now) c.pages.i None) s) note in
     record {
       pages = length-set _ _ _ ∙ n;
       done =
@@ -36,5 +37,5 @@ pages-preserved c =
 pub returns : goal.returns
 unfolding restated
 returns c =
-    fill_by_all (λ h. restate (get_or (max_blocks c.args.free.now) h None) (state_at c.args.notes.now.items h)) c.pages.notes.items (length c.args.notes.now.items) Tail
+    fill_by_all (λ h. restate (get_or (max_blocks LARGEST_ORDER c.args.free.now) h None) (state_at c.args.notes.now.items h)) c.pages.notes.items (length c.args.notes.now.items) Tail
     c.pages.invariant.pages (λ j lt. c.pages.invariant.done j (omega arith))

@@ -1,14 +1,15 @@
 use Rattle.std.proofs.Common.{ℕ, ◌≡◌, ◌≤◌, ◌+◌, ◌-◌, arith, sym, ◌∙◌, ap, Bool, List, length}
 use Rattle.std.specs.List.{range_with_len, count_by}
-use Rattle.zp_model.specs.Block.{is_max, largest_order}
+use Rattle.zp_model.specs.declared.constants.TheConstants.{LARGEST_ORDER}
+use Rattle.zp_model.specs.Block.{is_max}
 use Rattle.zp_model.specs.Info.{blocks_of_order}
 use Rattle.zp_plain.proofs.Counting.{count_hit, count_miss}
 use Rattle.zp_plain.proofs.info.blocks_of_order.Goals as goal
 use Rattle.zp_plain.proofs.info.blocks_of_order.Goals.{then-is_max, else-is_max}
 
-count_all : (u : List Bool) (k n : ℕ) → n ≡ length u → count_by (λ h. is_max largest_order u h k) (range_with_len 0 n) ≡ blocks_of_order u k
+count_all : (u : List Bool) (k n : ℕ) → n ≡ length u → count_by (λ h. is_max LARGEST_ORDER u h k) (range_with_len 0 n) ≡ blocks_of_order LARGEST_ORDER u k
 unfolding blocks_of_order
-count_all u k n e = ap (λ m. count_by (λ h. is_max largest_order u h k) (range_with_len 0 m)) e
+count_all u k n e = ap (λ m. count_by (λ h. is_max LARGEST_ORDER u h k) (range_with_len 0 m)) e
 
 pub heads-init : goal.heads-init
 heads-init c = record {
@@ -18,11 +19,11 @@ heads-init c = record {
 
 pub heads-preserved : goal.heads-preserved
 heads-preserved c =
-    let p : ℕ → Bool = λ h. is_max largest_order c.args.set.now h c.args.order in
+    let p : ℕ → Bool = λ h. is_max LARGEST_ORDER c.args.set.now h c.args.order in
     let e : ℕ = length c.args.set.now in
     let same : p c.heads.i ≡ c.is_max.result = ap p (sym c.at.ensures) ∙ sym c.is_max.ensures in
     let within : c.heads.blocks ≤ c.heads.i = c.heads.invariant.within in
-    let old : c.heads.blocks + count_by p (range_with_len c.heads.i (e - c.heads.i)) ≡ blocks_of_order c.args.set.now c.args.order = c.heads.invariant.counted in
+    let old : c.heads.blocks + count_by p (range_with_len c.heads.i (e - c.heads.i)) ≡ blocks_of_order LARGEST_ORDER c.args.set.now c.args.order = c.heads.invariant.counted in
     elim c.if-is_max.branch [
       | then-is_max w ↦
           let h = count_hit p c.heads.i e (omega arith) (same ∙ w.if-is_max.true) in
@@ -36,9 +37,9 @@ heads-preserved c =
 
 pub returns : goal.returns
 returns c =
-    let p : ℕ → Bool = λ h. is_max largest_order c.args.set.now h c.args.order in
+    let p : ℕ → Bool = λ h. is_max LARGEST_ORDER c.args.set.now h c.args.order in
     let e : ℕ = length c.args.set.now in
     let last : e - c.heads.i ≡ 0 = omega arith in
-    let old : c.heads.blocks + count_by p (range_with_len c.heads.i (e - c.heads.i)) ≡ blocks_of_order c.args.set.now c.args.order = c.heads.invariant.counted in
+    let old : c.heads.blocks + count_by p (range_with_len c.heads.i (e - c.heads.i)) ≡ blocks_of_order LARGEST_ORDER c.args.set.now c.args.order = c.heads.invariant.counted in
     let none : count_by p (range_with_len c.heads.i (e - c.heads.i)) ≡ 0 = ap (λ n. count_by p (range_with_len c.heads.i n)) last in
     omega (arith, old, none)

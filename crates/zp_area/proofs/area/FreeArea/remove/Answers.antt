@@ -1,5 +1,5 @@
 use Rattle.std.proofs.Common.{ℕ, ◌≡◌, ◌-◌, ◌/◌, ◌^◌, ◌≤◌, ◌<◌, List, length, set, slice_index, arith, sym, ◌∙◌, ap, subst}
-use Rattle.zp_model.specs.declared.constants.TheConstants.{PAGEBLOCK_PAGES}
+use Rattle.zp_model.specs.declared.constants.TheConstants.{LARGEST_ORDER, PAGEBLOCK_PAGES}
 use Rattle.zp_model.specs.declared.state.State.TheVariants.{Tail}
 use Rattle.zp_model.specs.Block.{IsBlock}
 use Rattle.zp_model.specs.BlockSet.{Starts}
@@ -18,12 +18,12 @@ overflow_sub-index_mut c =
     let a : Blocks = record { rows = c.self.inside.lists; kinds = c.self.inside.kinds.items } in
     let P : Blocks → Type 0 = λ q. Starts (block_set q) c.args.at c.args.order in
     let x : Starts (block_set a) c.args.at c.args.order = subst P (sym c.self.view_is) c.requires in
-    let b : IsBlock (length (block_set a)) c.args.at c.args.order = c.self.invariant.one.blocks.block _ _ x in
-    let y : IsLessKept a c.self.inside.tree c.self.inside.counts c.self.inside.free_in.items c.args.at c.args.order =
-    kept_removed a _ _ _ _ _ c.self.invariant x (omega (arith, b.order)) in
-    let lt : c.args.at / PAGEBLOCK_PAGES < pageblocks_of (length (block_set a)) = pageblock_below _ _ _ b in
+    let b : IsBlock LARGEST_ORDER (length (block_set a)) c.args.at c.args.order = c.self.invariant.one.blocks.block _ _ x in
+    let y : IsLessKept LARGEST_ORDER a c.self.inside.tree c.self.inside.counts c.self.inside.free_in.items c.args.at c.args.order =
+    kept_removed LARGEST_ORDER a _ _ _ _ _ c.self.invariant x (omega (arith, b.order)) in
+    let lt : c.args.at / PAGEBLOCK_PAGES < pageblocks_of LARGEST_ORDER (length (block_set a)) = pageblock_below LARGEST_ORDER _ _ _ b in
     let l : length (block_set a) ≡ length c.self.inside.lists.states = blocks_length c.self.inside.lists.states in
-    let n : length c.self.inside.free_in.items ≡ pageblocks_of (length c.self.inside.lists.states) = c.self.invariant.each.blocks in
+    let n : length c.self.inside.free_in.items ≡ pageblocks_of LARGEST_ORDER (length c.self.inside.lists.states) = c.self.invariant.each.blocks in
     let r : c.index_mut.result.now ≡ slice_index c.self.inside.free_in.items (c.args.at / PAGEBLOCK_PAGES) =
     read_at _ _ _ _ (omega arith) c.pageblock_of-pageblock.ensures c.index_mut.ensures.value in
     let p : c.pages.result ≡ 2 ^ c.args.order = c.pages.ensures.pages in
@@ -38,19 +38,19 @@ invariant_of-self c =
     let free_in : List ℕ = c.self.inside.free_in.items in
     let P : Blocks → Type 0 = λ q. Starts (block_set q) c.args.at c.args.order in
     let x : Starts (block_set a) c.args.at c.args.order = subst P (sym c.self.view_is) c.requires in
-    let b : IsBlock (length (block_set a)) c.args.at c.args.order = c.self.invariant.one.blocks.block _ _ x in
-    let y : IsLessKept a c.self.inside.tree c.self.inside.counts c.self.inside.free_in.items c.args.at c.args.order =
-    kept_removed a _ _ _ _ _ c.self.invariant x (omega (arith, b.order)) in
-    let lt : c.args.at / PAGEBLOCK_PAGES < pageblocks_of (length (block_set a)) = pageblock_below _ _ _ b in
+    let b : IsBlock LARGEST_ORDER (length (block_set a)) c.args.at c.args.order = c.self.invariant.one.blocks.block _ _ x in
+    let y : IsLessKept LARGEST_ORDER a c.self.inside.tree c.self.inside.counts c.self.inside.free_in.items c.args.at c.args.order =
+    kept_removed LARGEST_ORDER a _ _ _ _ _ c.self.invariant x (omega (arith, b.order)) in
+    let lt : c.args.at / PAGEBLOCK_PAGES < pageblocks_of LARGEST_ORDER (length (block_set a)) = pageblock_below LARGEST_ORDER _ _ _ b in
     let l : length (block_set a) ≡ length c.self.inside.lists.states = blocks_length c.self.inside.lists.states in
-    let n : length c.self.inside.free_in.items ≡ pageblocks_of (length c.self.inside.lists.states) = c.self.invariant.each.blocks in
-    let m : length c.self.inside.kinds.items ≡ pageblocks_of (length c.self.inside.lists.states) = c.self.invariant.one.typed in
+    let n : length c.self.inside.free_in.items ≡ pageblocks_of LARGEST_ORDER (length c.self.inside.lists.states) = c.self.invariant.each.blocks in
+    let m : length c.self.inside.kinds.items ≡ pageblocks_of LARGEST_ORDER (length c.self.inside.lists.states) = c.self.invariant.one.typed in
     let eb : c.pageblock_of-pageblock.result ≡ c.args.at / PAGEBLOCK_PAGES = c.pageblock_of-pageblock.ensures in
     let r : c.index_mut.result.now ≡ slice_index c.self.inside.free_in.items (c.args.at / PAGEBLOCK_PAGES) =
     read_at _ _ _ _ (omega arith) c.pageblock_of-pageblock.ensures c.index_mut.ensures.value in
-    let er : c.list_of-list.result ≡ list_of_block a c.args.at c.args.order =
-    list_found a _ _ _ _ _ (omega arith) eb c.index.ensures c.list_of-list.ensures.number in
-    kept_by _ (removed a c.args.at c.args.order) _ _ _ _ _ _
+    let er : c.list_of-list.result ≡ list_of_block LARGEST_ORDER a c.args.at c.args.order =
+    list_found LARGEST_ORDER a _ _ _ _ _ (omega arith) eb c.index.ensures c.list_of-list.ensures.number in
+    kept_by LARGEST_ORDER _ (removed LARGEST_ORDER a c.args.at c.args.order) _ _ _ _ _ _
     (ap (λ (w : Rows). let q : Blocks = record { rows = w; kinds = c.self.inside.kinds.items } in q)
     (c.set_state.ensures
     ∙ ap (λ (w : Rows). with_state w at Tail) c.remove.ensures.after
@@ -63,8 +63,8 @@ invariant_of-self c =
     y.kept
 
 -- the rows and the types after the call
-now_removed : (a : Blocks) (h k r : ℕ) (v w : Rows) → v ≡ with_list a.rows r (without_page h (list_at a.rows.lists r)) → w ≡ with_state v h Tail → r ≡ list_of_block a h k →
-    (let q : Blocks = record a { rows = w } in q) ≡ removed a h k
+now_removed : (a : Blocks) (h k r : ℕ) (v w : Rows) → v ≡ with_list a.rows r (without_page h (list_at a.rows.lists r)) → w ≡ with_state v h Tail → r ≡ list_of_block LARGEST_ORDER a h k →
+    (let q : Blocks = record a { rows = w } in q) ≡ removed LARGEST_ORDER a h k
 now_removed a h k r v w ev ew er =
     ap (λ (x : Rows). let q : Blocks = record a { rows = x } in q)
     (ew ∙ ap (λ (x : Rows). with_state x h Tail) ev
@@ -75,29 +75,29 @@ returns-clause-clear c =
     let a : Blocks = record { rows = c.self.inside.lists; kinds = c.self.inside.kinds.items } in
     let S : Blocks → Type 0 = λ q. Starts (block_set q) c.args.at c.args.order in
     let x : Starts (block_set a) c.args.at c.args.order = subst S (sym c.self.view_is) c.requires in
-    let b : IsBlock (length (block_set a)) c.args.at c.args.order = c.self.invariant.one.blocks.block _ _ x in
-    let lt : c.args.at / PAGEBLOCK_PAGES < pageblocks_of (length (block_set a)) = pageblock_below _ _ _ b in
+    let b : IsBlock LARGEST_ORDER (length (block_set a)) c.args.at c.args.order = c.self.invariant.one.blocks.block _ _ x in
+    let lt : c.args.at / PAGEBLOCK_PAGES < pageblocks_of LARGEST_ORDER (length (block_set a)) = pageblock_below LARGEST_ORDER _ _ _ b in
     let l : length (block_set a) ≡ length c.self.inside.lists.states = blocks_length c.self.inside.lists.states in
-    let m : length c.self.inside.kinds.items ≡ pageblocks_of (length c.self.inside.lists.states) = c.self.invariant.one.typed in
-    let er : c.list_of-list.result ≡ list_of_block a c.args.at c.args.order =
-    list_found a _ _ _ _ _ (omega arith) c.pageblock_of-pageblock.ensures c.index.ensures c.list_of-list.ensures.number in
-    let P : Blocks → Type 0 = λ q. IsClearRun q.rows.states q.rows.lists c.args.at c.args.order in
+    let m : length c.self.inside.kinds.items ≡ pageblocks_of LARGEST_ORDER (length c.self.inside.lists.states) = c.self.invariant.one.typed in
+    let er : c.list_of-list.result ≡ list_of_block LARGEST_ORDER a c.args.at c.args.order =
+    list_found LARGEST_ORDER a _ _ _ _ _ (omega arith) c.pageblock_of-pageblock.ensures c.index.ensures c.list_of-list.ensures.number in
+    let P : Blocks → Type 0 = λ q. IsClearRun LARGEST_ORDER q.rows.states q.rows.lists c.args.at c.args.order in
     subst P (sym (now_removed a c.args.at c.args.order c.list_of-list.result c.remove.new.self c.set_state.new.self c.remove.ensures.after c.set_state.ensures er))
-    (clear_removed a c.args.at c.args.order c.self.invariant.one x)
+    (clear_removed LARGEST_ORDER a c.args.at c.args.order c.self.invariant.one x)
 
 pub returns-clause-still_clear : goal.returns-clause-still_clear
 returns-clause-still_clear c =
     let a : Blocks = record { rows = c.self.inside.lists; kinds = c.self.inside.kinds.items } in
     let S : Blocks → Type 0 = λ q. Starts (block_set q) c.args.at c.args.order in
     let x : Starts (block_set a) c.args.at c.args.order = subst S (sym c.self.view_is) c.requires in
-    let b : IsBlock (length (block_set a)) c.args.at c.args.order = c.self.invariant.one.blocks.block _ _ x in
-    let lt : c.args.at / PAGEBLOCK_PAGES < pageblocks_of (length (block_set a)) = pageblock_below _ _ _ b in
+    let b : IsBlock LARGEST_ORDER (length (block_set a)) c.args.at c.args.order = c.self.invariant.one.blocks.block _ _ x in
+    let lt : c.args.at / PAGEBLOCK_PAGES < pageblocks_of LARGEST_ORDER (length (block_set a)) = pageblock_below LARGEST_ORDER _ _ _ b in
     let l : length (block_set a) ≡ length c.self.inside.lists.states = blocks_length c.self.inside.lists.states in
-    let m : length c.self.inside.kinds.items ≡ pageblocks_of (length c.self.inside.lists.states) = c.self.invariant.one.typed in
-    let er : c.list_of-list.result ≡ list_of_block a c.args.at c.args.order =
-    list_found a _ _ _ _ _ (omega arith) c.pageblock_of-pageblock.ensures c.index.ensures c.list_of-list.ensures.number in
-    let P : Blocks → Type 0 = λ q. (h k : ℕ) → IsClearRun c.args.self.now.rows.states c.args.self.now.rows.lists h k → IsClearRun q.rows.states q.rows.lists h k in
-    let Q : Blocks → Type 0 = λ q. (h k : ℕ) → IsClearRun q.rows.states q.rows.lists h k →
-    IsClearRun (removed a c.args.at c.args.order).rows.states (removed a c.args.at c.args.order).rows.lists h k in
+    let m : length c.self.inside.kinds.items ≡ pageblocks_of LARGEST_ORDER (length c.self.inside.lists.states) = c.self.invariant.one.typed in
+    let er : c.list_of-list.result ≡ list_of_block LARGEST_ORDER a c.args.at c.args.order =
+    list_found LARGEST_ORDER a _ _ _ _ _ (omega arith) c.pageblock_of-pageblock.ensures c.index.ensures c.list_of-list.ensures.number in
+    let P : Blocks → Type 0 = λ q. (h k : ℕ) → IsClearRun LARGEST_ORDER c.args.self.now.rows.states c.args.self.now.rows.lists h k → IsClearRun LARGEST_ORDER q.rows.states q.rows.lists h k in
+    let Q : Blocks → Type 0 = λ q. (h k : ℕ) → IsClearRun LARGEST_ORDER q.rows.states q.rows.lists h k →
+    IsClearRun LARGEST_ORDER (removed LARGEST_ORDER a c.args.at c.args.order).rows.states (removed LARGEST_ORDER a c.args.at c.args.order).rows.lists h k in
     subst P (sym (now_removed a c.args.at c.args.order c.list_of-list.result c.remove.new.self c.set_state.new.self c.remove.ensures.after c.set_state.ensures er))
-    (subst Q c.self.view_is (clear_still a c.args.at c.args.order c.self.invariant.one x))
+    (subst Q c.self.view_is (clear_still LARGEST_ORDER a c.args.at c.args.order c.self.invariant.one x))

@@ -1,5 +1,6 @@
 use Rattle.std.proofs.Common.{ℕ, ◌≡◌, ◌++◌, List, ap, sym, subst, ◌∙◌}
 use Rattle.std.proofs.lemmas.List.{take-append-drop}
+use Rattle.zp_model.specs.declared.constants.TheConstants.{LARGEST_ORDER}
 use Rattle.zp_model.specs.Area.{lists_count}
 use Rattle.zp_model.specs.Described.{IsLinkedAt}
 use Rattle.zp_model.specs.Frames.{Frames}
@@ -8,8 +9,8 @@ use Rattle.zp_buddy.specs.Choices.{frames_in}
 use Rattle.zp_buddy.proofs.buddy.Buddy.entry.Goals as goal
 
 -- the lists of the frames are those of the area
-linked : (a : Blocks) (f : Frames) → frames_in a ≡ f → a.rows.lists ≡ f.area.lists ++ f.sides
-linked a f e = sym (take-append-drop lists_count a.rows.lists) ∙ ap (λ (g : Frames). g.area.lists ++ g.sides) e
+linked : (a : Blocks) (f : Frames) → frames_in LARGEST_ORDER a ≡ f → a.rows.lists ≡ f.area.lists ++ f.sides
+linked a f e = sym (take-append-drop (lists_count LARGEST_ORDER) a.rows.lists) ∙ ap (λ (g : Frames). g.area.lists ++ g.sides) e
 
 pub returns-clause-linked : goal.returns-clause-linked
 returns-clause-linked c =

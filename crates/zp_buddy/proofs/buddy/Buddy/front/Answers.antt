@@ -1,4 +1,5 @@
 use Rattle.std.proofs.Common.{refl, ap, sym, subst, ◌∙◌, arith}
+use Rattle.zp_model.specs.declared.constants.TheConstants.{LARGEST_ORDER}
 use Rattle.zp_model.specs.Rows.{front}
 use Rattle.zp_model.specs.Area.{free_list}
 use Rattle.zp_frames.proofs.Taken.{row_below}
@@ -8,7 +9,7 @@ use Rattle.zp_buddy.proofs.buddy.Buddy.front.Goals as goal
 
 pub returns-clause-answer : goal.returns-clause-answer
 returns-clause-answer c =
-    c.front.ensures.answer ∙ ap front (list_of_frames _ _ _ _ _ _ c.self.view_is refl (row_below c.args.order c.args.kind (omega arith)))
+    c.front.ensures.answer ∙ ap front (list_of_frames LARGEST_ORDER _ _ _ _ _ _ c.self.view_is refl (row_below LARGEST_ORDER c.args.order c.args.kind (omega arith)))
 
 pub returns-clause-on : goal.returns-clause-on
 returns-clause-on c =

@@ -1,4 +1,5 @@
 use Rattle.std.proofs.Common.{◌≡◌, length, set, sym, ◌∙◌, ap, subst, length-set}
+use Rattle.zp_model.specs.declared.constants.TheConstants.{LARGEST_ORDER}
 use Rattle.zp_model.specs.declared.state.State.TheVariants.{Tail}
 use Rattle.zp_model.specs.Area.{Area}
 use Rattle.zp_model.specs.Frames.{Frames, given, IsClear, IsFramed, restated}
@@ -19,10 +20,12 @@ after : (c : goal.After-restate_all) →
     ≡ given (record { area = c.self.inside.area; states = c.self.inside.notes.items; sides = c.self.inside.sides.items }) c.args.at c.args.order
 after c =
     let b : Area = give c.self.inside.area c.args.at c.args.order in
-    let es : c.restate_all.new.notes.items ≡ restated b.free (set c.self.inside.notes.items c.args.at Tail) =
+    let es : c.restate_all.new.notes.items ≡ restated b.largest b.free (set c.self.inside.notes.items c.args.at Tail) =
     c.restate_all.ensures
-    ∙ ap (λ q. restated q (set c.self.inside.notes.items c.index.result Tail)) (c.marks.ensures.marks ∙ ap (λ (a : Area). a.free) c.give.ensures.after)
-    ∙ ap (λ i. restated b.free (set c.self.inside.notes.items i Tail)) c.index.ensures.same in
+    ∙ ap (λ q. restated LARGEST_ORDER q (set c.self.inside.notes.items c.index.result Tail)) c.marks.ensures.marks
+    ∙ ap (λ m. restated m c.give.new.self.free (set c.self.inside.notes.items c.index.result Tail)) (sym c.marks.ensures.largest)
+    ∙ ap (λ (a : Area). restated a.largest a.free (set c.self.inside.notes.items c.index.result Tail)) c.give.ensures.after
+    ∙ ap (λ i. restated b.largest b.free (set c.self.inside.notes.items i Tail)) c.index.ensures.same in
     ap (λ a. let f : Frames = record { area = a; states = c.restate_all.new.notes.items; sides = c.self.inside.sides.items } in f) c.give.ensures.after
     ∙ ap (λ q. let f : Frames = record { area = b; states = q; sides = c.self.inside.sides.items } in f) es
 

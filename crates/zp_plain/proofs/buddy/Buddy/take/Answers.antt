@@ -1,6 +1,7 @@
 use Rattle.std.proofs.Common.{ℕ, ◌≡◌, ◌≤◌, ◌+◌, ◌^◌, length, arith, refl, sym, ◌∙◌, ap, subst, Option, Some, None}
 use Rattle.std.specs.Option.{option_map}
 use Rattle.std.proofs.lemmas.Nat.{pow_pos}
+use Rattle.zp_model.specs.declared.constants.TheConstants.{LARGEST_ORDER}
 use Rattle.zp_model.specs.declared.migrate_type.MigrateType.{MigrateType}
 use Rattle.zp_model.specs.Area.{Area}
 use Rattle.zp_model.specs.Choose.{Chosen, choose}
@@ -39,7 +40,7 @@ returns-in_err-chosen-clause-after c =
 pub take_chosen-requires : goal.take_chosen-requires
 take_chosen-requires c =
     let e : choose c.self.inside.area c.args.order c.args.kind ≡ Some (as_chosen c.in_ok-chosen.chosen) = sym c.in_ok-chosen.ensures in
-    let b = found_block _ _ _ (choose_found c.self.inside.area c.args.order c.args.kind (as_chosen c.in_ok-chosen.chosen) c.marks-marks.ensures.sound.lists e) in
+    let b = found_block _ _ _ _ (choose_found c.self.inside.area c.args.order c.args.kind (as_chosen c.in_ok-chosen.chosen) c.marks-marks.ensures.sound.lists e) in
     let in_zone : c.in_ok-chosen.chosen.head + 2 ^ c.args.order ≤ length c.self.inside.area.free = b.inside in
     omega (arith, pow_pos c.args.order)
 
@@ -56,8 +57,11 @@ after : (c : goal.After-restate_all) →
     (taken c.self.inside.area c.args.order c.args.kind (Some (as_chosen c.in_ok-chosen.chosen)))
 after c =
     let b : Area = taken c.self.inside.area c.args.order c.args.kind (Some (as_chosen c.in_ok-chosen.chosen)) in
-    let es : c.restate_all.new.notes.items ≡ restated b.free c.self.inside.notes.items =
-    c.restate_all.ensures ∙ ap (λ q. restated q c.self.inside.notes.items) (c.marks.ensures.marks ∙ ap (λ (a : Area). a.free) c.take_chosen.ensures) in
+    let es : c.restate_all.new.notes.items ≡ restated b.largest b.free c.self.inside.notes.items =
+    c.restate_all.ensures
+    ∙ ap (λ q. restated LARGEST_ORDER q c.self.inside.notes.items) c.marks.ensures.marks
+    ∙ ap (λ m. restated m c.take_chosen.new.self.free c.self.inside.notes.items) (sym c.marks.ensures.largest)
+    ∙ ap (λ (a : Area). restated a.largest a.free c.self.inside.notes.items) c.take_chosen.ensures in
     ap (λ a. let f : Frames = record { area = a; states = c.restate_all.new.notes.items; sides = c.self.inside.sides.items } in f) c.take_chosen.ensures
     ∙ ap (λ q. let f : Frames = record { area = b; states = q; sides = c.self.inside.sides.items } in f) es
 
