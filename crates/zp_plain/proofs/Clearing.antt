@@ -38,26 +38,26 @@ absent u h k i none =
     both_ways _ none ((without-decides u h k i (omega arith)).0 e).0)
 
 -- a free block that leaves is clear, where another area has all its pages but those
-pub clear_left : (f : Frames) (a : Area) (h k : ℕ) → IsFramed f → IsFound f.area.largest f.area.free k h → a.free ≡ without f.area.free h k → a.largest ≡ f.area.largest →
-    IsClear (with_area f a) h k
-clear_left f a h k x found free same =
+pub clear_left : (f : Frames) (a : Area) (h k : ℕ) → IsFramed f → IsFound f.area.largest f.area.free k h → a.largest ≡ f.area.largest →
+    a.free ≡ without f.area.free h k → IsClear (with_area f a) h k
+clear_left f a h k x found top free =
     let n : length a.free ≡ length f.area.free = ap length free ∙ length-without f.area.free h k in
-    let P : ℕ → Type 0 = λ n. IsBlock f.area.largest n h k in
-    let Q : ℕ → Type 0 = λ m. IsBlock m (length a.free) h k in
+    let P : ℕ → Type 0 = λ q. IsBlock f.area.largest q h k in
+    let Q : ℕ → Type 0 = λ q. IsBlock q (length a.free) h k in
     record {
-      block = subst Q (sym same) (subst P (sym n) (found_block f.area.largest f.area.free k h found));
+      block = subst Q (sym top) (subst P (sym n) (found_block f.area.largest f.area.free k h found));
       free = λ i lo hi. ap (λ (q : List Bool). has q i) free ∙ gone f.area.free h k i lo hi;
       aside = λ r i lo hi. false_from_ne_true _ (λ on. both_ways _ (x.beside r i on) (found_free f.area.largest f.area.free k h found i lo hi));
     }
 
 -- and each block that was clear before still is
-pub clear_kept : (f : Frames) (a : Area) (h k g j : ℕ) → a.free ≡ without f.area.free h k → a.largest ≡ f.area.largest → IsClear f g j → IsClear (with_area f a) g j
-clear_kept f a h k g j free same x =
+pub clear_kept : (f : Frames) (a : Area) (h k g j : ℕ) → a.largest ≡ f.area.largest → a.free ≡ without f.area.free h k → IsClear f g j → IsClear (with_area f a) g j
+clear_kept f a h k g j top free x =
     let n : length a.free ≡ length f.area.free = ap length free ∙ length-without f.area.free h k in
-    let P : ℕ → Type 0 = λ n. IsBlock f.area.largest n g j in
-    let Q : ℕ → Type 0 = λ m. IsBlock m (length a.free) g j in
+    let P : ℕ → Type 0 = λ q. IsBlock f.area.largest q g j in
+    let Q : ℕ → Type 0 = λ q. IsBlock q (length a.free) g j in
     record {
-      block = subst Q (sym same) (subst P (sym n) x.block);
+      block = subst Q (sym top) (subst P (sym n) x.block);
       free = λ i lo hi. ap (λ (q : List Bool). has q i) free ∙ absent f.area.free h k i (x.free i lo hi);
       aside = x.aside;
     }
@@ -65,10 +65,10 @@ clear_kept f a h k g j free same x =
 -- so of the block that was chosen
 pub clear_taken : (f : Frames) (k : ℕ) (t : MigrateType) (c : Chosen) → IsFramed f → IsListedArea f.area → choose f.area k t ≡ Some c →
     IsClear (with_area f (taken f.area k t (Some c))) c.head k
-clear_taken f k t c x l e = clear_left f (taken f.area k t (Some c)) c.head k x (choose_found f.area k t c l e) (free-taken f.area k t c)
+clear_taken f k t c x l e = clear_left f (taken f.area k t (Some c)) c.head k x (choose_found f.area k t c l e) (largest-taken f.area k t c) (free-taken f.area k t c)
 
 pub clear_still : (f : Frames) (k g j : ℕ) (t : MigrateType) (c : Chosen) → IsClear f g j → IsClear (with_area f (taken f.area k t (Some c))) g j
-clear_still f k g j t c x = clear_kept f (taken f.area k t (Some c)) c.head k g j (free-taken f.area k t c) x
+clear_still f k g j t c x = clear_kept f (taken f.area k t (Some c)) c.head k g j (largest-taken f.area k t c) (free-taken f.area k t c) x
 
 -- a clear block starts at a page of the zone that is not free
 pub clear_head : (f : Frames) (h k : ℕ) → length f.area.free ≡ length f.states → IsClear f h k → (h < length f.states) × (has f.area.free h ≡ false)

@@ -36,11 +36,11 @@ kept_given f h k x y =
         ]
 
 -- a block leaves, and another area has all the free pages but those
-pub kept_left : (f : Frames) (a : Area) (h k : ℕ) → IsFramed f → a.free ≡ without f.area.free h k → length a.kinds ≡ length f.area.kinds → a.largest ≡ f.area.largest →
-    IsFramed (with_area f a)
-kept_left f a h k x free kinds same =
+pub kept_left : (f : Frames) (a : Area) (h k : ℕ) → IsFramed f → a.largest ≡ f.area.largest → a.free ≡ without f.area.free h k →
+    length a.kinds ≡ length f.area.kinds → IsFramed (with_area f a)
+kept_left f a h k x top free kinds =
     let n : length a.free ≡ length f.area.free = ap length free ∙ length-without f.area.free h k in
-    framed_with f a (n ∙ x.pages) (kinds ∙ x.typed ∙ ap (λ q. pageblocks_of q (length f.states)) (sym same))
+    framed_with f a (n ∙ x.pages) (kinds ∙ x.typed ∙ ap (λ q. pageblocks_of q (length f.states)) (sym top))
     (λ r p e. false_from_ne_true _ (λ q. free_aside r p e (ap (λ u. has u p) (sym free) ∙ q)))
   where
     free_aside : (r p : ℕ) → stands_in p (list_at f.sides r) ≡ true → In (without f.area.free h k) p → ⊥
@@ -50,7 +50,7 @@ kept_left f a h k x free kinds same =
         both_ways _ (x.beside r p e) ((without-decides f.area.free h k p (omega arith)).0 t).0
 
 pub kept_taken : (f : Frames) (k : ℕ) (t : MigrateType) (c : Chosen) → IsFramed f → IsFramed (with_area f (taken f.area k t (Some c)))
-kept_taken f k t c x = kept_left f (taken f.area k t (Some c)) c.head k x (free-taken f.area k t c) (kinds-taken f.area k t c) (largest-taken f.area k t c)
+kept_taken f k t c x = kept_left f (taken f.area k t (Some c)) c.head k x (largest-taken f.area k t c) (free-taken f.area k t c) (kinds-taken f.area k t c)
 
 -- frames whose notes say what is free are restated as they are
 pub restated_same : (f : Frames) → IsFramed f → f ≡ with_area f f.area

@@ -90,7 +90,7 @@ impl Buddy {
     /// The type of a page's pageblock.
     pub fn type_of(&self, at: PageAt) -> MigrateType
         requires { at < length self.now.states }
-        ensures { result ≡ kind_at self.now.area.kinds at }
+        ensures { result ≡ kind_at self.now.area.largest self.now.area.kinds at }
     {
         self.area.kind_at(at)
     }

@@ -127,7 +127,7 @@ impl PlainArea {
     /// The type of a page's pageblock.
     pub fn kind_at(&self, at: PageAt) -> MigrateType
         requires { at < length self.now.free }
-        ensures { result ≡ kind_at self.now.kinds at }
+        ensures { result ≡ kind_at self.now.largest self.now.kinds at }
     {
         kind_at(&self.kinds, at)
     }

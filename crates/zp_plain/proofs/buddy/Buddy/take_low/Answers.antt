@@ -1,10 +1,11 @@
 use Rattle.std.proofs.Common.{ℕ, ◌≡◌, List, length, sym, ◌∙◌, ap, subst, Some, None}
+use Rattle.zp_model.specs.declared.constants.TheConstants.{LARGEST_ORDER}
 use Rattle.zp_model.specs.declared.state.State.{State}
 use Rattle.zp_model.specs.Area.{Area}
 use Rattle.zp_model.specs.Frames.{Frames, IsClear, IsFramed, restated, with_area}
 use Rattle.zp_model.specs.Take.{leave, take_low_answer, take_low_after}
 use Rattle.zp_model.proofs.Covers.{length-without}
-use Rattle.zp_laws.proofs.Areas.{free-leave, kinds-leave}
+use Rattle.zp_laws.proofs.Areas.{free-leave, largest-leave, kinds-leave}
 use Rattle.zp_laws.proofs.Choosing.{take_low_found}
 use Rattle.zp_plain.proofs.Clearing.{clear_left, clear_kept, clear_head}
 use Rattle.zp_plain.proofs.Kept.{kept_left, restated_same}
@@ -55,8 +56,11 @@ after : (c : goal.After-restate_all) →
 after c =
     let b : Area = leave c.self.inside.area c.in_ok-head.head c.args.order in
     let e : c.take_low.new.self ≡ leave c.self.inside.area c.in_ok-head.head c.args.order = left _ _ _ _ c.in_ok-head.ensures.answer c.in_ok-head.ensures.after in
-    let es : c.restate_all.new.notes.items ≡ restated b.free c.self.inside.notes.items =
-    c.restate_all.ensures ∙ ap (λ q. restated q c.self.inside.notes.items) (c.marks.ensures.marks ∙ ap (λ (a : Area). a.free) e) in
+    let es : c.restate_all.new.notes.items ≡ restated b.largest b.free c.self.inside.notes.items =
+    c.restate_all.ensures
+    ∙ ap (λ q. restated LARGEST_ORDER q c.self.inside.notes.items) c.marks.ensures.marks
+    ∙ ap (λ m. restated m c.take_low.new.self.free c.self.inside.notes.items) (sym c.marks.ensures.largest)
+    ∙ ap (λ (a : Area). restated a.largest a.free c.self.inside.notes.items) e in
     ap (λ (a : Area). let f : Frames = record { area = a; states = c.restate_all.new.notes.items; sides = c.self.inside.sides.items } in f) e
     ∙ ap (λ (q : List State). let f : Frames = record { area = b; states = q; sides = c.self.inside.sides.items } in f) es
 
@@ -64,19 +68,19 @@ pub invariant_of-self-2 : goal.invariant_of-self-2
 invariant_of-self-2 c =
     let a : Area = c.self.inside.area in
     subst IsFramed (sym (after c))
-    (kept_left _ _ c.in_ok-head.head c.args.order c.self.invariant (free-leave a c.in_ok-head.head c.args.order) (ap length (kinds-leave a c.in_ok-head.head c.args.order)))
+    (kept_left _ _ c.in_ok-head.head c.args.order c.self.invariant (largest-leave a c.in_ok-head.head c.args.order) (free-leave a c.in_ok-head.head c.args.order) (ap length (kinds-leave a c.in_ok-head.head c.args.order)))
 
 pub returns-clause-clear : goal.returns-clause-clear
 returns-clause-clear c =
     let a : Area = c.self.inside.area in
     let P : Frames → Type 0 = λ f. IsClear f c.in_ok-head.head c.args.order in
     subst P (sym (after c))
-    (clear_left _ _ _ _ c.self.invariant (take_low_found a c.args.order c.in_ok-head.head (sym c.in_ok-head.ensures.answer)) (free-leave a c.in_ok-head.head c.args.order))
+    (clear_left _ _ _ _ c.self.invariant (take_low_found a c.args.order c.in_ok-head.head (sym c.in_ok-head.ensures.answer)) (largest-leave a c.in_ok-head.head c.args.order) (free-leave a c.in_ok-head.head c.args.order))
 
 pub returns-clause-kept : goal.returns-clause-kept
 returns-clause-kept c h k x =
     let P : Frames → Type 0 = λ f. IsClear f h k in
-    subst P (sym (after c)) (clear_kept _ _ c.in_ok-head.head c.args.order h k (free-leave c.self.inside.area c.in_ok-head.head c.args.order) (subst P (sym c.self.view_is) x))
+    subst P (sym (after c)) (clear_kept _ _ c.in_ok-head.head c.args.order h k (largest-leave c.self.inside.area c.in_ok-head.head c.args.order) (free-leave c.self.inside.area c.in_ok-head.head c.args.order) (subst P (sym c.self.view_is) x))
 
 pub returns-clause-head : goal.returns-clause-head
 returns-clause-head c =
