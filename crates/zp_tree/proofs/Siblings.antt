@@ -1,6 +1,6 @@
 -- A node, the one beside it and the one above it.
 use Rattle.std.proofs.Common.{ℕ, ◌+◌, ◌-◌, ◌*◌, ◌/◌, ◌%◌, ◌^◌, ◌≡◌, ◌<◌, ◌⊎◌, inl, inr, refl, sym, ◌∙◌, ap, arith, List, length, max}
-use Rattle.std.proofs.lemmas.Bool.{eq-eqb, false_from_ne_true, eqb-true}
+use Rattle.std.proofs.lemmas.Bool.{cases_eq, eq-eqb, false_from_ne_true, eqb-true}
 use Rattle.zp_tree.specs.Layout.{node_at, rank_at, best_below, sibling}
 use Rattle.zp_tree.proofs.Numbering.{two_of, halves, around_lt, double_lt, child_low, child_high, read_same, read_other}
 use Rattle.zp_tree.proofs.Writing.{written}
@@ -91,3 +91,11 @@ beside_written h ns p k v lt b size =
       above = read_other h ns k (p / 2 ^ k) v (k + 1) (p / 2 ^ (k + 1)) (omega arith) m (omega arith) (around_lt h (k + 1) p (omega arith) b) (λ q _. omega arith);
       beside = read_other h ns k (p / 2 ^ k) v k (sibling (p / 2 ^ k)) (omega arith) m (omega arith) (sibling_lt h k p lt b) (λ _ q. sibling_apart k p q);
     }
+
+-- a node and the one beside it are both among the tree's
+pub sibling_below : (h n : ℕ) → n < 2 ^ h + 2 ^ h → sibling n < 2 ^ h + 2 ^ h
+sibling_below h n lt =
+    elim (cases_eq (n % 2) 0) [
+      | inl even ↦ let e : n ≡ 2 * (n / 2) = omega arith in let f : sibling n ≡ 2 * (n / 2) + 1 = ap sibling e ∙ sibling-low (n / 2) in omega arith
+      | inr odd ↦ let e : n ≡ 2 * (n / 2) + 1 = omega arith in let f : sibling n ≡ 2 * (n / 2) = ap sibling e ∙ sibling-high (n / 2) in omega arith
+    ]
