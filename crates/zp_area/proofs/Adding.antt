@@ -14,10 +14,10 @@ use Rattle.zp_model.proofs.Pages.{In}
 use Rattle.zp_model.proofs.Covers.{has_below, has-cover, length-with, with-decides}
 use Rattle.zp_model.proofs.Settles.{IsListed}
 use Rattle.zp_tree.specs.Blocks.{IsBlockSet, IsApart, with_block}
-use Rattle.zp_frames.specs.Given.{IsClearRun}
-use Rattle.zp_frames.specs.Sound.{free_order, blocks_of}
-use Rattle.zp_frames.proofs.Counting.{one_if}
-use Rattle.zp_frames.proofs.Taken.{row_below}
+use Rattle.zp_area.specs.Given.{IsClearRun}
+use Rattle.zp_area.specs.NotedBlocks.{free_order, blocks_of}
+use Rattle.zp_area.proofs.Counting.{one_if}
+use Rattle.zp_area.proofs.NotedBlocks.{row_below}
 use Rattle.zp_area.specs.Blocks.{Blocks, block_set, count_of, list_of_block, added}
 use Rattle.zp_area.specs.OneSet.{IsOneSet, IsKept}
 use Rattle.zp_area.proofs.OneBlock.{IsNew, head_below, new_none, with-set, cover-with, count-with}

@@ -12,8 +12,8 @@ use Rattle.zp_model.specs.Area.{pageblocks_of, size_in}
 use Rattle.zp_model.specs.Frames.{IsNote}
 use Rattle.zp_model.proofs.Settles.{IsListed}
 use Rattle.zp_tree.specs.Blocks.{IsBlockSet}
-use Rattle.zp_frames.specs.Sound.{free_order}
-use Rattle.zp_frames.proofs.Taken.{block_at}
+use Rattle.zp_area.specs.NotedBlocks.{free_order}
+use Rattle.zp_area.proofs.NotedBlocks.{block_at}
 use Rattle.zp_area.specs.Blocks.{Blocks, block_set, count_of, noted}
 use Rattle.zp_area.specs.OneSet.{IsOneSet, IsKept}
 use Rattle.zp_area.proofs.OneBlock.{around_covered}

@@ -10,7 +10,7 @@ use Rattle.zp_model.specs.declared.migrate_type.MigrateType.TheVariants.{Movable
 use Rattle.zp_model.specs.declared.state.State.{State}
 use Rattle.zp_model.specs.BlockSet.{is_order}
 use Rattle.zp_model.specs.Area.{pageblock_pages, kind_at, list_number}
-use Rattle.zp_frames.specs.Sound.{free_order, blocks_of}
+use Rattle.zp_area.specs.NotedBlocks.{free_order, blocks_of}
 use Rattle.zp_area.specs.Blocks.{Blocks, block_set, count_of, list_of_block}
 use Rattle.zp_area.specs.OneSet.{IsOneSet, IsKept}
 

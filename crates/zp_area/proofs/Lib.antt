@@ -1,3 +1,7 @@
+pub mod Filters
+pub mod Counting
+pub mod PageblockCounts
+pub mod NotedBlocks
 pub mod ListedHeads
 pub mod OneBlock
 pub mod Listing

@@ -5,9 +5,9 @@ use Rattle.zp_model.specs.BlockSet.{Starts}
 use Rattle.zp_model.specs.MigrateType.{type_number, types_count}
 use Rattle.zp_model.specs.Rows.{IsOn}
 use Rattle.zp_model.specs.Area.{list_number, kind_at}
-use Rattle.zp_frames.proofs.Halves.{type_below}
-use Rattle.zp_frames.proofs.Taken.{row_below}
-use Rattle.zp_frames.proofs.Retyping.{same_type_from}
+use Rattle.zp_area.proofs.NotedBlocks.{type_below}
+use Rattle.zp_area.proofs.NotedBlocks.{row_below}
+use Rattle.zp_area.proofs.NotedBlocks.{same_type_from}
 use Rattle.zp_area.specs.Blocks.{Blocks, block_set}
 use Rattle.zp_area.specs.OneSet.{IsOneSet}
 

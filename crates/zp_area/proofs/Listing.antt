@@ -8,8 +8,8 @@ use Rattle.zp_model.specs.Rows.{stands_in, without_page}
 use Rattle.zp_model.specs.Area.{kind_at, list_number}
 use Rattle.zp_model.proofs.Settles.{Here, IsListed, stands_first, stands_later, stands_cases, distinct_more}
 use Rattle.zp_tree.specs.Blocks.{with_block, without_block}
-use Rattle.zp_frames.proofs.Halves.{type_below}
-use Rattle.zp_frames.proofs.Filters.{stands_filter-to, stands_filter-from, distinct_filter}
+use Rattle.zp_area.proofs.NotedBlocks.{type_below}
+use Rattle.zp_area.proofs.Filters.{stands_filter-to, stands_filter-from, distinct_filter}
 use Rattle.zp_area.proofs.OneBlock.{with-starts, with-here, with-there, without-starts, without-there}
 
 -- the order and the type of the list of an order and a type

@@ -12,9 +12,9 @@ use Rattle.zp_model.specs.Area.{pageblock_pages, pageblocks_of, size_in}
 use Rattle.zp_model.proofs.Heads.{number_lt}
 use Rattle.zp_model.proofs.Covers.{length-cover}
 use Rattle.zp_tree.specs.Blocks.{IsBlockSet, with_block, without_block}
-use Rattle.zp_frames.specs.Sound.{blocks_of}
-use Rattle.zp_frames.specs.Counted.{IsCounted}
-use Rattle.zp_frames.proofs.PageblockCounts.{size_in_less, size_in_more}
+use Rattle.zp_area.specs.NotedBlocks.{blocks_of}
+use Rattle.zp_area.specs.Counted.{IsCounted}
+use Rattle.zp_area.proofs.PageblockCounts.{size_in_less, size_in_more}
 use Rattle.zp_area.proofs.OneBlock.{IsNew, head_below, around_covered, cover-with, cover-without}
 
 -- one of the numbers changes

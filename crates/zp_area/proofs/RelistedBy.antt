@@ -8,7 +8,7 @@ use Rattle.zp_model.specs.Rows.{stands_in, without_page}
 use Rattle.zp_model.specs.Area.{falling}
 use Rattle.zp_model.proofs.Settles.{stands_cases, filter_all}
 use Rattle.zp_laws.proofs.Settling.{stands-append, stands-filter, stands-falling, distinct-filter, distinct-falling, distinct-append}
-use Rattle.zp_frames.proofs.Filters.{filter_same, filter_twice, stands_filter-to, stands_filter-from}
+use Rattle.zp_area.proofs.Filters.{filter_same, filter_twice, stands_filter-to, stands_filter-from}
 
 -- whether page h passes the test and was not on the list
 abbrev pub is_fresh : (ℕ → Bool) → List ℕ → ℕ → Bool

@@ -12,9 +12,9 @@ use Rattle.zp_model.specs.Rows.{Rows, IsOn, list_at, state_at, stands_in, withou
 use Rattle.zp_model.specs.Area.{list_number, lists_count, kind_at}
 use Rattle.zp_model.proofs.Settles.{Here, IsListed}
 use Rattle.zp_tree.specs.Blocks.{IsBlockSet}
-use Rattle.zp_frames.specs.Sound.{blocks_of}
-use Rattle.zp_frames.specs.Retyped.{put_first, moved, pages_seen}
-use Rattle.zp_frames.proofs.Taken.{row_below, starts-to, starts-from}
+use Rattle.zp_area.specs.NotedBlocks.{blocks_of}
+use Rattle.zp_area.specs.Moved.{put_first, moved, pages_seen}
+use Rattle.zp_area.proofs.NotedBlocks.{row_below, starts-to, starts-from}
 use Rattle.zp_area.proofs.OneBlock.{one_at, around_same}
 use Rattle.zp_area.proofs.Listing.{number_parts, number_from}
 use Rattle.zp_area.proofs.RelistedBy.{is_fresh, relisted_by, relisted_by_same, relisted_held, relisted_came, relisted_went, relisted-from}

@@ -13,8 +13,8 @@ use Rattle.zp_model.specs.Rows.{Rows, list_at, stands_in}
 use Rattle.zp_model.specs.Area.{pageblock_pages, lists_count, kind_at}
 use Rattle.zp_model.proofs.Heads.{head_le, lt_head, number_within}
 use Rattle.zp_model.proofs.Settles.{Here, IsListed}
-use Rattle.zp_frames.proofs.Taken.{free_lists}
-use Rattle.zp_frames.proofs.Restating.{sides_same}
+use Rattle.zp_area.proofs.NotedBlocks.{free_lists}
+use Rattle.zp_area.proofs.NotedBlocks.{sides_same}
 use Rattle.zp_area.specs.Blocks.{Blocks, block_set}
 use Rattle.zp_area.specs.Retyped.{is_to_stand, relisted, all_relisted, retyped}
 use Rattle.zp_area.specs.OneSet.{IsOneSet, IsKept}

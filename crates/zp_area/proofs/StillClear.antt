@@ -9,8 +9,8 @@ use Rattle.zp_model.specs.Rows.{list_at, stands_in}
 use Rattle.zp_model.specs.Area.{kind_at, lists_count}
 use Rattle.zp_model.proofs.Covers.{has_below, length-with, length-without, with-decides, without-decides}
 use Rattle.zp_tree.specs.Blocks.{IsBeside}
-use Rattle.zp_frames.specs.Given.{IsClearRun}
-use Rattle.zp_frames.proofs.Taken.{row_below}
+use Rattle.zp_area.specs.Given.{IsClearRun}
+use Rattle.zp_area.proofs.NotedBlocks.{row_below}
 use Rattle.zp_area.specs.Blocks.{Blocks, block_set, added, removed, noted, list_of_block}
 use Rattle.zp_area.specs.OneSet.{IsOneSet}
 use Rattle.zp_area.proofs.OneBlock.{around_covered, cover-with, cover-without, head_below, with-here}

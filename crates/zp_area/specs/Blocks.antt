@@ -9,7 +9,7 @@ use Rattle.zp_model.specs.declared.state.State.TheVariants.{Tail, Free}
 use Rattle.zp_model.specs.BlockSet.{is_order}
 use Rattle.zp_model.specs.Rows.{Rows, list_at, with_list, with_state, without_page, rest}
 use Rattle.zp_model.specs.Area.{list_number, lists_count, kind_at, pageblocks_of}
-use Rattle.zp_frames.specs.Sound.{blocks_of}
+use Rattle.zp_area.specs.NotedBlocks.{blocks_of}
 
 pub record Blocks : Type 0 where
   -- what is noted of each page, and the lists: the free ones by their numbers, then further ones of pages that are not free

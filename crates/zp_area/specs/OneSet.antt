@@ -8,7 +8,7 @@ use Rattle.zp_model.specs.Rows.{list_at, IsOn}
 use Rattle.zp_model.specs.Area.{lists_count, pageblocks_of}
 use Rattle.zp_model.proofs.Settles.{IsListed}
 use Rattle.zp_tree.specs.Blocks.{IsBlockSet}
-use Rattle.zp_frames.specs.Counted.{IsCounted}
+use Rattle.zp_area.specs.Counted.{IsCounted}
 use Rattle.zp_area.specs.Blocks.{Blocks, block_set, count_of}
 
 -- the notes, the lists and the types are of one set of blocks

@@ -10,15 +10,16 @@ ghost use Rattle.zp_model.specs.Described.{IsLinkedAt};
 ghost use Rattle.zp_model.specs.Frames.{IsNote};
 ghost use Rattle.zp_model.specs.Area.{list_number, lists_count, size_in};
 ghost use Rattle.zp_tree.specs.Blocks.{IsBeside};
-ghost use Rattle.zp_frames.specs.Given.{IsClearRun};
+ghost use Rattle.zp_area.specs.Given.{IsClearRun};
 ghost use Rattle.zp_area.specs.Blocks.{block_set, count_of, free_list_of, side_list_of, no_blocks, added, removed, noted, side_pushed, side_popped};
 ghost use Rattle.zp_area.specs.Retyped.{retyped};
 ghost use Rattle.zp_area.specs.OneSet.{IsOneSet};
 
+use crate::free_lists::list_of;
+use crate::pageblocks::pageblock_of;
 use crate::retypes::retype;
 use std::alloc::{AllocError, Global};
 use std::marker::Model;
-use zp_frames::{list_of, pageblock_of};
 use zp_links::Lists;
 use zp_model::{MAX_PAGES, MigrateType, ORDERS, Order, PAGEBLOCK_PAGES, PageAt, State, TYPES};
 use zp_table::{PageEntry, PageTable};

@@ -5,7 +5,10 @@
 #![tactic(auto)]
 
 mod area;
+mod free_lists;
+mod pageblocks;
 mod retypes;
 
 pub use area::FreeArea;
+pub use pageblocks::pageblock_of;
 pub use zp_table::PageEntry;

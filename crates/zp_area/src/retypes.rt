@@ -7,11 +7,11 @@ ghost use Rattle.zp_model.specs.declared.state.State.TheVariants.{Free};
 ghost use Rattle.zp_model.specs.declared.migrate_type.MigrateType.TheVariants.{Movable};
 ghost use Rattle.zp_model.specs.Rows.{state_at, IsOn};
 ghost use Rattle.zp_model.specs.Area.{list_number, lists_count};
-ghost use Rattle.zp_frames.specs.Retyped.{moved, pages_seen};
+ghost use Rattle.zp_area.specs.Moved.{moved, pages_seen};
 ghost use Rattle.zp_area.specs.Retyped.{all_relisted};
 ghost use Rattle.zp_area.specs.OneSet.{IsOneSet};
 
-use zp_frames::list_of;
+use crate::free_lists::list_of;
 use zp_links::Lists;
 use zp_model::{MigrateType, PAGEBLOCK_PAGES, PageAt, State};
 

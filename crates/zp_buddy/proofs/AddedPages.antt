@@ -8,11 +8,11 @@ use Rattle.zp_model.specs.declared.state.State.TheVariants.{Tail, Free}
 use Rattle.zp_model.specs.Block.{is_max}
 use Rattle.zp_model.specs.Rows.{stands_in, with_state}
 use Rattle.zp_model.specs.Area.{kind_at, list_number, lists_count, pageblock_pages, pageblocks_of}
-use Rattle.zp_frames.specs.Given.{IsClearRun}
-use Rattle.zp_frames.specs.Opened.{IsOpenedTo, all_pages, all_movable}
-use Rattle.zp_frames.proofs.AllPages.{opened_none, opened_turn}
-use Rattle.zp_frames.proofs.ClearRuns.{free_none}
-use Rattle.zp_frames.proofs.Taken.{tail_free}
+use Rattle.zp_area.specs.Given.{IsClearRun}
+use Rattle.zp_buddy.specs.Opened.{IsOpenedTo, all_pages, all_movable}
+use Rattle.zp_buddy.proofs.AllPages.{opened_none, opened_turn}
+use Rattle.zp_area.proofs.NotedBlocks.{free_none}
+use Rattle.zp_area.proofs.NotedBlocks.{tail_free}
 use Rattle.zp_area.specs.Blocks.{Blocks, added, no_blocks, list_of_block}
 
 -- where nothing is opened, each page is clear

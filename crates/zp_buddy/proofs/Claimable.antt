@@ -11,9 +11,9 @@ use Rattle.zp_model.specs.Rows.{stands_in}
 use Rattle.zp_model.specs.Area.{list_number, kind_at, pageblock_pages, size_in}
 use Rattle.zp_model.specs.Choose.{least_movable_claim, claim_pages, claim}
 use Rattle.zp_model.proofs.Settles.{stands_cases}
-use Rattle.zp_frames.proofs.Halves.{type_below}
-use Rattle.zp_frames.proofs.Taken.{row_below}
-use Rattle.zp_frames.proofs.Walks.{found_stands}
+use Rattle.zp_area.proofs.NotedBlocks.{type_below}
+use Rattle.zp_area.proofs.NotedBlocks.{row_below}
+use Rattle.zp_buddy.proofs.Walks.{found_stands}
 use Rattle.zp_area.specs.Blocks.{Blocks, block_set, free_list_of}
 use Rattle.zp_area.specs.OneSet.{IsOneSet}
 use Rattle.zp_area.proofs.ListedHeads.{listed_starts}

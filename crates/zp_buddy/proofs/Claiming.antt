@@ -15,12 +15,15 @@ use Rattle.zp_model.proofs.MaximalBlocks.{max-unique}
 use Rattle.zp_model.specs.declared.state.State.{State}
 use Rattle.zp_model.proofs.Normal.{IsNormal}
 use Rattle.zp_model.proofs.Pages.{In}
-use Rattle.zp_frames.specs.Sound.{blocks_of, IsSound}
-use Rattle.zp_frames.proofs.Counting.{same_tests}
-use Rattle.zp_frames.proofs.Filters.{filter_same}
-use Rattle.zp_frames.proofs.Restating.{restated_from, free_or_same, sides_same}
-use Rattle.zp_frames.proofs.Taken.{areas, free_lists}
-use Rattle.zp_frames.proofs.TakenFrames.{frames}
+use Rattle.zp_area.specs.NotedBlocks.{blocks_of}
+use Rattle.zp_buddy.specs.Sound.{IsSound}
+use Rattle.zp_area.proofs.Counting.{same_tests}
+use Rattle.zp_area.proofs.Filters.{filter_same}
+use Rattle.zp_buddy.proofs.Restating.{restated_from, free_or_same}
+use Rattle.zp_area.proofs.NotedBlocks.{sides_same}
+use Rattle.zp_buddy.proofs.Taken.{areas}
+use Rattle.zp_area.proofs.NotedBlocks.{free_lists}
+use Rattle.zp_buddy.proofs.TakenFrames.{frames}
 use Rattle.zp_area.specs.Blocks.{Blocks, block_set}
 use Rattle.zp_area.specs.OneSet.{IsOneSet}
 use Rattle.zp_area.specs.Retyped.{is_to_stand, relisted, all_relisted, retyped}

@@ -9,9 +9,9 @@ use Rattle.std.proofs.lemmas.List.{get_or-drop}
 use Rattle.zp_model.specs.Rows.{IsLoose, IsOn, list_at, stands_in}
 use Rattle.zp_model.specs.Area.{kind_at, list_number, lists_count}
 use Rattle.zp_model.proofs.Heads.{head_le, lt_head, head_of, head_same, head_room}
-use Rattle.zp_frames.specs.Given.{IsClearRun}
-use Rattle.zp_frames.proofs.ClearRuns.{aside_some}
-use Rattle.zp_frames.proofs.Taken.{row_below}
+use Rattle.zp_area.specs.Given.{IsClearRun}
+use Rattle.zp_buddy.proofs.ClearRuns.{aside_some}
+use Rattle.zp_area.proofs.NotedBlocks.{row_below}
 use Rattle.zp_area.specs.Blocks.{Blocks, block_set}
 use Rattle.zp_area.specs.OneSet.{IsOneSet}
 use Rattle.zp_area.proofs.Keeping.{blocks_length}

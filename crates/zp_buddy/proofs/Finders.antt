@@ -11,10 +11,10 @@ use Rattle.zp_model.specs.Rows.{list_at, front}
 use Rattle.zp_model.specs.Area.{Area, list_number, lists_count, free_list, pageblock_pages, size_in}
 use Rattle.zp_model.specs.Choose.{chosen_at, own, claim, borrow, choose, least_movable_claim, claim_pages, is_claimable}
 use Rattle.zp_model.specs.Frames.{Frames}
-use Rattle.zp_frames.specs.Sound.{area_of, frames_of}
+use Rattle.zp_buddy.specs.Sound.{area_of, frames_of}
 use Rattle.zp_area.specs.Blocks.{Blocks, free_list_of}
 use Rattle.zp_buddy.specs.Choices.{area_in, front_of_order, is_half_free, half_free_of_order, claimable_of_order}
-use Rattle.zp_frames.proofs.Taken.{row_below}
+use Rattle.zp_area.proofs.NotedBlocks.{row_below}
 use Rattle.zp_buddy.proofs.FirstFound.{first_same, first_only, back_none, back_some}
 
 -- the free list of an order and a type

@@ -12,13 +12,14 @@ use Rattle.zp_model.specs.Rows.{Rows, state_at, with_state}
 use Rattle.zp_model.specs.Area.{kind_at, list_number}
 use Rattle.zp_model.proofs.Covers.{has_below, length-cover}
 use Rattle.zp_model.proofs.Heads.{two, head_le, lt_head}
-use Rattle.zp_frames.specs.Given.{IsClearRun}
-use Rattle.zp_frames.specs.Join.{IsBuddy}
-use Rattle.zp_frames.specs.Sound.{blocks_of, free_order, IsSound}
-use Rattle.zp_frames.proofs.Taken.{kind_inside}
-use Rattle.zp_frames.proofs.Joining.{IsBack, IsJoining, in_double, joining_place, joining_step}
-use Rattle.zp_frames.proofs.Ending.{IsEnded}
-use Rattle.zp_frames.proofs.GivenBack.{IsGiven, made_back, make_given}
+use Rattle.zp_area.specs.Given.{IsClearRun}
+use Rattle.zp_buddy.specs.Buddies.{IsBuddy}
+use Rattle.zp_area.specs.NotedBlocks.{blocks_of, free_order}
+use Rattle.zp_buddy.specs.Sound.{IsSound}
+use Rattle.zp_buddy.proofs.Taken.{kind_inside}
+use Rattle.zp_buddy.proofs.Joining.{IsBack, IsJoining, in_double, joining_place, joining_step}
+use Rattle.zp_buddy.proofs.Ending.{IsEnded}
+use Rattle.zp_buddy.proofs.GivenBack.{IsGiven, made_back, make_given}
 use Rattle.zp_area.specs.Blocks.{Blocks, added, removed, noted, list_of_block, taken_off}
 use Rattle.zp_buddy.specs.Choices.{frames_in}
 

@@ -1,3 +1,15 @@
+pub mod Restating
+pub mod Halves
+pub mod Taken
+pub mod TakenFrames
+pub mod Walks
+pub mod AllPages
+pub mod OpenedFrames
+pub mod Framed
+pub mod Joining
+pub mod Ending
+pub mod GivenBack
+pub mod ClearRuns
 pub mod FirstFound
 pub mod Finders
 pub mod Claimable

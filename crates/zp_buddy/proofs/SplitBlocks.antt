@@ -14,12 +14,14 @@ use Rattle.zp_model.specs.Rows.{Rows, IsOn, with_state}
 use Rattle.zp_model.specs.Area.{kind_at, list_number, lists_count}
 use Rattle.zp_model.specs.Take.{leave}
 use Rattle.zp_model.proofs.Heads.{two, aligned_down, head_room}
-use Rattle.zp_frames.specs.Given.{IsClearRun}
-use Rattle.zp_frames.specs.Sound.{IsSound, frames_of}
-use Rattle.zp_frames.specs.Split.{IsSplit}
-use Rattle.zp_frames.proofs.Halves.{type_below, split_turn}
-use Rattle.zp_frames.proofs.Taken.{row_below, kind_inside, block_inside, taken_sound}
-use Rattle.zp_frames.proofs.TakenFrames.{make_taken, taken_frames}
+use Rattle.zp_area.specs.Given.{IsClearRun}
+use Rattle.zp_buddy.specs.Sound.{IsSound, frames_of}
+use Rattle.zp_buddy.specs.HighHalves.{IsSplit}
+use Rattle.zp_area.proofs.NotedBlocks.{type_below}
+use Rattle.zp_buddy.proofs.Halves.{split_turn}
+use Rattle.zp_area.proofs.NotedBlocks.{row_below}
+use Rattle.zp_buddy.proofs.Taken.{kind_inside, block_inside, taken_sound}
+use Rattle.zp_buddy.proofs.TakenFrames.{make_taken, taken_frames}
 use Rattle.zp_area.specs.Blocks.{Blocks, block_set, added, removed, list_of_block, taken_off}
 use Rattle.zp_buddy.specs.Choices.{frames_in}
 

@@ -1,5 +1,7 @@
 -- Taking whole: what is answered, what is left, and which blocks may come back then.
-use Rattle.std.proofs.Common.{ℕ, ◌+◌, ◌-◌, ◌/◌, ◌^◌, ◌≡◌, ◌≤◌, ◌<◌, refl, sym, ◌∙◌, ap, subst, arith, Bool, true, false, List, [], length, get_or, Option, Some, None}
+use Rattle.std.proofs.Common.{ℕ, ◌+◌, ◌-◌, ◌/◌, ◌%◌, ◌^◌, ◌≡◌, ◌≤◌, ◌<◌, refl, sym, ◌∙◌, ap, subst, arith, Bool, true, false, List, [], length, get_or, Option, Some, None}
+use Rattle.zp_model.proofs.Pages.{In}
+use Rattle.zp_model.proofs.Normal.{Filled}
 use Rattle.std.specs.Option.{option_map}
 use Rattle.std.proofs.lemmas.Bool.{false_from_ne_true, both_ways}
 use Rattle.std.proofs.lemmas.Nat.{pow_pos}
@@ -17,16 +19,24 @@ use Rattle.zp_model.specs.Take.{leave, retype, taken, take_answer, take_after, t
 use Rattle.zp_model.proofs.Covers.{has_below, length-without, length-cover, without-decides}
 use Rattle.zp_model.proofs.Heads.{aligned_down}
 use Rattle.zp_laws.proofs.Areas.{free-taken, free-leave, largest-taken, largest-leave}
-use Rattle.zp_frames.specs.Sound.{free_order, IsSound}
-use Rattle.zp_frames.proofs.Counting.{size-without}
-use Rattle.zp_frames.proofs.HeldCounts.{IsFreeRun}
-use Rattle.zp_frames.proofs.Restating.{restated_from, free_or_same}
-use Rattle.zp_frames.proofs.TakenFrames.{frames}
+use Rattle.zp_area.specs.NotedBlocks.{free_order}
+use Rattle.zp_buddy.specs.Sound.{IsSound}
+use Rattle.zp_area.proofs.Counting.{size-without}
+use Rattle.zp_buddy.proofs.Restating.{restated_from, free_or_same}
+use Rattle.zp_buddy.proofs.TakenFrames.{frames}
 use Rattle.zp_area.specs.Blocks.{Blocks, block_set}
 use Rattle.zp_buddy.specs.Choices.{area_in, frames_in, chosen_of}
 use Rattle.zp_buddy.specs.declared.choice.Choice.{Choice}
 use Rattle.zp_buddy.proofs.Maximal.{set_maximal}
 use Rattle.zp_buddy.proofs.SplitBlocks.{starts_block}
+use Rattle.zp_area.specs.NotedBlocks.{blocks_of}
+
+-- the low run of a listed block is free
+pub record IsFreeRun (m : ℕ) (s : List State) (h k : ℕ) : Type 0 where
+  pub order : k ≤ m
+  pub aligned : h % 2 ^ k ≡ 0
+  pub inside : h + 2 ^ k ≤ length s
+  pub free : Filled (In (cover (blocks_of s))) h k
 
 -- without a claim, and with one: the pageblock gets its type first, and what is noted stays
 pub taken_plain : (f : Frames) (k h : ℕ) (t : MigrateType) (claims : Bool) → claims ≡ false →

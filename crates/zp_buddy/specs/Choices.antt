@@ -8,7 +8,7 @@ use Rattle.zp_model.specs.Rows.{front}
 use Rattle.zp_model.specs.Area.{Area, free_list, kind_at, pageblock_pages, size_in}
 use Rattle.zp_model.specs.Choose.{Chosen, choose, claim_pages, is_claimable}
 use Rattle.zp_model.specs.Frames.{Frames}
-use Rattle.zp_frames.specs.Sound.{area_of, frames_of}
+use Rattle.zp_buddy.specs.Sound.{area_of, frames_of}
 use Rattle.zp_area.specs.Blocks.{Blocks, block_set, free_list_of}
 use Rattle.zp_buddy.specs.declared.choice.FreeBlock.{FreeBlock}
 use Rattle.zp_buddy.specs.declared.choice.Choice.{Choice}

@@ -3,7 +3,7 @@ use Rattle.std.specs.Prelude.{ℕ, ◌≡◌, length}
 use Rattle.zp_model.specs.Block.{size}
 use Rattle.zp_model.specs.BlockSet.{cover}
 use Rattle.zp_model.specs.Area.{pageblocks_of}
-use Rattle.zp_frames.specs.Sound.{IsSound}
+use Rattle.zp_buddy.specs.Sound.{IsSound}
 use Rattle.zp_area.specs.Blocks.{Blocks, block_set}
 
 pub record IsHeld (m : ℕ) (a : Blocks) (free : ℕ) : Type 0 where

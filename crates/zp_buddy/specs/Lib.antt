@@ -1,3 +1,6 @@
+pub mod Sound
+pub mod HighHalves
+pub mod Buddies
+pub mod Opened
 pub mod Choices
 pub mod Held
-pub use Rattle.zp_frames.specs.Given

@@ -20,8 +20,7 @@ use crate::split::take_block;
 use crate::takes::take_chosen;
 use std::alloc::{AllocError, Global};
 use std::marker::Model;
-use zp_area::{FreeArea, PageEntry};
-use zp_frames::pageblock_of;
+use zp_area::{FreeArea, PageEntry, pageblock_of};
 use zp_model::{Counts, MAX_PAGES, MigrateType, ORDERS, Order, PageAt, State};
 
 /// The free blocks of a zone, what is noted of its other pages, and further lists of those pages. Contracts see the plain

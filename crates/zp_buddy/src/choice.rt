@@ -11,8 +11,7 @@ ghost use Rattle.zp_model.specs.Choose.{own, claim, borrow};
 ghost use Rattle.zp_area.specs.Blocks.{block_set, free_list_of};
 ghost use Rattle.zp_buddy.specs.Choices.{area_in, front_of_order, is_half_free, half_free_of_order, IsLargestClaimable, IsFoundAs, IsChosen};
 
-use zp_area::FreeArea;
-use zp_frames::pageblock_of;
+use zp_area::{FreeArea, pageblock_of};
 use zp_model::{CLAIM_PAGES, LEAST_MOVABLE_CLAIM, MigrateType, Order, PageAt};
 
 /// A free block.

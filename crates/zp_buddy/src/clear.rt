@@ -5,11 +5,11 @@ ghost use Rattle.std.specs.Prelude.{◌≡◌, ◌<◌, ◌≤◌, ◌+◌, ◌%
 ghost use Rattle.zp_model.specs.declared.constants.TheConstants.{LARGEST_ORDER};
 ghost use Rattle.zp_model.specs.Block.{IsBlock, head};
 ghost use Rattle.zp_model.specs.BlockSet.{Starts};
-ghost use Rattle.zp_frames.specs.Given.{IsClearRun};
+ghost use Rattle.zp_area.specs.Given.{IsClearRun};
 ghost use Rattle.zp_area.specs.Blocks.{block_set};
 
+use crate::runs::head_of;
 use zp_area::FreeArea;
-use zp_frames::head_of;
 use zp_model::{Order, PageAt};
 
 /// Whether there is a block of this order at `at`.

@@ -7,12 +7,12 @@ ghost use Rattle.zp_model.specs.Block.{size};
 ghost use Rattle.zp_model.specs.BlockSet.{cover};
 ghost use Rattle.zp_model.specs.Area.{pageblocks_of};
 ghost use Rattle.zp_model.specs.Frames.{IsClear, given};
-ghost use Rattle.zp_frames.specs.Sound.{IsSound};
+ghost use Rattle.zp_buddy.specs.Sound.{IsSound};
 ghost use Rattle.zp_area.specs.Blocks.{block_set};
 ghost use Rattle.zp_buddy.specs.Choices.{frames_in};
 
+use crate::runs::buddy_of;
 use zp_area::FreeArea;
-use zp_frames::buddy_of;
 use zp_model::{LARGEST_ORDER, Order, PageAt, State};
 
 /// Joins a block that comes back with its free buddies as far as that goes, and adds the joined block.

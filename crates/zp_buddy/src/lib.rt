@@ -6,6 +6,7 @@ mod choice;
 mod clear;
 mod join;
 mod opening;
+mod runs;
 mod split;
 mod takes;
 

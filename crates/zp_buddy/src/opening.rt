@@ -4,10 +4,10 @@
 ghost use Rattle.std.specs.Prelude.{◌≡◌, ◌≤◌, length};
 ghost use Rattle.zp_model.specs.declared.constants.TheConstants.{LARGEST_ORDER};
 ghost use Rattle.zp_model.specs.Area.{lists_count};
-ghost use Rattle.zp_frames.specs.Opened.{IsOpenedTo, all_movable};
+ghost use Rattle.zp_buddy.specs.Opened.{IsOpenedTo, all_movable};
 
+use crate::runs::fitting;
 use zp_area::FreeArea;
-use zp_frames::fitting;
 use zp_model::{Order, PageAt};
 
 /// Adds all pages, in blocks as large as they can be, the lowest first.

@@ -8,9 +8,9 @@ ghost use Rattle.zp_model.specs.BlockSet.{Starts};
 ghost use Rattle.zp_model.specs.Area.{kind_at, lists_count};
 ghost use Rattle.zp_model.specs.Frames.{with_area};
 ghost use Rattle.zp_model.specs.Take.{leave};
-ghost use Rattle.zp_frames.specs.Given.{IsClearRun};
-ghost use Rattle.zp_frames.specs.Split.{IsSplit};
-ghost use Rattle.zp_frames.specs.Sound.{IsSound};
+ghost use Rattle.zp_area.specs.Given.{IsClearRun};
+ghost use Rattle.zp_buddy.specs.HighHalves.{IsSplit};
+ghost use Rattle.zp_buddy.specs.Sound.{IsSound};
 ghost use Rattle.zp_area.specs.Blocks.{block_set};
 ghost use Rattle.zp_buddy.specs.Choices.{frames_in};
 

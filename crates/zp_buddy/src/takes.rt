@@ -6,13 +6,12 @@ ghost use Rattle.zp_model.specs.Area.{pageblocks_of};
 ghost use Rattle.zp_model.specs.declared.constants.TheConstants.{LARGEST_ORDER};
 ghost use Rattle.zp_model.specs.Frames.{with_area};
 ghost use Rattle.zp_model.specs.Take.{taken};
-ghost use Rattle.zp_frames.specs.Sound.{IsSound};
+ghost use Rattle.zp_buddy.specs.Sound.{IsSound};
 ghost use Rattle.zp_buddy.specs.Choices.{IsFreeBlock, chosen_of, frames_in};
 
 use crate::choice::{Choice, FreeBlock};
 use crate::split::take_block;
-use zp_area::FreeArea;
-use zp_frames::pageblock_of;
+use zp_area::{FreeArea, pageblock_of};
 use zp_model::{MigrateType, Order, PageAt};
 
 /// Takes the low run of order `order` of the chosen block, and answers its head. A pageblock that is claimed gets the request's type first.

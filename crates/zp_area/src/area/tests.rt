@@ -6,7 +6,7 @@ ghost use Rattle.zp_model.specs.BlockSet.{cover};
 ghost use Rattle.zp_model.specs.declared.constants.TheConstants.{LARGEST_ORDER};
 ghost use Rattle.zp_model.specs.Rows.{IsLoose};
 ghost use Rattle.zp_model.specs.Area.{lists_count};
-ghost use Rattle.zp_frames.specs.Given.{IsClearRun};
+ghost use Rattle.zp_area.specs.Given.{IsClearRun};
 ghost use Rattle.zp_area.specs.Blocks.{block_set};
 
 use super::*;

@@ -3,9 +3,9 @@ use Rattle.zp_model.specs.declared.constants.TheConstants.{LARGEST_ORDER, PAGEBL
 use Rattle.zp_model.specs.declared.state.State.TheVariants.{Free}
 use Rattle.zp_model.specs.Rows.{IsOn, state_at}
 use Rattle.zp_model.specs.Area.{list_number, lists_count}
-use Rattle.zp_frames.specs.Sound.{blocks_of}
-use Rattle.zp_frames.specs.Retyped.{moved, pages_seen}
-use Rattle.zp_frames.proofs.Taken.{starts-from}
+use Rattle.zp_area.specs.NotedBlocks.{blocks_of}
+use Rattle.zp_area.specs.Moved.{moved, pages_seen}
+use Rattle.zp_area.proofs.NotedBlocks.{starts-from}
 use Rattle.zp_area.specs.Blocks.{Blocks}
 use Rattle.zp_area.proofs.Relisting.{IsRelisting, some_seen, relisting_none, relisting_on, looking_on}
 use Rattle.zp_area.proofs.Retyping.{all_listed, looking, relisted_now}

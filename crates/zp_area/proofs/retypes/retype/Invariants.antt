@@ -1,6 +1,6 @@
 use Rattle.std.proofs.Common.{◌-◌, ◌≡◌, ◌≤◌}
 use Rattle.zp_model.specs.declared.constants.TheConstants.{LARGEST_ORDER}
-use Rattle.zp_frames.specs.Sound.{blocks_of}
+use Rattle.zp_area.specs.NotedBlocks.{blocks_of}
 use Rattle.zp_area.proofs.Relisting.{IsRelisting}
 use Rattle.zp_area.proofs.retypes.retype.Given as goal
 

@@ -7,7 +7,7 @@ use Rattle.zp_model.specs.Rows.{after}
 use Rattle.zp_model.specs.Area.{size_in, list_number}
 use Rattle.zp_area.specs.Blocks.{block_set, free_list_of}
 use Rattle.zp_buddy.specs.Choices.{is_half_free}
-use Rattle.zp_frames.proofs.Walks.{list_from, IsNext, walk_found, walk_on, walk_less, next_after}
+use Rattle.zp_buddy.proofs.Walks.{list_from, IsNext, walk_found, walk_on, walk_less, next_after}
 use Rattle.zp_buddy.proofs.choice.half_free_on.Goals as goal
 
 pub returns-then-free_in-ge-CLAIM_PAGES-clause-found : goal.returns-then-free_in-ge-CLAIM_PAGES-clause-found

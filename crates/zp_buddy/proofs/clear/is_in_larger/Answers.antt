@@ -4,7 +4,7 @@ use Rattle.zp_model.specs.declared.constants.TheConstants.{LARGEST_ORDER}
 use Rattle.zp_model.specs.declared.state.State.TheVariants.{Free}
 use Rattle.zp_model.specs.Block.{head}
 use Rattle.zp_model.specs.Rows.{state_at}
-use Rattle.zp_frames.proofs.Taken.{starts-to}
+use Rattle.zp_area.proofs.NotedBlocks.{starts-to}
 use Rattle.zp_buddy.proofs.clear.is_in_larger.Goals as goal
 
 pub orders-preserved : goal.orders-preserved

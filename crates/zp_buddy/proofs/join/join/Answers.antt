@@ -2,12 +2,12 @@ use Rattle.std.proofs.Common.{ℕ, ◌≡◌, ◌<◌, List, min, arith, refl, s
 use Rattle.std.proofs.lemmas.Bool.{both_ways}
 use Rattle.zp_model.specs.declared.constants.TheConstants.{LARGEST_ORDER}
 use Rattle.zp_model.specs.declared.migrate_type.MigrateType.{MigrateType}
-use Rattle.zp_frames.specs.Join.{IsBuddy}
-use Rattle.zp_frames.specs.Sound.{frames_of, IsSound}
-use Rattle.zp_frames.proofs.ClearRuns.{clear_run}
-use Rattle.zp_frames.proofs.Joining.{IsBack, joining_none, joining_place}
-use Rattle.zp_frames.proofs.Ending.{stops}
-use Rattle.zp_frames.proofs.GivenBack.{clear_below}
+use Rattle.zp_buddy.specs.Buddies.{IsBuddy}
+use Rattle.zp_buddy.specs.Sound.{frames_of, IsSound}
+use Rattle.zp_buddy.proofs.ClearRuns.{clear_run}
+use Rattle.zp_buddy.proofs.Joining.{IsBack, joining_none, joining_place}
+use Rattle.zp_buddy.proofs.Ending.{stops}
+use Rattle.zp_buddy.proofs.GivenBack.{clear_below}
 use Rattle.zp_area.specs.Blocks.{Blocks}
 use Rattle.zp_buddy.proofs.JoinBlocks.{back_noted, join_removed, clear_double, grown_block, given_added}
 use Rattle.zp_buddy.proofs.join.join.Goals as goal

@@ -1,7 +1,7 @@
 use Rattle.std.proofs.Common.{◌-◌, ◌≡◌}
 use Rattle.zp_model.specs.declared.constants.TheConstants.{LARGEST_ORDER}
-use Rattle.zp_frames.specs.Given.{IsClearRun}
-use Rattle.zp_frames.proofs.Joining.{IsJoining}
+use Rattle.zp_area.specs.Given.{IsClearRun}
+use Rattle.zp_buddy.proofs.Joining.{IsJoining}
 use Rattle.zp_buddy.proofs.join.join.Given as goal
 
 -- the block that came back has grown to the one of order `joined` at `head`

@@ -5,8 +5,8 @@ use Rattle.zp_model.specs.declared.constants.TheConstants.{LARGEST_ORDER}
 use Rattle.zp_model.specs.Block.{is_max, IsBlock}
 use Rattle.zp_model.specs.Area.{lists_count}
 use Rattle.zp_model.proofs.Heads.{two, aligned_down}
-use Rattle.zp_frames.specs.Opened.{all_pages}
-use Rattle.zp_frames.proofs.AllPages.{fits_max}
+use Rattle.zp_buddy.specs.Opened.{all_pages}
+use Rattle.zp_buddy.proofs.AllPages.{fits_max}
 use Rattle.zp_area.specs.Blocks.{Blocks}
 use Rattle.zp_buddy.proofs.AddedPages.{opened_clear, run_clear, opened_added}
 use Rattle.zp_buddy.proofs.opening.add_all_pages.Goals as goal

@@ -1,7 +1,7 @@
 use Rattle.std.proofs.Common.{ℕ, ◌≡◌, ◌≤◌, ◌<◌, ◌-◌, ◌%◌, ◌^◌, ◌⊎◌, length}
 use Rattle.zp_model.specs.declared.constants.TheConstants.{LARGEST_ORDER}
-use Rattle.zp_frames.specs.Given.{IsClearRun}
-use Rattle.zp_frames.specs.Opened.{IsOpenedTo}
+use Rattle.zp_area.specs.Given.{IsClearRun}
+use Rattle.zp_buddy.specs.Opened.{IsOpenedTo}
 use Rattle.zp_buddy.proofs.opening.add_all_pages.Given as goal
 
 abbrev pub invariant-heads : goal.invariant-heads

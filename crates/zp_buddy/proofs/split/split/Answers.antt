@@ -2,7 +2,7 @@ use Rattle.std.proofs.Common.{lit≤, ◌≡◌, ◌≤◌, ◌<◌, ◌+◌, �
 use Rattle.zp_model.specs.declared.constants.TheConstants.{LARGEST_ORDER, MAX_PAGES}
 use Rattle.zp_model.specs.Block.{IsBlock}
 use Rattle.zp_model.specs.Area.{kind_at}
-use Rattle.zp_frames.specs.Split.{IsSplit}
+use Rattle.zp_buddy.specs.HighHalves.{IsSplit}
 use Rattle.zp_area.specs.Blocks.{Blocks}
 use Rattle.zp_buddy.proofs.SplitBlocks.{half_block, half_below, clear_low, clear_high, split_added}
 use Rattle.zp_buddy.proofs.split.split.Goals as goal

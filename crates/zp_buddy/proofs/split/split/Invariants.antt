@@ -1,8 +1,8 @@
 use Rattle.std.proofs.Common.{◌≤◌, ◌≡◌}
 use Rattle.zp_model.specs.declared.constants.TheConstants.{LARGEST_ORDER}
 use Rattle.zp_model.specs.Area.{kind_at}
-use Rattle.zp_frames.specs.Given.{IsClearRun}
-use Rattle.zp_frames.specs.Split.{IsSplit}
+use Rattle.zp_area.specs.Given.{IsClearRun}
+use Rattle.zp_buddy.specs.HighHalves.{IsSplit}
 use Rattle.zp_buddy.proofs.split.split.Given as goal
 
 -- the halves of the orders from `order` on are added

@@ -5,7 +5,7 @@ use Rattle.zp_model.specs.Rows.{Rows, IsLoose, list_at, with_list, with_state}
 use Rattle.zp_model.specs.Area.{pageblocks_of}
 use Rattle.zp_model.specs.BlockSet.{Starts}
 use Rattle.zp_tree.specs.Blocks.{IsApart, IsBeside}
-use Rattle.zp_frames.specs.Given.{IsClearRun}
+use Rattle.zp_area.specs.Given.{IsClearRun}
 use Rattle.zp_area.specs.Blocks.{Blocks, block_set, added, list_of_block}
 use Rattle.zp_area.proofs.Keeping.{kept_by, list_found}
 use Rattle.zp_area.proofs.Adding.{IsComing, IsMoreKept, coming_by, coming_loose, coming_apart, kept_added}

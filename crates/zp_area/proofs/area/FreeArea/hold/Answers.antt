@@ -1,7 +1,7 @@
 use Rattle.std.proofs.Common.{ℕ, refl, ap, sym, subst}
 use Rattle.zp_model.specs.declared.constants.TheConstants.{LARGEST_ORDER}
 use Rattle.zp_model.specs.Rows.{Rows}
-use Rattle.zp_frames.specs.Given.{IsClearRun}
+use Rattle.zp_area.specs.Given.{IsClearRun}
 use Rattle.zp_area.specs.Blocks.{Blocks, noted}
 use Rattle.zp_area.proofs.Keeping.{kept_by}
 use Rattle.zp_area.proofs.Holding.{IsHolding, holding_by, kept_noted}

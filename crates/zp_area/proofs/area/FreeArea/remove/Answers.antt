@@ -5,7 +5,7 @@ use Rattle.zp_model.specs.Block.{IsBlock}
 use Rattle.zp_model.specs.BlockSet.{Starts}
 use Rattle.zp_model.specs.Rows.{Rows, list_at, without_page, with_list, with_state}
 use Rattle.zp_model.specs.Area.{pageblocks_of}
-use Rattle.zp_frames.specs.Given.{IsClearRun}
+use Rattle.zp_area.specs.Given.{IsClearRun}
 use Rattle.zp_area.specs.Blocks.{Blocks, block_set, removed, list_of_block}
 use Rattle.zp_area.proofs.Keeping.{kept_by, list_found, blocks_length}
 use Rattle.zp_area.proofs.Removing.{IsLessKept, kept_removed}

@@ -4,7 +4,7 @@ use Rattle.std.proofs.lemmas.List.{get_or-drop}
 use Rattle.zp_model.specs.declared.constants.TheConstants.{LARGEST_ORDER}
 use Rattle.zp_model.specs.Rows.{stands_in}
 use Rattle.zp_model.specs.Area.{lists_count}
-use Rattle.zp_frames.specs.Given.{IsClearPage}
+use Rattle.zp_area.specs.Given.{IsClearPage}
 use Rattle.zp_area.proofs.area.tests.is_clear.Goals as goal
 
 pub loop-number-preserved : goal.loop-number-preserved

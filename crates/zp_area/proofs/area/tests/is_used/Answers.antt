@@ -2,8 +2,8 @@ use Rattle.std.proofs.Common.{ℕ, ◌≤◌, inl, inr, arith}
 use Rattle.std.proofs.lemmas.Bool.{cases_lt}
 use Rattle.zp_model.specs.declared.constants.TheConstants.{LARGEST_ORDER}
 use Rattle.zp_model.specs.Block.{head}
-use Rattle.zp_frames.proofs.ClearRuns.{free_none}
-use Rattle.zp_frames.proofs.Taken.{starts-from}
+use Rattle.zp_area.proofs.NotedBlocks.{free_none}
+use Rattle.zp_area.proofs.NotedBlocks.{starts-from}
 use Rattle.zp_area.proofs.area.tests.is_used.Goals as goal
 
 pub returns : goal.returns

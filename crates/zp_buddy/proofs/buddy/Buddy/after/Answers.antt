@@ -2,8 +2,8 @@ use Rattle.std.proofs.Common.{ℕ, ◌≡◌, List, true, refl, ap, sym, subst, 
 use Rattle.zp_model.specs.declared.constants.TheConstants.{LARGEST_ORDER}
 use Rattle.zp_model.specs.Rows.{after, stands_in}
 use Rattle.zp_model.specs.Area.{free_list}
-use Rattle.zp_frames.proofs.Taken.{row_below}
-use Rattle.zp_frames.proofs.Walks.{IsNext, next_after, next_stands}
+use Rattle.zp_area.proofs.NotedBlocks.{row_below}
+use Rattle.zp_buddy.proofs.Walks.{IsNext, next_after, next_stands}
 use Rattle.zp_buddy.proofs.Finders.{list_of_frames}
 use Rattle.zp_buddy.proofs.buddy.Buddy.after.Goals as goal
 

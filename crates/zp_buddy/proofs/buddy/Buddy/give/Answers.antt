@@ -1,7 +1,7 @@
 use Rattle.std.proofs.Common.{◌≡◌, ◌+◌, ◌^◌, ◌≤◌, length, arith}
 use Rattle.zp_model.specs.Block.{size}
 use Rattle.zp_model.specs.BlockSet.{cover}
-use Rattle.zp_frames.proofs.GivenBack.{size-le}
+use Rattle.zp_buddy.proofs.GivenBack.{size-le}
 use Rattle.zp_area.specs.Blocks.{block_set}
 use Rattle.zp_buddy.proofs.buddy.Buddy.give.Goals as goal
 

@@ -4,9 +4,9 @@ use Rattle.zp_model.specs.declared.migrate_type.MigrateType.{MigrateType}
 use Rattle.zp_model.specs.declared.constants.TheConstants.{LARGEST_ORDER, MAX_PAGES}
 use Rattle.zp_model.specs.declared.state.State.TheVariants.{Tail}
 use Rattle.zp_model.specs.Area.{lists_count, pageblocks_of}
-use Rattle.zp_frames.specs.Opened.{all_movable, IsOpenedTo}
-use Rattle.zp_frames.specs.Sound.{IsSound, frames_of}
-use Rattle.zp_frames.proofs.OpenedFrames.{opened_sound, opened_frames, opened_counted}
+use Rattle.zp_buddy.specs.Opened.{all_movable, IsOpenedTo}
+use Rattle.zp_buddy.specs.Sound.{IsSound, frames_of}
+use Rattle.zp_buddy.proofs.OpenedFrames.{opened_sound, opened_frames, opened_counted}
 use Rattle.zp_area.specs.Blocks.{Blocks}
 use Rattle.zp_buddy.proofs.AddedPages.{none_opened}
 use Rattle.zp_buddy.proofs.buddy.Buddy.new.Goals as goal
