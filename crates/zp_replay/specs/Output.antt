@@ -3,6 +3,7 @@ use Rattle.std.specs.Prelude.{ℕ, ◌-◌, List, [], ◌∷◌, ◌++◌, codes
 use Rattle.std.specs.Fmt.{decimal}
 use Rattle.zp_model.specs.declared.mark.Level.{Level}
 use Rattle.zp_model.specs.declared.mark.Level.TheVariants.{High, Low, Min, Short}
+use Rattle.zp_model.specs.declared.constants.TheConstants.{LARGEST_ORDER}
 use Rattle.zp_model.specs.Block.{size}
 use Rattle.zp_model.specs.Mark.{level}
 use Rattle.zp_model.specs.Zone.{PlainZone, zone_opening, pages_of}
@@ -42,7 +43,7 @@ total_of z = total_line z.name (pages_of z.plain) (totals z.plain) (level z.plai
 
 -- the zone that a zone line declares, with nothing out
 abbrev pub declared_zone : ZoneLine → NamedZone
-declared_zone z = record { name = z.name; plain = zone_opening z.base z.pages 0 WORKERS }
+declared_zone z = record { name = z.name; plain = zone_opening LARGEST_ORDER z.base z.pages 0 WORKERS }
 
 -- before the first command: that zone, and no label is bound
 abbrev pub opened : ZoneLine → Standing

@@ -45,7 +45,7 @@ as_page r = r
 
 -- the info line of a zone
 abbrev pub info_of : NamedZone → List ℕ
-info_of z = info_line z.name (counts z.plain.area.free)
+info_of z = info_line z.name (counts z.plain.area.largest z.plain.area.free)
 
 -- a zone, and the bindings of labels so far
 pub record Standing : Type 0 where

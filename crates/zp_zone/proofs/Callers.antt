@@ -25,25 +25,25 @@ use Rattle.zp_zone.specs.NamedZone.{NamedZone, Right, IsSeatOf, KeepsSeats, Keep
 abbrev right_of : ℕ → ℕ → ℕ → Right
 right_of base pages n = record { worker = n; base = base; pages = pages }
 
-right_fits : (base pages min workers n : ℕ) → n < workers → IsSeatOf (zone_opening base pages min workers) (right_of base pages n)
-right_fits base pages min workers n lt =
+right_fits : (m base pages min workers n : ℕ) → n < workers → IsSeatOf (zone_opening m base pages min workers) (right_of base pages n)
+right_fits m base pages min workers n lt =
     let crew : length (replicate {A = List PostedBlock} workers []) ≡ workers = length-replicate workers [] in
-    record { worker = omega arith; base = refl; pages = sym (ap length (free-opening pages) ∙ length-replicate pages true) }
+    record { worker = omega arith; base = refl; pages = sym (ap length (free-opening m pages) ∙ length-replicate pages true) }
 
 -- the seats that a zone is made with are its seats
-pub seats_fit : (z : PlainZone) (seats : List Right) (base pages min workers : ℕ) → z ≡ zone_opening base pages min workers → seats ≡ seats_of base pages workers →
+pub seats_fit : (z : PlainZone) (seats : List Right) (m base pages min workers : ℕ) → z ≡ zone_opening m base pages min workers → seats ≡ seats_of base pages workers →
     All (IsSeatOf z) seats
-seats_fit z seats base pages min workers e f k d lt =
+seats_fit z seats m base pages min workers e f k d lt =
     let f0 : Right = right_of base pages 0 in
     let n : length (seats_of base pages workers) ≡ workers = length-map (range_with_len 0 workers) (right_of base pages) ∙ length-range_with_len 0 workers in
-    let m : length seats ≡ length (seats_of base pages workers) = ap length f in
+    let same : length seats ≡ length (seats_of base pages workers) = ap length f in
     let below : k < workers = omega arith in
     let at : get_or seats k d ≡ right_of base pages (get_or (range_with_len 0 workers) k 0) =
     ap (λ (xs : List Right). get_or xs k d) f ∙ get_or_default (seats_of base pages workers) k d f0 (omega arith) ∙ get_or-map (right_of base pages) (range_with_len 0 workers) k 0 in
     let place : get_or (range_with_len 0 workers) k 0 ≡ k = get_or-range_with_len 0 workers k 0 below ∙ omega arith in
     let P : Right → Type 0 = λ s. IsSeatOf z s in
     let Q : PlainZone → Type 0 = λ q. IsSeatOf q (right_of base pages k) in
-    subst P (sym (at ∙ ap (right_of base pages) place)) (subst Q (sym e) (right_fits base pages min workers k below))
+    subst P (sym (at ∙ ap (right_of base pages) place)) (subst Q (sym e) (right_fits m base pages min workers k below))
 
 same_seats : (z y : PlainZone) → IsSameZone z y → KeepsSeats z y
 same_seats z y same s x =

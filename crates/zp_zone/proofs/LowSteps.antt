@@ -12,7 +12,7 @@ use Rattle.zp_model.specs.Frames.{Frames, IsFramed, with_area}
 use Rattle.zp_model.specs.Zone.{PlainZone, workers_of}
 use Rattle.zp_model.specs.Step.{alloc_low_at, step}
 use Rattle.zp_model.specs.Lawful.{IsLawful}
-use Rattle.zp_laws.proofs.Areas.{free-leave, kinds-leave}
+use Rattle.zp_laws.proofs.Areas.{free-leave, largest-leave, kinds-leave}
 use Rattle.zp_laws.proofs.AllocatingLow.{alloc_low_lawful}
 use Rattle.zp_laws.proofs.Choosing.{take_low_found}
 use Rattle.zp_zone.specs.NamedZone.{NamedZone}
@@ -51,44 +51,45 @@ none_zone z w k e = ap (λ (o : Option ℕ). (alloc_low_at z w k o).zone) e
 
 -- the lowest block, at h, goes out
 abbrev pub low_out : Frames → ℕ → ℕ → ℕ → Frames
-low_out f h k w = frames_out f (leave f.area h k) h k w (kind_at f.area.kinds h)
+low_out f w h k = frames_out f (leave f.area h k) w h k (kind_at f.area.largest f.area.kinds h)
 
-pub low_left : (f : Frames) (base min h w k : ℕ) → IsAsked f base min → Some h ≡ take_low_answer f.area k →
-    plain_of (low_out f h k w) base min ≡ (step (plain_of f base min) w (request.AllocLow k)).zone
-low_left f base min h w k x e =
-    (left_out f (leave f.area h k) h k w base min (kind_at f.area.kinds h) x (take_low_found f.area k h (sym e)) (free-leave f.area h k)).plain
+pub low_left : (f : Frames) (base min w h k : ℕ) → IsAsked f base min → Some h ≡ take_low_answer f.area k →
+    plain_of (low_out f w h k) base min ≡ (step (plain_of f base min) w (request.AllocLow k)).zone
+low_left f base min w h k x e =
+    (left_out f (leave f.area h k) base min w h k (kind_at f.area.largest f.area.kinds h) x (take_low_found f.area k h (sym e)) (free-leave f.area h k)).plain
     ∙ ap (λ (o : Option ℕ). (alloc_low_at (plain_of f base min) w k o).zone) e
 
-pub low_kept : (name : List ℕ) (f : Frames) (base min h w k : ℕ) → IsKept name f base min → IsFramed f → w < workers_of (plain_of f base min) →
-    Some h ≡ take_low_answer f.area k → IsKept name (low_out f h k w) base min
-low_kept name f base min h w k x y lt e =
+pub low_kept : (name : List ℕ) (f : Frames) (base min w h k : ℕ) → IsKept name f base min → IsFramed f → w < workers_of (plain_of f base min) →
+    Some h ≡ take_low_answer f.area k → IsKept name (low_out f w h k) base min
+low_kept name f base min w h k x y lt e =
     let asked : IsAsked f base min = record { framed = y; lawful = x.lawful } in
     let L : PlainZone → Type 0 = λ z. IsLawful z in
-    out_kept name f (leave f.area h k) base min h w k (kind_at f.area.kinds h) x
-    (left_out f (leave f.area h k) h k w base min (kind_at f.area.kinds h) asked (take_low_found f.area k h (sym e)) (free-leave f.area h k))
-    (subst L (sym (low_left f base min h w k asked e)) (alloc_low_lawful (plain_of f base min) w k x.lawful lt))
+    out_kept name f (leave f.area h k) base min w h k (kind_at f.area.largest f.area.kinds h) x
+    (left_out f (leave f.area h k) base min w h k (kind_at f.area.largest f.area.kinds h) asked (take_low_found f.area k h (sym e)) (free-leave f.area h k))
+    (subst L (sym (low_left f base min w h k asked e)) (alloc_low_lawful (plain_of f base min) w k x.lawful lt))
 
 -- the type of the pageblock stays, so that it may be read once the block is taken
 pub kind_stays : (f f2 : Frames) (h k : ℕ) (t : MigrateType) → f2 ≡ with_area f (take_low_after f.area k) → Some h ≡ take_low_answer f.area k →
-    t ≡ kind_at f2.area.kinds h → t ≡ kind_at f.area.kinds h
+    t ≡ kind_at f2.area.largest f2.area.kinds h → t ≡ kind_at f.area.largest f.area.kinds h
 kind_stays f f2 h k t e2 e et =
     et
-    ∙ ap (λ (q : Frames). kind_at q.area.kinds h) e2
-    ∙ ap (λ (a : Area). kind_at a.kinds h) (after_some f.area k h e)
-    ∙ ap (λ (q : List MigrateType). kind_at q h) (kinds-leave f.area h k)
+    ∙ ap (λ (q : Frames). kind_at q.area.largest q.area.kinds h) e2
+    ∙ ap (λ (a : Area). kind_at a.largest a.kinds h) (after_some f.area k h e)
+    ∙ ap (λ (m : ℕ). kind_at m (leave f.area h k).kinds h) (largest-leave f.area h k)
+    ∙ ap (λ (q : List MigrateType). kind_at f.area.largest q h) (kinds-leave f.area h k)
 
-pub low_reply : (f : Frames) (base min h w k p : ℕ) (t : MigrateType) → Some h ≡ take_low_answer f.area k → p ≡ base + h → t ≡ kind_at f.area.kinds h →
+pub low_reply : (f : Frames) (base min w h k p : ℕ) (t : MigrateType) → Some h ≡ take_low_answer f.area k → p ≡ base + h → t ≡ kind_at f.area.largest f.area.kinds h →
     Reply.Block (record { page = p; order = k; kind = t }) ≡ (step (plain_of f base min) w (request.AllocLow k)).reply
-low_reply f base min h w k p t e ep et =
+low_reply f base min w h k p t e ep et =
     ap (λ (q : ℕ). Reply.Block (let b : Block = record { page = q; order = k; kind = t } in b)) ep
     ∙ ap (λ (q : MigrateType). Reply.Block (let b : Block = record { page = base + h; order = k; kind = q } in b)) et
     ∙ ap (λ (o : Option ℕ). (alloc_low_at (plain_of f base min) w k o).reply) e
 
 -- the frames that hold the block, in the words of the code
-pub held_low : (f f2 f3 : Frames) (k w h : ℕ) (t : MigrateType) → f2 ≡ with_area f (take_low_after f.area k) → Some h ≡ take_low_answer f.area k →
-    t ≡ kind_at f.area.kinds h → f3 ≡ record f2 { states = set f2.states h (Out k t w) } → f3 ≡ low_out f h k w
-held_low f f2 f3 k w h t e2 e et e3 =
+pub held_low : (f f2 f3 : Frames) (w h k : ℕ) (t : MigrateType) → f2 ≡ with_area f (take_low_after f.area k) → Some h ≡ take_low_answer f.area k →
+    t ≡ kind_at f.area.largest f.area.kinds h → f3 ≡ record f2 { states = set f2.states h (Out k t w) } → f3 ≡ low_out f w h k
+held_low f f2 f3 w h k t e2 e et e3 =
     let two : f2 ≡ with_area f (leave f.area h k) = e2 ∙ ap (λ a. with_area f a) (after_some f.area k h e) in
     e3
     ∙ ap (λ (q : Frames). let x : Frames = record q { states = set q.states h (Out k t w) } in x) two
-    ∙ ap (λ (q : MigrateType). frames_out f (leave f.area h k) h k w q) et
+    ∙ ap (λ (q : MigrateType). frames_out f (leave f.area h k) w h k q) et

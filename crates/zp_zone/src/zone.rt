@@ -3,6 +3,7 @@
 //! In Linux: `rmqueue`, `__free_pages_ok` and `zone_watermark_ok`.
 ghost use Rattle.std.specs.Prelude.{◌≡◌, ◌<◌, ◌≤◌, ◌+◌, ℕ, false, All, length, IfOk, IfErr, IfSome, IfNone, IsSome, OnOk, OnErr, IsTrue, ◌↔◌, ◌-◌};
 ghost use Rattle.std.specs.Option.{option_map};
+ghost use Rattle.zp_model.specs.declared.constants.TheConstants.{LARGEST_ORDER};
 ghost use Rattle.zp_model.specs.Zone.{zone_opening, is_of, pages_of};
 ghost use Rattle.zp_zone.specs.Kept.{holding_of};
 ghost use Rattle.zp_model.specs.Mark.{level, level_of, is_above};
@@ -58,7 +59,7 @@ impl Zone {
     ) -> Result<(Zone, Vec<Seat>), Refused>
         ensures good { OnOk result (IsGood (wanted config.entry.name.now config.entry.base config.entry.pages config.entry.min workers)) }
         ensures why { IfErr result (IsWhy (wanted config.entry.name.now config.entry.base config.entry.pages config.entry.min workers)) }
-        ensures zone { IfOk result (λ z. z.0 ≡ record { name = config.entry.name.now; plain = zone_opening config.entry.base config.entry.pages config.entry.min workers }) }
+        ensures zone { IfOk result (λ z. z.0 ≡ record { name = config.entry.name.now; plain = zone_opening LARGEST_ORDER config.entry.base config.entry.pages config.entry.min workers }) }
         ensures seats { IfOk result (λ z. z.1.items ≡ seats_of config.entry.base config.entry.pages workers) }
         ensures fits { IfOk result (λ z. All (IsSeatOf z.0.plain) z.1.items) }
     {
@@ -202,7 +203,7 @@ impl Zone {
 
     /// How many free blocks of each order there are, and how many free pages. Each zone is lawful.
     pub fn counts(&self) -> Counts
-        ensures counts { result ≡ counts self.now.plain.area.free }
+        ensures counts { result ≡ counts self.now.plain.area.largest self.now.plain.area.free }
         ensures lawful { IsLawful self.now.plain }
     {
         self.buddy.counts()
@@ -217,9 +218,9 @@ impl Zone {
 
     /// Writes the zone's info line.
     pub fn write_info<W: Writer>(&self, writer: &mut W) -> Result<(), WriteFault>
-        ensures ok { OnOk result (IsWritten (W.contents writer.old) (W.contents writer.new) (info_line self.now.name (counts self.now.plain.area.free))) }
+        ensures ok { OnOk result (IsWritten (W.contents writer.old) (W.contents writer.new) (info_line self.now.name (counts self.now.plain.area.largest self.now.plain.area.free))) }
         ensures calm { OnOk result (W.failures writer.new ≡ W.failures writer.old) }
-        ensures err { OnErr result (IsBegun (W.contents writer.old) (W.contents writer.new) (info_line self.now.name (counts self.now.plain.area.free))) }
+        ensures err { OnErr result (IsBegun (W.contents writer.old) (W.contents writer.new) (info_line self.now.name (counts self.now.plain.area.largest self.now.plain.area.free))) }
         ensures failed { OnErr result (W.failures writer.old < W.failures writer.new) }
     {
         write_counts(writer, self.name.as_str(), &self.counts())

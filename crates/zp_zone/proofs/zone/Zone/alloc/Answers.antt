@@ -52,7 +52,7 @@ invariant_of-self-2 c =
     passes_by c.self.inside.buddy c.self.inside.base c.self.inside.min c.free_pages.result c.args.order c.args.mark true c.free_pages.ensures.pages c.if-not-is_above.ensures in
     let x : IsAsked c.self.inside.buddy c.self.inside.base c.self.inside.min = record { framed = c.free_pages.ensures.framed; lawful = c.self.invariant.lawful } in
     let s = chosen_some (c.self.inside.buddy).area c.args.order c.in-Some.head c.args.kind c.in-Some.ensures.answer in
-    let held : c.hold.new.self ≡ held_out c.self.inside.buddy c.args.order c.args.seat.now.worker c.args.kind s.0 = held_by _ _ _ _ _ _ _ _ c.in-Some.ensures.after s.1 s.2 (c.hold.ensures.after ∙ ap (λ w. let q : Frames = record c.take.new.self { states = set c.take.new.self.states c.in-Some.head (Out c.args.order c.args.kind w) } in q) c.worker.ensures) in
+    let held : c.hold.new.self ≡ held_out c.self.inside.buddy c.args.seat.now.worker c.args.order c.args.kind s.0 = held_by _ _ _ _ _ _ _ _ c.in-Some.ensures.after s.1 s.2 (c.hold.ensures.after ∙ ap (λ w. let q : Frames = record c.take.new.self { states = set c.take.new.self.states c.in-Some.head (Out c.args.order c.args.kind w) } in q) c.worker.ensures) in
     let workers : c.args.seat.now.worker < workers_of (plain_of c.self.inside.buddy c.self.inside.base c.self.inside.min) =
     (let P : NamedZone → Type 0 = λ z. c.args.seat.now.worker < workers_of z.plain in subst P (sym c.self.view_is) c.requires.seat.worker) in
     let Q : Frames → Type 0 = λ f. IsKept c.self.inside.name f c.self.inside.base c.self.inside.min in
@@ -72,7 +72,7 @@ returns-clause-after c =
     passes_by c.self.inside.buddy c.self.inside.base c.self.inside.min c.free_pages.result c.args.order c.args.mark true c.free_pages.ensures.pages c.if-not-is_above.ensures in
     let x : IsAsked c.self.inside.buddy c.self.inside.base c.self.inside.min = record { framed = c.free_pages.ensures.framed; lawful = c.self.invariant.lawful } in
     let s = chosen_some (c.self.inside.buddy).area c.args.order c.in-Some.head c.args.kind c.in-Some.ensures.answer in
-    let held : c.hold.new.self ≡ held_out c.self.inside.buddy c.args.order c.args.seat.now.worker c.args.kind s.0 = held_by _ _ _ _ _ _ _ _ c.in-Some.ensures.after s.1 s.2 (c.hold.ensures.after ∙ ap (λ w. let q : Frames = record c.take.new.self { states = set c.take.new.self.states c.in-Some.head (Out c.args.order c.args.kind w) } in q) c.worker.ensures) in
+    let held : c.hold.new.self ≡ held_out c.self.inside.buddy c.args.seat.now.worker c.args.order c.args.kind s.0 = held_by _ _ _ _ _ _ _ _ c.in-Some.ensures.after s.1 s.2 (c.hold.ensures.after ∙ ap (λ w. let q : Frames = record c.take.new.self { states = set c.take.new.self.states c.in-Some.head (Out c.args.order c.args.kind w) } in q) c.worker.ensures) in
     after_at c.args.self.now _ _ _ _ _ _ _ c.self.view_is
     (ap (λ (q : Frames). plain_of q c.self.inside.base c.self.inside.min) held ∙ some_left _ _ _ _ _ _ _ _ x p s.1)
 

@@ -41,10 +41,10 @@ returns-in_default-clause-kept c =
     low_kept c.args.self.now.plain _ _ _ (lawful_in _ _ _ c.self.view_is c.self.invariant.lawful) (ap (λ (n : NamedZone). n.plain) (returns-in_default-clause-after c))
 
 -- the type that is noted, and the frames that hold the block
-noted_kind : (c : goal.After-new) → c.type_of-kind.result ≡ kind_at (c.self.inside.buddy).area.kinds c.in-Some.head
+noted_kind : (c : goal.After-new) → c.type_of-kind.result ≡ kind_at (c.self.inside.buddy).area.largest (c.self.inside.buddy).area.kinds c.in-Some.head
 noted_kind c = kind_stays _ c.take_low.new.self _ _ _ c.in-Some.ensures.after c.in-Some.ensures.answer c.type_of-kind.ensures
 
-held : (c : goal.After-new) → c.hold.new.self ≡ low_out c.self.inside.buddy c.in-Some.head c.args.order c.args.seat.now.worker
+held : (c : goal.After-new) → c.hold.new.self ≡ low_out c.self.inside.buddy c.args.seat.now.worker c.in-Some.head c.args.order
 held c =
     held_low _ c.take_low.new.self _ _ _ _ _ c.in-Some.ensures.after c.in-Some.ensures.answer (noted_kind c)
     (c.hold.ensures.after ∙ ap (λ w. let q : Frames = record c.take_low.new.self { states = set c.take_low.new.self.states c.in-Some.head (Out c.args.order c.type_of-kind.result w) } in q) c.worker-holder.ensures)
@@ -62,7 +62,7 @@ returns-clause-reply c =
     let f : Frames = c.self.inside.buddy in
     let page : c.new.result ≡ c.self.inside.base + c.in-Some.head = c.new.ensures ∙ ap (λ n. c.self.inside.base + n) c.number.ensures.same in
     reply_at c.args.self.now _ (plain_of f c.self.inside.base c.self.inside.min) _ _ _ c.self.view_is
-    (low_reply f c.self.inside.base c.self.inside.min c.in-Some.head c.args.seat.now.worker c.args.order c.new.result c.type_of-kind.result c.in-Some.ensures.answer page (noted_kind c))
+    (low_reply f c.self.inside.base c.self.inside.min c.args.seat.now.worker c.in-Some.head c.args.order c.new.result c.type_of-kind.result c.in-Some.ensures.answer page (noted_kind c))
 
 pub returns-clause-after : goal.returns-clause-after
 returns-clause-after c =

@@ -14,7 +14,7 @@ use Rattle.zp_zone.proofs.zone.Zone.free.Goals as goal
 
 -- the block that the zone, by its fields, has out
 holding_in : (Z : NamedZone) (name : List ℕ) (f : Frames) (base min w p k : ℕ) → named name (plain_of f base min) ≡ Z → is_out Z.plain w p k ≡ true →
-    IsHolding (plain_of f base min) (p - base) k w
+    IsHolding (plain_of f base min) w (p - base) k
 holding_in Z name f base min w p k e o =
     let P : NamedZone → Type 0 = λ z. is_out z.plain w p k ≡ true in
     let q : is_out (plain_of f base min) w p k ≡ true = subst P (sym e) o in
@@ -26,7 +26,7 @@ given_in : (Z : NamedZone) (name : List ℕ) (f : Frames) (base min w p k : ℕ)
 given_in Z name f base min w p k e o x =
     let h = holding_in Z name f base min w p k e o in
     let back : NamedZone → NamedZone = λ z. record z { plain = freed z.plain (p - z.plain.base) k } in
-    ap (named name) (plain-given f base min (p - base) k w x h) ∙ ap back e
+    ap (named name) (plain-given f base min w (p - base) k x h) ∙ ap back e
 
 pub give-requires : goal.give-requires
 give-requires c =
@@ -34,7 +34,7 @@ give-requires c =
     let h = holding_in c.args.self.now c.self.inside.name c.self.inside.buddy c.self.inside.base c.self.inside.min c.args.seat.now.worker c.args.page c.args.order c.self.view_is c.requires.out in
     let asked : IsAsked c.self.inside.buddy c.self.inside.base c.self.inside.min = record { framed = c.pages-pages.ensures.framed; lawful = c.self.invariant.lawful } in
     let P : ℕ → Type 0 = λ n. IsClear c.self.inside.buddy n c.args.order in
-    subst P (sym e) (held_clear c.self.inside.buddy c.self.inside.base c.self.inside.min (c.args.page - c.self.inside.base) c.args.order c.args.seat.now.worker asked h)
+    subst P (sym e) (held_clear c.self.inside.buddy c.self.inside.base c.self.inside.min c.args.seat.now.worker (c.args.page - c.self.inside.base) c.args.order asked h)
 
 pub invariant_of-self : goal.invariant_of-self
 invariant_of-self c =
@@ -42,7 +42,7 @@ invariant_of-self c =
     let h = holding_in c.args.self.now c.self.inside.name c.self.inside.buddy c.self.inside.base c.self.inside.min c.args.seat.now.worker c.args.page c.args.order c.self.view_is c.requires.out in
     let left : c.give.new.self ≡ given c.self.inside.buddy (c.args.page - c.self.inside.base) c.args.order = c.give.ensures ∙ ap (λ n. given c.self.inside.buddy n c.args.order) e in
     let K : Frames → Type 0 = λ f. IsKept c.self.inside.name f c.self.inside.base c.self.inside.min in
-    subst K (sym left) (given_kept c.self.inside.name c.self.inside.buddy c.self.inside.base c.self.inside.min (c.args.page - c.self.inside.base) c.args.order c.args.seat.now.worker c.self.invariant c.pages-pages.ensures.framed h)
+    subst K (sym left) (given_kept c.self.inside.name c.self.inside.buddy c.self.inside.base c.self.inside.min c.args.seat.now.worker (c.args.page - c.self.inside.base) c.args.order c.self.invariant c.pages-pages.ensures.framed h)
 
 pub returns-clause-after : goal.returns-clause-after
 returns-clause-after c =

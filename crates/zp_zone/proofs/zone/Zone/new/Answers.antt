@@ -1,4 +1,5 @@
 use Rattle.std.proofs.Common.{ℕ, List, ap, sym, subst, ◌∙◌}
+use Rattle.zp_model.specs.declared.constants.TheConstants.{LARGEST_ORDER}
 use Rattle.zp_model.specs.Frames.{Frames}
 use Rattle.zp_model.specs.Zone.{zone_opening}
 use Rattle.zp_zone.specs.Kept.{plain_of, IsKept}
@@ -15,14 +16,14 @@ invariant_of-zone c =
     let good : IsGood (wanted c.in_ok-name.name c.args.config.base c.args.config.pages c.args.config.min c.args.workers) =
     subst P (sym c.in_ok-name.ensures.ok) c.in_ok-name.ensures.good in
     let Q : Frames → Type 0 = λ f. IsKept c.in_ok-name.name f c.args.config.base c.args.config.min in
-    subst Q (sym c.in-Ok.ensures) (opening_kept _ _ _ _ _ good)
+    subst Q (sym c.in-Ok.ensures) (opening_kept _ _ _ _ _ _ good)
 
 pub returns-clause-zone : goal.returns-clause-zone
 returns-clause-zone c =
     ap (λ (f : Frames). named c.in_ok-name.name (plain_of f c.args.config.base c.args.config.min)) c.in-Ok.ensures
-    ∙ ap (λ z. named c.in_ok-name.name z) (plain-opening c.args.config.base c.args.config.pages c.args.config.min c.args.workers)
-    ∙ ap (λ q. named q (zone_opening c.args.config.base c.args.config.pages c.args.config.min c.args.workers)) c.in_ok-name.ensures.ok
+    ∙ ap (λ z. named c.in_ok-name.name z) (plain-opening LARGEST_ORDER c.args.config.base c.args.config.pages c.args.config.min c.args.workers)
+    ∙ ap (λ q. named q (zone_opening LARGEST_ORDER c.args.config.base c.args.config.pages c.args.config.min c.args.workers)) c.in_ok-name.ensures.ok
 
 pub returns-clause-fits : goal.returns-clause-fits
 returns-clause-fits c =
-    seats_fit _ _ c.args.config.base c.args.config.pages c.args.config.min c.args.workers (ap (λ (n : NamedZone). n.plain) (returns-clause-zone c)) c.in-Ok-seats.ensures
+    seats_fit _ _ LARGEST_ORDER c.args.config.base c.args.config.pages c.args.config.min c.args.workers (ap (λ (n : NamedZone). n.plain) (returns-clause-zone c)) c.in-Ok-seats.ensures
