@@ -115,9 +115,12 @@ fn entries_tell_heads_tails_and_neighbours(rt: HostRuntime) {
 /// The lowest block is noted with the type that its pageblock has when it is taken, and keeps it when the pageblock gets
 /// another.
 #[test]
-fn the_lowest_block_has_the_type_of_its_pageblock(rt: HostRuntime) -> Result<(), Fail> {
+fn the_lowest_block_has_the_type_of_its_pageblock(rt: HostRuntime) {
     let made = Zone::new(rt.alloc(), config("DMA", 1024, 1024, 0), 1);
-    let (mut zone, mut seats) = made.ok().ok_or("the zone can be made")?;
+    let Ok((mut zone, mut seats)) = made else {
+        assert!(rt; false, "the zone can be made");
+        return;
+    };
     let seat = &mut seats[0];
     let worker = seat.worker();
     let order = Order::zero();
@@ -150,7 +153,6 @@ fn the_lowest_block_has_the_type_of_its_pageblock(rt: HostRuntime) -> Result<(),
     expect_entry(&rt, &zone, 1025, &second_noted, None, None);
     let none = zone.alloc_low(seat, Order::largest());
     assert!(rt; none == Err(Refused::NoBlock));
-    Ok(())
 }
 
 /// Takes single pages at a mark until one is refused: how many pages are free then.
