@@ -141,8 +141,8 @@ fn larger(one: Option<Order>, other: Option<Order>) -> Option<Order>
     }
 }
 
-/// The largest block of another type that may be claimed. Its order is told by the pageblocks, so that a list is walked only
-/// where it holds such a block.
+/// The largest block of another type that may be claimed. Its order is told by the pageblocks, so that lists of that order alone
+/// are walked, and none where there is no such block.
 #[cold]
 #[inline(never)]
 fn claimed_block(area: &FreeArea, order: Order, kind: MigrateType) -> Option<FreeBlock>
