@@ -1,65 +1,96 @@
 -- Which lines may stand after which, what the text of a trace is, and which line of a text is its bad line.
-use Rattle.std.specs.Prelude.{ℕ, ◌+◌, ◌≡◌, ◌<◌, ◌≤◌, List, [], ◌∷◌, ◌++◌, length, map, Any, Option, Some, None}
+use Rattle.std.specs.Prelude.{ℕ, ◌+◌, ◌≡◌, ◌≢◌, ◌<◌, ◌≤◌, List, [], ◌∷◌, ◌++◌, length, map, All, Any, Option, Some, None}
 use Rattle.zp_model.specs.declared.constants.TheConstants.{LARGEST_ORDER}
-use Rattle.zp_trace.specs.declared.bounds.TheConstants.{MOST_LINES, WORKERS}
+use Rattle.zp_model.specs.Bounds.{IsBase, IsPages, IsCrew}
+use Rattle.zp_model.specs.Naming.{IsName}
+use Rattle.zp_trace.specs.declared.bounds.TheConstants.{MOST_LINES, MOST_ZONES}
 use Rattle.zp_trace.specs.declared.line.ZoneLine.{ZoneLine}
 use Rattle.zp_trace.specs.declared.line.Call.{Call}
-use Rattle.zp_trace.specs.declared.line.Call.TheVariants.{Info, Alloc, Low, Free}
+use Rattle.zp_trace.specs.declared.line.Call.TheVariants.{Info, Alloc, Low, Free, Post, Collect}
 use Rattle.zp_trace.specs.declared.line.Command.{Command}
+use Rattle.zp_trace.specs.declared.trace.Header.{Header}
+use Rattle.zp_trace.specs.declared.trace.Trace.{Trace}
 use Rattle.zp_trace.specs.Lines.{Line}
 use Rattle.zp_trace.specs.Lines as line
-use Rattle.zp_trace.specs.declared.trace.Trace.{Trace}
-use Rattle.zp_model.specs.Bounds.{IsBase, IsPages}
-use Rattle.zp_model.specs.Naming.{IsName}
 use Rattle.zp_trace.specs.Spelling.{line_text, text_of, header_of}
 
 abbrev pub IsZoneLine : ZoneLine → Type 0
-IsZoneLine z = IsName z.name × IsBase z.base × IsPages z.pages
+IsZoneLine z = IsName z.name × IsBase z.base × IsPages z.pages × (z.min ≤ z.pages)
 
--- what may be asked for in a trace of this zone
-abbrev pub IsCallOf : ZoneLine → Call → Type 0
-IsCallOf z Info = Unit {0}
-IsCallOf z (Alloc label order kind zone) =
-    IsName label × (order ≤ LARGEST_ORDER) × (zone ≡ z.name)
-IsCallOf z (Low label order zone) = IsName label × (order ≤ LARGEST_ORDER) × (zone ≡ z.name)
-IsCallOf z (Free label) = IsName label
+-- a zone that has another name, and begins at the other's end or above it
+abbrev pub IsAbove : ZoneLine → ZoneLine → Type 0
+IsAbove z other = (other.name ≢ z.name) × (other.base + other.pages ≤ z.base)
 
-abbrev pub IsCommandOf : ZoneLine → Command → Type 0
-IsCommandOf z c = (c.worker < WORKERS) × IsCallOf z c.call
+-- a zone that may be declared after these: not too many, each another name, and each below it
+abbrev pub IsNextZone : List ZoneLine → ZoneLine → Type 0
+IsNextZone zones z = (length zones < MOST_ZONES) × IsZoneLine z × All (IsAbove z) zones
+
+-- how many pages a worker's list gets at a time, and how many it may have: so far workers have no lists
+abbrev pub AreLists : ℕ → ℕ → Type 0
+AreLists batch high = (batch ≡ 0) × (high ≡ 0)
+
+-- what each trace begins with
+pub record IsHeader (h : Header) : Type 0 where
+  pub some : 0 < length h.zones
+  pub few : length h.zones ≤ MOST_ZONES
+  pub zones : All IsZoneLine h.zones
+  pub workers : IsCrew h.workers
+  pub lists : AreLists h.batch h.high
+
+-- a zone of this name is declared
+abbrev pub IsDeclared : Header → List ℕ → Type 0
+IsDeclared h zone = Any (λ z. z.name ≡ zone) h.zones
+
+-- what may be asked for after this header
+abbrev pub IsCallOf : Header → Call → Type 0
+IsCallOf h Info = Unit {0}
+IsCallOf h (Alloc label order kind zone mark) = IsName label × (order ≤ LARGEST_ORDER) × IsDeclared h zone
+IsCallOf h (Low label order zone) = IsName label × (order ≤ LARGEST_ORDER) × IsDeclared h zone
+IsCallOf h (Free label) = IsName label
+IsCallOf h (Post label to) = IsName label × (to < h.workers)
+IsCallOf h (Collect label zone) = IsName label × IsDeclared h zone
+
+abbrev pub IsCommandOf : Header → Command → Type 0
+IsCommandOf h c = (c.worker < h.workers) × IsCallOf h c.call
 
 -- the label that a call binds to the block that it is answered
 abbrev pub bound_label : Call → Option (List ℕ)
 bound_label Info = None
-bound_label (Alloc label order kind zone) = Some label
+bound_label (Alloc label order kind zone mark) = Some label
 bound_label (Low label order zone) = Some label
 bound_label (Free label) = None
+bound_label (Post label to) = None
+bound_label (Collect label zone) = Some label
 
 -- the command binds this label of this worker, if it is answered a block
 abbrev pub Binds : ℕ → List ℕ → Command → Type 0
 Binds worker label c = (c.worker ≡ worker) × (bound_label c.call ≡ Some label)
 
--- the label that the call frees by stands in an earlier command of the same worker that binds it
+-- the label that the call names a block by stands in an earlier command of the same worker that binds it
 abbrev pub HasLabel : List Command → ℕ → Call → Type 0
 HasLabel before worker Info = Unit {0}
-HasLabel before worker (Alloc label order kind zone) = Unit {0}
+HasLabel before worker (Alloc label order kind zone mark) = Unit {0}
 HasLabel before worker (Low label order zone) = Unit {0}
 HasLabel before worker (Free label) = Any (Binds worker label) before
+HasLabel before worker (Post label to) = Any (Binds worker label) before
+HasLabel before worker (Collect label zone) = Unit {0}
 
--- a command that may stand after these in a trace of this zone
-abbrev pub IsNextCommand : ZoneLine → List Command → Command → Type 0
-IsNextCommand z before c = IsCommandOf z c × HasLabel before c.worker c.call
+-- a command that may stand after these in a trace of this header
+abbrev pub IsNextCommand : Header → List Command → Command → Type 0
+IsNextCommand h before c = IsCommandOf h c × HasLabel before c.worker c.call
 
 -- the lines that write a trace
 abbrev pub lines_of : Trace → List Line
-lines_of t = header_of t.zone ++ map line.Command t.commands
+lines_of t = header_of t.header ++ map line.Command t.commands
 
 -- the line may stand after those before it
 abbrev pub IsAllowedAfter : List Line → Line → Type 0
-IsAllowedAfter before (line.Zone z) = (before ≡ []) × IsZoneLine z
-IsAllowedAfter before line.Workers = (z : ZoneLine) × (before ≡ line.Zone z ∷ [])
-IsAllowedAfter before line.Lists = (z : ZoneLine) × (before ≡ line.Zone z ∷ line.Workers ∷ [])
+IsAllowedAfter before (line.Zone z) = (zones : List ZoneLine) × (before ≡ map line.Zone zones) × IsNextZone zones z
+IsAllowedAfter before (line.Workers n) = (zones : List ZoneLine) × (before ≡ map line.Zone zones) × (0 < length zones) × IsCrew n
+IsAllowedAfter before (line.Lists batch high) =
+    (zones : List ZoneLine) × (n : ℕ) × (before ≡ map line.Zone zones ++ line.Workers n ∷ []) × AreLists batch high
 IsAllowedAfter before (line.Command c) =
-    (t : Trace) × (before ≡ lines_of t) × (length before < MOST_LINES) × IsNextCommand t.zone t.commands c
+    (t : Trace) × (before ≡ lines_of t) × (length before < MOST_LINES) × IsNextCommand t.header t.commands c
 
 -- each line may stand after those before it
 abbrev pub IsBeginning : List Line → Type 0

@@ -5,10 +5,13 @@ use Rattle.std.specs.Fmt.{decimal}
 use Rattle.std.specs.Borrow.{Bor}
 use Rattle.zp_model.specs.declared.migrate_type.MigrateType.{MigrateType}
 use Rattle.zp_model.specs.declared.migrate_type.MigrateType.TheVariants.{Unmovable, Reclaimable, Movable}
+use Rattle.zp_model.specs.declared.mark.Mark.{Mark}
+use Rattle.zp_model.specs.declared.mark.Mark.TheVariants as mark
 use Rattle.zp_trace.specs.declared.bounds.TheConstants.{MOST_WORDS}
 use Rattle.zp_trace.specs.declared.line.ZoneLine.{ZoneLine}
 use Rattle.zp_trace.specs.declared.line.Call.{Call}
-use Rattle.zp_trace.specs.declared.line.Call.TheVariants.{Info, Alloc, Low, Free}
+use Rattle.zp_trace.specs.declared.line.Call.TheVariants.{Info, Alloc, Low, Free, Post, Collect}
+use Rattle.zp_trace.specs.declared.trace.Header.{Header}
 use Rattle.zp_trace.specs.declared.line.Command.{Command}
 use Rattle.zp_trace.specs.Lines.{Line}
 use Rattle.zp_trace.specs.Lines as line
@@ -36,33 +39,40 @@ abbrev pub AreWords : List (List ℕ) → Type 0
 AreWords words = (0 < length words) × (length words ≤ MOST_WORDS) × AllByRecursion IsWord words
 
 abbrev pub zone_words : ZoneLine → List (List ℕ)
-zone_words z = codes "zone" ∷ z.name ∷ decimal z.base ∷ decimal z.pages ∷ codes "0" ∷ []
+zone_words z = codes "zone" ∷ z.name ∷ decimal z.base ∷ decimal z.pages ∷ decimal z.min ∷ []
 
-abbrev pub workers_words : List (List ℕ)
-workers_words = codes "workers" ∷ codes "1" ∷ []
+abbrev pub workers_words : ℕ → List (List ℕ)
+workers_words n = codes "workers" ∷ decimal n ∷ []
 
-abbrev pub lists_words : List (List ℕ)
-lists_words = codes "lists" ∷ codes "0" ∷ codes "0" ∷ []
+abbrev pub lists_words : ℕ → ℕ → List (List ℕ)
+lists_words batch high = codes "lists" ∷ decimal batch ∷ decimal high ∷ []
 
 abbrev pub kind_word : MigrateType → List ℕ
 kind_word Unmovable = codes "U"
 kind_word Reclaimable = codes "R"
 kind_word Movable = codes "M"
 
+abbrev pub mark_word : Mark → List ℕ
+mark_word mark.Low = codes "low"
+mark_word mark.Min = codes "min"
+mark_word mark.Any = codes "any"
+
 abbrev pub call_words : Call → List (List ℕ)
 call_words Info = codes "info" ∷ []
-call_words (Alloc label order kind zone) =
-    codes "alloc" ∷ label ∷ decimal order ∷ kind_word kind ∷ zone ∷ codes "any" ∷ []
+call_words (Alloc label order kind zone m) =
+    codes "alloc" ∷ label ∷ decimal order ∷ kind_word kind ∷ zone ∷ mark_word m ∷ []
 call_words (Low label order zone) = codes "low" ∷ label ∷ decimal order ∷ zone ∷ []
 call_words (Free label) = codes "free" ∷ label ∷ []
+call_words (Post label to) = codes "post" ∷ label ∷ decimal to ∷ []
+call_words (Collect label zone) = codes "collect" ∷ label ∷ zone ∷ []
 
 abbrev pub command_words : Command → List (List ℕ)
 command_words c = decimal c.worker ∷ call_words c.call
 
 abbrev pub line_words : Line → List (List ℕ)
 line_words (line.Zone z) = zone_words z
-line_words line.Workers = workers_words
-line_words line.Lists = lists_words
+line_words (line.Workers n) = workers_words n
+line_words (line.Lists batch high) = lists_words batch high
 line_words (line.Command c) = command_words c
 
 abbrev pub line_text : Line → List ℕ
@@ -72,5 +82,5 @@ abbrev pub text_of : List Line → List ℕ
 text_of lines = flat_map line_text lines
 
 -- the lines before the first worker line
-abbrev pub header_of : ZoneLine → List Line
-header_of z = line.Zone z ∷ line.Workers ∷ line.Lists ∷ []
+abbrev pub header_of : Header → List Line
+header_of h = map line.Zone h.zones ++ line.Workers h.workers ∷ line.Lists h.batch h.high ∷ []

@@ -1,6 +1,6 @@
 //! The lines of a trace.
 
-use zp_model::{MigrateType, Name, Order, Worker};
+use zp_model::{Mark, MigrateType, Name, Order, Worker};
 
 /// The line that declares a zone.
 #[derive(Clone, Copy, PartialEq, Eq, Debug, Drop)]
@@ -9,6 +9,8 @@ pub struct ZoneLine {
     /// The first page.
     pub base: u32,
     pub pages: u32,
+    /// The least mark, in pages.
+    pub min: u32,
 }
 
 /// What a worker line asks for.
@@ -16,12 +18,14 @@ pub struct ZoneLine {
 pub enum Call {
     /// The counts of each zone.
     Info,
-    /// A block of this order for this type out of the zone of this name; the label is bound to it.
+    /// A block of this order for this type, held to this mark, out of the zone of this name or one declared before it; the
+    /// label is bound to it.
     Alloc {
         label: Name,
         order: Order,
         kind: MigrateType,
         zone: Name,
+        mark: Mark,
     },
     /// The lowest block of this order of the zone of this name, and of no other; the label is bound to it.
     Low {
@@ -32,6 +36,16 @@ pub enum Call {
     /// The block that this label of the worker is bound to, given back.
     Free {
         label: Name,
+    },
+    /// The block that this label of the worker is bound to, posted to a worker.
+    Post {
+        label: Name,
+        to: Worker,
+    },
+    /// The block in front of those posted to the worker in the zone of this name; the label is bound to it.
+    Collect {
+        label: Name,
+        zone: Name,
     },
 }
 

@@ -1,9 +1,51 @@
 //! A trace, and why a text is none.
-ghost use Rattle.std.specs.Prelude.{◌≡◌, ◌↔◌, [], ◌∷◌, ◌++◌, length, IsTrue, OnOk, OnErr};
+ghost use Rattle.std.specs.Prelude.{◌≡◌, ◌<◌, ◌≤◌, ◌↔◌, [], ◌∷◌, ◌++◌, length, IsTrue, OnOk, OnErr};
+ghost use Rattle.zp_trace.specs.declared.bounds.TheConstants.{MOST_ZONES};
 
+use crate::bounds::MOST_ZONES;
 use crate::line::{Command, ZoneLine};
+use arrayvec::ArrayVec;
 use std::alloc::{AllocError, Global};
 use std::marker::Model;
+
+/// The zones of a trace, the lowest first, in place.
+#[derive(Debug, Drop)]
+pub struct ZoneLines {
+    lines: ArrayVec<ZoneLine, MOST_ZONES>,
+}
+
+impl Model for ZoneLines {
+    ghost use Rattle.std.specs.Prelude.{List};
+    ghost use Rattle.zp_trace.specs.declared.line.ZoneLine.{ZoneLine};
+
+    ghost Value = { List ZoneLine };
+
+    ghost view = { λ z. z.lines.items };
+}
+
+impl ZoneLines {
+    pub(crate) fn new() -> ZoneLines
+        ensures { result ≡ [] }
+    {
+        ZoneLines {
+            lines: ArrayVec::new(),
+        }
+    }
+
+    pub(crate) fn push(&mut self, line: ZoneLine)
+        requires { length self.old < MOST_ZONES }
+        ensures { self.new ≡ self.old ++ line ∷ [] }
+    {
+        self.lines.push(line);
+    }
+
+    pub fn as_slice(&self) -> &[ZoneLine]
+        ensures same { result.now ≡ self.now }
+        ensures within { length result.now ≤ MOST_ZONES }
+    {
+        self.lines.as_slice()
+    }
+}
 
 /// The commands of a trace, in order.
 #[derive(Debug, Drop)]
@@ -58,10 +100,21 @@ impl Commands {
     }
 }
 
+/// What stands before the worker lines.
+#[derive(Debug, Drop)]
+pub struct Header {
+    pub zones: ZoneLines,
+    pub workers: u32,
+    /// How many pages a worker's list gets or gives back at a time; 0 where workers have no lists.
+    pub batch: u32,
+    /// How many pages a worker's list may have.
+    pub high: u32,
+}
+
 /// What a text of the grammar says.
 #[derive(Debug, Drop)]
 pub struct Trace {
-    pub zone: ZoneLine,
+    pub header: Header,
     pub commands: Commands,
 }
 
