@@ -4,7 +4,7 @@
 ghost use Rattle.std.specs.Prelude.{ℕ, ◌≡◌, ◌<◌, ◌≤◌, ◌++◌, ◌^◌, ◌↔◌, false, length, slice_get, slice_set, IfOk, IfSome, IsTrue};
 ghost use Rattle.zp_model.specs.declared.constants.TheConstants.{LARGEST_ORDER};
 ghost use Rattle.zp_model.specs.Block.{has, size};
-ghost use Rattle.zp_model.specs.Info.{counts};
+ghost use Rattle.zp_model.specs.Info.{counts_of};
 ghost use Rattle.zp_model.specs.Rows.{IsLoose, IsOn, after, front, list_at, state_at};
 ghost use Rattle.zp_model.specs.Described.{IsLinkedAt};
 ghost use Rattle.zp_model.specs.Frames.{frames_opening, with_area, IsNote, IsFramed, IsClear};
@@ -181,7 +181,7 @@ impl Buddy {
 
     /// How many free blocks of each order there are, and how many free pages.
     pub fn counts(&self) -> Counts
-        ensures { result ≡ counts self.now.area.largest self.now.area.free }
+        ensures { result ≡ counts_of self.now.area.largest self.now.area.free }
     {
         let mut by_order = [0u32; ORDERS];
         let mut order = Order::zero();

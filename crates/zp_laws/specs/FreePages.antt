@@ -1,11 +1,11 @@
 -- Which pages a step hands out and takes back. Pages are absolute here.
-use Rattle.std.specs.Prelude.{ℕ, ◌-◌, ◌≡◌, ◌&&◌, ◌||◌, not, Bool, true, false, leb}
+use Rattle.std.specs.Prelude.{ℕ, ◌+◌, ◌-◌, ◌≡◌, ◌&&◌, ◌||◌, not, Bool, true, false, leb}
 use Rattle.zp_model.specs.declared.request.Request.{Request}
 use Rattle.zp_model.specs.declared.request.Reply.{Reply}
 use Rattle.zp_model.specs.declared.refused.Refused.{Refused}
-use Rattle.zp_model.specs.Block.{has, in_run}
+use Rattle.zp_model.specs.Block.{has, in_run, size}
 use Rattle.zp_model.specs.Rows.{stands_in}
-use Rattle.zp_model.specs.Zone.{PlainZone, pages_of, workers_of}
+use Rattle.zp_model.specs.Zone.{PlainZone, pages_of, workers_of, out_pages, posted_pages}
 use Rattle.zp_model.specs.Step.{step}
 use Rattle.zp_model.specs.Run.{IsDefined}
 use Rattle.zp_model.specs.Lawful.{IsLawful}
@@ -56,3 +56,7 @@ pub record IsSameZone (before after : PlainZone) : Type 0 where
 -- no step changes the largest order of a zone, its size, its base, its least mark or the number of its workers
 abbrev pub StepsKeepTheZone : Type 0
 StepsKeepTheZone = (z : PlainZone) (w : ℕ) (q : Request) → IsSameZone z (step z w q).zone
+
+-- each page of a lawful zone is free, out or posted, and none twice: their numbers add up to the zone's pages
+abbrev pub PagesAddUp : Type 0
+PagesAddUp = (z : PlainZone) → IsLawful z → size z.area.free + out_pages z + posted_pages z ≡ pages_of z

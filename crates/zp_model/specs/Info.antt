@@ -11,8 +11,8 @@ unfoldable pub blocks_of_order : ℕ → List Bool → ℕ → ℕ
 blocks_of_order m free k = count_by (λ h. is_max m free h k) (range_with_len 0 (length free))
 
 -- the counts of each order from 0 to m, the least first, and of the free pages
-abbrev pub counts : ℕ → List Bool → Counts
-counts m free = record { by_order = map (blocks_of_order m free) (range_with_len 0 (m + 1)); free = size free }
+abbrev pub counts_of : ℕ → List Bool → Counts
+counts_of m free = record { by_order = map (blocks_of_order m free) (range_with_len 0 (m + 1)); free = size free }
 
 abbrev pub space : ℕ
 space = 32

@@ -26,8 +26,8 @@ abbrev pub passes : PlainZone → ℕ → Mark → Bool
 passes z k m = is_above z.min (pages_at_hand z) k m
 
 -- the highest mark that the free pages are above
-abbrev pub level_of : ℕ → ℕ → Level
-level_of min free =
+abbrev pub level_above : ℕ → ℕ → Level
+level_above min free =
     if ltb (high_mark min) free
     then Level.High
     else (if ltb (low_mark min) free
@@ -36,5 +36,5 @@ level_of min free =
     then Level.Min
     else Level.Short))
 
-abbrev pub level : PlainZone → Level
-level z = level_of z.min (pages_at_hand z)
+abbrev pub level_of : PlainZone → Level
+level_of z = level_above z.min (pages_at_hand z)

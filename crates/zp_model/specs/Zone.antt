@@ -38,6 +38,14 @@ pages_of z = length z.area.free
 abbrev pub workers_of : PlainZone → ℕ
 workers_of z = length z.posted
 
+abbrev pub held_pages : Option Holding → ℕ
+held_pages None = 0
+held_pages (Some x) = 2 ^ x.order
+
+-- the pages of the blocks out
+unfoldable pub out_pages : PlainZone → ℕ
+out_pages z = sum_by held_pages z.out
+
 -- the pages of the posted blocks
 unfoldable pub posted_pages : PlainZone → ℕ
 posted_pages z = sum_by (λ (ps : List PostedBlock). sum_by (λ (p : PostedBlock). 2 ^ p.order) ps) z.posted

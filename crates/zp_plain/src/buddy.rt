@@ -2,7 +2,7 @@
 ghost use Rattle.std.specs.Prelude.{ℕ, ◌≡◌, ◌<◌, ◌≤◌, ◌^◌, ◌↔◌, false, length, slice_set, IfOk, IfSome, IsTrue};
 ghost use Rattle.zp_model.specs.declared.constants.TheConstants.{LARGEST_ORDER};
 ghost use Rattle.zp_model.specs.Block.{has, size};
-ghost use Rattle.zp_model.specs.Info.{counts};
+ghost use Rattle.zp_model.specs.Info.{counts_of};
 ghost use Rattle.zp_model.specs.Rows.{IsOn, after, front, state_at};
 ghost use Rattle.zp_model.specs.Frames.{frames_opening, given, with_area, IsNote, IsFramed, IsClear};
 ghost use Rattle.zp_model.specs.Area.{list_number, free_list, kind_at};
@@ -169,7 +169,7 @@ impl Buddy {
 
     /// How many free blocks of each order there are, and how many free pages.
     pub fn counts(&self) -> Counts
-        ensures { result ≡ counts self.now.area.largest self.now.area.free }
+        ensures { result ≡ counts_of self.now.area.largest self.now.area.free }
     {
         counts(self.area.marks())
     }

@@ -1,7 +1,7 @@
 //! Counts of free blocks: what `Info.antt` says.
 ghost use Rattle.std.specs.Prelude.{◌≡◌, ◌≤◌, length};
 ghost use Rattle.zp_model.specs.declared.constants.TheConstants.{LARGEST_ORDER, MAX_PAGES};
-ghost use Rattle.zp_model.specs.Info.{blocks_of_order, counts};
+ghost use Rattle.zp_model.specs.Info.{blocks_of_order, counts_of};
 
 use crate::block::{is_max, order_of, size};
 use zp_model::{Counts, ORDERS, Order, PageAt};
@@ -23,7 +23,7 @@ fn blocks_of_order(set: &[bool], order: Order) -> u32
 /// How many maximal blocks of each order the free pages have, and how many free pages there are.
 pub fn counts(free: &[bool]) -> Counts
     requires { length free.now ≤ MAX_PAGES }
-    ensures { result ≡ counts LARGEST_ORDER free.now }
+    ensures { result ≡ counts_of LARGEST_ORDER free.now }
 {
     let mut by_order = [0u32; ORDERS];
     'orders: for k in 0..ORDERS {

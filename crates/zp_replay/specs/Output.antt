@@ -5,7 +5,7 @@ use Rattle.zp_model.specs.declared.mark.Level.{Level}
 use Rattle.zp_model.specs.declared.mark.Level.TheVariants.{High, Low, Min, Short}
 use Rattle.zp_model.specs.declared.constants.TheConstants.{LARGEST_ORDER}
 use Rattle.zp_model.specs.Block.{size}
-use Rattle.zp_model.specs.Mark.{level}
+use Rattle.zp_model.specs.Mark.{level_of}
 use Rattle.zp_model.specs.Zone.{PlainZone, zone_opening, pages_of}
 use Rattle.zp_trace.specs.declared.bounds.TheConstants.{WORKERS}
 use Rattle.zp_trace.specs.declared.line.ZoneLine.{ZoneLine}
@@ -39,7 +39,7 @@ abbrev pub totals : PlainZone → Totals
 totals z = record { free = size z.area.free; posted = 0; cached = 0; lent = pages_of z - size z.area.free }
 
 abbrev pub total_of : NamedZone → List ℕ
-total_of z = total_line z.name (pages_of z.plain) (totals z.plain) (level z.plain)
+total_of z = total_line z.name (pages_of z.plain) (totals z.plain) (level_of z.plain)
 
 -- the zone that a zone line declares, with nothing out
 abbrev pub declared_zone : ZoneLine → NamedZone

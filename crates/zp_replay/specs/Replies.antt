@@ -8,7 +8,7 @@ use Rattle.zp_model.specs.declared.request.Reply.TheVariants.{Page, Block, Freed
 use Rattle.zp_model.specs.declared.refused.Refused.{Refused as Refusal}
 use Rattle.zp_model.specs.declared.refused.Refused.TheVariants.{NotLent}
 use Rattle.zp_model.specs.Refused.{refused_number}
-use Rattle.zp_model.specs.Info.{counts, info_line}
+use Rattle.zp_model.specs.Info.{counts_of, info_line}
 use Rattle.zp_model.specs.Zone.{PlainZone}
 use Rattle.zp_model.specs.Step.{Outcome, refuse, step}
 use Rattle.zp_model.specs.Run.{is_out}
@@ -45,7 +45,7 @@ as_page r = r
 
 -- the info line of a zone
 abbrev pub info_of : NamedZone → List ℕ
-info_of z = info_line z.name (counts z.plain.area.largest z.plain.area.free)
+info_of z = info_line z.name (counts_of z.plain.area.largest z.plain.area.free)
 
 -- a zone, and the bindings of labels so far
 pub record Standing : Type 0 where

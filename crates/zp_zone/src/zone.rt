@@ -6,8 +6,8 @@ ghost use Rattle.std.specs.Option.{option_map};
 ghost use Rattle.zp_model.specs.declared.constants.TheConstants.{LARGEST_ORDER};
 ghost use Rattle.zp_model.specs.Zone.{zone_opening, is_of, pages_of};
 ghost use Rattle.zp_zone.specs.Kept.{holding_of};
-ghost use Rattle.zp_model.specs.Mark.{level, level_of, is_above};
-ghost use Rattle.zp_model.specs.Info.{counts, info_line};
+ghost use Rattle.zp_model.specs.Mark.{level_of, level_above, is_above};
+ghost use Rattle.zp_model.specs.Info.{counts_of, info_line};
 ghost use Rattle.zp_model.specs.declared.request.Request.TheVariants as request;
 ghost use Rattle.zp_model.specs.Step.{alloc, freed, step};
 ghost use Rattle.zp_model.specs.Run.{is_out};
@@ -203,7 +203,7 @@ impl Zone {
 
     /// How many free blocks of each order there are, and how many free pages. Each zone is lawful.
     pub fn counts(&self) -> Counts
-        ensures counts { result ≡ counts self.now.plain.area.largest self.now.plain.area.free }
+        ensures counts { result ≡ counts_of self.now.plain.area.largest self.now.plain.area.free }
         ensures lawful { IsLawful self.now.plain }
     {
         self.buddy.counts()
@@ -211,16 +211,16 @@ impl Zone {
 
     /// The highest mark that the free pages are above.
     pub fn level(&self) -> Level
-        ensures { result ≡ level self.now.plain }
+        ensures { result ≡ level_of self.now.plain }
     {
         level_above(self.min, self.buddy.free_pages())
     }
 
     /// Writes the zone's info line.
     pub fn write_info<W: Writer>(&self, writer: &mut W) -> Result<(), WriteFault>
-        ensures ok { OnOk result (IsWritten (W.contents writer.old) (W.contents writer.new) (info_line self.now.name (counts self.now.plain.area.largest self.now.plain.area.free))) }
+        ensures ok { OnOk result (IsWritten (W.contents writer.old) (W.contents writer.new) (info_line self.now.name (counts_of self.now.plain.area.largest self.now.plain.area.free))) }
         ensures calm { OnOk result (W.failures writer.new ≡ W.failures writer.old) }
-        ensures err { OnErr result (IsBegun (W.contents writer.old) (W.contents writer.new) (info_line self.now.name (counts self.now.plain.area.largest self.now.plain.area.free))) }
+        ensures err { OnErr result (IsBegun (W.contents writer.old) (W.contents writer.new) (info_line self.now.name (counts_of self.now.plain.area.largest self.now.plain.area.free))) }
         ensures failed { OnErr result (W.failures writer.old < W.failures writer.new) }
     {
         write_counts(writer, self.name.as_str(), &self.counts())
@@ -273,7 +273,7 @@ fn is_above(min: u32, free: u32, order: Order, mark: Mark) -> bool
 /// The highest mark that so many free pages are above.
 fn level_above(min: u32, free: u32) -> Level
     requires { min ≤ MAX_PAGES }
-    ensures { result ≡ level_of min free }
+    ensures { result ≡ level_above min free }
 {
     if free > min + min / 2 {
         Level::High

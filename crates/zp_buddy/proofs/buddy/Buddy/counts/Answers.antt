@@ -6,7 +6,7 @@ use Rattle.zp_model.specs.declared.constants.TheConstants.{LARGEST_ORDER}
 use Rattle.zp_model.specs.declared.counts.Counts.{Counts}
 use Rattle.zp_model.specs.BlockSet.{cover}
 use Rattle.zp_model.specs.Frames.{Frames}
-use Rattle.zp_model.specs.Info.{counts, blocks_of_order}
+use Rattle.zp_model.specs.Info.{counts_of, blocks_of_order}
 use Rattle.zp_area.specs.Blocks.{block_set}
 use Rattle.zp_buddy.proofs.Maximal.{count_maximal}
 use Rattle.zp_buddy.proofs.buddy.Buddy.counts.Goals as goal
@@ -37,4 +37,4 @@ returns c =
     let e = fill_by_all (blocks_of_order LARGEST_ORDER u) (set c.orders.by_order c.index.result c.count.result) 11 0 (length-set _ _ _ ∙ n) each in
     ap (λ (q : List ℕ). let x : Counts = record { by_order = q; free = c.self.inside.free } in x) e
     ∙ ap (λ (q : ℕ). let x : Counts = record { by_order = map (blocks_of_order LARGEST_ORDER u) (range_with_len 0 11); free = q } in x) c.self.invariant.counted
-    ∙ ap (λ (f : Frames). counts f.area.largest f.area.free) c.self.view_is
+    ∙ ap (λ (f : Frames). counts_of f.area.largest f.area.free) c.self.view_is
