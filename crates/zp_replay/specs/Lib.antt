@@ -1,3 +1,4 @@
+pub mod Row
 pub mod Labels
 pub mod Replies
 pub mod Output

@@ -1,7 +1,6 @@
 //! The labels of workers, and the blocks that they are bound to.
-ghost use Rattle.std.specs.Prelude.{◌≡◌, ◌<◌, length, vec_capacity};
-ghost use Rattle.zp_model.specs.declared.request.Reply.TheVariants.{Page};
-ghost use Rattle.zp_replay.specs.Labels.{names, bound_to, bind};
+ghost use Rattle.std.specs.Prelude.{◌≡◌, ◌<◌, ◌∷◌, [], ◌++◌, length, vec_capacity};
+ghost use Rattle.zp_replay.specs.Labels.{names, bound_to};
 
 use zp_model::{Name, Order, PageNo, Worker};
 
@@ -10,6 +9,8 @@ use zp_model::{Name, Order, PageNo, Worker};
 pub struct Binding {
     pub worker: Worker,
     pub label: Name,
+    /// The number of the block's zone, the first one's being 0.
+    pub zone: usize,
     /// The block's first page.
     pub page: PageNo,
     pub order: Order,
@@ -31,13 +32,4 @@ pub fn bound_to(bindings: &[Binding], worker: Worker, label: Name) -> Option<Bin
         .rev()
         .copied()
         .find(|binding| names(binding, worker, label))
-}
-
-/// Binds a label anew.
-pub fn bind(bindings: &mut Vec<Binding>, binding: Binding)
-    requires { length bindings.old.items < vec_capacity bindings.old }
-    ensures bound { bindings.new.items ≡ bind bindings.old.items binding.worker binding.label binding.order (Page binding.page) }
-    ensures room { vec_capacity bindings.new ≡ vec_capacity bindings.old }
-{
-    bindings.push_reserved(binding);
 }

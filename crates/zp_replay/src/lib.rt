@@ -5,11 +5,13 @@
 #![tactic(auto)]
 
 mod bindings;
+mod crewed_zone;
 pub mod device;
 mod ending;
 mod exit;
 mod failures;
 mod flags;
+mod granted;
 mod input;
 mod lines;
 pub mod memory;

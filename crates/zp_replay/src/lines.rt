@@ -2,14 +2,14 @@
 ghost use Rattle.std.specs.Prelude.{◌≡◌, ◌≤◌, ◌+◌, ◌*◌, ◌++◌, codes, length};
 ghost use Rattle.std.specs.Fmt.{decimal};
 ghost use Rattle.arrayvec.specs.ArrayString.{array_string_len};
-ghost use Rattle.zp_model.specs.Refused.{refused_number};
-ghost use Rattle.zp_zone.specs.NamedZone.{page_reply};
-ghost use Rattle.zp_replay.specs.Replies.{reply_words, reply_line, freed_reply};
-ghost use Rattle.zp_replay.specs.Output.{level_word, counted, total_line, bad_line};
+ghost use Rattle.zp_replay.specs.Replies.{reply_line, reply_of};
+ghost use Rattle.zp_replay.specs.Output.{level_word, counted, total_line, total_of, totals, bad_line};
 
+use crate::granted::Granted;
 use arrayvec::ArrayString;
 use itoa::Buffer;
-use zp_model::{LONGEST_NAME, Level, PageNo, Refused, Worker};
+use zp_model::{Block, LONGEST_NAME, Level, Refused, Worker};
+use zp_zone::Zone;
 
 /// The most bytes of a line.
 const LINE: usize = 160;
@@ -29,27 +29,20 @@ pub struct Totals {
     pub lent: u32,
 }
 
-/// `W: page P` or `W: refused C`.
-pub fn reply_line(worker: Worker, reply: Result<PageNo, Refused>) -> Line
-    ensures { result.bytes ≡ reply_line worker (page_reply reply) }
+/// What a worker is answered: `W: page P`, `W: block P order K`, `W: freed`, `W: posted` or `W: refused C`.
+pub fn reply_line(worker: Worker, reply: Result<Granted, Refused>) -> Line
+    ensures { result.bytes ≡ reply_line worker (reply_of reply) }
 {
     let mut line = line_of(worker);
     match reply {
-        Ok(page) => push_counted(&mut line, "page ", page.number()),
-        Err(refused) => push_refused(&mut line, refused),
-    }
-    line.push_str("\n");
-    line
-}
-
-/// `W: freed` or `W: refused C`.
-pub fn freed_line(worker: Worker, reply: Result<(), Refused>) -> Line
-    ensures { result.bytes ≡ reply_line worker (freed_reply reply) }
-{
-    let mut line = line_of(worker);
-    match reply {
-        Ok(()) => line.push_str("freed"),
-        Err(refused) => push_refused(&mut line, refused),
+        Ok(Granted::Page(page)) => push_counted(&mut line, "page ", page.number()),
+        Ok(Granted::Block(Block { page, order, .. })) => {
+            push_counted(&mut line, "block ", page.number());
+            push_counted(&mut line, " order ", u32::from(order.number()));
+        }
+        Ok(Granted::Freed) => line.push_str("freed"),
+        Ok(Granted::Posted) => line.push_str("posted"),
+        Err(refused) => push_counted(&mut line, "refused ", u32::from(refused.number())),
     }
     line.push_str("\n");
     line
@@ -66,17 +59,30 @@ fn line_of(worker: Worker) -> Line
     line
 }
 
-/// Appends a refusal, by its number.
-fn push_refused(line: &mut Line, refused: Refused)
-    requires { array_string_len line.old ≤ DIGITS + 2 }
-    ensures bytes { line.new.bytes ≡ line.old.bytes ++ counted (codes "refused ") (refused_number refused) }
-    ensures len { array_string_len line.new ≤ 2 * DIGITS + 10 }
+/// Where a zone's pages are. No worker has lists, so what is neither free nor posted is lent.
+fn totals_of(zone: &Zone) -> Totals
+    ensures { result ≡ totals zone.now.plain }
 {
-    push_counted(line, "refused ", u32::from(refused.number()));
+    let free = zone.counts().free;
+    let posted = zone.posted_pages();
+    Totals {
+        free,
+        posted,
+        cached: 0,
+        lent: zone.pages() - free - posted,
+    }
+}
+
+/// A zone's total line.
+pub fn total_of(zone: &Zone) -> Line
+    ensures { result.bytes ≡ total_of zone.now }
+{
+    let name = zone.name();
+    total_line(name, zone.pages(), &totals_of(zone), zone.level())
 }
 
 /// `total NAME pages A free B posted C cached D lent E level L`.
-pub fn total_line(name: &str, pages: u32, totals: &Totals, level: Level) -> Line
+fn total_line(name: &str, pages: u32, totals: &Totals, level: Level) -> Line
     requires { length name.now ≤ LONGEST_NAME }
     ensures { result.bytes ≡ total_line name.now pages totals.now level }
 {

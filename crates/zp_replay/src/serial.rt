@@ -1,6 +1,6 @@
 //! The serial replay: one thread, the commands in the trace's order.
-ghost use Rattle.std.specs.Prelude.{◌≡◌, ◌≢◌, ◌<◌, ℕ, Ok, Err, OnOk};
-ghost use Rattle.zp_trace.specs.Grammar.{IsBeginning, lines_of};
+ghost use Rattle.std.specs.Prelude.{◌≡◌, ◌≢◌, ◌<◌, ℕ, All, Ok, Err, OnOk};
+ghost use Rattle.zp_trace.specs.Grammar.{IsHeader, IsCommandOf};
 ghost use Rattle.zp_zone.specs.Streams.{IsWritten, IsBegun};
 ghost use Rattle.zp_replay.specs.Output.{output};
 ghost use Rattle.zp_replay.specs.Replaying.{IsReplayed, IsRefusedAt, IsUnanswered, IsCutShort};
@@ -52,7 +52,8 @@ pub fn replay_serial<R: Reader, W: Writer>(
 
 /// Writes the output of a trace.
 fn replay<W: Writer>(alloc: Global, trace: &Trace, writer: &mut W) -> Result<(), ReplayFault>
-    requires { IsBeginning (lines_of trace.now) }
+    requires header { IsHeader trace.now.header }
+    requires commands { All (IsCommandOf trace.now.header) trace.now.commands }
     ensures ok { OnOk result (IsWritten (W.contents writer.old) (W.contents writer.new) (output trace.now)) }
     ensures write { result ≡ Err ReplayFault.Write → W.failures writer.old < W.failures writer.new }
     ensures write_only { result ≢ Err ReplayFault.Write → W.failures writer.new ≡ W.failures writer.old }
@@ -60,7 +61,7 @@ fn replay<W: Writer>(alloc: Global, trace: &Trace, writer: &mut W) -> Result<(),
     ensures unmade { result ≡ Err ReplayFault.Memory → W.contents writer.new ≡ W.contents writer.old }
     ensures only { (result ≡ Err ReplayFault.Read → ⊥) × (result ≡ Err ReplayFault.NoThread → ⊥) }
 {
-    let mut replay = match Replay::new(alloc, &trace.zone, trace.commands.len()) {
+    let mut replay = match Replay::new(alloc, &trace.header, trace.commands.len()) {
         Ok(replay) => replay,
         Err(Refused::Memory) => return Err(ReplayFault::Memory),
         Err(_) => unreachable!(),
