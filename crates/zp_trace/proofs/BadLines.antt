@@ -1,5 +1,5 @@
 -- Where no line that may stand next stands, the next line is the bad one.
-use Rattle.std.proofs.Common.{ℕ, ◌≡◌, ◌<◌, ◌+◌, List, [], ◌∷◌, ◌++◌, map, length, length-append, sym, ap, subst, ◌∙◌, arith}
+use Rattle.std.proofs.Common.{ℕ, ◌≡◌, ◌<◌, ◌+◌, List, [], ◌∷◌, ◌++◌, map, length, length-append, sym, ap, subst, ◌∙◌, arith, Result, Err}
 use Rattle.std.proofs.lemmas.List.{length-map}
 use Rattle.zp_model.specs.Bounds.{IsCrew}
 use Rattle.zp_trace.specs.declared.bounds.TheConstants.{MOST_LINES}
@@ -7,6 +7,8 @@ use Rattle.zp_trace.specs.declared.line.ZoneLine.{ZoneLine}
 use Rattle.zp_trace.specs.declared.line.Command.{Command}
 use Rattle.zp_trace.specs.declared.trace.Header.{Header}
 use Rattle.zp_trace.specs.declared.trace.Trace.{Trace}
+use Rattle.zp_trace.specs.declared.trace.TraceFault.{TraceFault}
+use Rattle.zp_trace.specs.declared.trace.TraceFault.TheVariants as fault
 use Rattle.zp_trace.specs.Lines.{Line}
 use Rattle.zp_trace.specs.Lines as line
 use Rattle.zp_trace.specs.Spelling.{line_text, text_of, header_of}
@@ -69,6 +71,10 @@ no_command h cs rest none (line.Lists batch high) more allowed e =
 no_command h cs rest none (line.Command c) more allowed e =
     let trace = same_trace allowed.0 (record { header = h; commands = cs }) (sym allowed.1) in
     none allowed.2 c more (subst (λ (t : Trace). IsNextCommand t.header t.commands c) trace allowed.3) e
+
+-- which line a fault says
+pub line_of_fault : {T : Type 0} (m n : ℕ) → ◌≡◌ {A = Result T TraceFault} (Err (fault.BadLine m)) (Err (fault.BadLine n)) → m ≡ n
+line_of_fault m n e = cc
 
 -- after zones
 pub bad_second : (zs : List ZoneLine) (text rest : List ℕ) (n : ℕ) → text ≡ text_of (map line.Zone zs) ++ rest → IsBeginning (map line.Zone zs) → n ≡ length zs + 1 → NoZoneLine zs rest → (0 < length zs → NoWorkersLine rest) → IsBadLine text n

@@ -1,4 +1,4 @@
-use Rattle.std.proofs.Common.{◌≡◌, ◌<◌, ◌+◌, ◌++◌, List, [], ◌∷◌, length, length-append, sym, ap, subst, ◌∙◌, arith}
+use Rattle.std.proofs.Common.{◌<◌, ◌++◌, List, [], ◌∷◌, length, length-append, sym, ap, subst, ◌∙◌, arith}
 use Rattle.std.proofs.lemmas.Bool.Decides.{nat_tests}
 use Rattle.zp_trace.specs.declared.bounds.TheConstants.{MOST_LINES}
 use Rattle.zp_trace.specs.declared.line.Command.{Command}
@@ -7,7 +7,7 @@ use Rattle.zp_trace.specs.Spelling.{text_of, header_of}
 use Rattle.zp_trace.specs.Grammar.{IsNextCommand, IsBeginning}
 use Rattle.zp_trace.proofs.HeaderLines.{lines_with}
 use Rattle.zp_trace.proofs.CommandLines.{lines_count, header_count, no_commands, step_parts, step_allowed}
-use Rattle.zp_trace.proofs.BadLines.{NoCommandLine, bad_command}
+use Rattle.zp_trace.proofs.BadLines.{NoCommandLine, line_of_fault, bad_command}
 use Rattle.zp_trace.proofs.parser.parse_commands.Goals as goal
 
 pub loop-rest-init : goal.loop-rest-init
@@ -23,14 +23,14 @@ loop-rest-init c =
 pub returns-then-lines-eq-MOST_LINES-clause-bad : goal.returns-then-lines-eq-MOST_LINES-clause-bad
 returns-then-lines-eq-MOST_LINES-clause-bad c n e =
     let h = c.args.header.now in
-    let count : c.lines.result + c.len.result + 1 ≡ n = cc in
+    let count = line_of_fault _ n e in
     bad_command h c.loop-rest.commands (text_of (header_of h) ++ c.args.text.now) c.loop-rest.rest.now n c.loop-rest.invariant.parts c.loop-rest.invariant.allowed (omega (arith, count, c.lines.ensures.same, c.len.ensures)) (λ empty. grind (arith, nat_tests, ap length empty))
     (λ few. absurd (omega (arith, lines_count h c.loop-rest.commands, few, c.lines.ensures.same, c.len.ensures, c.if-lines-eq-MOST_LINES.true)))
 
 pub returns-in_default-clause-bad : goal.returns-in_default-clause-bad
 returns-in_default-clause-bad c n e =
     let h = c.args.header.now in
-    let count : c.lines.result + c.len.result + 1 ≡ n = cc in
+    let count = line_of_fault _ n e in
     bad_command h c.loop-rest.commands (text_of (header_of h) ++ c.args.text.now) c.loop-rest.rest.now n c.loop-rest.invariant.parts c.loop-rest.invariant.allowed (omega (arith, count, c.lines.ensures.same, c.len.ensures)) (λ empty. grind (arith, nat_tests, ap length empty))
     (λ few. subst (λ (cs : List Command). NoCommandLine h cs c.loop-rest.rest.now) c.as_slice.ensures c.in_default.ensures.none)
 

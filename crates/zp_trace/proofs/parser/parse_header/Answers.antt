@@ -1,21 +1,21 @@
-use Rattle.std.proofs.Common.{◌≡◌, ◌<◌, ◌+◌, [], length, ap, subst, arith}
+use Rattle.std.proofs.Common.{◌<◌, [], length, ap, subst, arith}
 use Rattle.zp_trace.specs.declared.trace.Header.{Header}
 use Rattle.zp_trace.specs.Grammar.{IsBeginning}
 use Rattle.zp_trace.proofs.HeaderLines.{begin_workers, begin_header, workers_text, header_text, header_is}
 use Rattle.zp_trace.proofs.CommandLines.{no_commands}
-use Rattle.zp_trace.proofs.BadLines.{bad_second, bad_third}
+use Rattle.zp_trace.proofs.BadLines.{line_of_fault, bad_second, bad_third}
 use Rattle.zp_trace.proofs.parser.parse_header.Goals as goal
 
 pub returns-in_default-clause-bad : goal.returns-in_default-clause-bad
 returns-in_default-clause-bad c n e =
-    let number : length c.as_slice.result.now + 1 ≡ n = cc in
+    let number = line_of_fault _ n e in
     let zs = c.in_ok-zones.zones in
     let rest = c.in_ok-zones.rest.now in
     bad_second zs c.args.text.now rest n c.in_ok-zones.ensures.zones.1 c.in_ok-zones.ensures.zones.0 (omega (arith, number, ap length c.as_slice.ensures.same)) c.in_ok-zones.ensures.all (λ some. c.in_default.ensures.none)
 
 pub returns-in_default-lists_line-clause-bad : goal.returns-in_default-lists_line-clause-bad
 returns-in_default-lists_line-clause-bad c n e =
-    let number : length c.as_slice.result.now + 2 ≡ n = cc in
+    let number = line_of_fault _ n e in
     let zs = c.in_ok-zones.zones in
     let workers = c.in-Some.workers in
     let zones = c.in_ok-zones.ensures.zones in
