@@ -4,6 +4,8 @@ pub mod WordLists
 pub mod Places
 pub mod LineWords
 pub mod Beginnings
+pub mod HeaderLines
+pub mod CommandLines
 pub mod BadLines
 pub mod NextLine
 pub mod OneReading

@@ -5,7 +5,7 @@ use Rattle.zp_trace.specs.Lines.{Line}
 use Rattle.zp_trace.specs.declared.trace.Trace.{Trace}
 use Rattle.zp_trace.specs.Spelling.{line_feed, joined, line_words, line_text, text_of}
 use Rattle.zp_trace.specs.Grammar.{IsAllowedAfter, IsBeginning, IsTraceText, IsBadLine, lines_of}
-use Rattle.zp_trace.proofs.Beginnings.{same_trace}
+use Rattle.zp_trace.proofs.CommandLines.{same_trace}
 use Rattle.zp_trace.proofs.NextLine.{next_unique}
 
 -- one of two runs of lines goes on from the other

@@ -20,6 +20,13 @@ word_at ws d i words e inside =
     sym (get_or-map (λ (w : Bor (List ℕ)). w.now) ws i d [] inside) ∙ ap (λ (l : List (List ℕ)). get_or l i []) e
 
 -- words that are as many, and each of them known
+pub three : (ws : List (Bor (List ℕ))) (q : Bor (List ℕ)) → 3 ≤ length ws → length ws < 4 → {a b c : List ℕ} → (get_or ws 0 q).now ≡ a → (get_or ws 1 q).now ≡ b → (get_or ws 2 q).now ≡ c → spelled ws ≡ a ∷ b ∷ c ∷ []
+three [] q least below = absurd (omega arith)
+three (r ∷ []) q least below = absurd (omega arith)
+three (r ∷ s ∷ []) q least below = absurd (omega arith)
+three (r ∷ s ∷ t ∷ []) q least below = λ a b c. cc
+three (r ∷ s ∷ t ∷ u ∷ ws) q least below = absurd (omega arith)
+
 pub four : (ws : List (Bor (List ℕ))) (q : Bor (List ℕ)) → 4 ≤ length ws → length ws < 5 → {a b c d : List ℕ} → (get_or ws 0 q).now ≡ a → (get_or ws 1 q).now ≡ b → (get_or ws 2 q).now ≡ c → (get_or ws 3 q).now ≡ d → spelled ws ≡ a ∷ b ∷ c ∷ d ∷ []
 four [] q least below = absurd (omega arith)
 four (r ∷ []) q least below = absurd (omega arith)

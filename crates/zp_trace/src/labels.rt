@@ -10,8 +10,10 @@ fn bound_label(call: &Call) -> Option<Name>
     ensures { result ≡ bound_label call.now }
 {
     match call {
-        Call::Alloc { label, .. } | Call::Low { label, .. } => Some(*label),
-        Call::Info | Call::Free { .. } => None,
+        Call::Alloc { label, .. } | Call::Low { label, .. } | Call::Collect { label, .. } => {
+            Some(*label)
+        }
+        Call::Info | Call::Free { .. } | Call::Post { .. } => None,
     }
 }
 
@@ -29,12 +31,14 @@ fn is_bound(before: &[Command], worker: Worker, label: Name) -> bool
     before.iter().any(|command| binds(command, worker, label))
 }
 
-/// Whether the label that a command frees by stands in one of those before it.
+/// Whether the label that a command names a block by stands in one of those before it.
 pub fn has_label(before: &[Command], command: &Command) -> bool
     ensures { IsTrue result ↔ HasLabel before.now command.now.worker command.now.call }
 {
     match command.call {
-        Call::Free { label } => is_bound(before, command.worker, label),
-        Call::Info | Call::Alloc { .. } | Call::Low { .. } => true,
+        Call::Free { label } | Call::Post { label, .. } => {
+            is_bound(before, command.worker, label)
+        }
+        Call::Info | Call::Alloc { .. } | Call::Low { .. } | Call::Collect { .. } => true,
     }
 }

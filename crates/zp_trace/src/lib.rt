@@ -5,6 +5,7 @@
 #![tactic(auto)]
 
 mod bounds;
+mod calls;
 mod forms;
 mod grammar_law;
 mod labels;
@@ -12,15 +13,16 @@ mod line;
 mod number;
 mod parser;
 mod trace;
+mod values;
 mod words;
 
-pub use bounds::{HEADER_LINES, MOST_LINES, WORKERS};
+pub use bounds::{MOST_LINES, MOST_ZONES};
 pub use grammar_law::{
     a_good_text_has_no_bad_line, a_text_has_one_bad_line, a_text_writes_one_trace,
 };
 pub use line::{Call, Command, ZoneLine};
 pub use parser::parse_trace;
-pub use trace::{Commands, Trace, TraceFault};
+pub use trace::{Commands, Header, Trace, TraceFault, ZoneLines};
 
 #[cfg(test)]
 mod tests;

@@ -1,49 +1,54 @@
 //! A trace, and why a text is none.
-ghost use Rattle.std.specs.Prelude.{◌≡◌, ◌<◌, ◌≤◌, ◌↔◌, [], ◌∷◌, ◌++◌, length, IsTrue, OnOk, OnErr};
+ghost use Rattle.std.specs.Prelude.{◌≡◌, ◌<◌, ◌≤◌, ◌↔◌, [], ◌∷◌, ◌+◌, ◌++◌, length, IsTrue, OnOk, OnErr};
 ghost use Rattle.zp_trace.specs.declared.bounds.TheConstants.{MOST_ZONES};
+ghost use Rattle.zp_trace.specs.Spelling.{header_of};
 
-use crate::bounds::MOST_ZONES;
 use crate::line::{Command, ZoneLine};
-use arrayvec::ArrayVec;
 use std::alloc::{AllocError, Global};
 use std::marker::Model;
 
-/// The zones of a trace, the lowest first, in place.
+/// The zones of a trace, the lowest first.
 #[derive(Debug, Drop)]
 pub struct ZoneLines {
-    lines: ArrayVec<ZoneLine, MOST_ZONES>,
+    lines: Vec<ZoneLine>,
 }
 
 impl Model for ZoneLines {
-    ghost use Rattle.std.specs.Prelude.{List};
+    ghost use Rattle.std.specs.Prelude.{List, length, ◌≤◌};
+    ghost use Rattle.zp_trace.specs.declared.bounds.TheConstants.{MOST_ZONES};
     ghost use Rattle.zp_trace.specs.declared.line.ZoneLine.{ZoneLine};
 
     ghost Value = { List ZoneLine };
 
     ghost view = { λ z. z.lines.items };
+
+    ghost invariant = { λ z. length z.lines.items ≤ MOST_ZONES };
 }
 
 impl ZoneLines {
-    pub(crate) fn new() -> ZoneLines
+    pub(crate) fn new(alloc: Global) -> ZoneLines
         ensures { result ≡ [] }
     {
         ZoneLines {
-            lines: ArrayVec::new(),
+            lines: Vec::new(alloc),
         }
     }
 
-    pub(crate) fn push(&mut self, line: ZoneLine)
+    /// Puts a zone at the end. Where memory is wanting, the list stays as it was.
+    pub(crate) fn push(&mut self, line: ZoneLine) -> Result<(), AllocError>
         requires { length self.old < MOST_ZONES }
-        ensures { self.new ≡ self.old ++ line ∷ [] }
+        ensures ok { OnOk result (self.new ≡ self.old ++ line ∷ []) }
+        ensures err { OnErr result (self.new ≡ self.old) }
     {
-        self.lines.push(line);
+        self.lines.push(line)?;
+        Ok(())
     }
 
     pub fn as_slice(&self) -> &[ZoneLine]
         ensures same { result.now ≡ self.now }
         ensures within { length result.now ≤ MOST_ZONES }
     {
-        self.lines.as_slice()
+        &self.lines
     }
 }
 
@@ -109,6 +114,16 @@ pub struct Header {
     pub batch: u32,
     /// How many pages a worker's list may have.
     pub high: u32,
+}
+
+impl Header {
+    /// How many lines write it.
+    pub(crate) fn lines(&self) -> usize
+        ensures same { result ≡ length (header_of self.now) }
+        ensures within { result ≤ MOST_ZONES + 2 }
+    {
+        self.zones.as_slice().len() + 2
+    }
 }
 
 /// What a text of the grammar says.

@@ -1,6 +1,6 @@
 use Rattle.std.proofs.Common.{◌≡◌, arith}
 use Rattle.zp_trace.proofs.Numbers.{same_number}
-use Rattle.zp_trace.proofs.forms.order_of.Goals as goal
+use Rattle.zp_trace.proofs.values.order_of.Goals as goal
 
 pub returns-else-number-clause-none : goal.returns-else-number-clause-none
 returns-else-number-clause-none c k is e =

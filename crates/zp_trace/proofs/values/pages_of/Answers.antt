@@ -1,6 +1,6 @@
 use Rattle.std.proofs.Common.{◌≡◌, arith, inl, inr}
 use Rattle.zp_trace.proofs.Numbers.{same_number}
-use Rattle.zp_trace.proofs.forms.pages_of.Goals as goal
+use Rattle.zp_trace.proofs.values.pages_of.Goals as goal
 
 pub returns-else-pages-gt0-clause-none : goal.returns-else-pages-gt0-clause-none
 returns-else-pages-gt0-clause-none c n is e =
