@@ -19,5 +19,6 @@ pub mod Maximal
 pub mod Taking
 pub mod Claiming
 pub mod NotedFrames
+pub mod SideLists
 pub mod ClearRun
 pub mod AddedPages

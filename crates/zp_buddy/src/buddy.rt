@@ -1,11 +1,11 @@
 //! The buddy allocator of one zone.
 //!
 //! In Linux: the `free_area` of a `struct zone`, `__rmqueue` and `__free_one_page`.
-ghost use Rattle.std.specs.Prelude.{ℕ, ◌≡◌, ◌<◌, ◌≤◌, ◌++◌, ◌^◌, ◌↔◌, false, length, slice_get, slice_set, IfOk, IfSome, IsTrue};
+ghost use Rattle.std.specs.Prelude.{ℕ, ◌≡◌, ◌<◌, ◌≤◌, ◌++◌, ◌∷◌, [], ◌^◌, ◌↔◌, false, length, slice_get, slice_set, IfOk, IfSome, IsTrue};
 ghost use Rattle.zp_model.specs.declared.constants.TheConstants.{LARGEST_ORDER};
-ghost use Rattle.zp_model.specs.Block.{has, size};
+ghost use Rattle.zp_model.specs.Block.{has, in_run, size};
 ghost use Rattle.zp_model.specs.Info.{counts_of};
-ghost use Rattle.zp_model.specs.Rows.{IsLoose, IsOn, after, front, list_at, state_at};
+ghost use Rattle.zp_model.specs.Rows.{IsLoose, IsOn, after, front, list_at, rest, state_at};
 ghost use Rattle.zp_model.specs.Described.{IsLinkedAt};
 ghost use Rattle.zp_model.specs.Frames.{frames_opening, with_area, IsNote, IsFramed, IsClear};
 ghost use Rattle.zp_model.specs.Area.{list_number, free_list, kind_at};
@@ -169,6 +169,42 @@ impl Buddy {
         ensures on { IfSome result (λ next. IsOn self.now.area.lists (list_number order kind) next) }
     {
         self.area.after(order, kind, at)
+    }
+
+    /// Puts a page that is not free, and that stands on no further list, at the end of one.
+    pub fn side_push_back(&mut self, list: usize, at: PageAt)
+        requires list { list < length self.old.sides }
+        requires page { at < length self.old.states }
+        requires used { has self.old.area.free at ≡ false }
+        requires loose { IsLoose self.old.sides at }
+        ensures after { self.new ≡ record self.old { sides = slice_set self.old.sides list (list_at self.old.sides list ++ at ∷ []) } }
+
+        // What the calls after it can rest on: each block that does not have the page stays clear.
+        ensures kept { (h k : ℕ) → in_run h k at ≡ false → IsClear self.old h k → IsClear self.new h k }
+    {
+        self.area.side_push_back(list, at);
+    }
+
+    /// Takes the page in front of a further list.
+    pub fn side_pop_front(&mut self, list: usize) -> Option<PageAt>
+        requires { list < length self.old.sides }
+        ensures answer { result ≡ front (list_at self.old.sides list) }
+        ensures after { self.new ≡ record self.old { sides = slice_set self.old.sides list (rest (list_at self.old.sides list)) } }
+
+        // What the calls after it can rest on.
+        ensures head { IfSome result (λ at. (at < length self.new.states) × (has self.new.area.free at ≡ false)) }
+        ensures loose { IfSome result (IsLoose self.new.sides) }
+        ensures kept { (h k : ℕ) → IsClear self.old h k → IsClear self.new h k }
+    {
+        self.area.side_pop_front(list)
+    }
+
+    /// The page in front of a further list.
+    pub fn side_front(&self, list: usize) -> Option<PageAt>
+        requires { list < length self.now.sides }
+        ensures { result ≡ front (list_at self.now.sides list) }
+    {
+        self.area.side_front(list)
     }
 
     /// How many free pages there are. What is noted as free is free.

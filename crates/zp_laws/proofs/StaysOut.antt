@@ -1,8 +1,9 @@
 -- Which blocks are out when one went out or came back: that one, and the others as they were.
-use Rattle.std.proofs.Common.{ℕ, ◌+◌, ◌-◌, ◌^◌, ◌≡◌, ◌≤◌, ◌<◌, ◌&&◌, inl, inr, refl, sym, ◌∙◌, ap, arith, Bool, true, false, cond, length, set, Option, Some, None}
+use Rattle.std.proofs.Common.{ℕ, ◌+◌, ◌-◌, ◌^◌, ◌≡◌, ◌≤◌, ◌<◌, ◌&&◌, inl, inr, refl, sym, ◌∙◌, ap, subst, arith, Bool, true, false, cond, List, [], ◌∷◌, length, set, Option, Some, None}
 use Rattle.std.proofs.lemmas.Nat.{pow_pos}
 use Rattle.std.proofs.lemmas.Bool.{cases_lt, and_from, and_right, le-leb, eq-eqb, false≢true, false_from_ne_true}
 use Rattle.std.proofs.lemmas.List.{length-set, get_or-set_same, get_or-set_other, get_or_past}
+use Rattle.std.proofs.lemmas.List.Elements.{All-head}
 use Rattle.std.specs.Prelude.{leb}
 use Rattle.zp_model.specs.declared.migrate_type.MigrateType.{MigrateType}
 use Rattle.zp_model.specs.declared.mark.Mark.{Mark}
@@ -15,13 +16,14 @@ use Rattle.zp_model.specs.Area.{Area, kind_at}
 use Rattle.zp_model.specs.Choose.{Chosen, choose}
 use Rattle.zp_model.specs.Take.{taken, leave, give, take_low_answer}
 use Rattle.zp_model.specs.Mark.{passes}
-use Rattle.zp_model.specs.Zone.{PlainZone, Holding, holding_at, is_of, pages_of, hand_out}
-use Rattle.zp_model.specs.Step.{alloc, alloc_chosen, alloc_low_at, refuse, freed, step}
+use Rattle.zp_model.specs.Zone.{PlainZone, Holding, PostedBlock, holding_at, posted_to, is_of, pages_of, workers_of, hand_out}
+use Rattle.zp_model.specs.Step.{alloc, alloc_chosen, alloc_low_at, refuse, freed, handed_on, collected, step}
 use Rattle.zp_model.specs.Run.{is_out}
 use Rattle.zp_model.specs.Lawful.{IsLawful}
 use Rattle.zp_laws.specs.Found.{IsFound}
 use Rattle.zp_laws.proofs.Choosing.{choose_found, take_low_found, found_block, found_free}
-use Rattle.zp_laws.proofs.Keeping.{free-not_out}
+use Rattle.zp_laws.proofs.Keeping.{AllPosted, free-not_out}
+use Rattle.zp_laws.proofs.Collecting.{posted-not_out}
 use Rattle.zp_laws.proofs.Held.{out-to}
 
 -- what is out at another page stays out when the holding of a page changes
@@ -162,3 +164,66 @@ pub freed-kept : (z : PlainZone) (a k : ℕ) → z.base ≤ a → (w p j : ℕ) 
 freed-kept z a k le w p j ne e =
     let low : z.base ≤ p = (out-to z w p j e).0 in
     out-at_other z (give z.area (a - z.base) k) (a - z.base) None w p j (λ same. ne (omega arith)) e
+
+-- a posted block is out no more, and the others stay out
+pub handed_on-gone : (z : PlainZone) (a to w j : ℕ) → is_out (handed_on z to (a - z.base) (holding_at z.out (a - z.base))) w a j ≡ false
+handed_on-gone z a to w j = go (holding_at z.out (a - z.base)) refl
+  where
+    go : (o : Option Holding) → holding_at z.out (a - z.base) ≡ o → is_out (handed_on z to (a - z.base) o) w a j ≡ false
+    go None e = and_right _ _ (ap (λ (q : Option Holding). is_of w j q) e)
+    go (Some x) e = freed-gone z a x.order w j
+
+pub handed_on-kept : (z : PlainZone) (a to : ℕ) (o : Option Holding) → z.base ≤ a → (w p j : ℕ) → (p ≡ a → ⊥) → is_out z w p j ≡ true → is_out (handed_on z to (a - z.base) o) w p j ≡ true
+handed_on-kept z a to None le w p j ne e = e
+handed_on-kept z a to (Some x) le w p j ne e = freed-kept z a x.order le w p j ne e
+
+-- the front of a posted list starts at a page of the zone where none is out
+posted_place : (z : PlainZone) (w : ℕ) (b : PostedBlock) (ps : List PostedBlock) → posted_to z w ≡ b ∷ ps → IsLawful z → w < workers_of z →
+    (b.head < length z.out) × (holding_at z.out b.head ≡ None)
+posted_place z w b ps e l lt =
+    let P : List PostedBlock → Type 0 = λ qs. AllPosted z.area.largest (pages_of z) qs in
+    let block : IsBlock z.area.largest (pages_of z) b.head b.order =
+    All-head (λ (q : PostedBlock). IsBlock z.area.largest (pages_of z) q.head q.order) b ps (subst P e (l.posted w)) in
+    let room : b.head + 2 ^ b.order ≤ pages_of z = block.inside in
+    let some : 0 < 2 ^ b.order = pow_pos b.order in
+    let places : length z.out ≡ pages_of z = l.places in
+    (omega arith, posted-not_out z w b ps e l lt (omega arith))
+
+front-kept : (z : PlainZone) (w : ℕ) (ps : List PostedBlock) → posted_to z w ≡ ps → IsLawful z → w < workers_of z → (v p j : ℕ) → is_out z v p j ≡ true →
+    is_out (collected z w ps).zone v p j ≡ true
+front-kept z w [] e l lt v p j q = q
+front-kept z w (b ∷ ps) e l lt v p j q =
+    let place = posted_place z w b ps e l lt in
+    out-at_other z z.area b.head (Some (record { order = b.order; kind = b.kind; worker = w })) v p j (not_out-where_none z v p j b.head place.1 q) q
+
+-- collecting leaves the others out
+pub collect-kept : (z : PlainZone) (w : ℕ) → IsLawful z → w < workers_of z → (v p j : ℕ) → is_out z v p j ≡ true → is_out (step z w request.Collect).zone v p j ≡ true
+collect-kept z w l lt v p j q = front-kept z w (posted_to z w) refl l lt v p j q
+
+front-out : (z : PlainZone) (w : ℕ) (ps : List PostedBlock) → posted_to z w ≡ ps → IsLawful z → w < workers_of z → (b : Block) → Reply.Block b ≡ (collected z w ps).reply →
+    is_out (collected z w ps).zone w b.page b.order ≡ true
+front-out z w [] e l lt b r = cc
+front-out z w (p ∷ ps) e l lt b r =
+    let x : Block = record { page = z.base + p.head; order = p.order; kind = p.kind } in
+    let same : b ≡ x = cc in
+    let P : Block → Type 0 = λ y. is_out (collected z w (p ∷ ps)).zone w y.page y.order ≡ true in
+    subst P (sym same) (out-handed z z.area w p.head p.order p.kind (z.base + p.head) (posted_place z w p ps e l lt).0 refl)
+
+-- the block that is answered is out
+pub collect-out : (z : PlainZone) (w : ℕ) → IsLawful z → w < workers_of z → (b : Block) → Reply.Block b ≡ (step z w request.Collect).reply →
+    is_out (step z w request.Collect).zone w b.page b.order ≡ true
+collect-out z w l lt b r = front-out z w (posted_to z w) refl l lt b r
+
+front-fresh : (z : PlainZone) (w : ℕ) (ps : List PostedBlock) → posted_to z w ≡ ps → IsLawful z → w < workers_of z → (b : Block) → Reply.Block b ≡ (collected z w ps).reply →
+    (v j : ℕ) → is_out z v b.page j ≡ false
+front-fresh z w [] e l lt b r v j = cc
+front-fresh z w (p ∷ ps) e l lt b r v j =
+    let x : Block = record { page = z.base + p.head; order = p.order; kind = p.kind } in
+    let same : b ≡ x = cc in
+    let at : b.page ≡ z.base + p.head = ap (λ (y : Block). y.page) same in
+    let place : b.page - z.base ≡ p.head = omega arith in
+    false_from_ne_true _ (λ on. not_out-where_none z v b.page j p.head (posted_place z w p ps e l lt).1 on place)
+
+-- and was not out before
+pub collect-fresh : (z : PlainZone) (w : ℕ) → IsLawful z → w < workers_of z → (b : Block) → Reply.Block b ≡ (step z w request.Collect).reply → (v j : ℕ) → is_out z v b.page j ≡ false
+collect-fresh z w l lt b r v j = front-fresh z w (posted_to z w) refl l lt b r v j

@@ -8,17 +8,19 @@ use Rattle.std.proofs.lemmas.List.FromFn.{get_or-range_with_len, length-range_wi
 use Rattle.zp_model.specs.declared.migrate_type.MigrateType.{MigrateType}
 use Rattle.zp_model.specs.declared.mark.Mark.{Mark}
 use Rattle.zp_model.specs.declared.block.Block.{Block}
+use Rattle.zp_model.specs.declared.request.Request.{Request}
 use Rattle.zp_model.specs.declared.request.Request.TheVariants as request
-use Rattle.zp_model.specs.declared.request.Reply.TheVariants as Reply
-use Rattle.zp_model.specs.Zone.{PlainZone, PostedBlock, workers_of, zone_opening}
+use Rattle.zp_model.specs.declared.request.Reply.{Reply}
+use Rattle.zp_model.specs.Zone.{PlainZone, PostedBlock, holding_at, workers_of, zone_opening}
 use Rattle.zp_model.specs.Step.{alloc, freed, step}
 use Rattle.zp_model.specs.Run.{is_out}
 use Rattle.zp_model.specs.Lawful.{IsLawful}
 use Rattle.zp_laws.specs.FreePages.{IsSameZone}
 use Rattle.zp_laws.proofs.Opening.{free-opening}
 use Rattle.zp_laws.proofs.Sameness.{alloc-same, freed-same, step-same}
-use Rattle.zp_laws.proofs.StaysOut.{alloc-kept, alloc-out, alloc-fresh, alloc_low-kept, alloc_low-out, alloc_low-fresh, freed-gone, freed-kept}
+use Rattle.zp_laws.proofs.StaysOut.{alloc-kept, alloc-out, alloc-fresh, alloc_low-kept, alloc_low-out, alloc_low-fresh, freed-gone, freed-kept, handed_on-gone, handed_on-kept, collect-kept, collect-out, collect-fresh}
 use Rattle.zp_laws.proofs.Held.{out-to}
+use Rattle.zp_zone.proofs.AllocSteps.{named}
 use Rattle.zp_zone.specs.NamedZone.{NamedZone, Right, IsSeatOf, KeepsSeats, KeepsOut, KeepsOutBut, IsFresh, seats_of}
 
 -- the seat of worker n
@@ -99,3 +101,40 @@ pub freed_kept : (z y : PlainZone) (v a k : ℕ) → is_out z v a k ≡ true →
 freed_kept z y v a k o e =
     let P : PlainZone → Type 0 = λ q. KeepsOutBut a z q in
     subst P (sym e) (freed-kept z a k (out-to z v a k o).0)
+
+-- a step, in the words of a zone that contracts see
+pub reply_in : (Z : NamedZone) (name : List ℕ) (z : PlainZone) (w : ℕ) (q : Request) (r : Reply) → named name z ≡ Z → r ≡ (step z w q).reply → r ≡ (step Z.plain w q).reply
+reply_in Z name z w q r e f = f ∙ ap (λ (y : NamedZone). (step y.plain w q).reply) e
+
+pub after_in : (Z : NamedZone) (name : List ℕ) (z y : PlainZone) (w : ℕ) (q : Request) → named name z ≡ Z → y ≡ (step z w q).zone →
+    named name y ≡ record Z { plain = (step Z.plain w q).zone }
+after_in Z name z y w q e f =
+    ap (λ v. named name v) f
+    ∙ ap (λ (v : NamedZone). let x : NamedZone = record v { plain = (step v.plain w q).zone } in x) e
+
+pub step_seats : (z y : PlainZone) (w : ℕ) (q : Request) → y ≡ (step z w q).zone → KeepsSeats z y
+step_seats z y w q e =
+    let P : PlainZone → Type 0 = λ v. KeepsSeats z v in
+    subst P (sym e) (same_seats z (step z w q).zone (step-same z w q))
+
+-- a posted block is out no more, and the others are
+pub posted_gone : (z y : PlainZone) (v a k to : ℕ) → y ≡ (step z v (request.Post a k to)).zone → IsFresh y a
+posted_gone z y v a k to e =
+    let P : PlainZone → Type 0 = λ q. IsFresh q a in
+    subst P (sym e) (λ w j. handed_on-gone z a to w j)
+
+pub posted_others : (z y : PlainZone) (v a k to : ℕ) → is_out z v a k ≡ true → y ≡ (step z v (request.Post a k to)).zone → KeepsOutBut a z y
+posted_others z y v a k to o e =
+    let P : PlainZone → Type 0 = λ q. KeepsOutBut a z q in
+    subst P (sym e) (λ w p j ne on. handed_on-kept z a to (holding_at z.out (a - z.base)) (out-to z v a k o).0 w p j ne on)
+
+-- the block collected is out, was not before, and the others are
+pub collected_out : (z y : PlainZone) (w : ℕ) (b : Block) → IsLawful z → w < workers_of z → y ≡ (step z w request.Collect).zone → Reply.Block b ≡ (step z w request.Collect).reply →
+    is_out y w b.page b.order ≡ true
+collected_out z y w b l lt e r = let P : PlainZone → Type 0 = λ q. is_out q w b.page b.order ≡ true in subst P (sym e) (collect-out z w l lt b r)
+
+pub collected_fresh : (z : PlainZone) (w : ℕ) (b : Block) → IsLawful z → w < workers_of z → Reply.Block b ≡ (step z w request.Collect).reply → IsFresh z b.page
+collected_fresh z w b l lt r v j = collect-fresh z w l lt b r v j
+
+pub collected_others : (z y : PlainZone) (w : ℕ) → IsLawful z → w < workers_of z → y ≡ (step z w request.Collect).zone → KeepsOut z y
+collected_others z y w l lt e = let P : PlainZone → Type 0 = λ q. KeepsOut z q in subst P (sym e) (λ v p j on. collect-kept z w l lt v p j on)

@@ -1,6 +1,7 @@
 pub mod Written
 pub mod Noted
 pub mod PostedAside
+pub mod PostedPages
 pub mod Allocated
 pub mod AllocSteps
 pub mod OpeningZone
@@ -8,3 +9,6 @@ pub mod Freed
 pub mod Described
 pub mod Callers
 pub mod LowSteps
+pub mod PostSteps
+pub mod CollectSteps
+pub mod PostedFew

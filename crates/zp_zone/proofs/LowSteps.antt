@@ -59,8 +59,8 @@ low_left f base min w h k x e =
     (left_out f (leave f.area h k) base min w h k (kind_at f.area.largest f.area.kinds h) x (take_low_found f.area k h (sym e)) (free-leave f.area h k)).plain
     ∙ ap (λ (o : Option ℕ). (alloc_low_at (plain_of f base min) w k o).zone) e
 
-pub low_kept : (name : List ℕ) (f : Frames) (base min w h k : ℕ) → IsKept name f base min → IsFramed f → w < workers_of (plain_of f base min) →
-    Some h ≡ take_low_answer f.area k → IsKept name (low_out f w h k) base min
+pub low_kept : {count : ℕ} → (name : List ℕ) (f : Frames) (base min w h k : ℕ) → IsKept name f base min count → IsFramed f → w < workers_of (plain_of f base min) →
+    Some h ≡ take_low_answer f.area k → IsKept name (low_out f w h k) base min count
 low_kept name f base min w h k x y lt e =
     let asked : IsAsked f base min = record { framed = y; lawful = x.lawful } in
     let L : PlainZone → Type 0 = λ z. IsLawful z in

@@ -1,20 +1,21 @@
-//! A zone.
+//! A zone: its making, and what it tells.
 //!
-//! In Linux: `rmqueue`, `__free_pages_ok` and `zone_watermark_ok`.
+//! In Linux: `struct zone`.
 ghost use Rattle.std.specs.Prelude.{◌≡◌, ◌<◌, ◌≤◌, ◌+◌, ℕ, false, All, length, IfOk, IfErr, IfSome, IfNone, IsSome, OnOk, OnErr, IsTrue, ◌↔◌, ◌-◌};
 ghost use Rattle.std.specs.Option.{option_map};
 ghost use Rattle.zp_model.specs.declared.constants.TheConstants.{LARGEST_ORDER};
-ghost use Rattle.zp_model.specs.Zone.{zone_opening, is_of, pages_of};
+ghost use Rattle.zp_model.specs.Block.{size};
+ghost use Rattle.zp_model.specs.Zone.{zone_opening, is_of, pages_of, posted_pages};
 ghost use Rattle.zp_zone.specs.Kept.{holding_of};
-ghost use Rattle.zp_model.specs.Mark.{level_of, level_above, is_above};
+ghost use Rattle.zp_model.specs.Mark.{level_of, level_above};
 ghost use Rattle.zp_model.specs.Info.{counts_of, info_line};
-ghost use Rattle.zp_model.specs.declared.request.Request.TheVariants as request;
-ghost use Rattle.zp_model.specs.Step.{alloc, freed, step};
 ghost use Rattle.zp_model.specs.Run.{is_out};
 ghost use Rattle.zp_model.specs.Lawful.{IsLawful};
-ghost use Rattle.zp_zone.specs.NamedZone.{IsSeatOf, IsSameRight, KeepsSeats, KeepsOut, KeepsOutBut, IsFresh, IsPageOf, IsToldOf, block_reply, page_reply, seats_of};
+ghost use Rattle.zp_zone.specs.NamedZone.{IsSeatOf, IsPageOf, IsToldOf, seats_of};
 ghost use Rattle.zp_zone.specs.Making.{wanted, IsGood, IsWhy};
 ghost use Rattle.zp_zone.specs.Streams.{IsWritten, IsBegun};
+
+mod requests;
 
 use crate::config::{ZoneConfig, checked_name};
 use crate::info::write_counts;
@@ -25,8 +26,8 @@ use std::alloc::Global;
 use std::marker::Model;
 use zp_buddy::Buddy;
 use zp_model::{
-    BASE_LIMIT, Block, Counts, LONGEST_NAME, Level, MAX_PAGES, Mark, MigrateType, Name, Order,
-    PageAt, PageNo, Refused, State, Worker,
+    BASE_LIMIT, Counts, LONGEST_NAME, Level, MAX_PAGES, Name, Order, PageAt, PageNo, Refused,
+    State, Worker,
 };
 
 /// A zone: pages that workers take and give back. Contracts see its name and the plain zone, which is always lawful.
@@ -36,6 +37,8 @@ pub struct Zone {
     name: Name,
     base: u32,
     min: u32,
+    /// How many pages are in posted blocks.
+    posted: u32,
 }
 
 impl Model for Zone {
@@ -46,7 +49,7 @@ impl Model for Zone {
 
     ghost view = { λ z. record { name = z.name; plain = plain_of z.buddy z.base z.min } };
 
-    ghost invariant = { λ z. IsKept z.name z.buddy z.base z.min };
+    ghost invariant = { λ z. IsKept z.name z.buddy z.base z.min z.posted };
 }
 
 impl Zone {
@@ -75,69 +78,9 @@ impl Zone {
             name,
             base: config.base,
             min: config.min,
+            posted: 0,
         };
         Ok((zone, seats))
-    }
-
-    /// A block of this order for this type, held to this mark: its first page. Refused 10 or 11.
-    pub fn alloc(
-        &mut self,
-        seat: &mut Seat,
-        order: Order,
-        kind: MigrateType,
-        mark: Mark,
-    ) -> Result<PageNo, Refused>
-        requires seat { IsSeatOf self.old.plain seat.old }
-        ensures reply { page_reply result ≡ (alloc self.old.plain seat.old.worker order kind mark).reply }
-        ensures after { self.new ≡ record self.old { plain = (alloc self.old.plain seat.old.worker order kind mark).zone } }
-
-        // What the calls after it can rest on.
-        ensures seat { IsSameRight seat.old seat.new }
-        ensures fits { IsSeatOf self.new.plain seat.new }
-        ensures seats { KeepsSeats self.old.plain self.new.plain }
-        ensures out { IfOk result (λ page. IsTrue (is_out self.new.plain seat.new.worker page order)) }
-        ensures fresh { IfOk result (IsFresh self.old.plain) }
-        ensures kept { KeepsOut self.old.plain self.new.plain }
-    {
-        if !is_above(self.min, self.buddy.free_pages(), order, mark) {
-            return Err(Refused::BelowMark);
-        }
-        let Some(head) = self.buddy.take(order, kind) else {
-            return Err(Refused::NoBlock);
-        };
-        self.buddy
-            .hold(head, State::Out(order, kind, seat.worker()));
-        Ok(PageNo::new(self.base + head.number()))
-    }
-
-    /// The lowest block of this order, of whatever type. The type noted for it is its pageblock's. Refused 11.
-    pub fn alloc_low(&mut self, seat: &mut Seat, order: Order) -> Result<Block, Refused>
-        requires seat { IsSeatOf self.old.plain seat.old }
-        ensures reply { block_reply result ≡ (step self.old.plain seat.old.worker (request.AllocLow order)).reply }
-        ensures after { self.new ≡ record self.old { plain = (step self.old.plain seat.old.worker (request.AllocLow order)).zone } }
-
-        // What the calls after it can rest on.
-        ensures seat { IsSameRight seat.old seat.new }
-        ensures fits { IsSeatOf self.new.plain seat.new }
-        ensures seats { KeepsSeats self.old.plain self.new.plain }
-        ensures order { IfOk result (λ block. block.order ≡ order) }
-        ensures out { IfOk result (λ block. IsTrue (is_out self.new.plain seat.new.worker block.page block.order)) }
-        ensures fresh { IfOk result (λ block. IsFresh self.old.plain block.page) }
-        ensures kept { KeepsOut self.old.plain self.new.plain }
-    {
-        // a clause of this call says that what is noted as free is free
-        let _pages = self.buddy.pages();
-        let Some(head) = self.buddy.take_low(order) else {
-            return Err(Refused::NoBlock);
-        };
-        let kind = self.buddy.type_of(head);
-        let holder = seat.worker();
-        self.buddy.hold(head, State::Out(order, kind, holder));
-        Ok(Block {
-            page: PageNo::new(self.base + head.number()),
-            order,
-            kind,
-        })
     }
 
     /// Whether the block at this page, of this order, is out to the seat's worker.
@@ -149,25 +92,6 @@ impl Zone {
             None => false,
             Some(at) => is_out_to(self.buddy.holding(at), order, seat.worker()),
         }
-    }
-
-    /// Gives back the block at this page, of this order. It is never refused; `held_by` tells whether it may be called.
-    pub fn free(&mut self, seat: &mut Seat, page: PageNo, order: Order)
-        requires seat { IsSeatOf self.old.plain seat.old }
-        requires out { IsTrue (is_out self.old.plain seat.old.worker page order) }
-        ensures after { self.new ≡ record self.old { plain = freed self.old.plain (page - self.old.plain.base) order } }
-
-        // What the calls after it can rest on.
-        ensures seat { IsSameRight seat.old seat.new }
-        ensures fits { IsSeatOf self.new.plain seat.new }
-        ensures seats { KeepsSeats self.old.plain self.new.plain }
-        ensures gone { IsFresh self.new.plain page }
-        ensures kept { KeepsOutBut page self.old.plain self.new.plain }
-    {
-        // a clause of this call says that what is noted as free is free, which the next call rests on
-        let _pages = self.buddy.pages();
-        let at = PageAt::at(page.number() - self.base);
-        self.buddy.give(at, order);
     }
 
     /// The zone's name.
@@ -216,6 +140,14 @@ impl Zone {
         level_above(self.min, self.buddy.free_pages())
     }
 
+    /// How many pages are in posted blocks.
+    pub fn posted_pages(&self) -> u32
+        ensures pages { result ≡ posted_pages self.now.plain }
+        ensures within { size self.now.plain.area.free + result ≤ pages_of self.now.plain }
+    {
+        self.posted
+    }
+
     /// Writes the zone's info line.
     pub fn write_info<W: Writer>(&self, writer: &mut W) -> Result<(), WriteFault>
         ensures ok { OnOk result (IsWritten (W.contents writer.old) (W.contents writer.new) (info_line self.now.name (counts_of self.now.plain.area.largest self.now.plain.area.free))) }
@@ -255,18 +187,6 @@ fn is_out_to(state: State, order: Order, worker: Worker) -> bool
     match state {
         State::Out(out, _, holder) => out == order && holder == worker,
         _ => false,
-    }
-}
-
-/// Whether a request of this order may go on at a mark, with so many free pages.
-fn is_above(min: u32, free: u32, order: Order, mark: Mark) -> bool
-    requires { min ≤ MAX_PAGES }
-    ensures { result ≡ is_above min free order mark }
-{
-    match mark {
-        Mark::Low => free > min + min / 4 + (order.pages() - 1),
-        Mark::Min => free > min + (order.pages() - 1),
-        Mark::Any => true,
     }
 }
 

@@ -55,7 +55,7 @@ invariant_of-self-2 c =
     let held : c.hold.new.self ≡ held_out c.self.inside.buddy c.args.seat.now.worker c.args.order c.args.kind s.0 = held_by _ _ _ _ _ _ _ _ c.in-Some.ensures.after s.1 s.2 (c.hold.ensures.after ∙ ap (λ w. let q : Frames = record c.take.new.self { states = set c.take.new.self.states c.in-Some.head (Out c.args.order c.args.kind w) } in q) c.worker.ensures) in
     let workers : c.args.seat.now.worker < workers_of (plain_of c.self.inside.buddy c.self.inside.base c.self.inside.min) =
     (let P : NamedZone → Type 0 = λ z. c.args.seat.now.worker < workers_of z.plain in subst P (sym c.self.view_is) c.requires.seat.worker) in
-    let Q : Frames → Type 0 = λ f. IsKept c.self.inside.name f c.self.inside.base c.self.inside.min in
+    let Q : Frames → Type 0 = λ f. IsKept c.self.inside.name f c.self.inside.base c.self.inside.min c.self.inside.posted in
     subst Q (sym held) (some_kept c.self.inside.name c.self.inside.buddy c.self.inside.base c.self.inside.min c.args.seat.now.worker c.args.order c.args.kind c.args.mark s.0 c.self.invariant c.free_pages.ensures.framed workers p s.1)
 
 pub returns-clause-reply : goal.returns-clause-reply

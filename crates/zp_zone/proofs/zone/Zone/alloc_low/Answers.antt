@@ -54,7 +54,7 @@ invariant_of-self-2 c =
     let f : Frames = c.self.inside.buddy in
     let workers : c.args.seat.now.worker < workers_of (plain_of f c.self.inside.base c.self.inside.min) =
     (let P : NamedZone → Type 0 = λ z. c.args.seat.now.worker < workers_of z.plain in subst P (sym c.self.view_is) c.requires.seat.worker) in
-    let Q : Frames → Type 0 = λ g. IsKept c.self.inside.name g c.self.inside.base c.self.inside.min in
+    let Q : Frames → Type 0 = λ g. IsKept c.self.inside.name g c.self.inside.base c.self.inside.min c.self.inside.posted in
     subst Q (sym (held c)) (steps.low_kept _ _ _ _ _ _ _ c.self.invariant c.pages-pages.ensures.framed workers c.in-Some.ensures.answer)
 
 pub returns-clause-reply : goal.returns-clause-reply

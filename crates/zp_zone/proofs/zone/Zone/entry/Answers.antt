@@ -10,7 +10,7 @@ returns-clause-described c =
     let f = c.self.inside.buddy in
     let at : c.in_ok-at.at ≡ c.args.page - c.self.inside.base = c.in_ok-at.ensures.some.1 in
     let described : IsDescribedAt (plain_of f c.self.inside.base c.self.inside.min) c.in_ok-at.at c.entry-entry.result.state c.entry-entry.result.back c.entry-entry.result.forward =
-    entry_described f c.self.inside.base c.self.inside.min c.in_ok-at.at _ _ _ c.pages.ensures.framed c.self.invariant.posted c.entry-entry.ensures.state c.entry-entry.ensures.linked in
+    entry_described f c.self.inside.base c.self.inside.min c.in_ok-at.at _ _ _ c.pages.ensures.framed c.self.invariant.aside c.entry-entry.ensures.state c.entry-entry.ensures.linked in
     let P : ℕ → Type 0 = λ h. IsDescribedAt (plain_of f c.self.inside.base c.self.inside.min) h c.entry-entry.result.state c.entry-entry.result.back c.entry-entry.result.forward in
     let Q : NamedZone → Type 0 = λ z. IsToldOf z.plain c.args.page c.entry-entry.result.state c.absolute.result c.absolute-2.result in
     subst Q c.self.view_is

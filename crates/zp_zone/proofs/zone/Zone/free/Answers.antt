@@ -2,23 +2,14 @@ use Rattle.std.proofs.Common.{ℕ, ◌≡◌, ◌-◌, true, List, ap, sym, subs
 use Rattle.zp_model.specs.Frames.{Frames, IsClear}
 use Rattle.zp_model.specs.Run.{is_out}
 use Rattle.zp_model.specs.Step.{freed}
-use Rattle.zp_laws.proofs.Held.{IsHolding, held-to, out-to}
 use Rattle.zp_model.specs.Frames.{given}
 use Rattle.zp_zone.specs.NamedZone.{NamedZone}
 use Rattle.zp_zone.specs.Kept.{plain_of, IsKept}
 use Rattle.zp_zone.proofs.Allocated.{IsAsked}
 use Rattle.zp_zone.proofs.AllocSteps.{named}
-use Rattle.zp_zone.proofs.Freed.{held_clear, plain-given, given_kept}
+use Rattle.zp_zone.proofs.Freed.{held_clear, plain-given, given_kept, holding_in}
 use Rattle.zp_zone.proofs.Callers.{freed_seats, freed_gone, freed_kept}
 use Rattle.zp_zone.proofs.zone.Zone.free.Goals as goal
-
--- the block that the zone, by its fields, has out
-holding_in : (Z : NamedZone) (name : List ℕ) (f : Frames) (base min w p k : ℕ) → named name (plain_of f base min) ≡ Z → is_out Z.plain w p k ≡ true →
-    IsHolding (plain_of f base min) w (p - base) k
-holding_in Z name f base min w p k e o =
-    let P : NamedZone → Type 0 = λ z. is_out z.plain w p k ≡ true in
-    let q : is_out (plain_of f base min) w p k ≡ true = subst P (sym e) o in
-    held-to (plain_of f base min) w (p - base) k (out-to (plain_of f base min) w p k q).1
 
 -- giving back what the zone has out, by its fields, is the step of the zone
 given_in : (Z : NamedZone) (name : List ℕ) (f : Frames) (base min w p k : ℕ) → named name (plain_of f base min) ≡ Z → is_out Z.plain w p k ≡ true →
@@ -41,7 +32,7 @@ invariant_of-self c =
     let e : c.at-at.result ≡ c.args.page - c.self.inside.base = c.at-at.ensures ∙ ap (λ n. n - c.self.inside.base) c.number.ensures.same in
     let h = holding_in c.args.self.now c.self.inside.name c.self.inside.buddy c.self.inside.base c.self.inside.min c.args.seat.now.worker c.args.page c.args.order c.self.view_is c.requires.out in
     let left : c.give.new.self ≡ given c.self.inside.buddy (c.args.page - c.self.inside.base) c.args.order = c.give.ensures ∙ ap (λ n. given c.self.inside.buddy n c.args.order) e in
-    let K : Frames → Type 0 = λ f. IsKept c.self.inside.name f c.self.inside.base c.self.inside.min in
+    let K : Frames → Type 0 = λ f. IsKept c.self.inside.name f c.self.inside.base c.self.inside.min c.self.inside.posted in
     subst K (sym left) (given_kept c.self.inside.name c.self.inside.buddy c.self.inside.base c.self.inside.min c.args.seat.now.worker (c.args.page - c.self.inside.base) c.args.order c.self.invariant c.pages-pages.ensures.framed h)
 
 pub returns-clause-after : goal.returns-clause-after

@@ -15,7 +15,7 @@ invariant_of-zone c =
     let P : List ℕ → Type 0 = λ q. IsGood (wanted q c.args.config.base c.args.config.pages c.args.config.min c.args.workers) in
     let good : IsGood (wanted c.in_ok-name.name c.args.config.base c.args.config.pages c.args.config.min c.args.workers) =
     subst P (sym c.in_ok-name.ensures.ok) c.in_ok-name.ensures.good in
-    let Q : Frames → Type 0 = λ f. IsKept c.in_ok-name.name f c.args.config.base c.args.config.min in
+    let Q : Frames → Type 0 = λ f. IsKept c.in_ok-name.name f c.args.config.base c.args.config.min 0 in
     subst Q (sym c.in-Ok.ensures) (opening_kept _ _ _ _ _ _ good)
 
 pub returns-clause-zone : goal.returns-clause-zone
