@@ -4,6 +4,9 @@ pub mod Rows
 pub mod Declared
 pub mod Answering
 pub mod Outputs
+pub mod ShortLines
+pub mod Limits
+pub mod Endings
 pub mod SerialFlag
 pub mod CommandLine
 pub mod Schedules

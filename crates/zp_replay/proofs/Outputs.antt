@@ -1,7 +1,11 @@
 -- The parts of the output one after another.
-use Rattle.std.proofs.Common.{ℕ, ◌≡◌, List, ◌++◌, Option, Result, Ok, Err, OnErr, All, refl, ap, ◌∙◌}
+use Rattle.std.proofs.Common.{ℕ, ◌+◌, ◌≡◌, ◌<◌, List, [], ◌∷◌, ◌++◌, length, take, drop, get_or, Option, Result, Ok, Err, OnErr, refl, sym, ap, ◌∙◌}
+use Rattle.std.specs.List.{flat_map}
+use Rattle.std.proofs.lemmas.List.{append-nil, take_more, take-append-drop}
+use Rattle.std.proofs.lemmas.List.Concat.{flat_map-append}
 use Rattle.zp_trace.specs.declared.line.Command.{Command}
 use Rattle.zp_trace.specs.declared.trace.Trace.{Trace}
+use Rattle.zp_zone.specs.NamedZone.{NamedZone}
 use Rattle.zp_zone.specs.Streams.{IsWritten, IsBegun}
 use Rattle.zp_zone.proofs.Written.{written-same, written-then, begun-then}
 use Rattle.zp_replay.specs.Replies.{ReplayState, answers, info_of}
@@ -16,11 +20,12 @@ on_err (Err e) p = p
 abbrev pub totals_text : List NamedZone → List ℕ
 totals_text zones = flat_map total_of zones ++ flat_map info_of zones
 
--- the answers to a trace's commands, and the totals after them
+-- one item more
 item_more : {X : Type 0} (f : X → List ℕ) (xs : List X) (i : ℕ) (x : X) → i < length xs → x ≡ get_or xs i x → flat_map f (take i xs) ++ f x ≡ flat_map f (take (i + 1) xs)
 item_more f xs i x lt is =
     sym (ap (λ ys. flat_map f ys) (take_more xs i x lt ∙ ap (λ y. take i xs ++ y ∷ []) (sym is)) ∙ flat_map-append f (take i xs) (x ∷ []) ∙ ap (λ q. flat_map f (take i xs) ++ q) (append-nil (f x)))
 
+-- the answers to a trace's commands, and the totals after them
 output-is : (t : Trace) (start now : ReplayState) (cs : List Command) → start ≡ opened t.header → cs ≡ t.commands → now ≡ (answers start cs).left → (answers start cs).text ++ (totals_text now.zones) ≡ output t
 unfolding output
 output-is t start now cs e d f =

@@ -1,14 +1,14 @@
 //! The lines of the output, as text.
-ghost use Rattle.std.specs.Prelude.{◌≡◌, ◌≤◌, ◌+◌, ◌*◌, ◌++◌, codes, length};
+ghost use Rattle.std.specs.Prelude.{◌≡◌, ◌≤◌, ◌+◌, ◌*◌, ◌++◌, codes, length, Ok};
 ghost use Rattle.std.specs.Fmt.{decimal};
 ghost use Rattle.arrayvec.specs.ArrayString.{array_string_len};
-ghost use Rattle.zp_replay.specs.Replies.{reply_line, reply_of};
+ghost use Rattle.zp_replay.specs.Replies.{reply_line, reply_of, reply_words};
 ghost use Rattle.zp_replay.specs.Output.{level_word, counted, total_line, total_of, totals, bad_line};
 
 use crate::granted::Granted;
 use arrayvec::ArrayString;
 use itoa::Buffer;
-use zp_model::{Block, LONGEST_NAME, Level, Refused, Worker};
+use zp_model::{LONGEST_NAME, Level, Refused, Worker};
 use zp_zone::Zone;
 
 /// The most bytes of a line.
@@ -35,17 +35,28 @@ pub fn reply_line(worker: Worker, reply: Result<Granted, Refused>) -> Line
 {
     let mut line = line_of(worker);
     match reply {
-        Ok(Granted::Page(page)) => push_counted(&mut line, "page ", page.number()),
-        Ok(Granted::Block(Block { page, order, .. })) => {
-            push_counted(&mut line, "block ", page.number());
-            push_counted(&mut line, " order ", u32::from(order.number()));
-        }
-        Ok(Granted::Freed) => line.push_str("freed"),
-        Ok(Granted::Posted) => line.push_str("posted"),
+        Ok(granted) => push_granted(&mut line, granted),
         Err(refused) => push_counted(&mut line, "refused ", u32::from(refused.number())),
     }
     line.push_str("\n");
     line
+}
+
+/// Appends what a worker gets, or that it was done.
+fn push_granted(line: &mut Line, granted: Granted)
+    requires { array_string_len line.old ≤ DIGITS + 2 }
+    ensures bytes { line.new.bytes ≡ line.old.bytes ++ reply_words (reply_of (Ok granted)) }
+    ensures len { array_string_len line.new ≤ 3 * DIGITS + 15 }
+{
+    match granted {
+        Granted::Page(page) => push_counted(line, "page ", page.number()),
+        Granted::Block(block) => {
+            push_counted(line, "block ", block.page.number());
+            push_counted(line, " order ", u32::from(block.order.number()));
+        }
+        Granted::Freed => line.push_str("freed"),
+        Granted::Posted => line.push_str("posted"),
+    }
 }
 
 /// The beginning of a worker's line.

@@ -100,11 +100,11 @@ impl Replay {
         requires { IsIn self.now.zones.items name }
         ensures { result ≡ number_of self.now.zones.items name }
     {
-        let place = self
-            .zones
-            .iter()
-            .position(|zone| zone.zone().name() == name.as_str());
-        let Some(number) = place else { unreachable!() };
+        // a zone of this name is there, so the search ends
+        let mut number = 0;
+        'zones: while self.zones[number].zone().name() != name.as_str() {
+            number += 1;
+        }
         number
     }
 

@@ -99,7 +99,7 @@ zones_are before (z ∷ zs) rest begins =
     let next = begins (map line.Zone before) (line.Zone z) (map line.Zone zs ++ rest) refl in
     (next.2.1, zones_are (before ++ (z ∷ [])) zs rest (subst IsBeginning (zone_moved before z (map line.Zone zs ++ rest)) begins))
 
-zones_are_few : (before zs : List ZoneLine) (rest : List Line) → length before ≤ MOST_ZONES → IsBeginning (map line.Zone before ++ (map line.Zone zs ++ rest)) → length before + length zs ≤ MOST_ZONES
+pub zones_are_few : (before zs : List ZoneLine) (rest : List Line) → length before ≤ MOST_ZONES → IsBeginning (map line.Zone before ++ (map line.Zone zs ++ rest)) → length before + length zs ≤ MOST_ZONES
 zones_are_few before [] rest few begins = omega (arith, few)
 zones_are_few before (z ∷ zs) rest few begins =
     let next = begins (map line.Zone before) (line.Zone z) (map line.Zone zs ++ rest) refl in

@@ -1,4 +1,4 @@
-use Rattle.std.proofs.Common.{ℕ, ◌≡◌, ◌∙◌, arith}
+use Rattle.std.proofs.Common.{◌∙◌, arith}
 use Rattle.zp_model.specs.declared.request.Request.TheVariants as request
 use Rattle.zp_replay.proofs.Seating.{place_at, worker_at, seat_at, seats_after, workers_stay, reply_of_same, zone_of_same}
 use Rattle.zp_replay.proofs.crewed_zone.CrewedZone.collect.Goals as goal
@@ -12,8 +12,8 @@ invariant_of-self c =
     let crew = workers_stay c.self.inside.zone _ c.index_mut-seat.result.now.worker (request.Collect) a.after in
     seats_after _ _ _ _ _ _ c.self.invariant crew a.seats a.fits c.index_mut-seat.ensures.value a.seat.worker
 
-pub collect-requires-clause-seat : goal.collect-requires-clause-seat
-collect-requires-clause-seat c = seat_at _ _ _ _ _ _ c.self.invariant c.self.view_is (c.from.ensures ∙ c.number.ensures.same) c.requires c.index_mut-seat.ensures.value
+pub collect-requires : goal.collect-requires
+collect-requires c = record { seat = seat_at _ _ _ _ _ _ c.self.invariant c.self.view_is (c.from.ensures ∙ c.number.ensures.same) c.requires c.index_mut-seat.ensures.value }
 
 pub returns-clause-reply : goal.returns-clause-reply
 returns-clause-reply c =

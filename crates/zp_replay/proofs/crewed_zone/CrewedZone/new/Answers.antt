@@ -1,9 +1,7 @@
-use Rattle.std.proofs.Common.{ℕ, ◌≡◌, sym, ap, ◌∙◌}
-use Rattle.zp_zone.specs.NamedZone.{NamedZone}
 use Rattle.zp_replay.proofs.Seating.{seats_made}
 use Rattle.zp_replay.proofs.crewed_zone.CrewedZone.new.Goals as goal
 
 pub invariant_of-result : goal.invariant_of-result
 invariant_of-result c =
     let a = c.in_ok-zone.ensures in
-    seats_made _ _ _ _ _ a.zone a.seats a.fits
+    seats_made _ _ _ _ _ _ _ a.zone a.seats a.fits

@@ -1,4 +1,4 @@
-use Rattle.std.proofs.Common.{ℕ, ◌≡◌, ◌∙◌, arith}
+use Rattle.std.proofs.Common.{◌∙◌, arith}
 use Rattle.zp_model.specs.declared.request.Request.TheVariants as request
 use Rattle.zp_replay.proofs.Seating.{place_at, worker_at, seat_at, seats_after, workers_stay, out_of_same, zone_of_same}
 use Rattle.zp_replay.proofs.crewed_zone.CrewedZone.post.Goals as goal
