@@ -138,7 +138,7 @@ pub struct Trace {
 pub enum TraceFault {
     /// The first line that may not stand after the lines before it, counted from 1.
     BadLine(u32),
-    /// There is no memory for the commands.
+    /// There is no memory for the zones or the commands.
     Memory,
 }
 
