@@ -4,6 +4,7 @@
 
 mod buddyinfo;
 mod first_page;
+mod handing_over;
 mod huge_page;
 mod low_block;
 mod page_pool;
@@ -11,6 +12,7 @@ mod two_pages;
 
 pub use buddyinfo::{Memory, show};
 pub use first_page::one_page;
+pub use handing_over::{receive, relay, send};
 pub use huge_page::{Run, give_run, take_huge_page};
 pub use low_block::take_below;
 pub use page_pool::PagePool;

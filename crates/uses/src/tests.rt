@@ -57,6 +57,16 @@ fn a_huge_page_is_whole_or_single(rt: HostRuntime) -> Result<(), Fail> {
 }
 
 #[test]
+fn a_block_goes_from_worker_to_worker(rt: HostRuntime) {
+    let Some(two) = Order::new(2) else {
+        assert!(rt; false, "2 is an order");
+        return;
+    };
+    let free = relay(rt.alloc(), DMA, two);
+    assert!(rt; free == Some(1024));
+}
+
+#[test]
 fn a_block_below_a_limit_is_kept(rt: HostRuntime) -> Result<(), Fail> {
     let made = Zone::new(rt.alloc(), DMA, 1);
     let (mut zone, mut seats) = made.ok().ok_or("the zone can be made")?;

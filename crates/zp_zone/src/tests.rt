@@ -1,6 +1,6 @@
 //! Zones that are made and refused, and info lines.
-ghost use Rattle.std.specs.Prelude.{ℕ, None};
-ghost use Rattle.zp_zone.specs.NamedZone.{IsSeatOf};
+ghost use Rattle.std.specs.Prelude.{ℕ, None, All};
+ghost use Rattle.zp_zone.specs.NamedZone.{IsSeatOf, KeepsSeats};
 
 use super::*;
 use arrayvec::ArrayVec;
@@ -216,6 +216,192 @@ fn marks_are_rounded_down(rt: HostRuntime) {
         );
         assert_eq!(rt; free_at_refusal(&mut zone, seat, Mark::Any), 0, "of {min}");
     }
+}
+
+/// A worker takes a block and posts it to another: its page, where there is one.
+fn send(zone: &mut Zone, from: &mut Seat, to: &mut Seat, order: Order) -> Option<PageNo>
+    requires from { IsSeatOf zone.old.plain from.old }
+    requires to { IsSeatOf zone.old.plain to.old }
+    ensures from { IsSeatOf zone.new.plain from.new }
+    ensures to { IsSeatOf zone.new.plain to.new }
+{
+    let movable = MigrateType::Movable;
+    let page = zone.alloc(from, order, movable, Mark::Any).ok()?;
+    zone.post(from, page, order, to.worker());
+    Some(page)
+}
+
+/// Compares the answer to a collecting with the block that it has to have.
+fn expect_block(
+    rt: &impl Abort,
+    answer: Result<Block, Refused>,
+    page: u32,
+    order: Order,
+    kind: MigrateType,
+) {
+    let page = PageNo::new(page);
+    assert!(rt; answer == Ok(Block { page, order, kind }));
+}
+
+/// What worker 0 posts, worker 1 collects in the order of the posting, with its order, and is then refused.
+#[test]
+fn blocks_are_collected_in_the_order_of_their_posting(rt: HostRuntime) {
+    let made = Zone::new(rt.alloc(), config("DMA", 0, 4096, 0), 2);
+    let Ok((mut zone, mut seats)) = made else {
+        assert!(rt; false, "the zone can be made");
+        return;
+    };
+    let (Some(mut second), Some(mut first)) = (seats.pop(), seats.pop()) else {
+        assert!(rt; false, "there are two seats");
+        return;
+    };
+    let Some(three) = Order::new(3) else {
+        assert!(rt; false, "3 is an order");
+        return;
+    };
+    let large = send(&mut zone, &mut first, &mut second, three);
+    assert!(rt; large == Some(PageNo::new(3072)));
+    assert_eq!(rt; zone.posted_pages(), 8);
+    let small = send(&mut zone, &mut first, &mut second, Order::zero());
+    assert!(rt; small == Some(PageNo::new(3080)));
+    expect_collected(&rt, &mut zone, &mut second, three);
+    let none = zone.collect(&mut second);
+    assert!(rt; none == Err(Refused::NothingPosted));
+}
+
+/// Compares what is collected of a block of order 3 and a page, and the number of the pages that are posted.
+fn expect_collected(rt: &impl Abort, zone: &mut Zone, seat: &mut Seat, three: Order)
+    requires { IsSeatOf zone.old.plain seat.old }
+    ensures { IsSeatOf zone.new.plain seat.new }
+{
+    let movable = MigrateType::Movable;
+    let state = State::Posted(three, movable, seat.worker());
+    expect_entry(rt, zone, 3072, &state, None, Some(3080));
+    assert_eq!(rt; zone.posted_pages(), 9);
+    expect_block(rt, zone.collect(seat), 3072, three, movable);
+    assert_eq!(rt; zone.posted_pages(), 1);
+    assert!(rt; zone.held_by(seat, PageNo::new(3072), three));
+    expect_block(rt, zone.collect(seat), 3080, Order::zero(), movable);
+    assert_eq!(rt; zone.posted_pages(), 0);
+    assert_eq!(rt; zone.counts().free, 4087);
+}
+
+/// In a zone of 8 pages an Unmovable page is borrowed: its pageblock stays Movable. The page stays Unmovable on its way.
+#[test]
+fn a_block_keeps_its_type_when_it_is_posted(rt: HostRuntime) {
+    let made = Zone::new(rt.alloc(), config("DMA", 1024, 8, 0), 1);
+    let Ok((mut zone, mut seats)) = made else {
+        assert!(rt; false, "the zone can be made");
+        return;
+    };
+    let (seat, order) = (&mut seats[0], Order::zero());
+    let (worker, unmovable) = (seat.worker(), MigrateType::Unmovable);
+    assert!(rt; zone.collect(seat) == Err(Refused::NothingPosted));
+    let Ok(page) = zone.alloc(seat, order, unmovable, Mark::Any) else {
+        assert!(rt; false, "there is a page");
+        return;
+    };
+    zone.post(seat, page, order, worker);
+    let posted = State::Posted(order, unmovable, worker);
+    expect_entry(&rt, &zone, 1024, &posted, None, None);
+    expect_block(&rt, zone.collect(seat), 1024, order, unmovable);
+    let out = State::Out(order, unmovable, worker);
+    expect_entry(&rt, &zone, 1024, &out, None, None);
+    let second = zone.alloc_low(seat, order);
+    expect_block(&rt, second, 1025, order, MigrateType::Movable);
+}
+
+/// The worker that has a page posts it to another, who collects it: the page collected, where it was had.
+fn hand_on(zone: &mut Zone, from: &mut Seat, to: &mut Seat, page: PageNo) -> Option<PageNo>
+    requires from { IsSeatOf zone.old.plain from.old }
+    requires to { IsSeatOf zone.old.plain to.old }
+    ensures seats { KeepsSeats zone.old.plain zone.new.plain }
+    ensures from { IsSeatOf zone.new.plain from.new }
+    ensures to { IsSeatOf zone.new.plain to.new }
+{
+    if !zone.held_by(from, page, Order::zero()) {
+        return None;
+    }
+    zone.post(from, page, Order::zero(), to.worker());
+    let block = zone.collect(to).ok()?;
+    Some(block.page)
+}
+
+/// Hands a page on through all these workers, the last of them first: the seat of the one that has it then.
+fn hand_through(zone: &mut Zone, seats: &mut Vec<Seat>, from: Seat, page: PageNo) -> Seat
+    requires from { IsSeatOf zone.old.plain from }
+    requires seats { All (IsSeatOf zone.old.plain) seats.old.items }
+    ensures seats { KeepsSeats zone.old.plain zone.new.plain }
+    ensures holder { IsSeatOf zone.new.plain result }
+{
+    let mut holder = from;
+    'workers: while let Some(mut next) = seats.pop() {
+        let _ = hand_on(zone, &mut holder, &mut next, page);
+        holder = next;
+    }
+    holder
+}
+
+/// A page goes from the last worker through all the others to the first.
+#[test]
+fn a_page_goes_through_all_workers(rt: HostRuntime) {
+    let made = Zone::new(rt.alloc(), config("DMA", 0, 64, 0), 32);
+    let Ok((mut zone, mut seats)) = made else {
+        assert!(rt; false, "the zone can be made");
+        return;
+    };
+    let (Some(mut last), kind) = (seats.pop(), MigrateType::Reclaimable) else {
+        assert!(rt; false, "there are seats");
+        return;
+    };
+    let Ok(page) = zone.alloc(&mut last, Order::zero(), kind, Mark::Any) else {
+        assert!(rt; false, "there is a page");
+        return;
+    };
+    assert_eq!(rt; seats.len(), 31);
+    let holder = hand_through(&mut zone, &mut seats, last, page);
+    assert_eq!(rt; holder.worker().number(), 0);
+    assert!(rt; zone.held_by(&holder, page, Order::zero()));
+}
+
+/// Where all pages are posted, none is free: a request is refused for its mark where it has one, else for want of a block.
+#[test]
+fn no_block_is_free_where_all_pages_are_posted(rt: HostRuntime) {
+    let made = Zone::new(rt.alloc(), config("DMA", 0, 1024, 0), 1);
+    let Ok((mut zone, mut seats)) = made else {
+        assert!(rt; false, "the zone can be made");
+        return;
+    };
+    let (seat, whole) = (&mut seats[0], Order::largest());
+    let (kind, worker) = (MigrateType::Movable, seat.worker());
+    let Ok(page) = zone.alloc(seat, whole, kind, Mark::Any) else {
+        assert!(rt; false, "there is a block");
+        return;
+    };
+    zone.post(seat, page, whole, worker);
+    assert_eq!(rt; zone.posted_pages(), 1024);
+    assert_eq!(rt; zone.counts().free, 0);
+    assert!(rt; zone.level() == Level::Short);
+    let low = zone.alloc(seat, Order::zero(), kind, Mark::Low);
+    assert!(rt; low == Err(Refused::BelowMark));
+    let any = zone.alloc(seat, Order::zero(), kind, Mark::Any);
+    assert!(rt; any == Err(Refused::NoBlock));
+    expect_block(&rt, zone.collect(seat), 0, whole, kind);
+}
+
+/// A request asks for more free pages than its mark and all its own pages but one: 1,023 are too few for 1,024.
+#[test]
+fn a_mark_counts_the_pages_asked_for(rt: HostRuntime) {
+    let made = Zone::new(rt.alloc(), config("DMA", 0, 1023, 0), 1);
+    let Ok((mut zone, mut seats)) = made else {
+        assert!(rt; false, "the zone can be made");
+        return;
+    };
+    let (seat, kind) = (&mut seats[0], MigrateType::Movable);
+    let low = zone.alloc(seat, Order::largest(), kind, Mark::Low);
+    assert!(rt; low == Err(Refused::BelowMark));
+    let any = zone.alloc(seat, Order::largest(), kind, Mark::Any);
+    assert!(rt; any == Err(Refused::NoBlock));
 }
 
 /// The bounds, as numbers: what the clauses cite are these constants, so no clause would notice another number.

@@ -147,11 +147,8 @@ impl Zone {
         self.buddy.hold(head, State::Out(order, kind, receiver));
         let pages = order.pages();
         self.posted -= pages;
-        Ok(Block {
-            page: PageNo::new(self.base + head.number()),
-            order,
-            kind,
-        })
+        let page = PageNo::new(self.base + head.number());
+        Ok(Block { page, order, kind })
     }
 }
 

@@ -87,7 +87,7 @@ returns-clause-reply c =
     let b = (goal.at.returns-clause-reply c).After-side_pop_front in
     let d = (goal.at.returns-clause-reply c).After-pages-pages in
     let f : Frames = c.self.inside.buddy in
-    let page : c.new.result ≡ c.self.inside.base + c.in-Some.head = c.new.ensures ∙ ap (λ n. c.self.inside.base + n) c.number-2.ensures.same in
+    let page : c.new-page.result ≡ c.self.inside.base + c.in-Some.head = c.new-page.ensures ∙ ap (λ n. c.self.inside.base + n) c.number-2.ensures.same in
     reply_in c.args.self.now c.self.inside.name (plain_of f c.self.inside.base c.self.inside.min) c.args.seat.now.worker request.Collect _ c.self.view_is
     (collected_reply f _ _ _ _ _ _ _ (in_front d (answer b) (after b)) page)
 
@@ -100,8 +100,8 @@ returns-clause-after c =
     (ap (λ (q : Frames). plain_of q c.self.inside.base c.self.inside.min) (left d (after b)) ∙ plain-collected f _ _ _ _ _ _ (in_front d (answer b) (after b)))
 
 -- the block that is answered
-abbrev answered : goal.After-new → Block
-answered c = record { page = c.new.result; order = c.in-Posted.order; kind = c.in-Posted.kind }
+abbrev answered : goal.After-new-page → Block
+answered c = record { page = c.new-page.result; order = c.in-Posted.order; kind = c.in-Posted.kind }
 
 pub returns-clause-out : goal.returns-clause-out
 returns-clause-out c =

@@ -1,0 +1,45 @@
+//! A block that one worker takes and another gives back.
+ghost use Rattle.zp_zone.specs.NamedZone.{IsSeatOf};
+
+use std::alloc::Global;
+use zp_model::{Block, Mark, MigrateType, Order, PageNo};
+use zp_zone::{Seat, Zone, ZoneConfig};
+
+/// The giver takes a block and posts it to the receiver: its page.
+pub fn send(zone: &mut Zone, giver: &mut Seat, receiver: &mut Seat, order: Order) -> Option<PageNo>
+    requires giver { IsSeatOf zone.old.plain giver.old }
+    requires receiver { IsSeatOf zone.old.plain receiver.old }
+    ensures giver { IsSeatOf zone.new.plain giver.new }
+    ensures receiver { IsSeatOf zone.new.plain receiver.new }
+{
+    let movable = MigrateType::Movable;
+    let page = zone.alloc(giver, order, movable, Mark::Low).ok()?;
+    zone.post(giver, page, order, receiver.worker());
+    Some(page)
+}
+
+/// The receiver collects a block that was posted to it and gives it back: which block it was.
+pub fn receive(zone: &mut Zone, receiver: &mut Seat) -> Option<Block>
+    requires { IsSeatOf zone.old.plain receiver.old }
+    ensures { IsSeatOf zone.new.plain receiver.new }
+{
+    let block = zone.collect(receiver).ok()?;
+    zone.free(receiver, block.page, block.order);
+    Some(block)
+}
+
+/// A zone with two workers, where a block goes from the one to the other, who gives it back: how many pages are free then.
+pub fn relay(alloc: Global, config: ZoneConfig<'_>, order: Order) -> Option<u32> {
+    let Ok((mut zone, mut seats)) = Zone::new(alloc, config, 2) else {
+        return None;
+    };
+    let (Some(mut receiver), Some(mut giver)) = (seats.pop(), seats.pop()) else {
+        return None;
+    };
+    let sent = send(&mut zone, &mut giver, &mut receiver, order)?;
+    let received = receive(&mut zone, &mut receiver)?;
+    if received.page != sent {
+        return None;
+    }
+    Some(zone.counts().free)
+}
