@@ -16,7 +16,7 @@ use Rattle.zp_model.proofs.Settles.{IsListed}
 use Rattle.zp_tree.specs.Blocks.{IsBlockSet, IsApart, with_block}
 use Rattle.zp_area.specs.Given.{IsClearRun}
 use Rattle.zp_area.specs.NotedBlocks.{free_order, blocks_of}
-use Rattle.zp_area.proofs.Counting.{one_if}
+use Rattle.zp_laws.proofs.Counting.{one_if}
 use Rattle.zp_area.proofs.NotedBlocks.{row_below}
 use Rattle.zp_area.specs.Blocks.{Blocks, block_set, count_of, list_of_block, added}
 use Rattle.zp_area.specs.OneSet.{IsOneSet, IsKept}

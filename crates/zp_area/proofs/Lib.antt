@@ -1,5 +1,4 @@
 pub mod Filters
-pub mod Counting
 pub mod PageblockCounts
 pub mod NotedBlocks
 pub mod ListedHeads

@@ -21,7 +21,7 @@ use Rattle.zp_tree.specs.Blocks.{IsBlockSet}
 use Rattle.zp_tree.proofs.Opening.{no_start}
 use Rattle.zp_links.specs.Linked.{states_of}
 use Rattle.zp_area.specs.NotedBlocks.{blocks_of}
-use Rattle.zp_area.proofs.Counting.{one_if, count-none}
+use Rattle.zp_laws.proofs.Counting.{one_if, count-none}
 use Rattle.zp_area.specs.Blocks.{Blocks, block_set, count_of, no_blocks}
 use Rattle.zp_area.specs.OneSet.{IsOneSet, IsKept}
 use Rattle.zp_area.proofs.OneBlock.{IsAround, covered_around}

@@ -9,7 +9,7 @@ use Rattle.zp_model.proofs.Heads.{head_le, lt_head, head_of, lt_pow}
 use Rattle.zp_model.proofs.Pages.{In}
 use Rattle.zp_model.proofs.Covers.{cover-to, cover-from, has_below, length-cover, length-with, length-without, same_pages, with-decides, without-decides}
 use Rattle.zp_tree.specs.Blocks.{IsBlockSet, with_block, without_block}
-use Rattle.zp_area.proofs.Counting.{one_if}
+use Rattle.zp_laws.proofs.Counting.{one_if}
 use Rattle.zp_area.specs.Blocks.{count_of}
 
 -- a block of a set that has page i

@@ -8,8 +8,8 @@ use Rattle.zp_model.specs.Area.{pageblock_pages, size_in}
 use Rattle.zp_model.proofs.Heads.{head_le, head_room, runs_apart}
 use Rattle.zp_model.proofs.Normal.{Filled}
 use Rattle.zp_model.proofs.Pages.{In}
-use Rattle.zp_area.proofs.Counting.{counts-add, count-run, in_run-yes, in_run-no, one-without}
-use Rattle.zp_area.proofs.Counting.{without-with_run}
+use Rattle.zp_laws.proofs.Counting.{counts-add, count-run, in_run-yes, in_run-no, one-without}
+use Rattle.zp_laws.proofs.Counting.{without-with_run}
 
 -- a pageblock loses as many pages as it shares with a run that leaves
 pub size_in-without : (m : ℕ) (u : List Bool) (h k b : ℕ) → Filled (In u) h k →

@@ -13,7 +13,7 @@ use Rattle.zp_model.proofs.Covers.{has_below, length-without, without-decides}
 use Rattle.zp_model.proofs.Settles.{IsListed}
 use Rattle.zp_tree.specs.Blocks.{IsBlockSet, without_block}
 use Rattle.zp_area.specs.NotedBlocks.{free_order}
-use Rattle.zp_area.proofs.Counting.{one_if}
+use Rattle.zp_laws.proofs.Counting.{one_if}
 use Rattle.zp_area.proofs.NotedBlocks.{row_below}
 use Rattle.zp_area.specs.Blocks.{Blocks, block_set, count_of, list_of_block, removed}
 use Rattle.zp_area.specs.OneSet.{IsOneSet, IsKept}

@@ -17,7 +17,7 @@ use Rattle.zp_model.proofs.Normal.{IsNormal}
 use Rattle.zp_model.proofs.Pages.{In}
 use Rattle.zp_area.specs.NotedBlocks.{blocks_of}
 use Rattle.zp_buddy.specs.Sound.{IsSound}
-use Rattle.zp_area.proofs.Counting.{same_tests}
+use Rattle.zp_laws.proofs.Counting.{same_tests}
 use Rattle.zp_area.proofs.Filters.{filter_same}
 use Rattle.zp_buddy.proofs.Restating.{restated_from, free_or_same}
 use Rattle.zp_area.proofs.NotedBlocks.{sides_same}

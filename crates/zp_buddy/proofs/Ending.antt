@@ -26,7 +26,7 @@ use Rattle.zp_area.proofs.NotedBlocks.{type_below}
 use Rattle.zp_area.proofs.NotedBlocks.{row_below, starts-to, starts-from, free_free, free_lists}
 use Rattle.zp_buddy.proofs.Taken.{kind_inside, areas}
 use Rattle.zp_buddy.proofs.Restating.{restate_not_free}
-use Rattle.zp_area.proofs.Counting.{same_tests}
+use Rattle.zp_laws.proofs.Counting.{same_tests}
 use Rattle.zp_area.proofs.Filters.{filter_same, stands_filter-to, stands_filter-from, distinct_filter}
 use Rattle.zp_buddy.proofs.Joining.{IsBack, IsJoining, is_outside, outside-to, outside-from, buddy_unique}
 

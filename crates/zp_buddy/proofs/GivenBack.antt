@@ -25,10 +25,10 @@ use Rattle.zp_area.proofs.NotedBlocks.{starts-from}
 use Rattle.zp_buddy.proofs.Restating.{IsRestated, restated_from, free_or_same}
 use Rattle.zp_area.proofs.NotedBlocks.{sides_same}
 use Rattle.zp_buddy.proofs.TakenFrames.{frames}
-use Rattle.zp_area.proofs.Counting.{size-without}
+use Rattle.zp_laws.proofs.Counting.{size-without}
 use Rattle.zp_buddy.proofs.Joining.{IsBack}
 use Rattle.zp_buddy.proofs.Ending.{IsEnded, ended_cover, ended_area, ended_aside, ended_sound}
-use Rattle.zp_area.proofs.Counting.{without-with_run}
+use Rattle.zp_laws.proofs.Counting.{without-with_run}
 
 -- a set gets as many pages more as a run of others has
 pub size-with : (u : List Bool) (h k : ℕ) → h + 2 ^ k ≤ length u → ((i : ℕ) → h ≤ i → i < h + 2 ^ k → In u i → ⊥) → size (with_run u h k) ≡ size u + 2 ^ k

@@ -27,7 +27,7 @@ use Rattle.zp_area.proofs.NotedBlocks.{type_below}
 use Rattle.zp_area.proofs.NotedBlocks.{row_below, starts-to, starts-from}
 use Rattle.zp_buddy.proofs.Taken.{kind_inside}
 use Rattle.zp_buddy.proofs.Restating.{restate_same}
-use Rattle.zp_area.proofs.Counting.{same_tests}
+use Rattle.zp_laws.proofs.Counting.{same_tests}
 use Rattle.zp_area.proofs.Filters.{filter_same, filter_twice, stands_filter-from}
 
 -- whether a head stands outside the run (b, j)

@@ -12,7 +12,7 @@ use Rattle.zp_model.specs.Info.{blocks_of_order}
 use Rattle.zp_model.proofs.Covers.{length-cover}
 use Rattle.zp_model.proofs.MaximalBlocks.{max-unique}
 use Rattle.zp_buddy.specs.Sound.{IsSound}
-use Rattle.zp_area.proofs.Counting.{one_if, same_tests}
+use Rattle.zp_laws.proofs.Counting.{one_if, same_tests}
 use Rattle.zp_buddy.proofs.Framed.{framed}
 use Rattle.zp_buddy.proofs.Restating.{max_block_some, max_block_none}
 use Rattle.zp_area.specs.Blocks.{Blocks, block_set, count_of}

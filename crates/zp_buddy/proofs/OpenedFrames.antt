@@ -28,7 +28,7 @@ use Rattle.zp_buddy.proofs.Taken.{areas}
 use Rattle.zp_buddy.proofs.TakenFrames.{frames}
 use Rattle.zp_buddy.proofs.Restating.{IsRestated, restated_from}
 use Rattle.std.proofs.lemmas.List.Sums.{sum_by-cons}
-use Rattle.zp_area.proofs.Counting.{one_if}
+use Rattle.zp_laws.proofs.Counting.{one_if}
 use Rattle.zp_model.proofs.Pages.{is_max-to}
 use Rattle.std.proofs.lemmas.Nat.{pow_pos}
 use Rattle.std.specs.List.{count_by}

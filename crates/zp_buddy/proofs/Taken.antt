@@ -25,7 +25,7 @@ use Rattle.zp_buddy.specs.Sound.{area_of, IsSound}
 use Rattle.zp_area.proofs.NotedBlocks.{type_below}
 use Rattle.zp_buddy.proofs.Halves.{find_row}
 use Rattle.zp_area.proofs.Filters.{filter_same, stands_filter-to, stands_filter-from, distinct_filter}
-use Rattle.zp_area.proofs.Counting.{same_tests}
+use Rattle.zp_laws.proofs.Counting.{same_tests}
 use Rattle.zp_area.proofs.NotedBlocks.{starts-to, starts-from, same_order, tail_free, free_free, row_below, free_lists}
 
 -- which high half begins at g, or that none does

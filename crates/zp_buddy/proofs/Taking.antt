@@ -21,7 +21,7 @@ use Rattle.zp_model.proofs.Heads.{aligned_down}
 use Rattle.zp_laws.proofs.Areas.{free-taken, free-leave, largest-taken, largest-leave}
 use Rattle.zp_area.specs.NotedBlocks.{free_order}
 use Rattle.zp_buddy.specs.Sound.{IsSound}
-use Rattle.zp_area.proofs.Counting.{size-without}
+use Rattle.zp_laws.proofs.Counting.{size-without}
 use Rattle.zp_buddy.proofs.Restating.{restated_from, free_or_same}
 use Rattle.zp_buddy.proofs.TakenFrames.{frames}
 use Rattle.zp_area.specs.Blocks.{Blocks, block_set}

@@ -9,7 +9,8 @@ use Rattle.zp_model.specs.Block.{in_run, IsBlock}
 use Rattle.zp_model.specs.Zone.{PlainZone, Holding, PostedBlock, holding_at, posted_to, pages_of, workers_of}
 use Rattle.zp_model.specs.Step.{collected}
 use Rattle.zp_model.specs.Lawful.{times, times_out, times_posted, IsLawful}
-use Rattle.zp_laws.proofs.HandedOut.{one_if, count_posted, times_out-more, times_posted-set, times-parts, out-has, in_run-head}
+use Rattle.zp_laws.proofs.Counting.{one_if}
+use Rattle.zp_laws.proofs.HandedOut.{count_posted, times_out-more, times_posted-set, times-parts, out-has, in_run-head}
 use Rattle.zp_laws.proofs.Keeping.{AllPosted, out_more, posted_set}
 
 pub count-front : (p : PostedBlock) (ps : List PostedBlock) (i : ℕ) → count_posted (p ∷ ps) i ≡ one_if (in_run p.head p.order i) + count_posted ps i

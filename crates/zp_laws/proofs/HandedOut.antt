@@ -1,5 +1,5 @@
 -- In how many places a page lies, when a block goes out, comes back, is posted or is collected.
-use Rattle.std.proofs.Common.{ℕ, suc, zero, ◌+◌, ◌^◌, ◌≡◌, ◌≤◌, ◌<◌, inl, inr, refl, sym, ◌∙◌, ap, arith, Bool, true, List, [], length, cond, get_or, Option, Some, None}
+use Rattle.std.proofs.Common.{ℕ, suc, zero, ◌+◌, ◌^◌, ◌≡◌, ◌≤◌, ◌<◌, inl, inr, refl, sym, ◌∙◌, ap, arith, true, List, [], length, get_or, Option, Some, None}
 use Rattle.std.specs.Prelude.{slice_set}
 use Rattle.std.specs.List.{range_with_len, sum_by, count_by}
 use Rattle.std.proofs.lemmas.Nat.{pow_pos}
@@ -11,19 +11,7 @@ use Rattle.std.proofs.lemmas.List.FromFn.{get_or-range_with_len, length-range_wi
 use Rattle.zp_model.specs.Block.{has, in_run}
 use Rattle.zp_model.specs.Zone.{PlainZone, Holding, PostedBlock, holding_at}
 use Rattle.zp_model.specs.Lawful.{holding_has, times_out, times_posted, times}
-
--- 1 where the test passes
-abbrev pub one_if : Bool → ℕ
-one_if b = cond b 1 0
-
-sums_same : (f g : ℕ → ℕ) (a n : ℕ) → ((x : ℕ) → a ≤ x → f x ≡ g x) → sum_by f (range_with_len a n) ≡ sum_by g (range_with_len a n)
-sums_same f g a zero e = refl
-sums_same f g a (suc n) e =
-    let p = sum_by-cons f a (range_with_len (a + 1) n) in
-    let q = sum_by-cons g a (range_with_len (a + 1) n) in
-    let r : sum_by f (range_with_len (a + 1) n) ≡ sum_by g (range_with_len (a + 1) n) = sums_same f g (a + 1) n (λ x le. e x (omega arith)) in
-    let s : f a ≡ g a = e a (omega arith) in
-    p ∙ rw (r, s) (sym q)
+use Rattle.zp_laws.proofs.Counting.{one_if, sums-same}
 
 -- sums that differ at one place
 sums_but : (f g : ℕ → ℕ) (h a n : ℕ) → a ≤ h → h < a + n → ((x : ℕ) → (x ≡ h → ⊥) → f x ≡ g x) → sum_by f (range_with_len a n) + g h ≡ sum_by g (range_with_len a n) + f h
@@ -33,7 +21,7 @@ sums_but f g h a (suc n) lo hi e =
     let q = sum_by-cons g a (range_with_len (a + 1) n) in
     elim (cases_eq h a) [
       | inl same ↦
-          let r : sum_by f (range_with_len (a + 1) n) ≡ sum_by g (range_with_len (a + 1) n) = sums_same f g (a + 1) n (λ x le. e x (λ s. let bad : ⊥ = omega arith in bad)) in
+          let r : sum_by f (range_with_len (a + 1) n) ≡ sum_by g (range_with_len (a + 1) n) = sums-same f g (a + 1) n (λ x lo hi. e x (λ s. let bad : ⊥ = omega arith in bad)) in
           let u : f h ≡ f a = ap f same in
           let v : g h ≡ g a = ap g same in
           omega (arith, p, q)

@@ -5,7 +5,8 @@ use Rattle.zp_model.specs.Block.{has, in_run, IsBlock}
 use Rattle.zp_model.specs.Zone.{PlainZone, Holding, holding_at, is_of, holds, pages_of}
 use Rattle.zp_model.specs.Run.{is_out}
 use Rattle.zp_model.specs.Lawful.{times, times_out, IsLawful}
-use Rattle.zp_laws.proofs.HandedOut.{one_if, times-parts, out-has}
+use Rattle.zp_laws.proofs.Counting.{one_if}
+use Rattle.zp_laws.proofs.HandedOut.{times-parts, out-has}
 use Rattle.zp_laws.proofs.Keeping.{block-inside}
 
 -- the block out at page h is of order k, in worker w's name

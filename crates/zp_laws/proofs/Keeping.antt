@@ -14,7 +14,8 @@ use Rattle.zp_model.proofs.Normal.{Filled}
 use Rattle.zp_model.proofs.Pages.{In}
 use Rattle.zp_model.proofs.Covers.{length-without, length-with, has-with}
 use Rattle.zp_laws.proofs.Areas.{has-without}
-use Rattle.zp_laws.proofs.HandedOut.{one_if, times_out-more, times_out-less, times-parts, held_below, out-has, in_run-head}
+use Rattle.zp_laws.proofs.Counting.{one_if}
+use Rattle.zp_laws.proofs.HandedOut.{times_out-more, times_out-less, times-parts, held_below, out-has, in_run-head}
 
 -- the blocks out are blocks of a zone of so many pages, in the name of its so many workers
 abbrev pub AllOut : ℕ → ℕ → ℕ → List (Option Holding) → Type 0

@@ -1,3 +1,4 @@
+pub mod Counting
 pub mod Settling
 pub mod Choosing
 pub mod ChoosingAny
@@ -21,3 +22,4 @@ pub mod StepMoves
 pub mod TakingBack
 pub mod Replaying
 pub mod StaysOut
+pub mod AddingUp

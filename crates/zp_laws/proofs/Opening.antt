@@ -12,7 +12,8 @@ use Rattle.zp_model.specs.Area.{opening, pageblocks_of, lists_count}
 use Rattle.zp_model.specs.Zone.{Holding, PostedBlock, holding_at, zone_opening}
 use Rattle.zp_model.specs.Lawful.{holding_has, times_out, times_posted, IsLawful}
 use Rattle.zp_laws.proofs.Settling.{free-settle, largest-settle, kinds-settle, opening_lists}
-use Rattle.zp_laws.proofs.HandedOut.{one_if, count_posted, times-parts}
+use Rattle.zp_laws.proofs.Counting.{one_if}
+use Rattle.zp_laws.proofs.HandedOut.{count_posted, times-parts}
 use Rattle.zp_laws.proofs.Keeping.{AllPosted}
 
 sums_zero : (f : ℕ → ℕ) (a n : ℕ) → ((x : ℕ) → f x ≡ 0) → sum_by f (range_with_len a n) ≡ 0

@@ -8,7 +8,8 @@ use Rattle.zp_model.specs.Block.{in_run, IsBlock}
 use Rattle.zp_model.specs.Zone.{PlainZone, Holding, PostedBlock, holding_at, posted_to, pages_of, workers_of}
 use Rattle.zp_model.specs.Step.{handed_on}
 use Rattle.zp_model.specs.Lawful.{times, IsLawful}
-use Rattle.zp_laws.proofs.HandedOut.{one_if, count_posted, times_out-less, times_posted-set, times-parts, held_below}
+use Rattle.zp_laws.proofs.Counting.{one_if}
+use Rattle.zp_laws.proofs.HandedOut.{count_posted, times_out-less, times_posted-set, times-parts, held_below}
 use Rattle.zp_laws.proofs.Keeping.{out_less, posted_set}
 
 posted_lawful : (z : PlainZone) (to h : ℕ) (x : Holding) → holding_at z.out h ≡ Some x → IsLawful z → to < workers_of z → IsLawful (handed_on z to h (Some x))

@@ -6,7 +6,7 @@ mod page_laws;
 mod zone_laws;
 
 pub use journal_laws::{giving_back_restores, journals_replay, legal_histories_are_journals};
-pub use page_laws::{refusals_change_nothing, steps_keep_the_zone, steps_move_pages};
+pub use page_laws::{pages_add_up, refusals_change_nothing, steps_keep_the_zone, steps_move_pages};
 pub use zone_laws::{
     alloc_keeps_lawful, choosing_finds_free, choosing_misses_none, opening_is_lawful,
     runs_keep_lawful, settling_lists_the_area, steps_keep_lawful,

@@ -1,5 +1,5 @@
 //! Laws on the pages that a step moves. Each function does nothing: its contract is the law.
-ghost use Rattle.zp_laws.specs.FreePages.{StepsMovePages, RefusalsChangeNothing, StepsKeepTheZone};
+ghost use Rattle.zp_laws.specs.FreePages.{StepsMovePages, RefusalsChangeNothing, StepsKeepTheZone, PagesAddUp};
 
 /// A step changes the free pages by exactly those that it hands out or that are given back.
 pub fn steps_move_pages()
@@ -14,4 +14,9 @@ pub fn refusals_change_nothing()
 /// A zone keeps its largest order, its size, its base, its least mark and its workers.
 pub fn steps_keep_the_zone()
     ensures { StepsKeepTheZone }
+{}
+
+/// Free, out and posted pages of a lawful zone add up to its pages.
+pub fn pages_add_up()
+    ensures { PagesAddUp }
 {}

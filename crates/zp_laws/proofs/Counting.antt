@@ -1,6 +1,6 @@
--- Counts over the numbers of a range.
+-- Sums and counts over the numbers of a range.
 use Rattle.std.proofs.Common.{ℕ, suc, zero, ◌+◌, ◌-◌, ◌^◌, ◌≡◌, ◌≤◌, ◌<◌, ◌⊎◌, inl, inr, refl, ◌∙◌, ap, arith, Bool, true, false, List, [], ◌∷◌, length, map, cond, min, max}
-use Rattle.std.specs.List.{range_with_len, count_by}
+use Rattle.std.specs.List.{range_with_len, sum_by, count_by}
 use Rattle.std.proofs.lemmas.Bool.{cases_lt, cases_Bool, and_parts, and_from, leb-true, le-leb, ltb-true, lt-ltb, both_ways, false_from_ne_true}
 use Rattle.std.proofs.lemmas.Bool.Decides.{same_from_decides}
 use Rattle.std.proofs.lemmas.List.Sums.{sum_by-cons}
@@ -13,8 +13,18 @@ use Rattle.zp_model.proofs.Covers.{same_pages, with-decides, length-with, has_be
 pub same_tests : (a b : Bool) → (a ≡ true → b ≡ true) → (b ≡ true → a ≡ true) → a ≡ b
 same_tests a b f g = same_from_decides {P = b ≡ true} a b (f, g) (λ e. e, λ e. e)
 
+-- 1 where the test passes
 abbrev pub one_if : Bool → ℕ
 one_if b = cond b 1 0
+
+pub sums-same : (f g : ℕ → ℕ) (a n : ℕ) → ((i : ℕ) → a ≤ i → i < a + n → f i ≡ g i) → sum_by f (range_with_len a n) ≡ sum_by g (range_with_len a n)
+sums-same f g a zero e = refl
+sums-same f g a (suc n) e =
+    let x = sum_by-cons f a (range_with_len (a + 1) n) in
+    let y = sum_by-cons g a (range_with_len (a + 1) n) in
+    let ih : sum_by f (range_with_len (a + 1) n) ≡ sum_by g (range_with_len (a + 1) n) = sums-same f g (a + 1) n (λ i lo hi. e i (omega arith) (omega arith)) in
+    let h : f a ≡ g a = e a (omega arith) (omega arith) in
+    omega (arith, x, y)
 
 -- a count over a range that is two counts together, number by number
 pub counts-add : (p q r : ℕ → Bool) (a n : ℕ) → ((i : ℕ) → a ≤ i → i < a + n → one_if (p i) ≡ one_if (q i) + one_if (r i)) →
@@ -28,15 +38,6 @@ counts-add p q r a (suc n) e =
     counts-add p q r (a + 1) n (λ i lo hi. e i (omega arith) (omega arith)) in
     let h : one_if (p a) ≡ one_if (q a) + one_if (r a) = e a (omega arith) (omega arith) in
     omega (arith, x, y, z)
-
-pub counts-same : (p q : ℕ → Bool) (a n : ℕ) → ((i : ℕ) → a ≤ i → i < a + n → p i ≡ q i) → count_by p (range_with_len a n) ≡ count_by q (range_with_len a n)
-counts-same p q a zero e = refl
-counts-same p q a (suc n) e =
-    let x = sum_by-cons (λ i. one_if (p i)) a (range_with_len (a + 1) n) in
-    let y = sum_by-cons (λ i. one_if (q i)) a (range_with_len (a + 1) n) in
-    let ih : count_by p (range_with_len (a + 1) n) ≡ count_by q (range_with_len (a + 1) n) = counts-same p q (a + 1) n (λ i lo hi. e i (omega arith) (omega arith)) in
-    let h : one_if (p a) ≡ one_if (q a) = ap one_if (e a (omega arith) (omega arith)) in
-    omega (arith, x, y)
 
 pub count-none : (p : ℕ → Bool) (a n : ℕ) → ((i : ℕ) → a ≤ i → i < a + n → p i ≡ false) → count_by p (range_with_len a n) ≡ 0
 count-none p a zero e = refl
