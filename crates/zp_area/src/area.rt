@@ -15,6 +15,7 @@ ghost use Rattle.zp_area.specs.Blocks.{block_set, count_of, free_list_of, side_l
 ghost use Rattle.zp_area.specs.Retyped.{retyped};
 ghost use Rattle.zp_area.specs.OneSet.{IsOneSet};
 
+use crate::entry::PageEntry;
 use crate::free_lists::list_of;
 use crate::pageblocks::pageblock_of;
 use crate::retypes::retype;
@@ -22,7 +23,7 @@ use std::alloc::{AllocError, Global};
 use std::marker::Model;
 use zp_links::Lists;
 use zp_model::{MAX_PAGES, MigrateType, ORDERS, Order, PAGEBLOCK_PAGES, PageAt, State, TYPES};
-use zp_table::{PageEntry, PageTable};
+use zp_table::PageTable;
 use zp_tree::{Meter, OrderTree};
 
 /// How many free lists there are. The further lists come after them.

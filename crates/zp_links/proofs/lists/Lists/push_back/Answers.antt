@@ -1,6 +1,8 @@
-use Rattle.std.proofs.Common.{◌≤◌, refl, arith, length, None}
+use Rattle.std.proofs.Common.{◌≤◌, ◌∙◌, ap, refl, arith, length, None}
 use Rattle.zp_model.specs.declared.constants.TheConstants.{MAX_PAGES}
 use Rattle.zp_model.specs.Rows.{list_at}
+use Rattle.zp_table.specs.Entries.{with_links_at}
+use Rattle.zp_links.specs.Linked.{with_forward_of, end_if}
 use Rattle.zp_links.proofs.Writes.{push_linked, push_value, push_end, past_end, count_fits, end_of}
 use Rattle.zp_links.proofs.Moving.{queued}
 use Rattle.zp_links.proofs.lists.Lists.push_back.Goals as goal
@@ -23,11 +25,11 @@ invariant_of-self c =
       previous = end_of _ _ _ _ _ c.self.view_is c.self.invariant c.requires.list c.index-old.ensures;
       next = past_end xs;
       read = c.index_mut-ends.ensures.value;
-      first = c.set_links.ensures;
+      first = c.set_links.ensures ∙ ap (λ o. with_links_at c.self.inside.table c.args.at c.index-old.result.now.last o) c.none.ensures;
       second = refl;
-      third = c.set_forward_or_first.ensures.table;
-      front = c.set_forward_or_first.ensures.first;
-      back = refl;
+      third = c.set_forward_or_first.ensures.table ∙ ap (λ o. with_forward_of c.set_links.new.self c.index-old.result.now.last o) c.to-here.ensures;
+      front = c.set_forward_or_first.ensures.first ∙ ap (λ o. end_if c.index-old.result.now.last o c.index_mut-ends.result.now.first) c.to-here.ensures;
+      back = c.to-here.ensures;
       count = refl;
     })
 
@@ -44,11 +46,11 @@ returns-clause-after c =
       previous = end_of _ _ _ _ _ c.self.view_is c.self.invariant c.requires.list c.index-old.ensures;
       next = past_end xs;
       read = c.index_mut-ends.ensures.value;
-      first = c.set_links.ensures;
+      first = c.set_links.ensures ∙ ap (λ o. with_links_at c.self.inside.table c.args.at c.index-old.result.now.last o) c.none.ensures;
       second = refl;
-      third = c.set_forward_or_first.ensures.table;
-      front = c.set_forward_or_first.ensures.first;
-      back = refl;
+      third = c.set_forward_or_first.ensures.table ∙ ap (λ o. with_forward_of c.set_links.new.self c.index-old.result.now.last o) c.to-here.ensures;
+      front = c.set_forward_or_first.ensures.first ∙ ap (λ o. end_if c.index-old.result.now.last o c.index_mut-ends.result.now.first) c.to-here.ensures;
+      back = c.to-here.ensures;
       count = refl;
     }))
 

@@ -1,5 +1,7 @@
-use Rattle.std.proofs.Common.{◌≤◌, refl, arith, None}
+use Rattle.std.proofs.Common.{◌≤◌, ◌∙◌, ap, refl, arith, None}
 use Rattle.zp_model.specs.declared.constants.TheConstants.{MAX_PAGES}
+use Rattle.zp_table.specs.Entries.{with_links_at}
+use Rattle.zp_links.specs.Linked.{with_back_of, end_if}
 use Rattle.zp_links.proofs.Writes.{push_linked, push_value, count_fits, front_of}
 use Rattle.zp_links.proofs.Moving.{pushed}
 use Rattle.zp_links.proofs.lists.Lists.push_front.Goals as goal
@@ -21,11 +23,11 @@ invariant_of-self c =
       previous = refl;
       next = front_of _ _ _ _ _ c.self.view_is c.self.invariant c.requires.list c.index-old.ensures;
       read = c.index_mut-ends.ensures.value;
-      first = c.set_links.ensures;
-      second = c.set_back_or_last.ensures.table;
+      first = c.set_links.ensures ∙ ap (λ o. with_links_at c.self.inside.table c.args.at o c.index-old.result.now.first) c.none.ensures;
+      second = c.set_back_or_last.ensures.table ∙ ap (λ o. with_back_of c.set_links.new.self c.index-old.result.now.first o) c.to-here.ensures;
       third = refl;
-      front = refl;
-      back = c.set_back_or_last.ensures.last;
+      front = c.to-here.ensures;
+      back = c.set_back_or_last.ensures.last ∙ ap (λ o. end_if c.index-old.result.now.first o c.index_mut-ends.result.now.last) c.to-here.ensures;
       count = refl;
     })
 
@@ -41,11 +43,11 @@ returns-clause-after c =
       previous = refl;
       next = front_of _ _ _ _ _ c.self.view_is c.self.invariant c.requires.list c.index-old.ensures;
       read = c.index_mut-ends.ensures.value;
-      first = c.set_links.ensures;
-      second = c.set_back_or_last.ensures.table;
+      first = c.set_links.ensures ∙ ap (λ o. with_links_at c.self.inside.table c.args.at o c.index-old.result.now.first) c.none.ensures;
+      second = c.set_back_or_last.ensures.table ∙ ap (λ o. with_back_of c.set_links.new.self c.index-old.result.now.first o) c.to-here.ensures;
       third = refl;
-      front = refl;
-      back = c.set_back_or_last.ensures.last;
+      front = c.to-here.ensures;
+      back = c.set_back_or_last.ensures.last ∙ ap (λ o. end_if c.index-old.result.now.first o c.index_mut-ends.result.now.last) c.to-here.ensures;
       count = refl;
     })
 
