@@ -95,6 +95,7 @@ impl FreeArea {
     }
 
     /// Takes a block into the set. Its head comes in front of the list of its order and its pageblock's type.
+    #[inline]
     pub fn add(&mut self, at: PageAt, order: Order)
         requires block { IsBlock LARGEST_ORDER (length self.old.rows.states) at order }
         requires clear { IsClearRun LARGEST_ORDER self.old.rows.states self.old.rows.lists at order }
@@ -114,6 +115,7 @@ impl FreeArea {
     }
 
     /// Takes a block out of the set. No list is searched.
+    #[inline(always)]
     pub fn remove(&mut self, at: PageAt, order: Order)
         requires { Starts (block_set self.old) at order }
         ensures after { self.new ≡ removed LARGEST_ORDER self.old at order }

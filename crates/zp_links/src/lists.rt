@@ -61,11 +61,11 @@ impl Lists {
         ensures on { IsOn self.new.lists list at }
         ensures others { StandAsBefore at self.old.lists self.new.lists }
     {
-        let old = self.ends[list];
         let here = Link::to(at);
-        self.table.set_links(at, Link::none(), old.first);
         let ends = &mut self.ends[list];
-        set_back_or_last(&mut self.table, &mut ends.last, old.first, here);
+        let next = ends.first;
+        self.table.set_links(at, Link::none(), next);
+        set_back_or_last(&mut self.table, &mut ends.last, next, here);
         ends.first = here;
         ends.len += 1;
     }
@@ -79,11 +79,11 @@ impl Lists {
         ensures on { IsOn self.new.lists list at }
         ensures others { StandAsBefore at self.old.lists self.new.lists }
     {
-        let old = self.ends[list];
         let here = Link::to(at);
-        self.table.set_links(at, old.last, Link::none());
         let ends = &mut self.ends[list];
-        set_forward_or_first(&mut self.table, &mut ends.first, old.last, here);
+        let previous = ends.last;
+        self.table.set_links(at, previous, Link::none());
+        set_forward_or_first(&mut self.table, &mut ends.first, previous, here);
         ends.last = here;
         ends.len += 1;
     }

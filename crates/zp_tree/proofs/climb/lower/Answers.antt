@@ -21,14 +21,14 @@ returns-then-is_at_least-clause-sound c =
 pub falling-preserved : goal.falling-preserved
 falling-preserved c =
     let less : c.read-beside.result < c.of-cleared.result = search rules in
-    let r : IsLoweredOn c.args.height c.falling.nodes c.write.new.self c.args.at c.falling._level c.of-cleared.result c.with-rank.result =
-    lower_step c.args.height c.falling.nodes c.write.new.self c.args.at c.falling._level c.falling.node c.sibling_of.result c.read-beside.result c.of-cleared.result c.falling.rank c.with-rank.result
+    let r : IsLoweredOn c.args.height c.falling.nodes c.write.new.nodes c.args.at c.falling._level c.of-cleared.result c.with-rank.result =
+    lower_step c.args.height c.falling.nodes c.write.new.nodes c.args.at c.falling._level c.falling.node c.sibling_of.result c.read-beside.result c.of-cleared.result c.falling.rank c.with-rank.result
     (omega arith) c.requires.inside c.falling.invariant.lowered c.falling.invariant.node c.sibling_of.ensures c.read-beside.ensures.rank less c.with-rank.ensures c.write.ensures in
     record {
       node = ap (λ q. q / 2) c.falling.invariant.node ∙ half_node c.args.height c.falling._level c.args.at (omega arith);
       least = omega arith;
       lowered = r.lowered;
-      same = same_then c.args.height c.args.nodes.now c.falling.nodes c.write.new.self c.falling.invariant.same r.same;
+      same = same_then c.args.height c.args.nodes.now c.falling.nodes c.write.new.nodes c.falling.invariant.same r.same;
       counted = omega arith;
     }
 

@@ -14,14 +14,14 @@ returns-then-is_at_least-clause-sound c =
 pub rising-preserved : goal.rising-preserved
 rising-preserved c =
     let less : c.read.result < c.of-rank.result = search rules in
-    let r : IsRaisedOn c.args.height c.rising.nodes c.write.new.self c.args.at c.rising._level c.of-rank.result =
-    raise_step c.args.height c.rising.nodes c.write.new.self c.args.at c.rising._level (c.rising.node / 2) c.of-rank.result c.read.result
+    let r : IsRaisedOn c.args.height c.rising.nodes c.write.new.nodes c.args.at c.rising._level c.of-rank.result =
+    raise_step c.args.height c.rising.nodes c.write.new.nodes c.args.at c.rising._level (c.rising.node / 2) c.of-rank.result c.read.result
     (omega arith) c.requires.inside c.rising.invariant.raised (ap (λ q. q / 2) c.rising.invariant.node ∙ half_node c.args.height c.rising._level c.args.at (omega arith)) c.read.ensures.rank less c.write.ensures in
     record {
       node = ap (λ q. q / 2) c.rising.invariant.node ∙ half_node c.args.height c.rising._level c.args.at (omega arith);
       least = omega arith;
       raised = r.raised;
-      same = same_then c.args.height c.args.nodes.now c.rising.nodes c.write.new.self c.rising.invariant.same r.same;
+      same = same_then c.args.height c.args.nodes.now c.rising.nodes c.write.new.nodes c.rising.invariant.same r.same;
       counted = omega arith;
     }
 

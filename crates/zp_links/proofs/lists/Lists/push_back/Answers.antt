@@ -15,20 +15,20 @@ overflow_add-ends c =
 pub invariant_of-self : goal.invariant_of-self
 invariant_of-self c =
     let xs = list_at c.args.self.now.lists c.args.list in
-    push_linked c.args.self.now c.args.list (length xs) c.args.at c.self.inside.table _ _ c.set_forward_or_first.new.table c.self.inside.ends.items c.index_mut-ends.result.now _ c.index-old.result.now.last None (record {
+    push_linked c.args.self.now c.args.list (length xs) c.args.at c.self.inside.table _ _ c.set_forward_or_first.new.table c.self.inside.ends.items c.index_mut-ends.result.now _ c.index_mut-ends.result.now.last None (record {
       view = c.self.view_is;
       linked = c.self.invariant;
       list = c.requires.list;
       page = c.requires.page;
       loose = c.requires.loose;
       place = omega arith;
-      previous = end_of _ _ _ _ _ c.self.view_is c.self.invariant c.requires.list c.index-old.ensures;
+      previous = end_of _ _ _ _ _ c.self.view_is c.self.invariant c.requires.list c.index_mut-ends.ensures.value;
       next = past_end xs;
       read = c.index_mut-ends.ensures.value;
-      first = c.set_links.ensures ∙ ap (λ o. with_links_at c.self.inside.table c.args.at c.index-old.result.now.last o) c.none.ensures;
+      first = c.set_links.ensures ∙ ap (λ o. with_links_at c.self.inside.table c.args.at c.index_mut-ends.result.now.last o) c.none.ensures;
       second = refl;
-      third = c.set_forward_or_first.ensures.table ∙ ap (λ o. with_forward_of c.set_links.new.self c.index-old.result.now.last o) c.to-here.ensures;
-      front = c.set_forward_or_first.ensures.first ∙ ap (λ o. end_if c.index-old.result.now.last o c.index_mut-ends.result.now.first) c.to-here.ensures;
+      third = c.set_forward_or_first.ensures.table ∙ ap (λ o. with_forward_of c.set_links.new.self c.index_mut-ends.result.now.last o) c.to-here.ensures;
+      front = c.set_forward_or_first.ensures.first ∙ ap (λ o. end_if c.index_mut-ends.result.now.last o c.index_mut-ends.result.now.first) c.to-here.ensures;
       back = c.to-here.ensures;
       count = refl;
     })
@@ -36,20 +36,20 @@ invariant_of-self c =
 pub returns-clause-after : goal.returns-clause-after
 returns-clause-after c =
     let xs = list_at c.args.self.now.lists c.args.list in
-    push_end c.args.self.now c.args.list c.args.at _ (push_value c.args.self.now c.args.list (length xs) c.args.at c.self.inside.table _ _ c.set_forward_or_first.new.table c.self.inside.ends.items c.index_mut-ends.result.now _ c.index-old.result.now.last None (record {
+    push_end c.args.self.now c.args.list c.args.at _ (push_value c.args.self.now c.args.list (length xs) c.args.at c.self.inside.table _ _ c.set_forward_or_first.new.table c.self.inside.ends.items c.index_mut-ends.result.now _ c.index_mut-ends.result.now.last None (record {
       view = c.self.view_is;
       linked = c.self.invariant;
       list = c.requires.list;
       page = c.requires.page;
       loose = c.requires.loose;
       place = omega arith;
-      previous = end_of _ _ _ _ _ c.self.view_is c.self.invariant c.requires.list c.index-old.ensures;
+      previous = end_of _ _ _ _ _ c.self.view_is c.self.invariant c.requires.list c.index_mut-ends.ensures.value;
       next = past_end xs;
       read = c.index_mut-ends.ensures.value;
-      first = c.set_links.ensures ∙ ap (λ o. with_links_at c.self.inside.table c.args.at c.index-old.result.now.last o) c.none.ensures;
+      first = c.set_links.ensures ∙ ap (λ o. with_links_at c.self.inside.table c.args.at c.index_mut-ends.result.now.last o) c.none.ensures;
       second = refl;
-      third = c.set_forward_or_first.ensures.table ∙ ap (λ o. with_forward_of c.set_links.new.self c.index-old.result.now.last o) c.to-here.ensures;
-      front = c.set_forward_or_first.ensures.first ∙ ap (λ o. end_if c.index-old.result.now.last o c.index_mut-ends.result.now.first) c.to-here.ensures;
+      third = c.set_forward_or_first.ensures.table ∙ ap (λ o. with_forward_of c.set_links.new.self c.index_mut-ends.result.now.last o) c.to-here.ensures;
+      front = c.set_forward_or_first.ensures.first ∙ ap (λ o. end_if c.index_mut-ends.result.now.last o c.index_mut-ends.result.now.first) c.to-here.ensures;
       back = c.to-here.ensures;
       count = refl;
     }))
