@@ -15,6 +15,7 @@ ghost use Rattle.zp_area.specs.Blocks.{block_set, count_of, free_list_of, side_l
 ghost use Rattle.zp_area.specs.Retyped.{retyped};
 ghost use Rattle.zp_area.specs.OneSet.{IsOneSet};
 
+use crate::entry::PageEntry;
 use crate::free_lists::list_of;
 use crate::pageblocks::pageblock_of;
 use crate::retypes::retype;
@@ -22,7 +23,7 @@ use std::alloc::{AllocError, Global};
 use std::marker::Model;
 use zp_links::Lists;
 use zp_model::{MAX_PAGES, MigrateType, ORDERS, Order, PAGEBLOCK_PAGES, PageAt, State, TYPES};
-use zp_table::{PageEntry, PageTable};
+use zp_table::PageTable;
 use zp_tree::{Meter, OrderTree};
 
 /// How many free lists there are. The further lists come after them.
@@ -94,6 +95,7 @@ impl FreeArea {
     }
 
     /// Takes a block into the set. Its head comes in front of the list of its order and its pageblock's type.
+    #[inline]
     pub fn add(&mut self, at: PageAt, order: Order)
         requires block { IsBlock LARGEST_ORDER (length self.old.rows.states) at order }
         requires clear { IsClearRun LARGEST_ORDER self.old.rows.states self.old.rows.lists at order }
@@ -113,6 +115,7 @@ impl FreeArea {
     }
 
     /// Takes a block out of the set. No list is searched.
+    #[inline(always)]
     pub fn remove(&mut self, at: PageAt, order: Order)
         requires { Starts (block_set self.old) at order }
         ensures after { self.new ≡ removed LARGEST_ORDER self.old at order }

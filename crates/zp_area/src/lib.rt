@@ -5,10 +5,11 @@
 #![tactic(auto)]
 
 mod area;
+mod entry;
 mod free_lists;
 mod pageblocks;
 mod retypes;
 
 pub use area::FreeArea;
+pub use entry::PageEntry;
 pub use pageblocks::pageblock_of;
-pub use zp_table::PageEntry;

@@ -2,7 +2,9 @@
 use Rattle.std.proofs.Common.{ℕ, ◌+◌, ◌-◌, ◌*◌, ◌/◌, ◌%◌, ◌^◌, ◌≡◌, ◌≤◌, ◌<◌, ◌==◌, ◌≢◌, ◌⊎◌, inl, inr, refl, sym, ◌∙◌, ap, subst, arith, Bool, true, not, ◌&&◌, List, [], length, set, get_or-set_same, get_or-set_other, length-set, None, min}
 use Rattle.std.specs.List.{filter}
 use Rattle.std.proofs.Math.Nat.{mod-eq-sub-div-mul}
-use Rattle.std.proofs.lemmas.Nat.{pow_pos}
+use Rattle.std.specs.Int.Bits.{bit_and, bit_xor, xor_add_and}
+use Rattle.std.proofs.lemmas.Nat.{pow_pos, pow-add, mod-pow-add}
+use Rattle.std.proofs.lemmas.Nat.Bits.{and_high}
 use Rattle.std.proofs.lemmas.Bool.{cases_lt, cases_eq, not-true, and_parts, and_from, leb-true, le-leb, ltb-true, lt-ltb, eqb-true, eq-eqb, false_from_ne_true, both_ways}
 use Rattle.std.proofs.lemmas.List.{get_or_past}
 use Rattle.zp_model.specs.declared.migrate_type.MigrateType.{MigrateType}
@@ -365,6 +367,16 @@ half_off b j n e al =
       | inl same ↦ inl (omega arith)
       | inr high ↦ inr ((λ z. let bad : ⊥ = omega arith in bad), omega arith, omega arith)
     ]
+
+-- the start of an aligned run with the bit of its order turned
+pub turned : (b j : ℕ) → b % 2 ^ j ≡ 0 → bit_xor b (2 ^ j) ≡ b + 2 ^ j - 2 * (b % (2 * 2 ^ j))
+turned b j al =
+    let two : 2 ^ (1 + j) ≡ 2 * 2 ^ j = pow-add 2 1 j in
+    let only : 2 ^ (1 + j) - 2 ^ j ≡ 2 ^ j = omega arith in
+    let common : bit_and b (2 ^ j) ≡ (b / 2 ^ j % 2 ^ 1) * 2 ^ j = ap (λ n. bit_and b n) (sym only) ∙ and_high b 1 j in
+    let low : b % 2 ^ (1 + j) ≡ (b / 2 ^ j % 2 ^ 1) * 2 ^ j + b % 2 ^ j = mod-pow-add b 1 j in
+    let off : b % 2 ^ (1 + j) ≡ b % (2 * 2 ^ j) = ap (λ n. b % n) two in
+    omega (arith, xor_add_and b (2 ^ j), common, low, off)
 
 -- the buddy, reckoned with no branch
 pub record IsReckoned (b j n c : ℕ) : Type 0 where

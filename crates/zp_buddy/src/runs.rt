@@ -20,10 +20,8 @@ pub fn buddy_of(head: PageAt, order: Order) -> PageAt
     requires below { order < LARGEST_ORDER }
     ensures { IsBuddy head order result (min head result) }
 {
-    let at = head.number();
-    let pages = order.pages();
     // up from the low half, down from the high one: no branch, as which of them it is, is random under load
-    PageAt::at(at + pages - 2 * (at % (2 * pages)))
+    PageAt::at(head.number() ^ order.pages())
 }
 
 /// The largest order, at most `most`, of a block with no more than so many pages.

@@ -13,7 +13,7 @@ use crate::neighbour::{set_back_or_last, set_forward_or_first};
 use std::alloc::{AllocError, Global};
 use std::marker::Model;
 use zp_model::PageAt;
-use zp_table::{PageTable, State};
+use zp_table::{Link, PageTable, State};
 
 /// A row of lists of pages; no page stands twice.
 #[derive(Drop)]
@@ -42,9 +42,10 @@ impl Lists {
     {
         // the table is no longer than a zone can be, which the lists rely on
         let _pages = table.len();
+        let nowhere = Link::none();
         let empty = Ends {
-            first: None,
-            last: None,
+            first: nowhere,
+            last: nowhere,
             len: 0,
         };
         let ends = Vec::from_elem(alloc, empty, count)?;
@@ -60,11 +61,12 @@ impl Lists {
         ensures on { IsOn self.new.lists list at }
         ensures others { StandAsBefore at self.old.lists self.new.lists }
     {
-        let old = self.ends[list];
-        self.table.set_links(at, None, old.first);
+        let here = Link::to(at);
         let ends = &mut self.ends[list];
-        set_back_or_last(&mut self.table, &mut ends.last, old.first, Some(at));
-        ends.first = Some(at);
+        let next = ends.first;
+        self.table.set_links(at, Link::none(), next);
+        set_back_or_last(&mut self.table, &mut ends.last, next, here);
+        ends.first = here;
         ends.len += 1;
     }
 
@@ -77,11 +79,12 @@ impl Lists {
         ensures on { IsOn self.new.lists list at }
         ensures others { StandAsBefore at self.old.lists self.new.lists }
     {
-        let old = self.ends[list];
-        self.table.set_links(at, old.last, None);
+        let here = Link::to(at);
         let ends = &mut self.ends[list];
-        set_forward_or_first(&mut self.table, &mut ends.first, old.last, Some(at));
-        ends.last = Some(at);
+        let previous = ends.last;
+        self.table.set_links(at, previous, Link::none());
+        set_forward_or_first(&mut self.table, &mut ends.first, previous, here);
+        ends.last = here;
         ends.len += 1;
     }
 
@@ -97,7 +100,8 @@ impl Lists {
         set_back_or_last(&mut self.table, &mut ends.last, entry.forward, entry.back);
         set_forward_or_first(&mut self.table, &mut ends.first, entry.back, entry.forward);
         ends.len -= 1;
-        self.table.set_links(at, None, None);
+        let nowhere = Link::none();
+        self.table.set_links(at, nowhere, nowhere);
     }
 
     /// Takes the page in front of a list.
@@ -110,7 +114,7 @@ impl Lists {
         ensures others { IfSome result (λ at. StandAsBefore at self.old.lists self.new.lists) }
     {
         let ends = self.ends[list];
-        match ends.first {
+        match ends.first.page() {
             None => None,
             Some(at) => {
                 self.remove(list, at);
@@ -125,7 +129,7 @@ impl Lists {
         ensures answer { result ≡ front (list_at self.now.lists list) }
         ensures on { IfSome result (IsOn self.now.lists list) }
     {
-        self.ends[list].first
+        self.ends[list].first.page()
     }
 
     /// The page after a page of a list.
@@ -137,7 +141,7 @@ impl Lists {
         // the page's own link names it, whichever the list
         let _list = list;
         let entry = self.table.entry(at);
-        entry.forward
+        entry.forward.page()
     }
 
     /// How many pages a list has.
@@ -154,7 +158,7 @@ impl Lists {
         ensures { IsTrue result ↔ IsOn self.now.lists list at }
     {
         let ends = self.ends[list];
-        let mut next = ends.first;
+        let mut next = ends.first.page();
         for _place in 0..ends.len {
             match next {
                 None => return false,
@@ -162,7 +166,7 @@ impl Lists {
                     if page == at {
                         return true;
                     }
-                    next = self.table.entry(page).forward;
+                    next = self.table.entry(page).forward.page();
                 }
             }
         }
@@ -179,7 +183,7 @@ impl Lists {
             return false;
         }
         let entry = self.table.entry(at);
-        entry.back.is_some() || is_front(&self.ends, at)
+        entry.back.page().is_some() || is_front(&self.ends, at)
     }
 
     /// What is noted of a page.
@@ -205,7 +209,7 @@ impl Lists {
         ensures first { (r : ℕ) → slice_get (list_at self.now.lists r) 0 ≡ Some at → result ≡ None }
         ensures loose { IsLoose self.now.lists at → result ≡ None }
     {
-        self.table.entry(at).back
+        self.table.entry(at).back.page()
     }
 
     /// The page after a page in its list, as the page's link names it.
@@ -214,7 +218,7 @@ impl Lists {
         ensures next { (r : ℕ) → IsOn self.now.lists r at → result ≡ after at (list_at self.now.lists r) }
         ensures loose { IsLoose self.now.lists at → result ≡ None }
     {
-        self.table.entry(at).forward
+        self.table.entry(at).forward.page()
     }
 
     /// How many pages there are.

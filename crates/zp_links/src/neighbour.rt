@@ -4,22 +4,16 @@
 ghost use Rattle.std.specs.Prelude.{◌≡◌, length};
 ghost use Rattle.zp_links.specs.Linked.{MayStand, with_back_of, with_forward_of, end_if};
 
-use zp_model::PageAt;
-use zp_table::PageTable;
+use zp_table::{Link, PageTable};
 
 /// Sets what names the page before a neighbour: the neighbour's back link, or the list's last page where there is no
 /// neighbour.
-pub fn set_back_or_last(
-    table: &mut PageTable,
-    last: &mut Option<PageAt>,
-    neighbour: Option<PageAt>,
-    back: Option<PageAt>,
-)
+pub fn set_back_or_last(table: &mut PageTable, last: &mut Link, neighbour: Link, back: Link)
     requires { MayStand neighbour (length table.old) }
     ensures table { table.new ≡ with_back_of table.old neighbour back }
     ensures last { last.new ≡ end_if neighbour back last.old }
 {
-    match neighbour {
+    match neighbour.page() {
         Some(page) => table.set_back(page, back),
         None => *last = back,
     }
@@ -27,17 +21,12 @@ pub fn set_back_or_last(
 
 /// Sets what names the page after a neighbour: the neighbour's forward link, or the list's first page where there is no
 /// neighbour.
-pub fn set_forward_or_first(
-    table: &mut PageTable,
-    first: &mut Option<PageAt>,
-    neighbour: Option<PageAt>,
-    forward: Option<PageAt>,
-)
+pub fn set_forward_or_first(table: &mut PageTable, first: &mut Link, neighbour: Link, forward: Link)
     requires { MayStand neighbour (length table.old) }
     ensures table { table.new ≡ with_forward_of table.old neighbour forward }
     ensures first { first.new ≡ end_if neighbour forward first.old }
 {
-    match neighbour {
+    match neighbour.page() {
         Some(page) => table.set_forward(page, forward),
         None => *first = forward,
     }

@@ -3,11 +3,6 @@ use Rattle.std.specs.Prelude.{ℕ, ◌≡◌, ◌<◌, List, length, Option, Non
 use Rattle.zp_model.specs.declared.state.State.{State}
 use Rattle.zp_model.specs.declared.state.State.TheVariants.{Tail}
 use Rattle.zp_table.specs.declared.entry.PageEntry.{PageEntry}
-use Rattle.zp_table.specs.declared.entry.Slot.{Slot}
-
--- an entry as the table keeps it
-abbrev pub entry_of : Slot → PageEntry
-entry_of s = record { state = s.state; back = s.back; forward = s.forward }
 
 -- the entry of a page that heads no block and stands on no list
 abbrev pub blank : PageEntry

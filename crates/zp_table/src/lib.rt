@@ -8,5 +8,6 @@ mod link;
 mod table;
 
 pub use entry::PageEntry;
+pub use link::Link;
 pub use table::PageTable;
 pub use zp_model::State;

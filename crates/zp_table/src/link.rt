@@ -1,5 +1,5 @@
 //! A link to a page, or to none, in four bytes.
-ghost use Rattle.std.specs.Prelude.{◌≡◌, Option, ℕ};
+ghost use Rattle.std.specs.Prelude.{◌≡◌, Option, None, Some, ℕ};
 
 use std::marker::Model;
 use zp_model::{MAX_PAGES, PageAt};
@@ -27,15 +27,19 @@ impl Model for Link {
 }
 
 impl Link {
-    /// The link to this page, or to none.
-    pub fn new(page: Option<PageAt>) -> Link
-        ensures { result ≡ page }
+    /// The link to no page.
+    pub fn none() -> Link
+        ensures { result ≡ None }
     {
-        match page {
-            Some(at) => Link {
-                number: at.number(),
-            },
-            None => Link { number: MAX_PAGES },
+        Link { number: MAX_PAGES }
+    }
+
+    /// The link to this page.
+    pub fn to(at: PageAt) -> Link
+        ensures { result ≡ Some at }
+    {
+        Link {
+            number: at.number(),
         }
     }
 

@@ -5,7 +5,7 @@ ghost use Rattle.std.specs.Prelude.{◌≡◌, ◌<◌, ◌≤◌, length, repli
 ghost use Rattle.zp_model.specs.declared.constants.TheConstants.{MAX_PAGES};
 ghost use Rattle.zp_table.specs.Entries.{blank, entry_at, IsUnlinked, with_state_at, with_links_at, with_back_at, with_forward_at};
 
-use crate::entry::{PageEntry, Slot};
+use crate::entry::PageEntry;
 use crate::link::Link;
 use std::alloc::{AllocError, Global};
 use std::marker::Model;
@@ -14,20 +14,19 @@ use zp_model::{PageAt, State};
 /// An entry for each page.
 #[derive(Drop)]
 pub struct PageTable {
-    slots: Vec<Slot>,
+    entries: Vec<PageEntry>,
 }
 
 impl Model for PageTable {
-    ghost use Rattle.std.specs.Prelude.{List, length, map, ◌≤◌};
+    ghost use Rattle.std.specs.Prelude.{List, length, ◌≤◌};
     ghost use Rattle.zp_model.specs.declared.constants.TheConstants.{MAX_PAGES};
     ghost use Rattle.zp_table.specs.declared.entry.PageEntry.{PageEntry};
-    ghost use Rattle.zp_table.specs.Entries.{entry_of};
 
     ghost Value = { List PageEntry };
 
-    ghost view = { λ t. map entry_of t.slots.items };
+    ghost view = { λ t. t.entries.items };
 
-    ghost invariant = { λ t. length t.slots.items ≤ MAX_PAGES };
+    ghost invariant = { λ t. length t.entries.items ≤ MAX_PAGES };
 }
 
 impl PageTable {
@@ -37,13 +36,13 @@ impl PageTable {
         ensures table { IfOk result (λ t. t ≡ replicate pages blank) }
         ensures unlinked { IfOk result IsUnlinked }
     {
-        let blank = Slot {
+        let blank = PageEntry {
             state: State::Tail,
-            back: Link::new(None),
-            forward: Link::new(None),
+            back: Link::none(),
+            forward: Link::none(),
         };
-        let slots = Vec::from_elem(alloc, blank, pages as usize)?;
-        Ok(PageTable { slots })
+        let entries = Vec::from_elem(alloc, blank, pages as usize)?;
+        Ok(PageTable { entries })
     }
 
     /// How many entries the table has.
@@ -51,49 +50,45 @@ impl PageTable {
         ensures same { result ≡ length self.now }
         ensures within { result ≤ MAX_PAGES }
     {
-        self.slots.len()
+        self.entries.len()
     }
 
     pub fn entry(&self, at: PageAt) -> PageEntry
         requires { at < length self.now }
         ensures { result ≡ entry_at self.now at }
     {
-        let slot = self.slots[at.index()];
-        PageEntry {
-            state: slot.state,
-            back: slot.back.page(),
-            forward: slot.forward.page(),
-        }
+        let place = at.index();
+        self.entries[place]
     }
 
     pub fn set_state(&mut self, at: PageAt, state: State)
         requires { at < length self.old }
         ensures { self.new ≡ with_state_at self.old at state }
     {
-        self.slots[at.index()].state = state;
+        self.entries[at.index()].state = state;
     }
 
-    pub fn set_links(&mut self, at: PageAt, back: Option<PageAt>, forward: Option<PageAt>)
+    pub fn set_links(&mut self, at: PageAt, back: Link, forward: Link)
         requires { at < length self.old }
         ensures { self.new ≡ with_links_at self.old at back forward }
     {
-        let slot = &mut self.slots[at.index()];
-        slot.back = Link::new(back);
-        slot.forward = Link::new(forward);
+        let entry = &mut self.entries[at.index()];
+        entry.back = back;
+        entry.forward = forward;
     }
 
-    pub fn set_back(&mut self, at: PageAt, back: Option<PageAt>)
+    pub fn set_back(&mut self, at: PageAt, back: Link)
         requires { at < length self.old }
         ensures { self.new ≡ with_back_at self.old at back }
     {
-        self.slots[at.index()].back = Link::new(back);
+        self.entries[at.index()].back = back;
     }
 
-    pub fn set_forward(&mut self, at: PageAt, forward: Option<PageAt>)
+    pub fn set_forward(&mut self, at: PageAt, forward: Link)
         requires { at < length self.old }
         ensures { self.new ≡ with_forward_at self.old at forward }
     {
-        self.slots[at.index()].forward = Link::new(forward);
+        self.entries[at.index()].forward = forward;
     }
 }
 
@@ -109,17 +104,17 @@ mod tests {
         assert_eq!(rt; table.len(), 4);
         let page = PageAt::at(2);
         table.set_state(page, State::Free(Order::zero()));
-        table.set_links(page, Some(PageAt::at(0)), Some(PageAt::at(1)));
-        table.set_back(page, None);
-        table.set_forward(page, Some(PageAt::at(3)));
+        table.set_links(page, Link::to(PageAt::at(0)), Link::to(PageAt::at(1)));
+        table.set_back(page, Link::none());
+        table.set_forward(page, Link::to(PageAt::at(3)));
         let entry = table.entry(page);
         assert_eq!(rt; entry.state, State::Free(Order::zero()));
-        assert_eq!(rt; entry.back, None);
-        assert_eq!(rt; entry.forward, Some(PageAt::at(3)));
+        assert_eq!(rt; entry.back.page(), None);
+        assert_eq!(rt; entry.forward.page(), Some(PageAt::at(3)));
         let next = table.entry(PageAt::at(3));
         assert_eq!(rt; next.state, State::Tail);
-        assert_eq!(rt; next.back, None);
-        assert_eq!(rt; next.forward, None);
+        assert_eq!(rt; next.back.page(), None);
+        assert_eq!(rt; next.forward.page(), None);
         Ok(())
     }
 }

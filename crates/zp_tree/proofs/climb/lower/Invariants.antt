@@ -1,14 +1,8 @@
-use Rattle.std.proofs.Common.{◌+◌, ◌/◌, ◌^◌, ◌≡◌, ◌≤◌}
-use Rattle.zp_tree.specs.Layout.{node_at}
-use Rattle.zp_tree.specs.Sound.{HasSameBlocks}
-use Rattle.zp_tree.specs.Climbs.{IsLowered}
+use Rattle.zp_tree.proofs.Climbs.{HasFallen}
 use Rattle.zp_tree.proofs.climb.lower.Given as goal
 
 abbrev pub invariant-falling : goal.invariant-falling
-invariant-falling l = record {
-  node : l.node ≡ node_at l.height l._level (l.fn.at / 2 ^ l._level);
-  least : l.fn.order ≤ l._level;
-  lowered : IsLowered l.height l.nodes l.fn.at l._level l.cleared l.rank;
-  same : HasSameBlocks l.height l.initial.nodes l.nodes;
-  counted : l.meter + l.fn.order ≤ l.initial.meter + l._level;
-}
+invariant-falling l = HasFallen l.height l.initial.nodes l.nodes l.fn.at l.fn.order l.cleared l.rank l.node l.initial.meter l.meter
+
+abbrev pub decreases-falling : goal.decreases-falling
+decreases-falling l = l.node

@@ -10,7 +10,7 @@ entry-entry-requires c = within _ _ _ (linked_in _ _ _ c.self.view_is c.self.inv
 
 pub returns-clause-answer : goal.returns-clause-answer
 returns-clause-answer c =
-    ap (λ (e : PageEntry). e.forward) c.entry-entry.ensures ∙ forward_on _ _ _ (linked_in _ _ _ c.self.view_is c.self.invariant) c.args.list c.args.at c.requires
+    c.page.ensures ∙ ap (λ (e : PageEntry). e.forward) c.entry-entry.ensures ∙ forward_on _ _ _ (linked_in _ _ _ c.self.view_is c.self.invariant) c.args.list c.args.at c.requires
 
 pub returns-clause-on : goal.returns-clause-on
 returns-clause-on c = after_stands c.args.at _ _ (returns-clause-answer c)

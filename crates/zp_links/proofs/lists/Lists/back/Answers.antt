@@ -6,12 +6,12 @@ use Rattle.zp_links.proofs.lists.Lists.back.Goals as goal
 
 pub returns-clause-previous : goal.returns-clause-previous
 returns-clause-previous c r p o e =
-    ap (λ (e : PageEntry). e.back) c.entry.ensures ∙ back_of_next _ _ _ (linked_in _ _ _ c.self.view_is c.self.invariant) r p c.args.at o e
+    c.page.ensures ∙ ap (λ (e : PageEntry). e.back) c.entry.ensures ∙ back_of_next _ _ _ (linked_in _ _ _ c.self.view_is c.self.invariant) r p c.args.at o e
 
 pub returns-clause-first : goal.returns-clause-first
 returns-clause-first c r e =
-    ap (λ (e : PageEntry). e.back) c.entry.ensures ∙ back_of_first _ _ _ (linked_in _ _ _ c.self.view_is c.self.invariant) r c.args.at e
+    c.page.ensures ∙ ap (λ (e : PageEntry). e.back) c.entry.ensures ∙ back_of_first _ _ _ (linked_in _ _ _ c.self.view_is c.self.invariant) r c.args.at e
 
 pub returns-clause-loose : goal.returns-clause-loose
 returns-clause-loose c none =
-    ap (λ (e : PageEntry). e.back) c.entry.ensures ∙ (unlinked _ _ _ (linked_in _ _ _ c.self.view_is c.self.invariant) c.args.at none).0
+    c.page.ensures ∙ ap (λ (e : PageEntry). e.back) c.entry.ensures ∙ (unlinked _ _ _ (linked_in _ _ _ c.self.view_is c.self.invariant) c.args.at none).0

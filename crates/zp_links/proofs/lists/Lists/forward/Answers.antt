@@ -6,8 +6,8 @@ use Rattle.zp_links.proofs.lists.Lists.forward.Goals as goal
 
 pub returns-clause-next : goal.returns-clause-next
 returns-clause-next c r o =
-    ap (λ (e : PageEntry). e.forward) c.entry.ensures ∙ forward_on _ _ _ (linked_in _ _ _ c.self.view_is c.self.invariant) r c.args.at o
+    c.page.ensures ∙ ap (λ (e : PageEntry). e.forward) c.entry.ensures ∙ forward_on _ _ _ (linked_in _ _ _ c.self.view_is c.self.invariant) r c.args.at o
 
 pub returns-clause-loose : goal.returns-clause-loose
 returns-clause-loose c none =
-    ap (λ (e : PageEntry). e.forward) c.entry.ensures ∙ (unlinked _ _ _ (linked_in _ _ _ c.self.view_is c.self.invariant) c.args.at none).1
+    c.page.ensures ∙ ap (λ (e : PageEntry). e.forward) c.entry.ensures ∙ (unlinked _ _ _ (linked_in _ _ _ c.self.view_is c.self.invariant) c.args.at none).1

@@ -11,7 +11,7 @@ pub loop-place-preserved : goal.loop-place-preserved
 loop-place-preserved c =
     let w = c.args.self.now in
     let at : At w.lists c.args.list c.loop-place._place c.in-Some.page = sym c.loop-place.invariant.0 ∙ c.in-Some.is in (
-      ap (λ (e : PageEntry). e.forward) c.entry-next.ensures ∙ walk_more w c.args.list c.loop-place._place c.in-Some.page c.self.inside.table c.self.inside.ends.items c.self.view_is c.self.invariant at,
+      c.page-next-in-Some.ensures ∙ ap (λ (e : PageEntry). e.forward) c.entry.ensures ∙ walk_more w c.args.list c.loop-place._place c.in-Some.page c.self.inside.table c.self.inside.ends.items c.self.view_is c.self.invariant at,
       walk_past (list_at w.lists c.args.list) c.loop-place._place c.args.at c.in-Some.page at (λ s. eqb-false c.in-Some.page c.args.at (sym c.eq.ensures ∙ c.if-eq.false) s) c.loop-place.invariant.1,
     )
 

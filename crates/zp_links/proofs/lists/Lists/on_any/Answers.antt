@@ -8,14 +8,14 @@ use Rattle.zp_links.proofs.lists.Lists.on_any.Goals as goal
 
 pub returns-then-is_some-clause-on : goal.returns-then-is_some-clause-on
 returns-then-is_some-clause-on c = (
-  λ t. on_by_back _ _ _ (linked_in _ _ _ c.self.view_is c.self.invariant) c.args.at c.entry-entry.result.back (ap (λ (e : PageEntry). e.back) c.entry-entry.ensures) (sym c.is_some.ensures ∙ c.if-is_some.true),
+  λ t. on_by_back _ _ _ (linked_in _ _ _ c.self.view_is c.self.invariant) c.args.at c.page.result (c.page.ensures ∙ ap (λ (e : PageEntry). e.back) c.entry-entry.ensures) (sym c.is_some.ensures ∙ c.if-is_some.true),
   λ w. c.if-is_some.true,
 )
 
 pub returns-else-is_some-clause-on : goal.returns-else-is_some-clause-on
 returns-else-is_some-clause-on c =
     let none : back_at c.self.inside.table c.args.at ≡ None =
-    no_back c.entry-entry.result.back _ (ap (λ (e : PageEntry). e.back) c.entry-entry.ensures) (sym c.is_some.ensures ∙ c.if-is_some.false) in (
+    no_back c.page.result _ (c.page.ensures ∙ ap (λ (e : PageEntry). e.back) c.entry-entry.ensures) (sym c.is_some.ensures ∙ c.if-is_some.false) in (
       λ t. on_by_front _ _ _ _ (linked_in _ _ _ c.self.view_is c.self.invariant) c.deref.ensures.value c.args.at (c.is_front.ensures.0 t),
       λ w. front_where_on _ _ _ _ (linked_in _ _ _ c.self.view_is c.self.invariant) c.deref.ensures.value c.args.at none c.is_front.result c.is_front.ensures.1 w,
     )
@@ -23,7 +23,7 @@ returns-else-is_some-clause-on c =
 pub returns-else-is_some-clause-loose : goal.returns-else-is_some-clause-loose
 returns-else-is_some-clause-loose c e =
     let none : back_at c.self.inside.table c.args.at ≡ None =
-    no_back c.entry-entry.result.back _ (ap (λ (e : PageEntry). e.back) c.entry-entry.ensures) (sym c.is_some.ensures ∙ c.if-is_some.false) in
+    no_back c.page.result _ (c.page.ensures ∙ ap (λ (e : PageEntry). e.back) c.entry-entry.ensures) (sym c.is_some.ensures ∙ c.if-is_some.false) in
     loose_by_front _ _ _ _ (linked_in _ _ _ c.self.view_is c.self.invariant) c.deref.ensures.value c.args.at none c.is_front.result c.is_front.ensures.1 e
 
 pub returns-then-index-len-clause-on : goal.returns-then-index-len-clause-on

@@ -1,6 +1,8 @@
-use Rattle.std.proofs.Common.{◌≤◌, refl, arith, length, None}
+use Rattle.std.proofs.Common.{◌≤◌, ◌∙◌, ap, refl, arith, length, None}
 use Rattle.zp_model.specs.declared.constants.TheConstants.{MAX_PAGES}
 use Rattle.zp_model.specs.Rows.{list_at}
+use Rattle.zp_table.specs.Entries.{with_links_at}
+use Rattle.zp_links.specs.Linked.{with_forward_of, end_if}
 use Rattle.zp_links.proofs.Writes.{push_linked, push_value, push_end, past_end, count_fits, end_of}
 use Rattle.zp_links.proofs.Moving.{queued}
 use Rattle.zp_links.proofs.lists.Lists.push_back.Goals as goal
@@ -13,42 +15,42 @@ overflow_add-ends c =
 pub invariant_of-self : goal.invariant_of-self
 invariant_of-self c =
     let xs = list_at c.args.self.now.lists c.args.list in
-    push_linked c.args.self.now c.args.list (length xs) c.args.at c.self.inside.table _ _ c.set_forward_or_first.new.table c.self.inside.ends.items c.index_mut-ends.result.now _ c.index-old.result.now.last None (record {
+    push_linked c.args.self.now c.args.list (length xs) c.args.at c.self.inside.table _ _ c.set_forward_or_first.new.table c.self.inside.ends.items c.index_mut-ends.result.now _ c.index_mut-ends.result.now.last None (record {
       view = c.self.view_is;
       linked = c.self.invariant;
       list = c.requires.list;
       page = c.requires.page;
       loose = c.requires.loose;
       place = omega arith;
-      previous = end_of _ _ _ _ _ c.self.view_is c.self.invariant c.requires.list c.index-old.ensures;
+      previous = end_of _ _ _ _ _ c.self.view_is c.self.invariant c.requires.list c.index_mut-ends.ensures.value;
       next = past_end xs;
       read = c.index_mut-ends.ensures.value;
-      first = c.set_links.ensures;
+      first = c.set_links.ensures ∙ ap (λ o. with_links_at c.self.inside.table c.args.at c.index_mut-ends.result.now.last o) c.none.ensures;
       second = refl;
-      third = c.set_forward_or_first.ensures.table;
-      front = c.set_forward_or_first.ensures.first;
-      back = refl;
+      third = c.set_forward_or_first.ensures.table ∙ ap (λ o. with_forward_of c.set_links.new.self c.index_mut-ends.result.now.last o) c.to-here.ensures;
+      front = c.set_forward_or_first.ensures.first ∙ ap (λ o. end_if c.index_mut-ends.result.now.last o c.index_mut-ends.result.now.first) c.to-here.ensures;
+      back = c.to-here.ensures;
       count = refl;
     })
 
 pub returns-clause-after : goal.returns-clause-after
 returns-clause-after c =
     let xs = list_at c.args.self.now.lists c.args.list in
-    push_end c.args.self.now c.args.list c.args.at _ (push_value c.args.self.now c.args.list (length xs) c.args.at c.self.inside.table _ _ c.set_forward_or_first.new.table c.self.inside.ends.items c.index_mut-ends.result.now _ c.index-old.result.now.last None (record {
+    push_end c.args.self.now c.args.list c.args.at _ (push_value c.args.self.now c.args.list (length xs) c.args.at c.self.inside.table _ _ c.set_forward_or_first.new.table c.self.inside.ends.items c.index_mut-ends.result.now _ c.index_mut-ends.result.now.last None (record {
       view = c.self.view_is;
       linked = c.self.invariant;
       list = c.requires.list;
       page = c.requires.page;
       loose = c.requires.loose;
       place = omega arith;
-      previous = end_of _ _ _ _ _ c.self.view_is c.self.invariant c.requires.list c.index-old.ensures;
+      previous = end_of _ _ _ _ _ c.self.view_is c.self.invariant c.requires.list c.index_mut-ends.ensures.value;
       next = past_end xs;
       read = c.index_mut-ends.ensures.value;
-      first = c.set_links.ensures;
+      first = c.set_links.ensures ∙ ap (λ o. with_links_at c.self.inside.table c.args.at c.index_mut-ends.result.now.last o) c.none.ensures;
       second = refl;
-      third = c.set_forward_or_first.ensures.table;
-      front = c.set_forward_or_first.ensures.first;
-      back = refl;
+      third = c.set_forward_or_first.ensures.table ∙ ap (λ o. with_forward_of c.set_links.new.self c.index_mut-ends.result.now.last o) c.to-here.ensures;
+      front = c.set_forward_or_first.ensures.first ∙ ap (λ o. end_if c.index_mut-ends.result.now.last o c.index_mut-ends.result.now.first) c.to-here.ensures;
+      back = c.to-here.ensures;
       count = refl;
     }))
 

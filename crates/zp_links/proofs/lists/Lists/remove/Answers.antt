@@ -1,5 +1,6 @@
 use Rattle.std.proofs.Common.{◌≡◌, ◌<◌, ℕ, arith, ap, sym, ◌∙◌, subst, length, List, refl}
 use Rattle.zp_table.specs.declared.entry.PageEntry.{PageEntry}
+use Rattle.zp_table.specs.Entries.{with_links_at}
 use Rattle.zp_links.specs.Linked.{MayStand}
 use Rattle.zp_links.proofs.Writes.{linked_in, remove_linked, remove_value, length-back, length-forward}
 use Rattle.zp_links.proofs.Telling.{within, next_stands, previous_stands, row_in}
@@ -41,7 +42,7 @@ invariant_of-self c =
       entry = c.entry-entry.ensures;
       first = c.set_back_or_last.ensures.table;
       second = c.set_forward_or_first.ensures.table;
-      third = c.set_links.ensures;
+      third = c.set_links.ensures ∙ ap (λ o. with_links_at c.set_forward_or_first.new.table c.args.at o o) c.none-nowhere.ensures;
       read = c.index_mut-ends.ensures.value;
       front = c.set_forward_or_first.ensures.first;
       back = c.set_back_or_last.ensures.last;
@@ -57,7 +58,7 @@ returns-clause-after c =
       entry = c.entry-entry.ensures;
       first = c.set_back_or_last.ensures.table;
       second = c.set_forward_or_first.ensures.table;
-      third = c.set_links.ensures;
+      third = c.set_links.ensures ∙ ap (λ o. with_links_at c.set_forward_or_first.new.table c.args.at o o) c.none-nowhere.ensures;
       read = c.index_mut-ends.ensures.value;
       front = c.set_forward_or_first.ensures.first;
       back = c.set_back_or_last.ensures.last;
