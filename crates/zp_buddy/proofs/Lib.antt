@@ -9,7 +9,7 @@ pub mod Framed
 pub mod Joining
 pub mod Ending
 pub mod GivenBack
-pub mod ClearRuns
+pub mod ClearInFrames
 pub mod FirstFound
 pub mod Finders
 pub mod Claimable
@@ -20,5 +20,5 @@ pub mod Taking
 pub mod Claiming
 pub mod NotedFrames
 pub mod SideLists
-pub mod ClearRun
+pub mod ClearByLooks
 pub mod AddedPages

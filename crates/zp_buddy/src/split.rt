@@ -35,7 +35,7 @@ fn split(area: &mut FreeArea, head: PageAt, from: Order, to: Order)
 }
 
 /// Takes the free block of order `found` at `head`, splits it down to `order`, and leaves its low part out of the area.
-#[inline(always)]
+#[inline]
 pub fn take_block(area: &mut FreeArea, head: PageAt, found: Order, order: Order)
     requires down { order ≤ found }
     requires free { Starts (block_set area.old) head found }

@@ -3,7 +3,7 @@ use Rattle.std.proofs.lemmas.Bool.{both_ways, cases_lt, false≢true, false_from
 use Rattle.std.proofs.lemmas.Nat.{pow_pos}
 use Rattle.zp_model.specs.declared.constants.TheConstants.{LARGEST_ORDER}
 use Rattle.zp_model.specs.Rows.{IsLoose}
-use Rattle.zp_buddy.proofs.ClearRun.{larger_free, listed_not_clear, clear_decided}
+use Rattle.zp_buddy.proofs.ClearByLooks.{larger_free, listed_not_clear, clear_decided}
 use Rattle.zp_buddy.proofs.clear.is_clear_run.Goals as goal
 
 pub returns-then-is_in_larger : goal.returns-then-is_in_larger

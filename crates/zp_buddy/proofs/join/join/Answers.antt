@@ -4,7 +4,7 @@ use Rattle.zp_model.specs.declared.constants.TheConstants.{LARGEST_ORDER}
 use Rattle.zp_model.specs.declared.migrate_type.MigrateType.{MigrateType}
 use Rattle.zp_buddy.specs.Buddies.{IsBuddy}
 use Rattle.zp_buddy.specs.Sound.{frames_of, IsSound}
-use Rattle.zp_buddy.proofs.ClearRuns.{clear_run}
+use Rattle.zp_buddy.proofs.ClearInFrames.{clear_run}
 use Rattle.zp_buddy.proofs.Joining.{IsBack, joining_none, joining_place}
 use Rattle.zp_buddy.proofs.Ending.{stops}
 use Rattle.zp_buddy.proofs.GivenBack.{clear_below}

@@ -1,4 +1,4 @@
-use Rattle.std.proofs.Common.{ℕ, ◌≡◌, ◌++◌, List, ap, sym, subst, ◌∙◌}
+use Rattle.std.proofs.Common.{rules, ℕ, ◌≡◌, ◌++◌, List, ap, sym, subst, ◌∙◌}
 use Rattle.std.proofs.lemmas.List.{take-append-drop}
 use Rattle.zp_model.specs.declared.constants.TheConstants.{LARGEST_ORDER}
 use Rattle.zp_model.specs.Area.{lists_count}
@@ -15,4 +15,5 @@ linked a f e = sym (take-append-drop (lists_count LARGEST_ORDER) a.rows.lists) �
 pub returns-clause-linked : goal.returns-clause-linked
 returns-clause-linked c =
     let P : List (List ℕ) → Type 0 = λ ls. IsLinkedAt ls c.args.at c.entry.result.back c.entry.result.forward in
-    subst P (linked _ _ c.self.view_is) c.entry.ensures.linked
+    let here : IsLinkedAt c.self.inside.area.rows.lists c.args.at c.entry.result.back c.entry.result.forward = search rules in
+    subst P (linked _ _ c.self.view_is) here

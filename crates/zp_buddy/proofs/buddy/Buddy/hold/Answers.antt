@@ -6,7 +6,7 @@ use Rattle.zp_area.specs.Blocks.{Blocks}
 use Rattle.zp_area.proofs.Holding.{IsHolding}
 use Rattle.zp_buddy.specs.Choices.{frames_in}
 use Rattle.zp_buddy.specs.Held.{IsHeld}
-use Rattle.zp_buddy.proofs.ClearRun.{one_held}
+use Rattle.zp_buddy.proofs.ClearByLooks.{one_held}
 use Rattle.zp_buddy.proofs.NotedFrames.{held_noted, frames_noted}
 use Rattle.zp_buddy.proofs.buddy.Buddy.hold.Goals as goal
 

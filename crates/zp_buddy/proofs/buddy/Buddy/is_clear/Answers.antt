@@ -2,7 +2,7 @@ use Rattle.std.proofs.Common.{sym, subst}
 use Rattle.std.proofs.lemmas.Bool.{both_ways}
 use Rattle.zp_model.specs.declared.constants.TheConstants.{LARGEST_ORDER}
 use Rattle.zp_model.specs.Frames.{Frames, IsClear}
-use Rattle.zp_buddy.proofs.ClearRuns.{clear_from, clear_block, clear_run}
+use Rattle.zp_buddy.proofs.ClearInFrames.{clear_from, clear_block, clear_run}
 use Rattle.zp_buddy.proofs.buddy.Buddy.is_clear.Goals as goal
 
 pub returns-then-is_block : goal.returns-then-is_block

@@ -10,7 +10,7 @@ use Rattle.zp_model.specs.Rows.{IsLoose, IsOn, list_at, stands_in}
 use Rattle.zp_model.specs.Area.{kind_at, list_number, lists_count}
 use Rattle.zp_model.proofs.Heads.{head_le, lt_head, head_of, head_same, head_room}
 use Rattle.zp_area.specs.Given.{IsClearRun}
-use Rattle.zp_buddy.proofs.ClearRuns.{aside_some}
+use Rattle.zp_buddy.proofs.ClearInFrames.{aside_some}
 use Rattle.zp_area.proofs.NotedBlocks.{row_below}
 use Rattle.zp_area.specs.Blocks.{Blocks, block_set}
 use Rattle.zp_area.specs.OneSet.{IsOneSet}

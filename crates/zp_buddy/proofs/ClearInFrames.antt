@@ -1,4 +1,4 @@
--- What the looks at the pages of a run say.
+-- What a clear run is in the frames that callers see.
 use Rattle.std.proofs.Common.{ℕ, ◌+◌, ◌-◌, ◌≡◌, ◌≤◌, sym, ◌∙◌, ap, subst, arith, true, List, [], length, drop}
 use Rattle.std.proofs.lemmas.List.{length-map, get_or-drop}
 use Rattle.zp_model.specs.declared.migrate_type.MigrateType.{MigrateType}
