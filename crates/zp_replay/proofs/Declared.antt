@@ -1,6 +1,5 @@
 -- The zones that a header declares can be given the header's commands.
-use Rattle.std.proofs.Common.{ℕ, ◌≡◌, ◌<◌, List, All, Any, length, map, get_or, replicate, true, inl, inr, [], sym, ap, ◌∙◌, arith}
-use Rattle.std.specs.List.{position_or_len}
+use Rattle.std.proofs.Common.{ℕ, ◌≡◌, ◌<◌, List, All, Any, length, map, get_or, true, inl, inr, [], sym, ap, subst, ◌∙◌, arith}
 use Rattle.std.specs.Str.{bytes_eq}
 use Rattle.std.proofs.lemmas.Bool.{cases_lt, both_ways}
 use Rattle.std.proofs.lemmas.List.{length-map, length-replicate, get_or-map}
@@ -13,7 +12,7 @@ use Rattle.zp_trace.specs.declared.line.Call.{Call}
 use Rattle.zp_trace.specs.declared.line.Call.TheVariants.{Info, Alloc, Low, Free, Post, Collect}
 use Rattle.zp_trace.specs.declared.line.Command.{Command}
 use Rattle.zp_trace.specs.declared.trace.Header.{Header}
-use Rattle.zp_trace.specs.Grammar.{IsCallOf, IsCommandOf, IsDeclared}
+use Rattle.zp_trace.specs.Grammar.{IsCallOf, IsCommandOf}
 use Rattle.zp_zone.specs.NamedZone.{NamedZone}
 use Rattle.zp_replay.specs.Row.{number_of, IsIn, HasWorker}
 use Rattle.zp_replay.specs.Asked.{NamesZones, IsCommandFor}
@@ -53,3 +52,7 @@ command-for h c is = (workers h.workers h.zones c.worker is.0, calls c.call is.1
     calls (Free label) is = tt
     calls (Post label to) is = workers h.workers h.zones to is.1
     calls (Collect label zone) is = named h.workers h.zones zone is.1
+
+pub commands-for : (h : Header) (zones : List NamedZone) (cs : List Command) → zones ≡ map (declared_zone h.workers) h.zones → All (IsCommandOf h) cs → All (IsCommandFor zones) cs
+commands-for h zones cs same all k d lt =
+    subst (λ (zs : List NamedZone). IsCommandFor zs (get_or cs k d)) (sym same) (command-for h (get_or cs k d) (all k d lt))

@@ -56,4 +56,3 @@ begun_item f xs i x a b c lt is e g =
     begun-same a c _ _ (sym (flat_map-append f (take (i + 1) xs) (drop (i + 1) xs)) ∙ ap (λ ys. flat_map f ys) (take-append-drop (i + 1) xs))
     (begun-longer a c _ (flat_map f (drop (i + 1) xs))
     (begun-same a c _ _ (item_more f xs i x lt is) (begun-then a b c (flat_map f (take i xs)) (f x) e g)))
-

@@ -1,6 +1,6 @@
 -- A row of zones after a request of one of them: the same zones can be asked by the same workers.
-use Rattle.std.proofs.Common.{ℕ, zero, suc, ◌≡◌, ◌<◌, ◌≤◌, ◌+◌, ◌-◌, is_ok, List, [], ◌∷◌, ◌++◌, reverse, All, length, length-set, set, get_or, cond, map, Bool, true, false, Option, None, Some, Result, Ok, Err, refl, sym, ap, subst, inl, inr, ◌∙◌, arith}
-use Rattle.std.specs.List.{position_or_len, find}
+use Rattle.std.proofs.Common.{ℕ, zero, suc, ◌≡◌, ◌<◌, ◌≤◌, ◌+◌, ◌-◌, is_ok, List, [], ◌∷◌, ◌++◌, reverse, All, length, length-set, set, get_or, cond, Bool, true, false, Option, None, Some, Result, Ok, Err, refl, sym, ap, subst, inl, inr, ◌∙◌, arith}
+use Rattle.std.specs.List.{find}
 use Rattle.std.specs.Str.{bytes_eq}
 use Rattle.std.proofs.lemmas.Bool.{cases_lt, cases_eq, both_ways}
 use Rattle.std.proofs.lemmas.List.Sums.{passes_at_first, fails_before_first}
@@ -26,7 +26,7 @@ use Rattle.zp_replay.specs.declared.bindings.Binding.{Binding}
 use Rattle.zp_replay.specs.Labels.{names, bound_to}
 use Rattle.zp_replay.specs.Row.{is_refusal, zone_at, answering, number_of, outcome_at, row_after, no_zone, IsIn, HasWorker}
 use Rattle.zp_replay.specs.Asked.{NamesZones, IsCommandFor, lent}
-use Rattle.zp_replay.specs.Replies.{ReplayState, replied, asked, asked_for, asked_of, answer_to, answer, answers}
+use Rattle.zp_replay.specs.Replies.{ReplayState, replied, asked, asked_of, answer_to, answer, answers}
 
 -- what can be asked of a row can be asked of the other
 abbrev pub CanStill : List NamedZone → List NamedZone → Type 0
@@ -104,8 +104,8 @@ pub known-bound : (n : ℕ) (bs : List Binding) (w : ℕ) (label : List ℕ) (b 
 known-bound n bs w label b all e =
     let P : Binding → Type 0 = λ c. c.zone < n in
     found-holds P (names w label) (reverse bs) b (λ k d lt.
-        let n : length (reverse bs) ≡ length bs = length-reverse bs in
-        subst P (sym (get_or-reverse bs k d (omega arith))) (all (length bs - 1 - k) d (omega arith))) e
+    let n : length (reverse bs) ≡ length bs = length-reverse bs in
+    subst P (sym (get_or-reverse bs k d (omega arith))) (all (length bs - 1 - k) d (omega arith))) e
 
 -- a zone of the row as code reads it
 pub zone_here : (zones : List NamedZone) (i : ℕ) (z : NamedZone) → i < length zones → z ≡ get_or zones i z → zone_at zones i ≡ z
@@ -146,35 +146,54 @@ refusal-is Drained e = absurd (both_ways _ refl e)
 -- a zone that refuses is left as it was
 pub refused-same : (zones : List NamedZone) (i w : ℕ) (q : Request) (z y : NamedZone) → z ≡ get_or zones i z → y ≡ record z { plain = (step z.plain w q).zone } →
     is_refusal (step z.plain w q).reply ≡ true → set zones i y ≡ zones
-refused-same zones i w q z y is e no =
-    let r = refusal-is (step z.plain w q).reply no in
+refused-same zones i w q z y is e denied =
+    let r = refusal-is (step z.plain w q).reply denied in
     let same : (step z.plain w q).zone ≡ z.plain = refusal-same z.plain w q r.0 r.1 in
     ap (λ (x : NamedZone). set zones i x) (e ∙ ap (λ (p : PlainZone). let x : NamedZone = record z { plain = p } in x) same ∙ is) ∙ set-get_or zones i z
 
 -- then the zone below it is asked
 pub falls : (zones : List NamedZone) (w : ℕ) (q : Request) (n : ℕ) → 0 < n → is_refusal (outcome_at zones n w q).reply ≡ true → answering zones w q n ≡ answering zones w q (n - 1)
-falls zones w q zero lt no = absurd (omega arith)
-falls zones w q (suc n) lt no = ap (λ (b : Bool). cond b (answering zones w q n) (suc n)) no
+falls zones w q zero lt denied = absurd (omega arith)
+falls zones w q (suc n) lt denied =
+    let e : n ≡ suc n - 1 = omega arith in
+    ap (λ (b : Bool). cond b (answering zones w q n) (suc n)) denied ∙ ap (answering zones w q) e
 
 pub refused_page : (r : Result ℕ Refusal) (v : Reply) → is_ok r ≡ false → page_reply r ≡ v → is_refusal v ≡ true
-refused_page (Ok p) v no e = absurd (both_ways _ no refl)
-refused_page (Err x) v no e = ap is_refusal (sym e)
+refused_page (Ok p) v denied e = absurd (both_ways _ denied refl)
+refused_page (Err x) v denied e = ap is_refusal (sym e)
 
 -- the search for a name goes on past a zone of another, and ends at the first that has it
 pub name_later : (zones : List NamedZone) (name : List ℕ) (i : ℕ) (z : NamedZone) → IsIn zones name → i ≤ number_of zones name → z ≡ get_or zones i z → bytes_eq z.name name ≡ false → i + 1 ≤ number_of zones name
-name_later zones name i z is le at no =
+name_later zones name i z is le at denied =
     let test = λ (x : NamedZone). bytes_eq x.name name in
     elim (cases_eq i (number_of zones name)) [
       | inl same ↦
-          let yes : test (get_or zones i z) ≡ true = subst (λ n. test (get_or zones n z) ≡ true) (sym same) (passes_at_first test zones z is) in
-          absurd (both_ways _ no (ap test at ∙ yes))
+          let has : test (get_or zones i z) ≡ true = subst (λ n. test (get_or zones n z) ≡ true) (sym same) (passes_at_first test zones z is) in
+          absurd (both_ways _ denied (ap test at ∙ has))
       | inr ne ↦ omega arith
     ]
 
 pub name_here : (zones : List NamedZone) (name : List ℕ) (i : ℕ) (z : NamedZone) → i ≤ number_of zones name → z ≡ get_or zones i z → bytes_eq z.name name ≡ true → i ≡ number_of zones name
-name_here zones name i z le at yes =
+name_here zones name i z le at has =
     let test = λ (x : NamedZone). bytes_eq x.name name in
     elim (cases_eq i (number_of zones name)) [
       | inl same ↦ same
-      | inr ne ↦ absurd (both_ways _ (fails_before_first test zones i z (omega arith)) (ap test (sym at) ∙ yes))
+      | inr ne ↦ absurd (both_ways _ (fails_before_first test zones i z (omega arith)) (ap test (sym at) ∙ has))
     ]
+
+-- the binding that was found, in the list as it stands
+pub bound_of : (bs ds : List Binding) (w : ℕ) (label : List ℕ) (r : Option Binding) (b : Binding) → ds ≡ bs → r ≡ bound_to ds w label → r ≡ Some b → bound_to bs w label ≡ Some b
+bound_of bs ds w label r b same found is = ap (λ (xs : List Binding). bound_to xs w label) (sym same) ∙ sym found ∙ is
+
+-- the zone that answers is the one asked or below it
+pub answering-le : (zones : List NamedZone) (w : ℕ) (q : Request) (n : ℕ) → answering zones w q n ≤ n
+answering-le zones w q zero = omega arith
+answering-le zones w q (suc n) = each zones w q n (is_refusal (outcome_at zones (suc n) w q).reply) (answering-le zones w q n)
+  where
+    each : (zones : List NamedZone) (w : ℕ) (q : Request) (n : ℕ) (b : Bool) → answering zones w q n ≤ n → cond b (answering zones w q n) (suc n) ≤ suc n
+    each zones w q n true le = omega arith
+    each zones w q n false le = omega arith
+
+-- a command can be given to the zones that the commands so far left
+pub still-asked : (s now : ReplayState) (cs : List Command) (c : Command) → now ≡ (answers s cs).left → IsCommandFor s.zones c → IsCommandFor now.zones c
+still-asked s now cs c e is = subst (λ (t : ReplayState). IsCommandFor t.zones c) (sym e) (answers-after s cs c is)

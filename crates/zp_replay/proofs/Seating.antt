@@ -46,7 +46,7 @@ pub seats_after : (z y : PlainZone) (seats : List Right) (i : ℕ) (seat used : 
 seats_after z y seats i seat used are crew keeps fits lent same = record {
   fit = All-set (IsSeatOf y) seats i used fits (λ k d lt. keeps _ (are.fit k d lt));
   crew = map-set_same (λ (s : Right). s.worker) seats i used seat (same ∙ ap (λ (s : Right). s.worker) lent)
-  ∙ are.crew ∙ ap (λ n. range_with_len 0 n) (sym crew);
+      ∙ are.crew ∙ ap (λ n. range_with_len 0 n) (sym crew);
 }
 
 -- a request leaves a zone its workers

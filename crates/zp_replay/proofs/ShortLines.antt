@@ -1,5 +1,5 @@
 -- No line of a trace has more than 40 bytes, and no trace more than 4,096 lines.
-use Rattle.std.proofs.Common.{ℕ, ◌+◌, ◌*◌, ◌≡◌, ◌≤◌, ◌<◌, List, [], ◌∷◌, ◌++◌, length, map, get_or, codes, refl, sym, ap, subst, ◌∙◌, append_assoc, arith, length-append}
+use Rattle.std.proofs.Common.{ℕ, ◌+◌, ◌*◌, ◌≡◌, ◌≤◌, ◌<◌, List, [], ◌∷◌, ◌++◌, length, map, codes, refl, sym, ap, subst, ◌∙◌, append_assoc, arith, length-append}
 use Rattle.std.specs.Fmt.{decimal}
 use Rattle.std.proofs.lemmas.Fmt.{length-decimal-le}
 use Rattle.std.proofs.lemmas.List.{append-nil, length-map}
@@ -9,7 +9,7 @@ use Rattle.zp_model.specs.declared.mark.Mark.{Mark}
 use Rattle.zp_model.specs.declared.mark.Mark.TheVariants as mark
 use Rattle.zp_model.specs.Bounds.{IsCrew}
 use Rattle.zp_model.specs.declared.constants.TheConstants.{LARGEST_ORDER, MAX_PAGES, MAX_WORKERS, BASE_LIMIT, LONGEST_NAME}
-use Rattle.zp_trace.specs.declared.bounds.TheConstants.{MOST_LINES, MOST_ZONES}
+use Rattle.zp_trace.specs.declared.bounds.TheConstants.{MOST_LINES}
 use Rattle.zp_trace.specs.declared.line.ZoneLine.{ZoneLine}
 use Rattle.zp_trace.specs.declared.line.Call.{Call}
 use Rattle.zp_trace.specs.declared.line.Call.TheVariants.{Info, Alloc, Low, Free, Post, Collect}

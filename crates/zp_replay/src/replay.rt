@@ -1,6 +1,7 @@
 //! A replay under way.
 ghost use Rattle.std.specs.Prelude.{ℕ, ◌≡◌, ◌<◌, ◌≤◌, ◌+◌, ◌++◌, ◌∷◌, [], length, map, vec_capacity, IfOk, IfErr, OnOk, OnErr, All};
 ghost use Rattle.std.specs.List.{flat_map};
+ghost use Rattle.std.specs.Str.{bytes_eq};
 ghost use Rattle.zp_model.specs.declared.request.Request.TheVariants as request;
 ghost use Rattle.zp_trace.specs.declared.line.Command.{Command};
 ghost use Rattle.zp_trace.specs.Grammar.{IsHeader};
@@ -20,7 +21,7 @@ use crate::lines::{reply_line, total_of};
 use std::alloc::Global;
 use zp_model::{Mark, MigrateType, Name, Order, PageNo, Refused, Worker};
 use zp_trace::{Call, Command, Header};
-use zp_zone::{WriteFault, Writer, write_all};
+use zp_zone::{WriteFault, Writer, Zone, write_all};
 
 /// The zones of a trace as the commands so far left them, and the bindings of labels.
 #[derive(Drop)]
@@ -102,7 +103,7 @@ impl Replay {
     {
         // a zone of this name is there, so the search ends
         let mut number = 0;
-        'zones: while self.zones[number].zone().name() != name.as_str() {
+        'zones: while !has_name(self.zones[number].zone(), name) {
             number += 1;
         }
         number
@@ -298,6 +299,13 @@ impl Replay {
         self.write_total_lines(writer)?;
         self.write_infos(writer)
     }
+}
+
+/// Whether a zone has this name.
+fn has_name(zone: &Zone, name: Name) -> bool
+    ensures { result ≡ bytes_eq zone.now.name name }
+{
+    zone.name().as_bytes() == name.as_bytes()
 }
 
 /// The zones that a header declares, with all their pages free.

@@ -1,5 +1,6 @@
-use Rattle.std.proofs.Common.{◌<◌, length, sym, subst, ◌∙◌, arith}
-use Rattle.zp_replay.specs.Asked.{IsCommand}
+use Rattle.std.proofs.Common.{◌<◌, length, take, sym, subst, ◌∙◌, arith}
+use Rattle.zp_replay.specs.Asked.{IsCommandFor}
+use Rattle.zp_replay.proofs.Rows.{still-asked}
 use Rattle.zp_replay.specs.Replies.{standing}
 use Rattle.zp_replay.proofs.Answering.{left_more, written_more, begun_more, answer-bound}
 use Rattle.zp_replay.proofs.Outputs.{on_err}
@@ -10,7 +11,7 @@ answer-requires g c =
     let at : c.loop-command.command-index < length c.args.commands.now = omega arith in
     let i = c.loop-command.invariant in
     record {
-      command = subst IsCommand (sym c.command-item.is) (c.requires.commands c.loop-command.command-index c.command-item.result at);
+      command = still-asked (standing c.args.self.now.zones.items c.args.self.now.bindings.items) (standing c.loop-command.self.zones.items c.loop-command.self.bindings.items) (take c.loop-command.command-index c.args.commands.now) _ i.left (subst (IsCommandFor c.args.self.now.zones.items) (sym c.command-item.is) (c.requires.commands c.loop-command.command-index c.command-item.result at));
       room = omega (arith, i.bound, i.room, c.requires.room);
     }
 
