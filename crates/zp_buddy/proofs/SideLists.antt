@@ -18,7 +18,7 @@ use Rattle.zp_area.proofs.OneBlock.{around_covered}
 use Rattle.zp_area.specs.OneSet.{IsOneSet}
 use Rattle.zp_buddy.specs.Choices.{frames_in}
 use Rattle.zp_buddy.specs.Held.{IsHeld}
-use Rattle.zp_buddy.proofs.ClearRun.{one_held}
+use Rattle.zp_buddy.proofs.ClearByLooks.{one_held}
 
 -- with other pages on a further list
 abbrev pub with_side : ℕ → Blocks → ℕ → List ℕ → Blocks
