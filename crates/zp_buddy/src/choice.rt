@@ -11,7 +11,7 @@ ghost use Rattle.zp_model.specs.Choose.{own, claim, borrow};
 ghost use Rattle.zp_area.specs.Blocks.{block_set, free_list_of};
 ghost use Rattle.zp_buddy.specs.Choices.{area_in, front_of_order, is_half_free, half_free_of_order, IsLargestClaimable, IsFoundAs, IsChosen};
 
-use zp_area::{FreeArea, pageblock_of};
+use zp_area::FreeArea;
 use zp_model::{CLAIM_PAGES, LEAST_MOVABLE_CLAIM, MigrateType, Order, PageAt};
 
 /// A free block.
@@ -86,7 +86,7 @@ fn half_free_on(area: &FreeArea, order: Order, kind: MigrateType) -> Option<Page
     let _pages = area.pages();
     let mut next = area.front(order, kind);
     'heads: while let Some(head) = next {
-        if area.free_in(pageblock_of(head)) >= CLAIM_PAGES {
+        if area.free_in(head.pageblock()) >= CLAIM_PAGES {
             return Some(head);
         }
         next = area.after(order, kind, head);

@@ -9,7 +9,7 @@ ghost use Rattle.zp_plain.specs.Chosen.{as_chosen, claimable_at, front_at};
 use crate::area::size_in;
 use crate::block::order_of;
 use crate::take::PlainArea;
-use zp_model::{CLAIM_PAGES, LEAST_MOVABLE_CLAIM, MigrateType, Order, PAGEBLOCK_PAGES, PageAt};
+use zp_model::{CLAIM_PAGES, LEAST_MOVABLE_CLAIM, MigrateType, Order, PageAt};
 
 /// A chosen block's head, and whether its pageblock is claimed.
 #[derive(Clone, Copy, Drop)]
@@ -63,7 +63,7 @@ fn is_claimable(area: &PlainArea, kind: MigrateType, order: Order, head: PageAt)
 {
     let free = area.marks();
     (order.number() >= LEAST_MOVABLE_CLAIM || kind != MigrateType::Movable)
-        && size_in(free, head.index() / PAGEBLOCK_PAGES as usize) >= CLAIM_PAGES
+        && size_in(free, head.pageblock()) >= CLAIM_PAGES
 }
 
 /// The first block of a list that may be claimed.
