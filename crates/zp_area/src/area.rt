@@ -17,7 +17,6 @@ ghost use Rattle.zp_area.specs.OneSet.{IsOneSet};
 
 use crate::entry::PageEntry;
 use crate::free_lists::list_of;
-use crate::pageblocks::pageblock_of;
 use crate::retypes::retype;
 use std::alloc::{AllocError, Global};
 use std::marker::Model;
@@ -105,7 +104,7 @@ impl FreeArea {
         ensures held { Starts (block_set self.new) at order }
         ensures still_clear { (h k : ℕ) → IsClearRun LARGEST_ORDER self.old.rows.states self.old.rows.lists h k → IsBeside h k at order → IsClearRun LARGEST_ORDER self.new.rows.states self.new.rows.lists h k }
     {
-        let pageblock = pageblock_of(at);
+        let pageblock = at.pageblock();
         let list = list_of(order, self.kinds[pageblock]);
         self.lists.set_state(at, State::Free(order));
         self.lists.push_front(list, at);
@@ -124,7 +123,7 @@ impl FreeArea {
         ensures clear { IsClearRun LARGEST_ORDER self.new.rows.states self.new.rows.lists at order }
         ensures still_clear { (h k : ℕ) → IsClearRun LARGEST_ORDER self.old.rows.states self.old.rows.lists h k → IsClearRun LARGEST_ORDER self.new.rows.states self.new.rows.lists h k }
     {
-        let pageblock = pageblock_of(at);
+        let pageblock = at.pageblock();
         let list = list_of(order, self.kinds[pageblock]);
         self.lists.remove(list, at);
         self.lists.set_state(at, State::Tail);

@@ -7,9 +7,7 @@
 mod area;
 mod entry;
 mod free_lists;
-mod pageblocks;
 mod retypes;
 
 pub use area::FreeArea;
 pub use entry::PageEntry;
-pub use pageblocks::pageblock_of;

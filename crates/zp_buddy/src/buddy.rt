@@ -20,7 +20,7 @@ use crate::split::take_block;
 use crate::takes::take_chosen;
 use std::alloc::{AllocError, Global};
 use std::marker::Model;
-use zp_area::{FreeArea, PageEntry, pageblock_of};
+use zp_area::{FreeArea, PageEntry};
 use zp_model::{Counts, MAX_PAGES, MigrateType, ORDERS, Order, PageAt, State};
 
 /// The free blocks of a zone, what is noted of its other pages, and further lists of those pages. Contracts see the plain
@@ -134,7 +134,7 @@ impl Buddy {
     {
         // a clause of this call says that each pageblock has a type
         let _pages = self.area.pages();
-        self.area.type_of(pageblock_of(at))
+        self.area.type_of(at.pageblock())
     }
 
     /// What is noted of a page.

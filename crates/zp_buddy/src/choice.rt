@@ -6,12 +6,12 @@ ghost use Rattle.std.specs.List.{find};
 ghost use Rattle.zp_model.specs.declared.constants.TheConstants.{LARGEST_ORDER};
 ghost use Rattle.zp_model.specs.declared.migrate_type.MigrateType.TheVariants.{Movable};
 ghost use Rattle.zp_model.specs.BlockSet.{first_of, larger, orders_from, Starts};
-ghost use Rattle.zp_model.specs.MigrateType.{foreign, same_type};
+ghost use Rattle.zp_model.specs.MigrateType.{same_type};
 ghost use Rattle.zp_model.specs.Choose.{own, claim, borrow};
 ghost use Rattle.zp_area.specs.Blocks.{block_set, free_list_of};
 ghost use Rattle.zp_buddy.specs.Choices.{area_in, front_of_order, is_half_free, half_free_of_order, IsLargestClaimable, IsFoundAs, IsChosen};
 
-use zp_area::{FreeArea, pageblock_of};
+use zp_area::FreeArea;
 use zp_model::{CLAIM_PAGES, LEAST_MOVABLE_CLAIM, MigrateType, Order, PageAt};
 
 /// A free block.
@@ -26,17 +26,6 @@ pub struct FreeBlock {
 pub struct Choice {
     pub block: FreeBlock,
     pub claims: bool,
-}
-
-/// The types that a request for this type may take from besides its own, in the order in which it looks at them.
-fn foreign(kind: MigrateType) -> [MigrateType; 2]
-    ensures { result ≡ foreign kind }
-{
-    match kind {
-        MigrateType::Unmovable => [MigrateType::Reclaimable, MigrateType::Movable],
-        MigrateType::Reclaimable => [MigrateType::Unmovable, MigrateType::Movable],
-        MigrateType::Movable => [MigrateType::Reclaimable, MigrateType::Unmovable],
-    }
 }
 
 /// Whether a request for this type may claim by a block of this order at all.
@@ -85,7 +74,7 @@ fn own_block(area: &FreeArea, order: Order, kind: MigrateType) -> Option<FreeBlo
 fn borrowed_block(area: &FreeArea, order: Order, kind: MigrateType) -> Option<FreeBlock>
     ensures { IsFoundAs area.now order (borrow (area_in LARGEST_ORDER area.now) order kind) result }
 {
-    first_front(area, order, &foreign(kind))
+    first_front(area, order, &kind.fallbacks())
 }
 
 /// The first block of a list in whose pageblock half of the pages are free.
@@ -97,7 +86,7 @@ fn half_free_on(area: &FreeArea, order: Order, kind: MigrateType) -> Option<Page
     let _pages = area.pages();
     let mut next = area.front(order, kind);
     'heads: while let Some(head) = next {
-        if area.free_in(pageblock_of(head)) >= CLAIM_PAGES {
+        if area.free_in(head.pageblock()) >= CLAIM_PAGES {
             return Some(head);
         }
         next = area.after(order, kind, head);
@@ -154,7 +143,7 @@ fn claimed_block(area: &FreeArea, order: Order, kind: MigrateType) -> Option<Fre
     if largest.number() < order.number() || !may_claim(largest, kind) {
         return None;
     }
-    half_free_of(area, largest, &foreign(kind))
+    half_free_of(area, largest, &kind.fallbacks())
 }
 
 /// The block that a request for a block of this order and type takes.

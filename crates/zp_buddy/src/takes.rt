@@ -11,7 +11,7 @@ ghost use Rattle.zp_buddy.specs.Choices.{IsFreeBlock, chosen_of, frames_in};
 
 use crate::choice::{Choice, FreeBlock};
 use crate::split::take_block;
-use zp_area::{FreeArea, pageblock_of};
+use zp_area::FreeArea;
 use zp_model::{MigrateType, Order, PageAt};
 
 /// Takes the low run of order `order` of the chosen block, and answers its head. A pageblock that is claimed gets the request's type first.
@@ -31,7 +31,7 @@ pub fn take_chosen(area: &mut FreeArea, chosen: Choice, order: Order, kind: Migr
         take_block(area, head, found, order);
         return head;
     }
-    area.retype(pageblock_of(head), kind);
+    area.retype(head.pageblock(), kind);
     let _pages = area.pages();
     take_block(area, head, found, order);
     head

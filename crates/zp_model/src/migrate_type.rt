@@ -2,7 +2,7 @@
 //!
 //! In Linux: `enum migratetype`.
 ghost use Rattle.std.specs.Prelude.{◌≡◌, ◌<◌};
-ghost use Rattle.zp_model.specs.MigrateType.{type_number};
+ghost use Rattle.zp_model.specs.MigrateType.{foreign, type_number};
 
 use crate::constants::TYPES;
 
@@ -24,6 +24,17 @@ impl MigrateType {
             MigrateType::Unmovable => 0,
             MigrateType::Reclaimable => 1,
             MigrateType::Movable => 2,
+        }
+    }
+
+    /// The types that a request for this type may take from besides its own, in the order in which it looks at them.
+    pub const fn fallbacks(self) -> [MigrateType; 2]
+        ensures { result ≡ foreign self }
+    {
+        match self {
+            MigrateType::Unmovable => [MigrateType::Reclaimable, MigrateType::Movable],
+            MigrateType::Reclaimable => [MigrateType::Unmovable, MigrateType::Movable],
+            MigrateType::Movable => [MigrateType::Reclaimable, MigrateType::Unmovable],
         }
     }
 }

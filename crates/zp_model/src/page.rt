@@ -1,9 +1,9 @@
 //! Page numbers, counted from a zone's base and absolute.
 //!
 //! In Linux: a page frame number, `pfn`.
-ghost use Rattle.std.specs.Prelude.{◌≡◌, ◌<◌, ◌≤◌, ◌+◌, ◌-◌, ◌^◌, ℕ, IfSome, IsSome, ◌↔◌};
+ghost use Rattle.std.specs.Prelude.{◌≡◌, ◌<◌, ◌≤◌, ◌+◌, ◌-◌, ◌/◌, ◌^◌, ℕ, IfSome, IsSome, ◌↔◌};
 
-use crate::constants::MAX_PAGES;
+use crate::constants::{MAX_PAGES, PAGEBLOCK_PAGES};
 use std::marker::Model;
 
 /// A page, counted from the zone's base: 0 to 65,535.
@@ -59,6 +59,13 @@ impl PageAt {
         ensures within { result < MAX_PAGES }
     {
         self.number as usize
+    }
+
+    /// The number of the pageblock that the page lies in.
+    pub const fn pageblock(self) -> usize
+        ensures { result ≡ self / PAGEBLOCK_PAGES }
+    {
+        self.index() / PAGEBLOCK_PAGES as usize
     }
 }
 

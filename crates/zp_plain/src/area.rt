@@ -24,7 +24,7 @@ pub fn kind_at(kinds: &[MigrateType], head: PageAt) -> MigrateType
     requires { head / PAGEBLOCK_PAGES < length kinds.now }
     ensures { result ≡ kind_at LARGEST_ORDER kinds.now head }
 {
-    kinds[head.index() / PAGEBLOCK_PAGES as usize]
+    kinds[head.pageblock()]
 }
 
 /// Whether a page belongs on a list.

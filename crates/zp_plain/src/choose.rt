@@ -3,31 +3,19 @@ ghost use Rattle.std.specs.Prelude.{◌≡◌};
 ghost use Rattle.std.specs.List.{find};
 ghost use Rattle.std.specs.Option.{option_map};
 ghost use Rattle.zp_model.specs.BlockSet.{first_of, orders_from};
-ghost use Rattle.zp_model.specs.MigrateType.{foreign};
 ghost use Rattle.zp_model.specs.Choose.{borrow, claim, choose, is_claimable, own};
 ghost use Rattle.zp_plain.specs.Chosen.{as_chosen, claimable_at, front_at};
 
 use crate::area::size_in;
 use crate::block::order_of;
 use crate::take::PlainArea;
-use zp_model::{CLAIM_PAGES, LEAST_MOVABLE_CLAIM, MigrateType, Order, PAGEBLOCK_PAGES, PageAt};
+use zp_model::{CLAIM_PAGES, LEAST_MOVABLE_CLAIM, MigrateType, Order, PageAt};
 
 /// A chosen block's head, and whether its pageblock is claimed.
 #[derive(Clone, Copy, Drop)]
 pub struct Choice {
     pub head: PageAt,
     pub claims: bool,
-}
-
-/// The types that a request for this type may take from besides its own, in the order in which it looks at them.
-fn foreign(kind: MigrateType) -> [MigrateType; 2]
-    ensures { result ≡ foreign kind }
-{
-    match kind {
-        MigrateType::Unmovable => [MigrateType::Reclaimable, MigrateType::Movable],
-        MigrateType::Reclaimable => [MigrateType::Unmovable, MigrateType::Movable],
-        MigrateType::Movable => [MigrateType::Reclaimable, MigrateType::Unmovable],
-    }
 }
 
 /// The front of the first list of this order and of one of these types that has one.
@@ -66,7 +54,7 @@ fn own(area: &PlainArea, order: Order, kind: MigrateType) -> Option<PageAt>
 fn borrow(area: &PlainArea, order: Order, kind: MigrateType) -> Option<PageAt>
     ensures { result ≡ borrow area.now order kind }
 {
-    first_front(area, order, &foreign(kind))
+    first_front(area, order, &kind.fallbacks())
 }
 
 /// Whether a request for this type may claim by the block of this order at a page.
@@ -75,7 +63,7 @@ fn is_claimable(area: &PlainArea, kind: MigrateType, order: Order, head: PageAt)
 {
     let free = area.marks();
     (order.number() >= LEAST_MOVABLE_CLAIM || kind != MigrateType::Movable)
-        && size_in(free, head.index() / PAGEBLOCK_PAGES as usize) >= CLAIM_PAGES
+        && size_in(free, head.pageblock()) >= CLAIM_PAGES
 }
 
 /// The first block of a list that may be claimed.
@@ -119,7 +107,7 @@ fn claim(area: &PlainArea, order: Order, kind: MigrateType) -> Option<PageAt>
     let mut left = area.orders();
     'orders: while left > usize::from(order.number()) {
         left -= 1;
-        if let Some(head) = claimable_of(area, kind, order_of(left), &foreign(kind)) {
+        if let Some(head) = claimable_of(area, kind, order_of(left), &kind.fallbacks()) {
             return Some(head);
         }
     }

@@ -151,7 +151,7 @@ impl PlainArea {
         let _marks = self.marks();
         let Choice { head, claims } = chosen;
         if claims {
-            self.retype(head.index() / PAGEBLOCK_PAGES as usize, kind);
+            self.retype(head.pageblock(), kind);
         }
         self.leave(head, order);
     }

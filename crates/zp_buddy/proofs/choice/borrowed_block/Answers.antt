@@ -10,4 +10,4 @@ pub returns : goal.returns
 returns c =
     let P : Option ℕ → Type 0 = λ o. IsFoundAs c.args.area.now c.args.order o c.first_front.result in
     let Q : List MigrateType → Type 0 = λ ts. P (first_of (front_of_order c.args.area.now ts) (orders_from LARGEST_ORDER c.args.order)) in
-    subst P (borrow_fronts LARGEST_ORDER c.args.area.now c.args.order c.args.kind) (subst Q c.foreign.ensures c.first_front.ensures)
+    subst P (borrow_fronts LARGEST_ORDER c.args.area.now c.args.order c.args.kind) (subst Q c.fallbacks.ensures c.first_front.ensures)

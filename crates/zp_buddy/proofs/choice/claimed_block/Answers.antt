@@ -31,4 +31,4 @@ returns c =
     let up : c.args.order ≤ c.in_ok-largest.largest = omega arith in
     let P : List MigrateType → Type 0 = λ ts. IsFoundAs c.args.area.now c.in_ok-largest.largest (half_free_of_order LARGEST_ORDER c.args.area.now ts c.in_ok-largest.largest) c.half_free_of.result in
     claimed_found LARGEST_ORDER c.args.area.now c.args.order c.in_ok-largest.largest c.args.kind c.half_free_of.result c.pages-pages.ensures.one (c.in_ok-largest.ensures) le up
-    (sym c.may_claim.ensures ∙ c.if-not-may_claim.false) (subst P c.foreign.ensures c.half_free_of.ensures)
+    (sym c.may_claim.ensures ∙ c.if-not-may_claim.false) (subst P c.fallbacks.ensures c.half_free_of.ensures)

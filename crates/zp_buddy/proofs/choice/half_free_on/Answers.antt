@@ -17,7 +17,7 @@ returns-then-free_in-ge-CLAIM_PAGES-clause-found c =
     let xs : List ℕ = free_list_of a c.args.order c.args.kind in
     let P : ℕ → Type 0 = λ q. CLAIM_PAGES ≤ size_in LARGEST_ORDER (cover (block_set a)) q in
     let Q : ℕ → Type 0 = λ q. CLAIM_PAGES ≤ q in
-    let t : is_half_free LARGEST_ORDER a c.in-Some.head ≡ true = le-leb _ _ (subst P c.pageblock_of.ensures (subst Q c.free_in.ensures c.if-free_in-ge-CLAIM_PAGES.true)) in
+    let t : is_half_free LARGEST_ORDER a c.in-Some.head ≡ true = le-leb _ _ (subst P c.pageblock.ensures (subst Q c.free_in.ensures c.if-free_in-ge-CLAIM_PAGES.true)) in
     sym (i.rest ∙ walk_found (is_half_free LARGEST_ORDER a) c.heads.next c.in-Some.head xs (c.pages-pages.ensures.row.distinct (list_number c.args.order c.args.kind)) i.next c.in-Some.is t)
 
 pub heads-smaller : goal.heads-smaller
@@ -35,7 +35,7 @@ heads-preserved c =
     let xs : List ℕ = free_list_of a c.args.order c.args.kind in
     let P : ℕ → Type 0 = λ q. size_in LARGEST_ORDER (cover (block_set a)) q < CLAIM_PAGES in
     let R : ℕ → Type 0 = λ q. q < CLAIM_PAGES in
-    let t : is_half_free LARGEST_ORDER a c.in-Some.head ≡ false = lt-leb _ _ (subst P c.pageblock_of.ensures (subst R c.free_in.ensures c.if-free_in-ge-CLAIM_PAGES.false)) in
+    let t : is_half_free LARGEST_ORDER a c.in-Some.head ≡ false = lt-leb _ _ (subst P c.pageblock.ensures (subst R c.free_in.ensures c.if-free_in-ge-CLAIM_PAGES.false)) in
     let Q : Option ℕ → Type 0 = λ q. IsNext q xs in
     record {
       rest =

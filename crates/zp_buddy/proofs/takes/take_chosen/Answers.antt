@@ -18,8 +18,8 @@ pub returns-clause-after : goal.returns-clause-after
 returns-clause-after c =
     let a = c.args.area.now in
     let n = c.retype.new.self in
-    let e : frames_in LARGEST_ORDER n ≡ with_area (frames_in LARGEST_ORDER a) (retype (frames_in LARGEST_ORDER a).area c.pageblock_of.result c.args.kind) =
-    ap (frames_in LARGEST_ORDER) c.retype.ensures.after ∙ retyped_frames LARGEST_ORDER a c.pageblock_of.result c.args.kind c.requires.sound in
+    let e : frames_in LARGEST_ORDER n ≡ with_area (frames_in LARGEST_ORDER a) (retype (frames_in LARGEST_ORDER a).area c.pageblock.result c.args.kind) =
+    ap (frames_in LARGEST_ORDER) c.retype.ensures.after ∙ retyped_frames LARGEST_ORDER a c.pageblock.result c.args.kind c.requires.sound in
     c.take_block-2.ensures.after
-    ∙ taken_claimed (frames_in LARGEST_ORDER a) (frames_in LARGEST_ORDER n) c.args.order c.args.chosen.block.head c.pageblock_of.result c.args.kind c.args.chosen.claims (not-false _ c.if-not-chosen.false)
-    c.pageblock_of.ensures e (ap (λ (q : Blocks). q.rows.states) c.retype.ensures.after)
+    ∙ taken_claimed (frames_in LARGEST_ORDER a) (frames_in LARGEST_ORDER n) c.args.order c.args.chosen.block.head c.pageblock.result c.args.kind c.args.chosen.claims (not-false _ c.if-not-chosen.false)
+    c.pageblock.ensures e (ap (λ (q : Blocks). q.rows.states) c.retype.ensures.after)

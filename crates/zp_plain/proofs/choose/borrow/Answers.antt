@@ -7,5 +7,5 @@ use Rattle.zp_plain.proofs.choose.borrow.Goals as goal
 pub returns : goal.returns
 returns c =
     c.first_front.ensures
-    ∙ ap (λ ts. first_of (λ o. first_of (front_at c.args.area.now o) ts) (orders_from c.args.area.now.largest c.args.order)) c.foreign.ensures
+    ∙ ap (λ ts. first_of (λ o. first_of (front_at c.args.area.now o) ts) (orders_from c.args.area.now.largest c.args.order)) c.fallbacks.ensures
     ∙ borrow_fronts c.args.area.now c.args.order c.args.kind

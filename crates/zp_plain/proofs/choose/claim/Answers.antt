@@ -13,7 +13,7 @@ returns-in-Some c =
     let lt : c.args.order < c.orders.left =
     (let a : c.from.result ≡ c.number.result = c.from.ensures in let b : c.number.result ≡ c.args.order = c.number.ensures.same in omega arith) in
     let e : f c.order_of.result ≡ Some c.in-Some.head =
-    ap (λ ts. first_of (claimable_at c.args.area.now c.args.kind c.order_of.result) ts) (sym c.foreign.ensures) ∙ sym c.claimable_of.ensures ∙ c.in-Some.is in
+    ap (λ ts. first_of (claimable_at c.args.area.now c.args.kind c.order_of.result) ts) (sym c.fallbacks.ensures) ∙ sym c.claimable_of.ensures ∙ c.in-Some.is in
     sym (sym (claim_places c.args.area.now c.args.order c.args.kind) ∙ c.orders.invariant.rest
     ∙ back_here f c.args.order c.orders.left c.order_of.result c.in-Some.head c.order_of.ensures lt e)
 
@@ -23,7 +23,7 @@ orders-preserved c =
     let lt : c.args.order < c.orders.left =
     (let a : c.from.result ≡ c.number.result = c.from.ensures in let b : c.number.result ≡ c.args.order = c.number.ensures.same in omega arith) in
     let e : f c.order_of.result ≡ None =
-    ap (λ ts. first_of (claimable_at c.args.area.now c.args.kind c.order_of.result) ts) (sym c.foreign.ensures) ∙ sym c.claimable_of.ensures ∙ c.in_default.is in
+    ap (λ ts. first_of (claimable_at c.args.area.now c.args.kind c.order_of.result) ts) (sym c.fallbacks.ensures) ∙ sym c.claimable_of.ensures ∙ c.in_default.is in
     let le : c.orders.left ≤ 11 = c.orders.invariant.within in
     record {
       from = omega arith;

@@ -46,7 +46,7 @@ overflow_add-index_mut c =
     let lt : c.args.at / PAGEBLOCK_PAGES < pageblocks_of LARGEST_ORDER (length c.self.inside.lists.states) = pageblock_below LARGEST_ORDER _ _ _ x.block in
     let n : length c.self.inside.free_in.items ≡ pageblocks_of LARGEST_ORDER (length c.self.inside.lists.states) = c.self.invariant.each.blocks in
     let r : c.index_mut.result.now ≡ slice_index c.self.inside.free_in.items (c.args.at / PAGEBLOCK_PAGES) =
-    read_at _ _ _ _ (omega arith) c.pageblock_of-pageblock.ensures c.index_mut.ensures.value in
+    read_at _ _ _ _ (omega arith) c.pageblock-pageblock.ensures c.index_mut.ensures.value in
     let p : c.pages.result ≡ 2 ^ c.args.order = c.pages.ensures.pages in
     let m : slice_index c.self.inside.free_in.items (c.args.at / PAGEBLOCK_PAGES) + 2 ^ c.args.order ≤ PAGEBLOCK_PAGES = y.fits in
     omega arith
@@ -63,9 +63,9 @@ invariant_of-self c =
     let lt : c.args.at / PAGEBLOCK_PAGES < pageblocks_of LARGEST_ORDER (length c.self.inside.lists.states) = pageblock_below LARGEST_ORDER _ _ _ x.block in
     let n : length c.self.inside.free_in.items ≡ pageblocks_of LARGEST_ORDER (length c.self.inside.lists.states) = c.self.invariant.each.blocks in
     let m : length c.self.inside.kinds.items ≡ pageblocks_of LARGEST_ORDER (length c.self.inside.lists.states) = x.one.typed in
-    let eb : c.pageblock_of-pageblock.result ≡ c.args.at / PAGEBLOCK_PAGES = c.pageblock_of-pageblock.ensures in
+    let eb : c.pageblock-pageblock.result ≡ c.args.at / PAGEBLOCK_PAGES = c.pageblock-pageblock.ensures in
     let r : c.index_mut.result.now ≡ slice_index c.self.inside.free_in.items (c.args.at / PAGEBLOCK_PAGES) =
-    read_at _ _ _ _ (omega arith) c.pageblock_of-pageblock.ensures c.index_mut.ensures.value in
+    read_at _ _ _ _ (omega arith) c.pageblock-pageblock.ensures c.index_mut.ensures.value in
     let er : c.list_of-list.result ≡ list_of_block LARGEST_ORDER a c.args.at c.args.order =
     list_found LARGEST_ORDER a _ _ _ _ _ (omega arith) eb c.index.ensures c.list_of-list.ensures.number in
     kept_by LARGEST_ORDER _ (added LARGEST_ORDER a c.args.at c.args.order) _ _ _ _ _ _
@@ -95,7 +95,7 @@ returns-clause-held c =
     let lt : c.args.at / PAGEBLOCK_PAGES < pageblocks_of LARGEST_ORDER (length c.self.inside.lists.states) = pageblock_below LARGEST_ORDER _ _ _ x.block in
     let m : length c.self.inside.kinds.items ≡ pageblocks_of LARGEST_ORDER (length c.self.inside.lists.states) = x.one.typed in
     let er : c.list_of-list.result ≡ list_of_block LARGEST_ORDER a c.args.at c.args.order =
-    list_found LARGEST_ORDER a _ _ _ _ _ (omega arith) c.pageblock_of-pageblock.ensures c.index.ensures c.list_of-list.ensures.number in
+    list_found LARGEST_ORDER a _ _ _ _ _ (omega arith) c.pageblock-pageblock.ensures c.index.ensures c.list_of-list.ensures.number in
     let P : Blocks → Type 0 = λ q. Starts (block_set q) c.args.at c.args.order in
     subst P (sym (now_added a c.args.at c.args.order c.list_of-list.result c.set_state.new.self c.push_front.new.self c.set_state.ensures c.push_front.ensures.after er))
     (added_starts LARGEST_ORDER a c.args.at c.args.order x)
@@ -107,7 +107,7 @@ returns-clause-still_clear c =
     let lt : c.args.at / PAGEBLOCK_PAGES < pageblocks_of LARGEST_ORDER (length c.self.inside.lists.states) = pageblock_below LARGEST_ORDER _ _ _ x.block in
     let m : length c.self.inside.kinds.items ≡ pageblocks_of LARGEST_ORDER (length c.self.inside.lists.states) = x.one.typed in
     let er : c.list_of-list.result ≡ list_of_block LARGEST_ORDER a c.args.at c.args.order =
-    list_found LARGEST_ORDER a _ _ _ _ _ (omega arith) c.pageblock_of-pageblock.ensures c.index.ensures c.list_of-list.ensures.number in
+    list_found LARGEST_ORDER a _ _ _ _ _ (omega arith) c.pageblock-pageblock.ensures c.index.ensures c.list_of-list.ensures.number in
     let P : Blocks → Type 0 = λ q. (h k : ℕ) → IsClearRun LARGEST_ORDER c.args.self.now.rows.states c.args.self.now.rows.lists h k → IsBeside h k c.args.at c.args.order →
     IsClearRun LARGEST_ORDER q.rows.states q.rows.lists h k in
     let Q : Blocks → Type 0 = λ q. (h k : ℕ) → IsClearRun LARGEST_ORDER q.rows.states q.rows.lists h k → IsBeside h k c.args.at c.args.order →

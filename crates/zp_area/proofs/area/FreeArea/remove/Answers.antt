@@ -25,7 +25,7 @@ overflow_sub-index_mut c =
     let l : length (block_set a) ≡ length c.self.inside.lists.states = blocks_length c.self.inside.lists.states in
     let n : length c.self.inside.free_in.items ≡ pageblocks_of LARGEST_ORDER (length c.self.inside.lists.states) = c.self.invariant.each.blocks in
     let r : c.index_mut.result.now ≡ slice_index c.self.inside.free_in.items (c.args.at / PAGEBLOCK_PAGES) =
-    read_at _ _ _ _ (omega arith) c.pageblock_of-pageblock.ensures c.index_mut.ensures.value in
+    read_at _ _ _ _ (omega arith) c.pageblock-pageblock.ensures c.index_mut.ensures.value in
     let p : c.pages.result ≡ 2 ^ c.args.order = c.pages.ensures.pages in
     let m : 2 ^ c.args.order ≤ slice_index c.self.inside.free_in.items (c.args.at / PAGEBLOCK_PAGES) = y.most in
     omega arith
@@ -45,9 +45,9 @@ invariant_of-self c =
     let l : length (block_set a) ≡ length c.self.inside.lists.states = blocks_length c.self.inside.lists.states in
     let n : length c.self.inside.free_in.items ≡ pageblocks_of LARGEST_ORDER (length c.self.inside.lists.states) = c.self.invariant.each.blocks in
     let m : length c.self.inside.kinds.items ≡ pageblocks_of LARGEST_ORDER (length c.self.inside.lists.states) = c.self.invariant.one.typed in
-    let eb : c.pageblock_of-pageblock.result ≡ c.args.at / PAGEBLOCK_PAGES = c.pageblock_of-pageblock.ensures in
+    let eb : c.pageblock-pageblock.result ≡ c.args.at / PAGEBLOCK_PAGES = c.pageblock-pageblock.ensures in
     let r : c.index_mut.result.now ≡ slice_index c.self.inside.free_in.items (c.args.at / PAGEBLOCK_PAGES) =
-    read_at _ _ _ _ (omega arith) c.pageblock_of-pageblock.ensures c.index_mut.ensures.value in
+    read_at _ _ _ _ (omega arith) c.pageblock-pageblock.ensures c.index_mut.ensures.value in
     let er : c.list_of-list.result ≡ list_of_block LARGEST_ORDER a c.args.at c.args.order =
     list_found LARGEST_ORDER a _ _ _ _ _ (omega arith) eb c.index.ensures c.list_of-list.ensures.number in
     kept_by LARGEST_ORDER _ (removed LARGEST_ORDER a c.args.at c.args.order) _ _ _ _ _ _
@@ -80,7 +80,7 @@ returns-clause-clear c =
     let l : length (block_set a) ≡ length c.self.inside.lists.states = blocks_length c.self.inside.lists.states in
     let m : length c.self.inside.kinds.items ≡ pageblocks_of LARGEST_ORDER (length c.self.inside.lists.states) = c.self.invariant.one.typed in
     let er : c.list_of-list.result ≡ list_of_block LARGEST_ORDER a c.args.at c.args.order =
-    list_found LARGEST_ORDER a _ _ _ _ _ (omega arith) c.pageblock_of-pageblock.ensures c.index.ensures c.list_of-list.ensures.number in
+    list_found LARGEST_ORDER a _ _ _ _ _ (omega arith) c.pageblock-pageblock.ensures c.index.ensures c.list_of-list.ensures.number in
     let P : Blocks → Type 0 = λ q. IsClearRun LARGEST_ORDER q.rows.states q.rows.lists c.args.at c.args.order in
     subst P (sym (now_removed a c.args.at c.args.order c.list_of-list.result c.remove.new.self c.set_state.new.self c.remove.ensures.after c.set_state.ensures er))
     (clear_removed LARGEST_ORDER a c.args.at c.args.order c.self.invariant.one x)
@@ -95,7 +95,7 @@ returns-clause-still_clear c =
     let l : length (block_set a) ≡ length c.self.inside.lists.states = blocks_length c.self.inside.lists.states in
     let m : length c.self.inside.kinds.items ≡ pageblocks_of LARGEST_ORDER (length c.self.inside.lists.states) = c.self.invariant.one.typed in
     let er : c.list_of-list.result ≡ list_of_block LARGEST_ORDER a c.args.at c.args.order =
-    list_found LARGEST_ORDER a _ _ _ _ _ (omega arith) c.pageblock_of-pageblock.ensures c.index.ensures c.list_of-list.ensures.number in
+    list_found LARGEST_ORDER a _ _ _ _ _ (omega arith) c.pageblock-pageblock.ensures c.index.ensures c.list_of-list.ensures.number in
     let P : Blocks → Type 0 = λ q. (h k : ℕ) → IsClearRun LARGEST_ORDER c.args.self.now.rows.states c.args.self.now.rows.lists h k → IsClearRun LARGEST_ORDER q.rows.states q.rows.lists h k in
     let Q : Blocks → Type 0 = λ q. (h k : ℕ) → IsClearRun LARGEST_ORDER q.rows.states q.rows.lists h k →
     IsClearRun LARGEST_ORDER (removed LARGEST_ORDER a c.args.at c.args.order).rows.states (removed LARGEST_ORDER a c.args.at c.args.order).rows.lists h k in

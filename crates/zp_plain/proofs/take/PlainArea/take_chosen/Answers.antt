@@ -9,7 +9,7 @@ pub retype-requires : goal.retype-requires
 retype-requires c =
     let t : length c.args.self.now.kinds ≡ pageblocks_of LARGEST_ORDER (length c.args.self.now.free) =
     c.marks-marks.ensures.sound.typed ∙ ap (λ m. pageblocks_of m (length c.args.self.now.free)) c.marks-marks.ensures.largest in
-    let e : c.index.result ≡ c.args.chosen.head = c.index.ensures.same in
+    let e : c.pageblock.result ≡ c.args.chosen.head / pageblock_pages LARGEST_ORDER = c.pageblock.ensures in
     omega arith
 
 pub returns : goal.returns
@@ -20,7 +20,7 @@ returns c =
       | then-claims w ↦
           c.leave.ensures
           ∙ ap (λ a. leave a c.args.chosen.head c.args.order)
-          (w.self-is ∙ w.retype.ensures ∙ ap (λ i. retype c.args.self.now (i / pageblock_pages LARGEST_ORDER) c.args.kind) w.index.ensures.same
+          (w.self-is ∙ w.retype.ensures ∙ ap (λ i. retype c.args.self.now i c.args.kind) w.pageblock.ensures
           ∙ ap (λ m. retype c.args.self.now (c.args.chosen.head / pageblock_pages m) c.args.kind) (sym c.marks-marks.ensures.largest))
           ∙ ap (λ b. leave (R b) c.args.chosen.head c.args.order) (sym w.if-claims.true)
       | else-claims w ↦
