@@ -8,6 +8,8 @@ pub mod OpeningZone
 pub mod Freed
 pub mod Described
 pub mod Callers
+pub mod RefillSteps
+pub mod DrainSteps
 pub mod LowSteps
 pub mod PostSteps
 pub mod CollectSteps

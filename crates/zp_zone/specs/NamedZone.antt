@@ -1,11 +1,13 @@
 -- A zone and its seats as contracts see them, and what a call leaves of them for the calls after it (this profile).
-use Rattle.std.specs.Prelude.{ℕ, ◌≡◌, ◌≢◌, ◌<◌, ◌≤◌, ◌+◌, ◌-◌, List, map, Option, Result, Ok, Err, IsTrue, false}
+use Rattle.std.specs.Prelude.{ℕ, ◌≡◌, ◌≢◌, ◌<◌, ◌≤◌, ◌+◌, ◌-◌, List, All, map, Option, Result, Ok, Err, IsTrue, false}
 use Rattle.std.specs.List.{range_with_len}
 use Rattle.std.specs.Option.{option_map}
+use Rattle.arrayvec.specs.ArrayVec.{ArrayVec}
 use Rattle.zp_model.specs.declared.block.Block.{Block}
 use Rattle.zp_model.specs.declared.refused.Refused.{Refused}
 use Rattle.zp_model.specs.declared.request.Reply.{Reply}
 use Rattle.zp_model.specs.declared.state.State.{State}
+use Rattle.zp_model.specs.Rows.{stands_in}
 use Rattle.zp_model.specs.Zone.{PlainZone, pages_of, workers_of}
 use Rattle.zp_model.specs.Run.{is_out}
 use Rattle.zp_model.specs.Described.{IsDescribedAt}
@@ -53,6 +55,14 @@ KeepsOut before after = (w p k : ℕ) → IsTrue (is_out before w p k) → IsTru
 abbrev pub KeepsOutBut : ℕ → PlainZone → PlainZone → Type 0
 KeepsOutBut page before after = (w p k : ℕ) → p ≢ page → IsTrue (is_out before w p k) → IsTrue (is_out after w p k)
 
+-- each block out at another page than these
+abbrev pub KeepsOutBeside : List ℕ → PlainZone → PlainZone → Type 0
+KeepsOutBeside pages before after = (w p k : ℕ) → stands_in p pages ≡ false → IsTrue (is_out before w p k) → IsTrue (is_out after w p k)
+
+-- each of the pages is out to worker w, as a block of order 0
+abbrev pub AreOut : PlainZone → ℕ → List ℕ → Type 0
+AreOut z w pages = All (λ page. IsTrue (is_out z w page 0)) pages
+
 -- the absolute page p is one of this zone
 abbrev pub IsPageOf : PlainZone → ℕ → Type 0
 IsPageOf z p = (z.base ≤ p) × (p < z.base + pages_of z)
@@ -77,3 +87,7 @@ page_reply (Err r) = Reply.Refused r
 abbrev pub block_reply : Result Block Refused → Reply
 block_reply (Ok b) = Reply.Block b
 block_reply (Err r) = Reply.Refused r
+
+abbrev pub pages_reply : Result (ArrayVec ℕ) Refused → Reply
+pages_reply (Ok v) = Reply.Pages v.items
+pages_reply (Err r) = Reply.Refused r

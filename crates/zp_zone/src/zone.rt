@@ -15,6 +15,7 @@ ghost use Rattle.zp_zone.specs.NamedZone.{IsSeatOf, IsPageOf, IsToldOf, seats_of
 ghost use Rattle.zp_zone.specs.Making.{wanted, IsGood, IsWhy};
 ghost use Rattle.zp_zone.specs.Streams.{IsWritten, IsBegun};
 
+mod batches;
 mod requests;
 
 use crate::config::{ZoneConfig, checked_name};
