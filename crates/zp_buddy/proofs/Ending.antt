@@ -7,7 +7,7 @@ use Rattle.std.proofs.lemmas.List.{length-map}
 use Rattle.zp_model.specs.declared.migrate_type.MigrateType.{MigrateType}
 use Rattle.zp_model.specs.declared.state.State.{State}
 use Rattle.zp_model.specs.declared.state.State.TheVariants.{Tail, Free}
-use Rattle.zp_model.specs.Block.{head, with_run}
+use Rattle.zp_model.specs.Block.{head, with_run, IsBuddy}
 use Rattle.zp_model.specs.MigrateType.{type_number, types_count}
 use Rattle.zp_model.specs.Rows.{list_at, state_at, stands_in, IsOn, IsLoose}
 use Rattle.zp_model.specs.Area.{list_number, lists_count, kind_at, belongs, settled, settle}
@@ -19,7 +19,6 @@ use Rattle.zp_model.proofs.Pages.{In}
 use Rattle.zp_model.proofs.Join.{AfterJoin, IsGrown}
 use Rattle.zp_model.proofs.Covers.{cover-join, has_below, with-decides, length-with}
 use Rattle.zp_model.proofs.Settles.{Here, IsListed, belongs-to, belongs-from, stands_first, stands_later, stands_cases, distinct_more, settled_kept, settled_new}
-use Rattle.zp_buddy.specs.Buddies.{IsBuddy}
 use Rattle.zp_area.specs.NotedBlocks.{blocks_of, free_order}
 use Rattle.zp_buddy.specs.Sound.{area_of, IsSound}
 use Rattle.zp_area.proofs.NotedBlocks.{type_below}

@@ -5,7 +5,7 @@ use Rattle.std.proofs.lemmas.Nat.{pow_pos}
 use Rattle.zp_model.specs.declared.migrate_type.MigrateType.{MigrateType}
 use Rattle.zp_model.specs.declared.state.State.{State}
 use Rattle.zp_model.specs.declared.state.State.TheVariants.{Tail, Free}
-use Rattle.zp_model.specs.Block.{head, IsBlock}
+use Rattle.zp_model.specs.Block.{head, IsBlock, IsBuddy}
 use Rattle.zp_model.specs.BlockSet.{cover}
 use Rattle.zp_model.specs.Frames.{IsClear}
 use Rattle.zp_model.specs.Rows.{Rows, state_at, with_state}
@@ -13,7 +13,6 @@ use Rattle.zp_model.specs.Area.{kind_at, list_number}
 use Rattle.zp_model.proofs.Covers.{has_below, length-cover}
 use Rattle.zp_model.proofs.Heads.{two, head_le, lt_head}
 use Rattle.zp_area.specs.Given.{IsClearRun}
-use Rattle.zp_buddy.specs.Buddies.{IsBuddy}
 use Rattle.zp_area.specs.NotedBlocks.{blocks_of, free_order}
 use Rattle.zp_buddy.specs.Sound.{IsSound}
 use Rattle.zp_buddy.proofs.Taken.{kind_inside}

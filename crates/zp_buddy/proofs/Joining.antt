@@ -1,28 +1,23 @@
 -- Joining a run that comes back with its free buddies.
-use Rattle.std.proofs.Common.{ℕ, ◌+◌, ◌-◌, ◌*◌, ◌/◌, ◌%◌, ◌^◌, ◌≡◌, ◌≤◌, ◌<◌, ◌==◌, ◌≢◌, ◌⊎◌, inl, inr, refl, sym, ◌∙◌, ap, subst, arith, Bool, true, not, ◌&&◌, List, [], length, set, get_or-set_same, get_or-set_other, length-set, None, min}
+use Rattle.std.proofs.Common.{ℕ, ◌+◌, ◌*◌, ◌/◌, ◌%◌, ◌^◌, ◌≡◌, ◌≤◌, ◌<◌, ◌==◌, ◌≢◌, ◌⊎◌, inl, inr, refl, sym, ◌∙◌, ap, subst, arith, Bool, true, not, ◌&&◌, List, [], length, set, get_or-set_same, get_or-set_other, length-set, None}
 use Rattle.std.specs.List.{filter}
-use Rattle.std.proofs.Math.Nat.{mod-eq-sub-div-mul}
-use Rattle.std.specs.Int.Bits.{bit_and, bit_xor, xor_add_and}
-use Rattle.std.proofs.lemmas.Nat.{pow_pos, pow-add, mod-pow-add}
-use Rattle.std.proofs.lemmas.Nat.Bits.{and_high}
+use Rattle.std.proofs.lemmas.Nat.{pow_pos}
 use Rattle.std.proofs.lemmas.Bool.{cases_lt, cases_eq, not-true, and_parts, and_from, leb-true, le-leb, ltb-true, lt-ltb, eqb-true, eq-eqb, false_from_ne_true, both_ways}
 use Rattle.std.proofs.lemmas.List.{get_or_past}
 use Rattle.zp_model.specs.declared.migrate_type.MigrateType.{MigrateType}
 use Rattle.zp_model.specs.declared.state.State.{State}
 use Rattle.zp_model.specs.declared.state.State.TheVariants.{Tail, Free}
-use Rattle.zp_model.specs.declared.constants.TheConstants.{MAX_PAGES}
-use Rattle.zp_model.specs.Block.{head, in_run}
+use Rattle.zp_model.specs.Block.{head, in_run, IsBuddy}
 use Rattle.zp_model.specs.MigrateType.{type_number, types_count}
 use Rattle.zp_model.specs.Rows.{Rows, list_at, state_at, stands_in, IsOn, without_page, with_list, with_state}
 use Rattle.zp_model.specs.Area.{list_number, lists_count, kind_at}
 use Rattle.zp_model.specs.BlockSet.{Starts, cover}
 use Rattle.zp_model.specs.Frames.{restate}
-use Rattle.zp_model.proofs.Heads.{two, head_le, lt_head, head_aligned, head_of, head_self, head_room, half}
+use Rattle.zp_model.proofs.Heads.{two, head_le, lt_head, head_aligned, head_of, head_self, half}
 use Rattle.zp_model.proofs.Normal.{Filled}
 use Rattle.zp_model.proofs.Pages.{In}
 use Rattle.zp_model.proofs.Join.{Joined}
 use Rattle.zp_model.proofs.Settles.{Here, IsListed, filter_all}
-use Rattle.zp_buddy.specs.Buddies.{IsBuddy}
 use Rattle.zp_area.specs.NotedBlocks.{blocks_of}
 use Rattle.zp_buddy.specs.Sound.{IsSound}
 use Rattle.zp_area.proofs.NotedBlocks.{type_below}
@@ -295,21 +290,6 @@ buddy_on m h k b j c d t s s' kinds l l' x kt z y lt e =
     (stands_filter-from (is_outside b j) c (list_at l (list_number j t)) ((x.sound.listed (list_number j t) below).from c here)
     (outside-from b j c (apart_halves b j c d y c (omega arith) (omega arith))))
 
-pub buddy_low : (b j : ℕ) → b % 2 ^ (j + 1) ≡ 0 → IsBuddy b j (b + 2 ^ j) b
-buddy_low b j al = record { double = al; halves = inl (refl, refl) }
-
-pub buddy_high : (b j : ℕ) → b % 2 ^ j ≡ 0 → (b % 2 ^ (j + 1) ≡ 0 → ⊥) → (2 ^ j ≤ b) × IsBuddy b j (b - 2 ^ j) (b - 2 ^ j)
-buddy_high b j al not_low =
-    let d : ℕ = head b (j + 1) in
-    let dal : head b (j + 1) % 2 ^ (j + 1) ≡ 0 = head_aligned b (j + 1) in
-    elim (half b j al) [
-      | inl e ↦ let P : ℕ → Type 0 = λ n. n % 2 ^ (j + 1) ≡ 0 in absurd (not_low (subst P (sym e) dal))
-      | inr e ↦
-          let f : head b (j + 1) ≡ b - 2 ^ j = omega arith in
-          let P : ℕ → Type 0 = λ n. n % 2 ^ (j + 1) ≡ 0 in
-          (omega arith, record { double = subst P f dal; halves = inr (refl, omega arith) })
-    ]
-
 -- there is one buddy
 pub buddy_unique : (b j c d e f : ℕ) → IsBuddy b j c d → IsBuddy b j e f → c ≡ e
 buddy_unique b j c d e f x y =
@@ -331,74 +311,6 @@ buddy_unique b j c d e f x y =
             | inl q ↦ let q0 : b ≡ f = q.0 in let q1 : e ≡ f + 2 ^ j = q.1 in omega arith
             | inr q ↦ let q0 : e ≡ f = q.0 in let q1 : b ≡ f + 2 ^ j = q.1 in omega arith
           ]
-    ]
-
--- the buddy of a page that a zone can have is one too
-pub buddy_below : (m b j n : ℕ) → m ≤ 16 → n ≡ 2 ^ j → j < m → b < MAX_PAGES → b % (2 * n) ≡ 0 → b + n < MAX_PAGES
-buddy_below m b j n top e lt le al =
-    let t : 2 ^ (j + 1) ≡ 2 ^ j + 2 ^ j = two j in
-    let f : 2 * n ≡ 2 ^ (j + 1) = omega arith in
-    let r : b + 2 ^ (j + 1) ≤ head b 16 + 2 ^ 16 = head_room b (j + 1) 16 (omega arith) (sym (ap (λ q. b % q) f) ∙ al) in
-    omega (arith, pow_pos j)
-
--- in the words of the code
-pub buddy_at : (b j n : ℕ) → n ≡ 2 ^ j → b % 2 ^ j ≡ 0 → ((b % (2 * n) ≡ 0) → IsBuddy b j (b + n) (min b (b + n))) × ((b % (2 * n) ≡ 0 → ⊥) → (n ≤ b) × IsBuddy b j (b - n) (min b (b - n)))
-buddy_at b j n e al =
-    let t : 2 * n ≡ 2 ^ (j + 1) = let u : 2 ^ (j + 1) ≡ 2 ^ j + 2 ^ j = two j in omega arith in
-    let P : ℕ → Type 0 = λ q. IsBuddy b j (b + q) b in
-    let Q : ℕ → Type 0 = λ q. IsBuddy b j (b + n) q in
-    let R : ℕ → Type 0 = λ q. IsBuddy b j (b - q) (b - q) in
-    let S : ℕ → Type 0 = λ q. IsBuddy b j (b - n) q in
-    let m1 : b ≡ min b (b + n) = omega arith in
-    let m2 : b - n ≡ min b (b - n) = omega arith in (
-      λ f. subst Q m1 (subst P (sym e) (buddy_low b j (sym (ap (λ q. b % q) t) ∙ f))),
-      λ f. let h = buddy_high b j al (λ g. f (ap (λ q. b % q) t ∙ g)) in
-          (omega (arith, h.0), subst S m2 (subst R (sym e) h.1)),
-    )
-
--- how far an aligned run lies above the head of its double: nothing, or all its pages
-half_off : (b j n : ℕ) → n ≡ 2 ^ j → b % 2 ^ j ≡ 0 → (b % (2 * n) ≡ 0) ⊎ ((b % (2 * n) ≡ 0 → ⊥) × (b % (2 * n) ≡ n) × (n ≤ b))
-half_off b j n e al =
-    let t : 2 * n ≡ 2 ^ (j + 1) = let u : 2 ^ (j + 1) ≡ 2 ^ j + 2 ^ j = two j in omega arith in
-    let m : b % (2 * n) ≡ b % 2 ^ (j + 1) = ap (λ q. b % q) t in
-    let pos : 0 < 2 ^ j = pow_pos j in
-    let off : b % 2 ^ (j + 1) ≡ b - head b (j + 1) = mod-eq-sub-div-mul b (2 ^ (j + 1)) in
-    elim (half b j al) [
-      | inl same ↦ inl (omega arith)
-      | inr high ↦ inr ((λ z. let bad : ⊥ = omega arith in bad), omega arith, omega arith)
-    ]
-
--- the start of an aligned run with the bit of its order turned
-pub turned : (b j : ℕ) → b % 2 ^ j ≡ 0 → bit_xor b (2 ^ j) ≡ b + 2 ^ j - 2 * (b % (2 * 2 ^ j))
-turned b j al =
-    let two : 2 ^ (1 + j) ≡ 2 * 2 ^ j = pow-add 2 1 j in
-    let only : 2 ^ (1 + j) - 2 ^ j ≡ 2 ^ j = omega arith in
-    let common : bit_and b (2 ^ j) ≡ (b / 2 ^ j % 2 ^ 1) * 2 ^ j = ap (λ n. bit_and b n) (sym only) ∙ and_high b 1 j in
-    let low : b % 2 ^ (1 + j) ≡ (b / 2 ^ j % 2 ^ 1) * 2 ^ j + b % 2 ^ j = mod-pow-add b 1 j in
-    let off : b % 2 ^ (1 + j) ≡ b % (2 * 2 ^ j) = ap (λ n. b % n) two in
-    omega (arith, xor_add_and b (2 ^ j), common, low, off)
-
--- the buddy, reckoned with no branch
-pub record IsReckoned (b j n c : ℕ) : Type 0 where
-  pub within : 2 * (b % (2 * n)) ≤ b + n
-  pub buddy : c ≡ b + n - 2 * (b % (2 * n)) → IsBuddy b j c (min b c)
-  pub below : b < MAX_PAGES → b + n - 2 * (b % (2 * n)) < MAX_PAGES
-
-pub reckoned : (m b j n c : ℕ) → m ≤ 16 → n ≡ 2 ^ j → j < m → b % 2 ^ j ≡ 0 → IsReckoned b j n c
-reckoned m b j n c top e lt al =
-    let both = buddy_at b j n e al in
-    let P : ℕ → Type 0 = λ q. IsBuddy b j q (min b q) in
-    elim (half_off b j n e al) [
-      | inl low ↦ record {
-        within = omega arith;
-        buddy = λ is. let same : b + n ≡ c = omega arith in subst P same (both.0 low);
-        below = λ fits. let r : b + n < MAX_PAGES = buddy_below m b j n top e lt fits low in omega arith;
-      }
-      | inr high ↦ record {
-        within = omega (arith, high.1, high.2);
-        buddy = λ is. let same : b - n ≡ c = omega (arith, high.1, high.2) in subst P same (both.1 high.0).1;
-        below = λ fits. omega (arith, high.1, high.2);
-      }
     ]
 
 -- where the run stands while it grows

@@ -8,7 +8,6 @@ ghost use Rattle.zp_model.specs.BlockSet.{Starts};
 ghost use Rattle.zp_area.specs.Given.{IsClearRun};
 ghost use Rattle.zp_area.specs.Blocks.{block_set};
 
-use crate::runs::head_of;
 use zp_area::FreeArea;
 use zp_model::{Order, PageAt};
 
@@ -26,7 +25,7 @@ fn is_in_larger(area: &FreeArea, at: PageAt, order: Order) -> bool
     let mut larger = order;
     'orders: while larger != Order::largest() {
         larger = larger.higher();
-        if area.is_free(head_of(at, larger), larger) {
+        if area.is_free(at.head(larger), larger) {
             return true;
         }
     }

@@ -11,7 +11,6 @@ ghost use Rattle.zp_buddy.specs.Sound.{IsSound};
 ghost use Rattle.zp_area.specs.Blocks.{block_set};
 ghost use Rattle.zp_buddy.specs.Choices.{frames_in};
 
-use crate::runs::buddy_of;
 use zp_area::FreeArea;
 use zp_model::{LARGEST_ORDER, Order, PageAt, State};
 
@@ -29,7 +28,7 @@ pub fn join(area: &mut FreeArea, at: PageAt, order: Order)
     let mut head = at;
     let mut joined = order;
     'joins: while joined.number() < LARGEST_ORDER {
-        let buddy = buddy_of(head, joined);
+        let buddy = head.buddy(joined);
         if !area.is_free(buddy, joined) {
             break;
         }

@@ -6,7 +6,6 @@ mod choice;
 mod clear;
 mod join;
 mod opening;
-mod runs;
 mod split;
 mod takes;
 

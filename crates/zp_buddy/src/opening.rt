@@ -1,14 +1,27 @@
 //! The opening of a zone: all pages free.
 //!
 //! In Linux: `memmap_init` and `memblock_free_all`.
-ghost use Rattle.std.specs.Prelude.{◌≡◌, ◌≤◌, length};
+ghost use Rattle.std.specs.Prelude.{◌≡◌, ◌<◌, ◌≤◌, ◌+◌, ◌^◌, length};
 ghost use Rattle.zp_model.specs.declared.constants.TheConstants.{LARGEST_ORDER};
 ghost use Rattle.zp_model.specs.Area.{lists_count};
 ghost use Rattle.zp_buddy.specs.Opened.{IsOpenedTo, all_movable};
 
-use crate::runs::fitting;
 use zp_area::FreeArea;
 use zp_model::{Order, PageAt};
+
+/// The largest order, at most `most`, of a block with no more than so many pages.
+fn fitting(most: Order, pages: u32) -> Order
+    requires { 0 < pages }
+    ensures within { result ≤ most }
+    ensures fits { 2 ^ result ≤ pages }
+    ensures largest { result < most → pages < 2 ^ (result + 1) }
+{
+    let mut order = most;
+    'orders: while pages < order.pages() {
+        order = order.lower();
+    }
+    order
+}
 
 /// Adds all pages, in blocks as large as they can be, the lowest first.
 pub fn add_all_pages(area: &mut FreeArea)

@@ -1,4 +1,5 @@
 pub mod Heads
+pub mod Buddies
 pub mod Normal
 pub mod Pages
 pub mod Maximal

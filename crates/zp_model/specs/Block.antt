@@ -1,5 +1,5 @@
 -- Pages, runs of pages, blocks and the maximal blocks of a set of pages (Knowlton 1965). Pages are counted from the zone's base.
-use Rattle.std.specs.Prelude.{ℕ, suc, zero, ◌+◌, ◌*◌, ◌/◌, ◌%◌, ◌^◌, ◌≡◌, ◌≤◌, ◌==◌, ◌&&◌, ◌||◌, not, Bool, true, false, List, map, length, slice_index_or, leb, ltb}
+use Rattle.std.specs.Prelude.{ℕ, suc, zero, ◌+◌, ◌*◌, ◌/◌, ◌%◌, ◌^◌, ◌≡◌, ◌≤◌, ◌==◌, ◌&&◌, ◌||◌, ◌⊎◌, not, Bool, true, false, List, map, length, slice_index_or, leb, ltb}
 use Rattle.std.specs.List.{range_with_len, count_by}
 
 -- whether a test passes at each number below n
@@ -23,6 +23,11 @@ has_run u h k = all_below (λ i. has u (h + i)) (2 ^ k)
 -- the start of the aligned run of order k around page i: i with its low k bits cleared
 abbrev pub head : ℕ → ℕ → ℕ
 head i k = i / 2 ^ k * 2 ^ k
+
+-- c is the buddy of the run (b, j), and d the head of their double
+pub record IsBuddy (b j c d : ℕ) : Type 0 where
+  pub double : d % 2 ^ (j + 1) ≡ 0
+  pub halves : ((b ≡ d) × (c ≡ d + 2 ^ j)) ⊎ ((c ≡ d) × (b ≡ d + 2 ^ j))
 
 -- (h, k) is a block of a zone with so many pages, where the largest block has order m
 pub record IsBlock (m pages h k : ℕ) : Type 0 where

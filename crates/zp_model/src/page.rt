@@ -1,8 +1,10 @@
 //! Page numbers, counted from a zone's base and absolute.
 //!
-//! In Linux: a page frame number, `pfn`.
-ghost use Rattle.std.specs.Prelude.{◌≡◌, ◌<◌, ◌≤◌, ◌+◌, ◌-◌, ◌/◌, ◌^◌, ℕ, IfSome, IsSome, ◌↔◌};
+//! In Linux: a page frame number, `pfn`, and `__find_buddy_pfn`.
+ghost use Rattle.std.specs.Prelude.{◌≡◌, ◌<◌, ◌≤◌, ◌+◌, ◌-◌, ◌/◌, ◌%◌, ◌^◌, ℕ, min, IfSome, IsSome, ◌↔◌};
+ghost use Rattle.zp_model.specs.Block.{head, IsBuddy};
 
+use crate::Order;
 use crate::constants::{MAX_PAGES, PAGEBLOCK_PAGES};
 use std::marker::Model;
 
@@ -66,6 +68,22 @@ impl PageAt {
         ensures { result ≡ self / PAGEBLOCK_PAGES }
     {
         self.index() / PAGEBLOCK_PAGES as usize
+    }
+
+    /// The head of the aligned run of this order that the page lies in.
+    pub const fn head(self, order: Order) -> PageAt
+        ensures { result ≡ head self order }
+    {
+        PageAt::at(self.number() / order.pages() * order.pages())
+    }
+
+    /// The head of the other half of the double of the run of this order that begins here.
+    pub const fn buddy(self, order: Order) -> PageAt
+        requires { self % 2 ^ order ≡ 0 }
+        ensures { IsBuddy self order result (min self result) }
+    {
+        // up from the low half, down from the high one: no branch, as which of them it is, is random under load
+        PageAt::at(self.number() ^ order.pages())
     }
 }
 

@@ -20,7 +20,7 @@ orders-preserved c =
             let same : k ≡ c.higher-larger.result = omega arith in
             let P : ℕ → Type 0 = λ q. state_at c.args.area.now.rows.states q ≡ Free c.higher-larger.result in
             let Q : ℕ → Type 0 = λ q. state_at c.args.area.now.rows.states (head c.args.at q) ≡ Free q in
-            both_ways _ c.if-is_free.false (c.is_free.ensures.1 (subst P (sym c.head_of.ensures) (subst Q same (starts-to c.args.area.now.rows.states (head c.args.at k) k st))))
+            both_ways _ c.if-is_free.false (c.is_free.ensures.1 (subst P (sym c.head.ensures) (subst Q same (starts-to c.args.area.now.rows.states (head c.args.at k) k st))))
         | inr before ↦ i.none k lt before st
       ];
     }

@@ -2,7 +2,7 @@ use Rattle.std.proofs.Common.{ℕ, ◌≡◌, ◌<◌, List, min, arith, refl, s
 use Rattle.std.proofs.lemmas.Bool.{both_ways}
 use Rattle.zp_model.specs.declared.constants.TheConstants.{LARGEST_ORDER}
 use Rattle.zp_model.specs.declared.migrate_type.MigrateType.{MigrateType}
-use Rattle.zp_buddy.specs.Buddies.{IsBuddy}
+use Rattle.zp_model.specs.Block.{IsBuddy}
 use Rattle.zp_buddy.specs.Sound.{frames_of, IsSound}
 use Rattle.zp_buddy.proofs.ClearInFrames.{clear_run}
 use Rattle.zp_buddy.proofs.Joining.{IsBack, joining_none, joining_place}
@@ -23,25 +23,25 @@ joins-init c = record {
   clear = c.hold.ensures.still_clear c.args.at c.args.order (clear_run LARGEST_ORDER _ _ _ _ _ c.requires.clear);
 }
 
-pub buddy_of-buddy-requires-clause-aligned : goal.buddy_of-buddy-requires-clause-aligned
-buddy_of-buddy-requires-clause-aligned c =
+pub buddy-buddy-requires : goal.buddy-buddy-requires
+buddy-buddy-requires c =
     (joining_place LARGEST_ORDER _ _ _ _ _ _ _ _ _ (back_noted LARGEST_ORDER c.args.area.now c.hold.new.self c.args.at c.args.order c.requires.sound c.requires.clear c.hold.ensures.after) c.joins.invariant.joining).0
 
 pub joins-preserved : goal.joins-preserved
 joins-preserved c =
     let i = c.joins.invariant in
     let lt : c.joins.joined < LARGEST_ORDER = omega arith in
-    let e : min c.joins.head c.buddy_of-buddy.result ≡ c.at-head.result = omega arith in
-    let Q : ℕ → Type 0 = λ q. IsBuddy c.joins.head c.joins.joined c.buddy_of-buddy.result q in
-    let buddy = subst Q e c.buddy_of-buddy.ensures in
+    let e : min c.joins.head c.buddy-buddy.result ≡ c.at-head.result = omega arith in
+    let Q : ℕ → Type 0 = λ q. IsBuddy c.joins.head c.joins.joined c.buddy-buddy.result q in
+    let buddy = subst Q e c.buddy-buddy.ensures in
     let back = back_noted LARGEST_ORDER c.args.area.now c.hold.new.self c.args.at c.args.order c.requires.sound c.requires.clear c.hold.ensures.after in
     let K : List MigrateType → Type 0 = λ q. IsBack LARGEST_ORDER c.args.at c.args.order c.hold.new.self.rows.states q c.hold.new.self.rows.lists in
     record {
-      joining = join_removed LARGEST_ORDER c.joins.area c.remove.new.self c.args.at c.args.order c.joins.head c.joins.joined c.buddy_of-buddy.result c.at-head.result c.higher-joined.result
+      joining = join_removed LARGEST_ORDER c.joins.area c.remove.new.self c.args.at c.args.order c.joins.head c.joins.joined c.buddy-buddy.result c.at-head.result c.higher-joined.result
           c.hold.new.self.rows.states c.hold.new.self.rows.lists (subst K (sym i.kinds) back) i.joining buddy lt
           (c.is_free.ensures.0 c.if-not-is_free.false) c.higher-joined.ensures c.remove.ensures.after;
       kinds = ap (λ (q : Blocks). q.kinds) c.remove.ensures.after ∙ i.kinds;
-      clear = clear_double LARGEST_ORDER c.remove.new.self.rows.states c.remove.new.self.rows.lists c.joins.head c.joins.joined c.buddy_of-buddy.result c.at-head.result c.higher-joined.result buddy c.higher-joined.ensures
+      clear = clear_double LARGEST_ORDER c.remove.new.self.rows.states c.remove.new.self.rows.lists c.joins.head c.joins.joined c.buddy-buddy.result c.at-head.result c.higher-joined.result buddy c.higher-joined.ensures
           (c.remove.ensures.still_clear c.joins.head c.joins.joined i.clear) c.remove.ensures.clear;
     }
 
@@ -57,7 +57,7 @@ returns c =
     (elim c.joins-test.branch [
       | else-joins-test w ↦ λ e d lt z f. let bad : ⊥ = omega arith in bad
       | then-joins-test+then-not-is_free w ↦ λ e d lt z f.
-          stops _ _ _ _ _ w.buddy_of-buddy.ensures (λ g. both_ways w.is_free.result w.if-not-is_free.true (w.is_free.ensures.1 g)) e d z f
+          stops _ _ _ _ _ w.buddy-buddy.ensures (λ g. both_ways w.is_free.result w.if-not-is_free.true (w.is_free.ensures.1 g)) e d z f
     ])
     c.add.ensures.after in
     let a = c.args.area.now in
