@@ -1,6 +1,8 @@
 //! Zones that are made and refused, and info lines.
-ghost use Rattle.std.specs.Prelude.{ℕ, None, All};
-ghost use Rattle.zp_zone.specs.NamedZone.{IsSeatOf, KeepsSeats};
+ghost use Rattle.std.specs.Prelude.{ℕ, ◌≡◌, ◌<◌, ◌≤◌, None, All, length};
+ghost use Rattle.zp_zone.specs.NamedZone.{IsSeatOf};
+
+mod batches;
 
 use super::*;
 use arrayvec::ArrayVec;
@@ -311,57 +313,73 @@ fn a_block_keeps_its_type_when_it_is_posted(rt: HostRuntime) {
     expect_block(&rt, second, 1025, order, MigrateType::Movable);
 }
 
-/// The worker that has a page posts it to another, who collects it: the page collected, where it was had.
-fn hand_on(zone: &mut Zone, from: &mut Seat, to: &mut Seat, page: PageNo) -> Option<PageNo>
-    requires from { IsSeatOf zone.old.plain from.old }
-    requires to { IsSeatOf zone.old.plain to.old }
-    ensures seats { KeepsSeats zone.old.plain zone.new.plain }
-    ensures from { IsSeatOf zone.new.plain from.new }
-    ensures to { IsSeatOf zone.new.plain to.new }
+/// A worker posts a block that it has to another, who collects it: the block collected, where it was had.
+fn hand_on(
+    zone: &mut Zone,
+    seats: &mut [Seat],
+    from: usize,
+    to: usize,
+    block: Block,
+) -> Option<Block>
+    requires seats { All (IsSeatOf zone.old.plain) seats.old }
+    requires from { from < length seats.old }
+    requires to { to < length seats.old }
+    ensures { All (IsSeatOf zone.new.plain) seats.new }
 {
-    if !zone.held_by(from, page, Order::zero()) {
+    let receiver = seats[to].worker();
+    let Block { page, order, .. } = block;
+    if !zone.held_by(&seats[from], page, order) {
         return None;
     }
-    zone.post(from, page, Order::zero(), to.worker());
-    let block = zone.collect(to).ok()?;
-    Some(block.page)
+    zone.post(&mut seats[from], page, order, receiver);
+    zone.collect(&mut seats[to]).ok()
 }
 
-/// Hands a page on through all these workers, the last of them first: the seat of the one that has it then.
-fn hand_through(zone: &mut Zone, seats: &mut Vec<Seat>, from: Seat, page: PageNo) -> Seat
-    requires from { IsSeatOf zone.old.plain from }
-    requires seats { All (IsSeatOf zone.old.plain) seats.old.items }
-    ensures seats { KeepsSeats zone.old.plain zone.new.plain }
-    ensures holder { IsSeatOf zone.new.plain result }
+/// The worker whose turn it is after so many steps on the way from worker 0 to worker 31 and back.
+fn turn(step: usize) -> usize
+    requires { step ≤ 62 }
+    ensures { result < 32 }
 {
-    let mut holder = from;
-    'workers: while let Some(mut next) = seats.pop() {
-        let _ = hand_on(zone, &mut holder, &mut next, page);
-        holder = next;
-    }
-    holder
+    if step < 32 { step } else { 62 - step }
 }
 
-/// A page goes from the last worker through all the others to the first.
+/// Hands a block from worker 0 to worker 31 and back, each to its neighbour. Each collects the same block.
+fn hand_there_and_back(rt: &impl Abort, zone: &mut Zone, seats: &mut [Seat], block: Block)
+    requires seats { All (IsSeatOf zone.old.plain) seats.old }
+    requires workers { length seats.old ≡ 32 }
+    ensures { All (IsSeatOf zone.new.plain) seats.new }
+{
+    'steps: for step in 0..62 {
+        let to = turn(step + 1);
+        let Some(collected) = hand_on(zone, seats, turn(step), to, block) else {
+            assert!(rt; false, "the block is had after {step} steps");
+            return;
+        };
+        assert!(rt; collected == block, "step {step}");
+    }
+    assert!(rt; zone.held_by(&seats[0], block.page, block.order));
+}
+
+/// In a zone of 64 pages a Reclaimable block is borrowed: its pageblock stays Movable. It keeps its order and its type on its
+/// way through all workers.
 #[test]
-fn a_page_goes_through_all_workers(rt: HostRuntime) {
+fn a_block_goes_through_all_workers_and_back(rt: HostRuntime) {
     let made = Zone::new(rt.alloc(), config("DMA", 0, 64, 0), 32);
     let Ok((mut zone, mut seats)) = made else {
         assert!(rt; false, "the zone can be made");
         return;
     };
-    let (Some(mut last), kind) = (seats.pop(), MigrateType::Reclaimable) else {
-        assert!(rt; false, "there are seats");
+    let (Some(order), kind) = (Order::new(3), MigrateType::Reclaimable) else {
+        assert!(rt; false, "3 is an order");
         return;
     };
-    let Ok(page) = zone.alloc(&mut last, Order::zero(), kind, Mark::Any) else {
-        assert!(rt; false, "there is a page");
+    let Ok(page) = zone.alloc(&mut seats[0], order, kind, Mark::Any) else {
+        assert!(rt; false, "there is a block");
         return;
     };
-    assert_eq!(rt; seats.len(), 31);
-    let holder = hand_through(&mut zone, &mut seats, last, page);
-    assert_eq!(rt; holder.worker().number(), 0);
-    assert!(rt; zone.held_by(&holder, page, Order::zero()));
+    hand_there_and_back(&rt, &mut zone, &mut seats, Block { page, order, kind });
+    let state = State::Out(order, kind, seats[0].worker());
+    expect_entry(&rt, &zone, 0, &state, None, None);
 }
 
 /// Where all pages are posted, none is free: a request is refused for its mark where it has one, else for want of a block.

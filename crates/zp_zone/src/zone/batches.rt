@@ -66,8 +66,8 @@ impl Zone {
     {
         // it is noted in the request, and changes nothing
         let _ = kind;
-        'pages: for page in pages {
-            self.free(seat, *page, Order::zero());
+        'pages: for place in 0..pages.len() {
+            self.free(seat, pages[place], Order::zero());
         }
     }
 }

@@ -7,30 +7,30 @@ use Rattle.zp_model.specs.Zone.{PlainZone}
 use Rattle.zp_zone.specs.NamedZone.{NamedZone, KeepsOutBeside, IsFresh}
 use Rattle.zp_zone.proofs.DrainSteps.{IsLeft, left_here, left_next, none_left, out_at, drained-gone, drained-kept}
 use Rattle.zp_zone.proofs.Callers.{step_seats}
-use Rattle.zp_zone.proofs.zone.Zone.drain.Goals.{After-page-item, After-pages}
+use Rattle.zp_zone.proofs.zone.Zone.drain.Goals.{After-index-pages-place, After-pages}
 use Rattle.zp_zone.proofs.zone.Zone.drain.Goals as goal
 
 -- the page that is given back, and those after it
-left : (c : After-page-item) → IsLeft c.args.self.now.plain c.pages.self.plain c.args.seat.now.worker c.args.pages.now (c.page-item.result ∷ drop (c.pages.page-index + 1) c.args.pages.now)
+left : (c : After-index-pages-place) → IsLeft c.args.self.now.plain c.pages.self.plain c.args.seat.now.worker c.args.pages.now (c.index-pages-place.result ∷ drop (c.pages.place + 1) c.args.pages.now)
 left c =
-    let P : ℕ → Type 0 = λ p. IsLeft c.args.self.now.plain c.pages.self.plain c.args.seat.now.worker c.args.pages.now (p ∷ drop (c.pages.page-index + 1) c.args.pages.now) in
-    let at : c.pages.page-index < length c.args.pages.now = omega (arith, c.pages-test.true) in
-    subst P (sym c.page-item.is) (left_here _ _ _ c.args.pages.now c.pages.page-index c.page-item.result at c.pages.invariant.left)
+    let P : ℕ → Type 0 = λ p. IsLeft c.args.self.now.plain c.pages.self.plain c.args.seat.now.worker c.args.pages.now (p ∷ drop (c.pages.place + 1) c.args.pages.now) in
+    let at : c.pages.place < length c.args.pages.now = omega arith in
+    subst P (sym c.index-pages-place.is) (left_here _ _ _ c.args.pages.now c.pages.place c.index-pages-place.result at c.pages.invariant.left)
 
 pub free-requires-clause-out : goal.free-requires-clause-out
 free-requires-clause-out c =
-    let d = (goal.at.free-requires-clause-out c).After-page-item in
-    let o : is_out c.pages.self.plain c.args.seat.now.worker c.page-item.result 0 ≡ true =
+    let d = (goal.at.free-requires-clause-out c).After-index-pages-place in
+    let o : is_out c.pages.self.plain c.args.seat.now.worker c.index-pages-place.result 0 ≡ true =
     All-head (λ q. is_out c.pages.self.plain c.args.seat.now.worker q 0 ≡ true) _ _ (left d).out in
-    out_at c.pages.self.plain c.args.seat.now.worker c.pages.seat.worker c.page-item.result c.zero.result c.pages.invariant.same.worker c.zero.ensures o
+    out_at c.pages.self.plain c.args.seat.now.worker c.pages.seat.worker c.index-pages-place.result c.zero.result c.pages.invariant.same.worker c.zero.ensures o
 
 pub pages-preserved : goal.pages-preserved
 pages-preserved c =
-    let d = (goal.at.pages-preserved c).After-page-item in
+    let d = (goal.at.pages-preserved c).After-index-pages-place in
     let i = c.pages.invariant in
     let f = c.free.ensures in
     let z : PlainZone = c.pages.self.plain in
-    let page = c.page-item.result in
+    let page = c.index-pages-place.result in
     let zone = ap (λ (n : NamedZone). n.plain) f.after ∙ ap (λ k. freed z (page - z.base) k) c.zero.ensures in
     record {
       name = ap (λ (n : NamedZone). n.name) f.after ∙ i.name;
@@ -41,7 +41,7 @@ pages-preserved c =
 
 -- at the end no page is left
 done : (c : After-pages) → c.pages.self.plain ≡ drained c.args.self.now.plain c.args.pages.now
-done c = none_left _ _ _ c.args.pages.now c.pages.page-index (omega (arith, c.pages-test.false)) c.pages.invariant.left
+done c = none_left _ _ _ c.args.pages.now c.pages.place (omega arith) c.pages.invariant.left
 
 pub returns-clause-seats : goal.returns-clause-seats
 returns-clause-seats c =
