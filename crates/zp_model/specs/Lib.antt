@@ -14,6 +14,7 @@ pub mod Bounds
 pub mod Refused
 pub mod Step
 pub mod Run
+pub mod Books
 pub mod Lawful
 pub mod Described
 pub mod Laws
