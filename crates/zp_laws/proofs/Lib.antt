@@ -23,3 +23,7 @@ pub mod TakingBack
 pub mod Replaying
 pub mod StaysOut
 pub mod AddingUp
+pub mod BooksOut
+pub mod BooksOthers
+pub mod BooksOwn
+pub mod BooksShape

@@ -55,7 +55,7 @@ found_place z k h f l =
     let places : length z.out ≡ pages_of z = l.places in
     (omega arith, free-not_out z h l (omega arith) (found_free z.area.largest z.area.free k h f h (omega arith) (omega arith)))
 
-chosen_place : (z : PlainZone) (k : ℕ) (t : MigrateType) (c : Chosen) → choose z.area k t ≡ Some c → IsLawful z → (c.head < length z.out) × (holding_at z.out c.head ≡ None)
+pub chosen_place : (z : PlainZone) (k : ℕ) (t : MigrateType) (c : Chosen) → choose z.area k t ≡ Some c → IsLawful z → (c.head < length z.out) × (holding_at z.out c.head ≡ None)
 chosen_place z k t c e l = found_place z k c.head (choose_found z.area k t c l.lists e) l
 
 chosen-kept : (z : PlainZone) (w k : ℕ) (t : MigrateType) (o : Option Chosen) → choose z.area k t ≡ o → IsLawful z → (v p j : ℕ) → is_out z v p j ≡ true →
@@ -109,7 +109,7 @@ alloc-fresh z w k t m l p r v j = go (passes z k m) r
     go false r = cc
 
 -- the same of the lowest block
-low_place : (z : PlainZone) (k h : ℕ) → take_low_answer z.area k ≡ Some h → IsLawful z → (h < length z.out) × (holding_at z.out h ≡ None)
+pub low_place : (z : PlainZone) (k h : ℕ) → take_low_answer z.area k ≡ Some h → IsLawful z → (h < length z.out) × (holding_at z.out h ≡ None)
 low_place z k h e l = found_place z k h (take_low_found z.area k h e) l
 
 low-kept : (z : PlainZone) (w k : ℕ) (o : Option ℕ) → take_low_answer z.area k ≡ o → IsLawful z → (v p j : ℕ) → is_out z v p j ≡ true → is_out (alloc_low_at z w k o).zone v p j ≡ true
@@ -178,7 +178,7 @@ handed_on-kept z a to None le w p j ne e = e
 handed_on-kept z a to (Some x) le w p j ne e = freed-kept z a x.order le w p j ne e
 
 -- the front of a posted list starts at a page of the zone where none is out
-posted_place : (z : PlainZone) (w : ℕ) (b : PostedBlock) (ps : List PostedBlock) → posted_to z w ≡ b ∷ ps → IsLawful z → w < workers_of z →
+pub posted_place : (z : PlainZone) (w : ℕ) (b : PostedBlock) (ps : List PostedBlock) → posted_to z w ≡ b ∷ ps → IsLawful z → w < workers_of z →
     (b.head < length z.out) × (holding_at z.out b.head ≡ None)
 posted_place z w b ps e l lt =
     let P : List PostedBlock → Type 0 = λ qs. AllPosted z.area.largest (pages_of z) qs in

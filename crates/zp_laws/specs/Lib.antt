@@ -3,3 +3,4 @@ pub mod KeptLawful
 pub mod FreePages
 pub mod TakenBack
 pub mod Journals
+pub mod KeptBooks
