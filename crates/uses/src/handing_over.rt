@@ -1,5 +1,5 @@
 //! A block that one worker takes and another gives back.
-ghost use Rattle.zp_zone.specs.NamedZone.{IsSeatOf};
+ghost use Rattle.zp_zone.specs.Seats.{IsSeatOf};
 
 use std::alloc::Global;
 use zp_model::{Block, Mark, MigrateType, Order, PageNo};
@@ -7,21 +7,23 @@ use zp_zone::{Seat, Zone, ZoneConfig};
 
 /// The giver takes a block and posts it to the receiver: its page.
 pub fn send(zone: &mut Zone, giver: &mut Seat, receiver: &mut Seat, order: Order) -> Option<PageNo>
-    requires giver { IsSeatOf zone.old.plain giver.old }
-    requires receiver { IsSeatOf zone.old.plain receiver.old }
-    ensures giver { IsSeatOf zone.new.plain giver.new }
-    ensures receiver { IsSeatOf zone.new.plain receiver.new }
+    requires giver { IsSeatOf zone.old giver.old }
+    requires receiver { IsSeatOf zone.old receiver.old }
+    ensures giver { IsSeatOf zone.new giver.new }
+    ensures receiver { IsSeatOf zone.new receiver.new }
 {
     let movable = MigrateType::Movable;
     let page = zone.alloc(giver, order, movable, Mark::Low).ok()?;
+    // Only the zone tells that the receiver is one of its workers.
+    zone.check(receiver);
     zone.post(giver, page, order, receiver.worker());
     Some(page)
 }
 
 /// The receiver collects a block that was posted to it and gives it back: which block it was.
 pub fn receive(zone: &mut Zone, receiver: &mut Seat) -> Option<Block>
-    requires { IsSeatOf zone.old.plain receiver.old }
-    ensures { IsSeatOf zone.new.plain receiver.new }
+    requires { IsSeatOf zone.old receiver.old }
+    ensures { IsSeatOf zone.new receiver.new }
 {
     let block = zone.collect(receiver).ok()?;
     zone.free(receiver, block.page, block.order);

@@ -1,6 +1,6 @@
 //! A run of 512 pages, 2 MiB of pages of 4 KiB, or a single page in its place.
 ghost use Rattle.std.specs.Prelude.{IfOk};
-ghost use Rattle.zp_zone.specs.NamedZone.{IsSeatOf};
+ghost use Rattle.zp_zone.specs.Seats.{IsSeatOf};
 ghost use Rattle.uses.specs.Lent.{IsLent};
 
 use zp_model::{Mark, MigrateType, Order, PageNo, Refused};
@@ -15,9 +15,9 @@ pub struct Run {
 
 /// A run of 512 pages, or where there is none above the low mark, a single page.
 pub fn take_huge_page(zone: &mut Zone, seat: &mut Seat, huge: Order) -> Result<Run, Refused>
-    requires { IsSeatOf zone.old.plain seat.old }
-    ensures fits { IsSeatOf zone.new.plain seat.new }
-    ensures lent { IfOk result (IsLent zone.new.plain seat.new.worker) }
+    requires { IsSeatOf zone.old seat.old }
+    ensures fits { IsSeatOf zone.new seat.new }
+    ensures lent { IfOk result (IsLent seat.new) }
 {
     if let Ok(page) = zone.alloc(seat, huge, MigrateType::Movable, Mark::Low) {
         return Ok(Run { page, order: huge });
@@ -29,9 +29,9 @@ pub fn take_huge_page(zone: &mut Zone, seat: &mut Seat, huge: Order) -> Result<R
 
 /// Gives the pages back.
 pub fn give_run(zone: &mut Zone, seat: &mut Seat, run: Run)
-    requires fits { IsSeatOf zone.old.plain seat.old }
-    requires lent { IsLent zone.old.plain seat.old.worker run }
-    ensures { IsSeatOf zone.new.plain seat.new }
+    requires fits { IsSeatOf zone.old seat.old }
+    requires lent { IsLent seat.old run }
+    ensures { IsSeatOf zone.new seat.new }
 {
     zone.free(seat, run.page, run.order);
 }

@@ -1,7 +1,6 @@
 //! A pool of single pages over a zone of its own.
 ghost use Rattle.std.specs.Prelude.{◌≡◌, IfOk, IfSome, IsTrue};
-ghost use Rattle.zp_model.specs.Run.{is_out};
-ghost use Rattle.zp_zone.specs.NamedZone.{IsSeatOf};
+ghost use Rattle.zp_zone.specs.Seats.{IsSeatOf, Agrees, has};
 
 use std::alloc::Global;
 use zp_model::{Mark, MigrateType, Order, PageNo, Refused};
@@ -12,21 +11,23 @@ use zp_zone::{Seat, Zone, ZoneConfig};
 pub struct PagePool {
     zone: Zone,
     seat: Seat,
-    ghost fits: { IsSeatOf zone.plain seat },
+    ghost fits: { IsSeatOf zone seat },
+    ghost agrees: { Agrees zone seat },
 }
 
 impl PagePool {
     pub fn new(alloc: Global, config: ZoneConfig<'_>) -> Result<PagePool, Refused> {
-        let (zone, mut seats) = Zone::new(alloc, config, 1)?;
-        let Some(seat) = seats.pop() else {
+        let (mut zone, mut seats) = Zone::new(alloc, config, 1)?;
+        let Some(mut seat) = seats.pop() else {
             return Err(Refused::BadWorkers);
         };
+        zone.check(&mut seat);
         Ok(PagePool { zone, seat })
     }
 
     /// A page, while more pages are free than the low mark.
     pub fn take(&mut self) -> Option<PageNo>
-        ensures { IfSome result (λ page. IsTrue (is_out self.new.zone.plain self.new.seat.worker page 0)) }
+        ensures { IfSome result (λ page. IsTrue (has self.new.seat page 0)) }
     {
         let order = Order::zero();
         self.zone
@@ -36,7 +37,7 @@ impl PagePool {
 
     /// Gives a page back. Answers false, and does nothing, where the page is not one that was taken here.
     pub fn put(&mut self, page: PageNo) -> bool
-        ensures { result ≡ is_out self.old.zone.plain self.old.seat.worker page 0 }
+        ensures { result ≡ has self.old.seat page 0 }
     {
         let order = Order::zero();
         if !self.zone.held_by(&self.seat, page, order) {

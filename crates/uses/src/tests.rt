@@ -1,6 +1,6 @@
 //! The callers, run.
 ghost use Rattle.std.specs.Prelude.{ℕ, None};
-ghost use Rattle.zp_zone.specs.NamedZone.{IsSeatOf};
+ghost use Rattle.zp_zone.specs.Seats.{IsSeatOf};
 
 use super::*;
 use arrayvec::ArrayVec;

@@ -1,14 +1,14 @@
 //! Two pages at a time, given back in the order in which they came.
 
-ghost use Rattle.zp_zone.specs.NamedZone.{IsSeatOf};
+ghost use Rattle.zp_zone.specs.Seats.{IsSeatOf};
 
 use zp_model::{Mark, MigrateType, Order, Refused};
 use zp_zone::{Seat, Zone};
 
 /// Takes two pages, and gives both back. Where only one is to be had, it is given back too.
 pub fn take_two(zone: &mut Zone, seat: &mut Seat) -> Result<(), Refused>
-    requires { IsSeatOf zone.old.plain seat.old }
-    ensures { IsSeatOf zone.new.plain seat.new }
+    requires { IsSeatOf zone.old seat.old }
+    ensures { IsSeatOf zone.new seat.new }
 {
     let order = Order::zero();
     let first = zone.alloc(seat, order, MigrateType::Movable, Mark::Low)?;

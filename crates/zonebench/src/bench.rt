@@ -1,6 +1,6 @@
 //! A zone under load, as a user would keep it: its seat, and the blocks that were lent.
 
-ghost use Rattle.zp_zone.specs.NamedZone.{IsSeatOf};
+ghost use Rattle.zp_zone.specs.Seats.{IsSeatOf, Agrees};
 
 use crate::random::{Checksum, Random, below};
 use std::alloc::{AllocError, Global};
@@ -42,7 +42,8 @@ pub struct Bench {
     lent_pages: u64,
     pub random: Random,
     checksum: Checksum,
-    ghost fits: { IsSeatOf zone.plain seat },
+    ghost fits: { IsSeatOf zone seat },
+    ghost agrees: { Agrees zone seat },
 }
 
 impl Bench {
@@ -54,14 +55,16 @@ impl Bench {
             pages,
             min: 0,
         };
-        let (zone, mut seats) = Zone::new(alloc, config, 1)?;
-        let Some(seat) = seats.pop() else {
+        let lent = Vec::with_capacity(alloc, pages as usize)?;
+        let (mut zone, mut seats) = Zone::new(alloc, config, 1)?;
+        let Some(mut seat) = seats.pop() else {
             return Err(NoMemory);
         };
+        zone.check(&mut seat);
         Ok(Bench {
             zone,
             seat,
-            lent: Vec::with_capacity(alloc, pages as usize)?,
+            lent,
             lent_pages: 0,
             random: Random::seeded(),
             checksum: Checksum::new(),

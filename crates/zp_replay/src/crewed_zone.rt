@@ -8,6 +8,7 @@ ghost use Rattle.zp_model.specs.Zone.{workers_of};
 ghost use Rattle.zp_trace.specs.Grammar.{IsZoneLine};
 ghost use Rattle.zp_zone.specs.NamedZone.{block_reply, page_reply};
 ghost use Rattle.zp_replay.specs.Output.{declared_zone};
+ghost use Rattle.zp_replay.specs.Asked.{named_zone};
 
 use std::alloc::Global;
 use std::marker::Model;
@@ -15,7 +16,7 @@ use zp_model::{Block, Mark, MigrateType, Order, PageNo, Refused, Worker};
 use zp_trace::ZoneLine;
 use zp_zone::{Seat, Zone, ZoneConfig};
 
-/// A zone, and a seat for each of its workers. Contracts see the zone.
+/// A zone, and a seat for each of its workers. Contracts see the zone, by its name and its plain zone.
 #[derive(Drop)]
 pub struct CrewedZone {
     zone: Zone,
@@ -24,13 +25,13 @@ pub struct CrewedZone {
 
 impl Model for CrewedZone {
     ghost use Rattle.zp_zone.specs.NamedZone.{NamedZone};
-    ghost use Rattle.zp_replay.specs.Asked.{AreSeatsOf};
+    ghost use Rattle.zp_replay.specs.Asked.{AreSeatsOf, named_zone};
 
     ghost Value = { NamedZone };
 
-    ghost view = { λ c. c.zone };
+    ghost view = { λ c. named_zone c.zone };
 
-    ghost invariant = { λ c. AreSeatsOf c.zone.plain c.seats.items };
+    ghost invariant = { λ c. AreSeatsOf c.zone c.seats.items };
 }
 
 impl CrewedZone {
@@ -52,7 +53,7 @@ impl CrewedZone {
     }
 
     pub fn zone(&self) -> &Zone
-        ensures { result.now ≡ self.now }
+        ensures { named_zone result.now ≡ self.now }
     {
         &self.zone
     }
@@ -99,6 +100,7 @@ impl CrewedZone {
         ensures { self.new ≡ record self.old { plain = (step self.old.plain worker (request.Free page order)).zone } }
     {
         let seat = &mut self.seats[usize::from(worker.number())];
+        self.zone.check(seat);
         self.zone.free(seat, page, order);
     }
 
@@ -110,6 +112,7 @@ impl CrewedZone {
         ensures { self.new ≡ record self.old { plain = (step self.old.plain worker (request.Post page order to)).zone } }
     {
         let seat = &mut self.seats[usize::from(worker.number())];
+        self.zone.check(seat);
         self.zone.post(seat, page, order, to);
     }
 

@@ -2,6 +2,7 @@
 ghost use Rattle.std.specs.Prelude.{◌≡◌, ◌≤◌, ◌+◌, ◌*◌, ◌++◌, codes, length, Ok};
 ghost use Rattle.std.specs.Fmt.{decimal};
 ghost use Rattle.arrayvec.specs.ArrayString.{array_string_len};
+ghost use Rattle.zp_replay.specs.Asked.{named_zone};
 ghost use Rattle.zp_replay.specs.Replies.{reply_line, reply_of, reply_words};
 ghost use Rattle.zp_replay.specs.Output.{level_word, counted, total_line, total_of, totals, bad_line};
 
@@ -86,7 +87,7 @@ fn totals_of(zone: &Zone) -> Totals
 
 /// A zone's total line.
 pub fn total_of(zone: &Zone) -> Line
-    ensures { result.bytes ≡ total_of zone.now }
+    ensures { result.bytes ≡ total_of (named_zone zone.now) }
 {
     let name = zone.name();
     total_line(name, zone.pages(), &totals_of(zone), zone.level())

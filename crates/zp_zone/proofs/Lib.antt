@@ -14,3 +14,5 @@ pub mod LowSteps
 pub mod PostSteps
 pub mod CollectSteps
 pub mod PostedFew
+pub mod Tied
+pub mod NewSeats

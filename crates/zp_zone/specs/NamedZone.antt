@@ -1,6 +1,5 @@
--- A zone and its seats as contracts see them, and what a call leaves of them for the calls after it (this profile).
-use Rattle.std.specs.Prelude.{ℕ, ◌≡◌, ◌≢◌, ◌<◌, ◌≤◌, ◌+◌, ◌-◌, List, All, map, Option, Result, Ok, Err, IsTrue, false}
-use Rattle.std.specs.List.{range_with_len}
+-- A zone without its seats, as contracts see it, and what a call leaves of it for the calls after it (this profile).
+use Rattle.std.specs.Prelude.{ℕ, ◌≡◌, ◌≢◌, ◌<◌, ◌≤◌, ◌+◌, ◌-◌, List, All, Option, Result, Ok, Err, IsTrue, false}
 use Rattle.std.specs.Option.{option_map}
 use Rattle.arrayvec.specs.ArrayVec.{ArrayVec}
 use Rattle.zp_model.specs.declared.block.Block.{Block}
@@ -8,40 +7,13 @@ use Rattle.zp_model.specs.declared.refused.Refused.{Refused}
 use Rattle.zp_model.specs.declared.request.Reply.{Reply}
 use Rattle.zp_model.specs.declared.state.State.{State}
 use Rattle.zp_model.specs.Rows.{stands_in}
-use Rattle.zp_model.specs.Zone.{PlainZone, pages_of, workers_of}
+use Rattle.zp_model.specs.Zone.{PlainZone, pages_of}
 use Rattle.zp_model.specs.Run.{is_out}
 use Rattle.zp_model.specs.Described.{IsDescribedAt}
 
 pub record NamedZone : Type 0 where
   pub name : List ℕ
   pub plain : PlainZone
-
--- a worker's right to act in the zone with this base and so many pages
-pub record Right : Type 0 where
-  pub worker : ℕ
-  pub base : ℕ
-  pub pages : ℕ
-
--- the seats of a zone with this base, so many pages and so many workers, one for each worker in order
-abbrev pub seats_of : ℕ → ℕ → ℕ → List Right
-seats_of base pages workers =
-    map (λ n. let s : Right = record { worker = n; base = base; pages = pages } in s) (range_with_len 0 workers)
-
--- the seat is one of this zone
-pub record IsSeatOf (z : PlainZone) (s : Right) : Type 0 where
-  pub worker : s.worker < workers_of z
-  pub base : s.base ≡ z.base
-  pub pages : s.pages ≡ pages_of z
-
--- the same worker's right in the same zone
-pub record IsSameRight (old new : Right) : Type 0 where
-  pub worker : new.worker ≡ old.worker
-  pub base : new.base ≡ old.base
-  pub pages : new.pages ≡ old.pages
-
--- each seat of the zone is one of it still
-abbrev pub KeepsSeats : PlainZone → PlainZone → Type 0
-KeepsSeats before after = (s : Right) → IsSeatOf before s → IsSeatOf after s
 
 -- no block out starts at the absolute page
 abbrev pub IsFresh : PlainZone → ℕ → Type 0

@@ -1,11 +1,13 @@
 //! One zone: its making, its requests, its counts and its info line. Every `Zone` is a lawful plain zone.
 #![tactic(auto)]
 
+mod books;
 mod config;
 mod info;
 mod page;
 mod seat;
 mod streams;
+mod untied_zone;
 mod zone;
 
 pub use config::ZoneConfig;

@@ -1,6 +1,6 @@
 //! Zones that are made and refused, and info lines.
 ghost use Rattle.std.specs.Prelude.{ℕ, ◌≡◌, ◌<◌, ◌≤◌, None, All, length};
-ghost use Rattle.zp_zone.specs.NamedZone.{IsSeatOf};
+ghost use Rattle.zp_zone.specs.Seats.{IsSeatOf};
 
 mod batches;
 
@@ -159,8 +159,8 @@ fn the_lowest_block_has_the_type_of_its_pageblock(rt: HostRuntime) {
 
 /// Takes single pages at a mark until one is refused: how many pages are free then.
 fn free_at_refusal(zone: &mut Zone, seat: &mut Seat, mark: Mark) -> u32
-    requires { IsSeatOf zone.old.plain seat.old }
-    ensures { IsSeatOf zone.new.plain seat.new }
+    requires { IsSeatOf zone.old seat.old }
+    ensures { IsSeatOf zone.new seat.new }
 {
     'pages: for _ in 0..64 {
         let page = zone.alloc(seat, Order::zero(), MigrateType::Movable, mark);
@@ -173,8 +173,8 @@ fn free_at_refusal(zone: &mut Zone, seat: &mut Seat, mark: Mark) -> u32
 
 /// Takes single pages while the zone is at its highest level: how many pages are free then.
 fn free_below_high(zone: &mut Zone, seat: &mut Seat) -> u32
-    requires { IsSeatOf zone.old.plain seat.old }
-    ensures { IsSeatOf zone.new.plain seat.new }
+    requires { IsSeatOf zone.old seat.old }
+    ensures { IsSeatOf zone.new seat.new }
 {
     'pages: for _ in 0..64 {
         if zone.level() != Level::High {
@@ -222,13 +222,14 @@ fn marks_are_rounded_down(rt: HostRuntime) {
 
 /// A worker takes a block and posts it to another: its page, where there is one.
 fn send(zone: &mut Zone, from: &mut Seat, to: &mut Seat, order: Order) -> Option<PageNo>
-    requires from { IsSeatOf zone.old.plain from.old }
-    requires to { IsSeatOf zone.old.plain to.old }
-    ensures from { IsSeatOf zone.new.plain from.new }
-    ensures to { IsSeatOf zone.new.plain to.new }
+    requires from { IsSeatOf zone.old from.old }
+    requires to { IsSeatOf zone.old to.old }
+    ensures from { IsSeatOf zone.new from.new }
+    ensures to { IsSeatOf zone.new to.new }
 {
     let movable = MigrateType::Movable;
     let page = zone.alloc(from, order, movable, Mark::Any).ok()?;
+    zone.check(to);
     zone.post(from, page, order, to.worker());
     Some(page)
 }
@@ -273,8 +274,8 @@ fn blocks_are_collected_in_the_order_of_their_posting(rt: HostRuntime) {
 
 /// Compares what is collected of a block of order 3 and a page, and the number of the pages that are posted.
 fn expect_collected(rt: &impl Abort, zone: &mut Zone, seat: &mut Seat, three: Order)
-    requires { IsSeatOf zone.old.plain seat.old }
-    ensures { IsSeatOf zone.new.plain seat.new }
+    requires { IsSeatOf zone.old seat.old }
+    ensures { IsSeatOf zone.new seat.new }
 {
     let movable = MigrateType::Movable;
     let state = State::Posted(three, movable, seat.worker());
@@ -303,6 +304,7 @@ fn a_block_keeps_its_type_when_it_is_posted(rt: HostRuntime) {
         assert!(rt; false, "there is a page");
         return;
     };
+    zone.check(seat);
     zone.post(seat, page, order, worker);
     let posted = State::Posted(order, unmovable, worker);
     expect_entry(&rt, &zone, 1024, &posted, None, None);
@@ -321,17 +323,20 @@ fn hand_on(
     to: usize,
     block: Block,
 ) -> Option<Block>
-    requires seats { All (IsSeatOf zone.old.plain) seats.old }
+    requires seats { All (IsSeatOf zone.old) seats.old }
     requires from { from < length seats.old }
     requires to { to < length seats.old }
-    ensures { All (IsSeatOf zone.new.plain) seats.new }
+    ensures { All (IsSeatOf zone.new) seats.new }
 {
-    let receiver = seats[to].worker();
     let Block { page, order, .. } = block;
-    if !zone.held_by(&seats[from], page, order) {
+    let receiver = seats[to].worker();
+    zone.check(&mut seats[to]);
+    let giver = &mut seats[from];
+    zone.check(giver);
+    if !zone.held_by(giver, page, order) {
         return None;
     }
-    zone.post(&mut seats[from], page, order, receiver);
+    zone.post(giver, page, order, receiver);
     zone.collect(&mut seats[to]).ok()
 }
 
@@ -345,9 +350,9 @@ fn turn(step: usize) -> usize
 
 /// Hands a block from worker 0 to worker 31 and back, each to its neighbour. Each collects the same block.
 fn hand_there_and_back(rt: &impl Abort, zone: &mut Zone, seats: &mut [Seat], block: Block)
-    requires seats { All (IsSeatOf zone.old.plain) seats.old }
+    requires seats { All (IsSeatOf zone.old) seats.old }
     requires workers { length seats.old ≡ 32 }
-    ensures { All (IsSeatOf zone.new.plain) seats.new }
+    ensures { All (IsSeatOf zone.new) seats.new }
 {
     'steps: for step in 0..62 {
         let to = turn(step + 1);
@@ -396,6 +401,7 @@ fn no_block_is_free_where_all_pages_are_posted(rt: HostRuntime) {
         assert!(rt; false, "there is a block");
         return;
     };
+    zone.check(seat);
     zone.post(seat, page, whole, worker);
     assert_eq!(rt; zone.posted_pages(), 1024);
     assert_eq!(rt; zone.counts().free, 0);

@@ -1,56 +1,53 @@
-//! A zone: its making, and what it tells.
+//! A zone and its seats: its making, and what it tells.
 //!
 //! In Linux: `struct zone`.
-ghost use Rattle.std.specs.Prelude.{◌≡◌, ◌<◌, ◌≤◌, ◌+◌, ℕ, false, All, length, IfOk, IfErr, IfSome, IfNone, IsSome, OnOk, OnErr, IsTrue, ◌↔◌, ◌-◌};
-ghost use Rattle.std.specs.Option.{option_map};
+ghost use Rattle.std.specs.Prelude.{◌≡◌, ◌<◌, ◌≤◌, ◌+◌, ◌-◌, ℕ, All, [], length, IfOk, IfErr, IfSome, IsSome, OnOk, OnErr, ◌↔◌};
 ghost use Rattle.zp_model.specs.declared.constants.TheConstants.{LARGEST_ORDER};
 ghost use Rattle.zp_model.specs.Block.{size};
-ghost use Rattle.zp_model.specs.Zone.{zone_opening, is_of, pages_of, posted_pages};
-ghost use Rattle.zp_zone.specs.Kept.{holding_of};
-ghost use Rattle.zp_model.specs.Mark.{level_of, level_above};
+ghost use Rattle.zp_model.specs.Zone.{zone_opening, pages_of, posted_pages, workers_of};
+ghost use Rattle.zp_model.specs.Mark.{level_of};
 ghost use Rattle.zp_model.specs.Info.{counts_of, info_line};
 ghost use Rattle.zp_model.specs.Run.{is_out};
 ghost use Rattle.zp_model.specs.Lawful.{IsLawful};
-ghost use Rattle.zp_zone.specs.NamedZone.{IsSeatOf, IsPageOf, IsToldOf, seats_of};
+ghost use Rattle.zp_model.specs.Naming.{IsName};
+ghost use Rattle.zp_zone.specs.NamedZone.{IsPageOf, IsToldOf};
+ghost use Rattle.zp_zone.specs.Seats.{IsSeatOf, IsUnused, Agrees, books, has, seats_of};
 ghost use Rattle.zp_zone.specs.Making.{wanted, IsGood, IsWhy};
 ghost use Rattle.zp_zone.specs.Streams.{IsWritten, IsBegun};
 
 mod batches;
 mod requests;
 
-use crate::config::{ZoneConfig, checked_name};
+use crate::books::{Books, Opens, Part, Parts};
+use crate::config::ZoneConfig;
 use crate::info::write_counts;
 use crate::page::ZonePage;
 use crate::seat::{Seat, seats};
 use crate::streams::{WriteFault, Writer};
+use crate::untied_zone::UntiedZone;
 use std::alloc::Global;
 use std::marker::Model;
-use zp_buddy::Buddy;
-use zp_model::{
-    BASE_LIMIT, Counts, LONGEST_NAME, Level, MAX_PAGES, Name, Order, PageAt, PageNo, Refused,
-    State, Worker,
-};
+use zp_model::{Counts, LONGEST_NAME, Level, MAX_PAGES, Order, PageNo, Refused};
+use zp_tie::Keeper;
 
-/// A zone: pages that workers take and give back. Contracts see its name and the plain zone, which is always lawful.
+/// A zone: pages that workers take and give back, each by its seat. Contracts see its name, the plain zone, which is always
+/// lawful, the entries of all requests made so far, and what ties its seats to it.
 #[derive(Drop)]
 pub struct Zone {
-    buddy: Buddy,
-    name: Name,
-    base: u32,
-    min: u32,
-    /// How many pages are in posted blocks.
-    posted: u32,
+    untied: UntiedZone,
+    keeper: Keeper<Books, Part, Parts>,
 }
 
 impl Model for Zone {
-    ghost use Rattle.zp_zone.specs.NamedZone.{NamedZone};
-    ghost use Rattle.zp_zone.specs.Kept.{plain_of, IsKept};
+    ghost use Rattle.std.specs.Prelude.{◌≡◌};
+    ghost use Rattle.zp_model.specs.Zone.{workers_of};
+    ghost use Rattle.zp_zone.specs.Seats.{ZoneState};
 
-    ghost Value = { NamedZone };
+    ghost Value = { ZoneState };
 
-    ghost view = { λ z. record { name = z.name; plain = plain_of z.buddy z.base z.min } };
+    ghost view = { λ z. record { tie = z.keeper.tie; name = z.untied.name; plain = z.untied.plain; entries = z.keeper.whole.entries } };
 
-    ghost invariant = { λ z. IsKept z.name z.buddy z.base z.min z.posted };
+    ghost invariant = { λ z. (z.keeper.whole.plain ≡ z.untied.plain) × (z.keeper.dealt ≡ workers_of z.untied.plain) };
 }
 
 impl Zone {
@@ -63,44 +60,48 @@ impl Zone {
     ) -> Result<(Zone, Vec<Seat>), Refused>
         ensures good { OnOk result (IsGood (wanted config.entry.name.now config.entry.base config.entry.pages config.entry.min workers)) }
         ensures why { IfErr result (IsWhy (wanted config.entry.name.now config.entry.base config.entry.pages config.entry.min workers)) }
-        ensures zone { IfOk result (λ z. z.0 ≡ record { name = config.entry.name.now; plain = zone_opening LARGEST_ORDER config.entry.base config.entry.pages config.entry.min workers }) }
-        ensures seats { IfOk result (λ z. z.1.items ≡ seats_of config.entry.base config.entry.pages workers) }
-        ensures fits { IfOk result (λ z. All (IsSeatOf z.0.plain) z.1.items) }
+        ensures zone { IfOk result (λ z. z.0 ≡ record { tie = z.0.tie; name = config.entry.name.now; plain = zone_opening LARGEST_ORDER config.entry.base config.entry.pages config.entry.min workers; entries = [] }) }
+        ensures seats { IfOk result (λ z. z.1.items ≡ seats_of z.0.tie (books z.0) workers) }
+        ensures fits { IfOk result (λ z. All (IsSeatOf z.0) z.1.items) }
+        ensures unused { IfOk result (λ z. All IsUnused z.1.items) }
     {
-        let name = checked_name(config, workers)?;
-        let Ok(buddy) = Buddy::new(alloc, config.pages, workers as usize) else {
+        let untied = UntiedZone::new(alloc, config, workers)?;
+        let Ok(mut keeper) = Keeper::<Books, Part, Parts>::new(alloc) else {
             return Err(Refused::Memory);
         };
-        let Ok(seats) = seats(alloc, config.base, config.pages, workers) else {
+        keeper.begin::<UntiedZone, Opens>(&untied);
+        let Ok(seats) = seats(alloc, &mut keeper, config.base, config.pages, workers) else {
             return Err(Refused::Memory);
         };
-        let zone = Zone {
-            buddy,
-            name,
-            base: config.base,
-            min: config.min,
-            posted: 0,
-        };
-        Ok((zone, seats))
+        Ok((Zone { untied, keeper }, seats))
+    }
+
+    /// Nothing changes, and the seat and the zone agree: what is out in the worker's name is what the seat has.
+    pub fn check(&mut self, seat: &mut Seat)
+        requires { IsSeatOf self.old seat.old }
+        ensures same { (self.new ≡ self.old) × (seat.new ≡ seat.old) }
+        ensures known { seat.old.worker < workers_of self.old.plain }
+        ensures agrees { Agrees self.old seat.old }
+    {
+        seat.meet(&mut self.keeper);
     }
 
     /// Whether the block at this page, of this order, is out to the seat's worker.
     pub fn held_by(&self, seat: &Seat, page: PageNo, order: Order) -> bool
-        requires { IsSeatOf self.now.plain seat.now }
-        ensures { result ≡ is_out self.now.plain seat.now.worker page order }
+        requires { IsSeatOf self.now seat.now }
+        ensures out { result ≡ is_out self.now.plain seat.now.worker page order }
+        ensures has { Agrees self.now seat.now → result ≡ has seat.now page order }
     {
-        match place_of(page, self.base, self.buddy.pages()) {
-            None => false,
-            Some(at) => is_out_to(self.buddy.holding(at), order, seat.worker()),
-        }
+        self.untied.held_by(seat.worker(), page, order)
     }
 
     /// The zone's name.
     pub fn name(&self) -> &str
         ensures name { result.now ≡ self.now.name }
+        ensures named { IsName result.now }
         ensures short { length result.now ≤ LONGEST_NAME }
     {
-        self.name.as_str()
+        self.untied.name()
     }
 
     /// How many pages the zone has.
@@ -108,7 +109,7 @@ impl Zone {
         ensures pages { result ≡ pages_of self.now.plain }
         ensures within { result ≤ MAX_PAGES }
     {
-        self.buddy.pages()
+        self.untied.pages()
     }
 
     /// What the zone tells of an absolute page, where the page is one of its own. In each zone all of it describes the plain
@@ -117,13 +118,7 @@ impl Zone {
         ensures when { IsSome result ↔ IsPageOf self.now.plain page }
         ensures described { IfSome result (λ e. IsToldOf self.now.plain page e.state e.back e.forward) }
     {
-        let at = place_of(page, self.base, self.buddy.pages())?;
-        let entry = self.buddy.entry(at);
-        Some(ZonePage {
-            state: entry.state,
-            back: absolute(self.base, entry.back),
-            forward: absolute(self.base, entry.forward),
-        })
+        self.untied.entry(page)
     }
 
     /// How many free blocks of each order there are, and how many free pages. Each zone is lawful.
@@ -131,14 +126,14 @@ impl Zone {
         ensures counts { result ≡ counts_of self.now.plain.area.largest self.now.plain.area.free }
         ensures lawful { IsLawful self.now.plain }
     {
-        self.buddy.counts()
+        self.untied.counts()
     }
 
     /// The highest mark that the free pages are above.
     pub fn level(&self) -> Level
         ensures { result ≡ level_of self.now.plain }
     {
-        level_above(self.min, self.buddy.free_pages())
+        self.untied.level()
     }
 
     /// How many pages are in posted blocks.
@@ -146,7 +141,7 @@ impl Zone {
         ensures pages { result ≡ posted_pages self.now.plain }
         ensures within { size self.now.plain.area.free + result ≤ pages_of self.now.plain }
     {
-        self.posted
+        self.untied.posted_pages()
     }
 
     /// Writes the zone's info line.
@@ -156,53 +151,6 @@ impl Zone {
         ensures err { OnErr result (IsBegun (W.contents writer.old) (W.contents writer.new) (info_line self.now.name (counts_of self.now.plain.area.largest self.now.plain.area.free))) }
         ensures failed { OnErr result (W.failures writer.old < W.failures writer.new) }
     {
-        write_counts(writer, self.name.as_str(), &self.counts())
-    }
-}
-
-/// The place of an absolute page in a zone, where it has one.
-fn place_of(page: PageNo, base: u32, pages: u32) -> Option<PageAt>
-    requires { pages ≤ MAX_PAGES }
-    ensures some { IfSome result (λ at. (base ≤ page) × (at ≡ page - base) × (at < pages)) }
-    ensures none { IfNone result (base ≤ page → pages ≤ page - base) }
-{
-    let number = page.number();
-    if number < base || number - base >= pages {
-        return None;
-    }
-    Some(PageAt::at(number - base))
-}
-
-/// A place of a zone as an absolute page.
-fn absolute(base: u32, place: Option<PageAt>) -> Option<PageNo>
-    requires { base ≤ BASE_LIMIT }
-    ensures { result ≡ option_map (λ h. base + h) place }
-{
-    place.map(|at| PageNo::new(base + at.number()))
-}
-
-/// Whether a page's state notes a block of this order that is out to this worker.
-fn is_out_to(state: State, order: Order, worker: Worker) -> bool
-    ensures { result ≡ is_of worker order (holding_of state) }
-{
-    match state {
-        State::Out(out, _, holder) => out == order && holder == worker,
-        _ => false,
-    }
-}
-
-/// The highest mark that so many free pages are above.
-fn level_above(min: u32, free: u32) -> Level
-    requires { min ≤ MAX_PAGES }
-    ensures { result ≡ level_above min free }
-{
-    if free > min + min / 2 {
-        Level::High
-    } else if free > min + min / 4 {
-        Level::Low
-    } else if free > min {
-        Level::Min
-    } else {
-        Level::Short
+        write_counts(writer, self.untied.name(), &self.untied.counts())
     }
 }

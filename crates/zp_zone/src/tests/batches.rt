@@ -1,6 +1,6 @@
 //! Pages that are taken and given back several at a time.
 ghost use Rattle.std.specs.Prelude.{◌≤◌};
-ghost use Rattle.zp_zone.specs.NamedZone.{IsSeatOf};
+ghost use Rattle.zp_zone.specs.Seats.{IsSeatOf};
 
 use super::*;
 
@@ -21,10 +21,10 @@ fn expect_refusal(
     count: u8,
     number: u8,
 )
-    requires seat { IsSeatOf zone.old.plain seat.old }
+    requires seat { IsSeatOf zone.old seat.old }
     requires some { 1 ≤ count }
     requires batch { count ≤ 31 }
-    ensures { IsSeatOf zone.new.plain seat.new }
+    ensures { IsSeatOf zone.new seat.new }
 {
     let refused = match zone.refill(seat, MigrateType::Movable, mark, count) {
         Ok(_) => 0,
@@ -145,8 +145,8 @@ fn a_refill_of_no_free_page_is_refused(rt: HostRuntime) {
 
 /// Takes two pages of a zone of four and gives back the second and the fourth, which stand alone then.
 fn leave_two(zone: &mut Zone, seat: &mut Seat) -> Option<()>
-    requires { IsSeatOf zone.old.plain seat.old }
-    ensures { IsSeatOf zone.new.plain seat.new }
+    requires { IsSeatOf zone.old seat.old }
+    ensures { IsSeatOf zone.new seat.new }
 {
     let (order, kind) = (Order::zero(), MigrateType::Movable);
     let _ = zone.alloc(seat, order, kind, Mark::Any).ok()?;

@@ -1,19 +1,17 @@
-//! The requests of a zone's workers. Each is one step of the plain zone.
-//!
-//! In Linux: `rmqueue`, `__free_pages_ok` and `zone_watermark_ok`; what is posted and collected is this allocator's own.
-ghost use Rattle.std.specs.Prelude.{◌≡◌, ◌<◌, ◌≤◌, IfOk, IsTrue};
-ghost use Rattle.zp_model.specs.Zone.{workers_of};
-ghost use Rattle.zp_model.specs.Mark.{is_above};
+//! The requests of a zone's workers, each by its seat. Each is one step of the plain zone and one entry, and the seat's part of
+//! the books changes in the same step.
+ghost use Rattle.std.specs.Prelude.{◌≡◌, ◌<◌, IfOk, IsTrue};
 ghost use Rattle.zp_model.specs.declared.request.Request.TheVariants as request;
+ghost use Rattle.zp_model.specs.declared.request.Reply.TheVariants as reply;
+ghost use Rattle.zp_model.specs.Zone.{workers_of};
 ghost use Rattle.zp_model.specs.Step.{step};
-ghost use Rattle.zp_model.specs.Run.{is_out};
-ghost use Rattle.zp_zone.specs.NamedZone.{IsSeatOf, IsSameRight, KeepsSeats, KeepsOut, KeepsOutBut, IsFresh, block_reply, page_reply};
+ghost use Rattle.zp_zone.specs.NamedZone.{block_reply, page_reply};
+ghost use Rattle.zp_zone.specs.Seats.{IsSeatOf, KeepsSeats, Agrees, KeepsBlocks, KeepsBlocksBut, IsNewTo, asked, replied, has};
 
 use super::Zone;
+use crate::books::{EntersAlloc, EntersAllocLow, EntersCollect, EntersFree, EntersPost};
 use crate::seat::Seat;
-use zp_model::{
-    Block, MAX_PAGES, Mark, MigrateType, Order, PageAt, PageNo, Refused, State, Worker,
-};
+use zp_model::{Block, Mark, MigrateType, Order, PageNo, Refused, Worker};
 
 impl Zone {
     /// A block of this order for this type, held to this mark: its first page. Refused 10 or 11.
@@ -24,142 +22,120 @@ impl Zone {
         kind: MigrateType,
         mark: Mark,
     ) -> Result<PageNo, Refused>
-        requires seat { IsSeatOf self.old.plain seat.old }
+        requires seat { IsSeatOf self.old seat.old }
         ensures reply { page_reply result ≡ (step self.old.plain seat.old.worker (request.Alloc order kind mark)).reply }
-        ensures after { self.new ≡ record self.old { plain = (step self.old.plain seat.old.worker (request.Alloc order kind mark)).zone } }
+        ensures after { self.new ≡ asked seat.old.worker (request.Alloc order kind mark) self.old }
+        ensures seat { seat.new ≡ replied (request.Alloc order kind mark) (page_reply result) seat.old }
+        ensures known { seat.old.worker < workers_of self.old.plain }
+        ensures agrees { Agrees self.old seat.old × Agrees self.new seat.new }
 
         // What the calls after it can rest on.
-        ensures seat { IsSameRight seat.old seat.new }
-        ensures fits { IsSeatOf self.new.plain seat.new }
-        ensures seats { KeepsSeats self.old.plain self.new.plain }
-        ensures out { IfOk result (λ page. IsTrue (is_out self.new.plain seat.new.worker page order)) }
-        ensures fresh { IfOk result (IsFresh self.old.plain) }
-        ensures kept { KeepsOut self.old.plain self.new.plain }
+        ensures worker { seat.new.worker ≡ seat.old.worker }
+        ensures fits { IsSeatOf self.new seat.new }
+        ensures seats { KeepsSeats self.old self.new }
+        ensures has { IfOk result (λ page. IsTrue (has seat.new page order)) }
+        ensures fresh { IfOk result (IsNewTo seat.old) }
+        ensures kept { KeepsBlocks seat.old seat.new }
     {
-        if !is_above(self.min, self.buddy.free_pages(), order, mark) {
-            return Err(Refused::BelowMark);
-        }
-        let Some(head) = self.buddy.take(order, kind) else {
-            return Err(Refused::NoBlock);
-        };
-        self.buddy
-            .hold(head, State::Out(order, kind, seat.worker()));
-        Ok(PageNo::new(self.base + head.number()))
+        let worker = seat.worker();
+        self.untied.lawful();
+        seat.enter::<(Order, MigrateType, Mark), EntersAlloc>(
+            &mut self.keeper,
+            &(order, kind, mark),
+        );
+        self.untied.alloc(worker, order, kind, mark)
     }
 
     /// The lowest block of this order, of whatever type. The type noted for it is its pageblock's. Refused 11.
     pub fn alloc_low(&mut self, seat: &mut Seat, order: Order) -> Result<Block, Refused>
-        requires seat { IsSeatOf self.old.plain seat.old }
+        requires seat { IsSeatOf self.old seat.old }
         ensures reply { block_reply result ≡ (step self.old.plain seat.old.worker (request.AllocLow order)).reply }
-        ensures after { self.new ≡ record self.old { plain = (step self.old.plain seat.old.worker (request.AllocLow order)).zone } }
+        ensures after { self.new ≡ asked seat.old.worker (request.AllocLow order) self.old }
+        ensures seat { seat.new ≡ replied (request.AllocLow order) (block_reply result) seat.old }
+        ensures known { seat.old.worker < workers_of self.old.plain }
+        ensures agrees { Agrees self.old seat.old × Agrees self.new seat.new }
 
         // What the calls after it can rest on.
-        ensures seat { IsSameRight seat.old seat.new }
-        ensures fits { IsSeatOf self.new.plain seat.new }
-        ensures seats { KeepsSeats self.old.plain self.new.plain }
+        ensures worker { seat.new.worker ≡ seat.old.worker }
+        ensures fits { IsSeatOf self.new seat.new }
+        ensures seats { KeepsSeats self.old self.new }
         ensures order { IfOk result (λ block. block.order ≡ order) }
-        ensures out { IfOk result (λ block. IsTrue (is_out self.new.plain seat.new.worker block.page block.order)) }
-        ensures fresh { IfOk result (λ block. IsFresh self.old.plain block.page) }
-        ensures kept { KeepsOut self.old.plain self.new.plain }
+        ensures has { IfOk result (λ block. IsTrue (has seat.new block.page block.order)) }
+        ensures fresh { IfOk result (λ block. IsNewTo seat.old block.page) }
+        ensures kept { KeepsBlocks seat.old seat.new }
     {
-        // a clause of this call says that what is noted as free is free
-        let _pages = self.buddy.pages();
-        let Some(head) = self.buddy.take_low(order) else {
-            return Err(Refused::NoBlock);
-        };
-        let kind = self.buddy.type_of(head);
-        let holder = seat.worker();
-        self.buddy.hold(head, State::Out(order, kind, holder));
-        Ok(Block {
-            page: PageNo::new(self.base + head.number()),
-            order,
-            kind,
-        })
+        let worker = seat.worker();
+        self.untied.lawful();
+        seat.enter::<Order, EntersAllocLow>(&mut self.keeper, &order);
+        self.untied.alloc_low(worker, order)
     }
 
-    /// Gives back the block at this page, of this order. It is never refused; `held_by` tells whether it may be called.
+    /// Gives back the seat's block at this page, of this order. It is never refused; `held_by` tells whether it may be called.
     pub fn free(&mut self, seat: &mut Seat, page: PageNo, order: Order)
-        requires seat { IsSeatOf self.old.plain seat.old }
-        requires out { IsTrue (is_out self.old.plain seat.old.worker page order) }
-        ensures after { self.new ≡ record self.old { plain = (step self.old.plain seat.old.worker (request.Free page order)).zone } }
+        requires seat { IsSeatOf self.old seat.old }
+        requires has { IsTrue (has seat.old page order) }
+        ensures after { self.new ≡ asked seat.old.worker (request.Free page order) self.old }
+        ensures seat { seat.new ≡ replied (request.Free page order) reply.Freed seat.old }
+        ensures known { seat.old.worker < workers_of self.old.plain }
+        ensures agrees { Agrees self.old seat.old × Agrees self.new seat.new }
 
         // What the calls after it can rest on.
-        ensures seat { IsSameRight seat.old seat.new }
-        ensures fits { IsSeatOf self.new.plain seat.new }
-        ensures seats { KeepsSeats self.old.plain self.new.plain }
-        ensures gone { IsFresh self.new.plain page }
-        ensures kept { KeepsOutBut page self.old.plain self.new.plain }
+        ensures worker { seat.new.worker ≡ seat.old.worker }
+        ensures fits { IsSeatOf self.new seat.new }
+        ensures seats { KeepsSeats self.old self.new }
+        ensures gone { IsNewTo seat.new page }
+        ensures kept { KeepsBlocksBut page seat.old seat.new }
     {
-        // a clause of this call says that what is noted as free is free, which the next call rests on
-        let _pages = self.buddy.pages();
-        let at = PageAt::at(page.number() - self.base);
-        self.buddy.give(at, order);
+        let worker = seat.worker();
+        self.untied.lawful();
+        seat.enter::<(PageNo, Order), EntersFree>(&mut self.keeper, &(page, order));
+        self.untied.free(worker, page, order);
     }
 
-    /// Posts the block at this page, of this order, to a worker: it goes to the end of the worker's list. It is never refused;
-    /// `held_by` tells whether it may be called.
+    /// Posts the seat's block at this page, of this order, to a worker: it goes to the end of the worker's list. It is never
+    /// refused; `held_by` tells whether it may be called.
     pub fn post(&mut self, seat: &mut Seat, page: PageNo, order: Order, to: Worker)
-        requires seat { IsSeatOf self.old.plain seat.old }
-        requires out { IsTrue (is_out self.old.plain seat.old.worker page order) }
+        requires seat { IsSeatOf self.old seat.old }
+        requires has { IsTrue (has seat.old page order) }
         requires to { to < workers_of self.old.plain }
-        ensures after { self.new ≡ record self.old { plain = (step self.old.plain seat.old.worker (request.Post page order to)).zone } }
+        ensures after { self.new ≡ asked seat.old.worker (request.Post page order to) self.old }
+        ensures seat { seat.new ≡ replied (request.Post page order to) reply.Posted seat.old }
+        ensures known { seat.old.worker < workers_of self.old.plain }
+        ensures agrees { Agrees self.old seat.old × Agrees self.new seat.new }
 
         // What the calls after it can rest on.
-        ensures seat { IsSameRight seat.old seat.new }
-        ensures fits { IsSeatOf self.new.plain seat.new }
-        ensures seats { KeepsSeats self.old.plain self.new.plain }
-        ensures gone { IsFresh self.new.plain page }
-        ensures kept { KeepsOutBut page self.old.plain self.new.plain }
+        ensures worker { seat.new.worker ≡ seat.old.worker }
+        ensures fits { IsSeatOf self.new seat.new }
+        ensures seats { KeepsSeats self.old self.new }
+        ensures gone { IsNewTo seat.new page }
+        ensures kept { KeepsBlocksBut page seat.old seat.new }
     {
-        // a clause of this call says that what is noted as free is free, which the next calls rest on
-        let _pages = self.buddy.pages();
-        let at = PageAt::at(page.number() - self.base);
-        let State::Out(_, kind, _) = self.buddy.holding(at) else {
-            unreachable!()
-        };
-        self.buddy.hold(at, State::Posted(order, kind, to));
-        self.buddy.side_push_back(to.number() as usize, at);
-        let pages = order.pages();
-        self.posted += pages;
+        let worker = seat.worker();
+        self.untied.lawful();
+        seat.enter::<(PageNo, Order, Worker), EntersPost>(&mut self.keeper, &(page, order, to));
+        self.untied.post(worker, page, order, to);
     }
 
     /// The block in front of those posted to the seat's worker, which gets it. Refused 12 where there is none.
     pub fn collect(&mut self, seat: &mut Seat) -> Result<Block, Refused>
-        requires seat { IsSeatOf self.old.plain seat.old }
+        requires seat { IsSeatOf self.old seat.old }
         ensures reply { block_reply result ≡ (step self.old.plain seat.old.worker request.Collect).reply }
-        ensures after { self.new ≡ record self.old { plain = (step self.old.plain seat.old.worker request.Collect).zone } }
+        ensures after { self.new ≡ asked seat.old.worker request.Collect self.old }
+        ensures seat { seat.new ≡ replied request.Collect (block_reply result) seat.old }
+        ensures known { seat.old.worker < workers_of self.old.plain }
+        ensures agrees { Agrees self.old seat.old × Agrees self.new seat.new }
 
         // What the calls after it can rest on.
-        ensures seat { IsSameRight seat.old seat.new }
-        ensures fits { IsSeatOf self.new.plain seat.new }
-        ensures seats { KeepsSeats self.old.plain self.new.plain }
-        ensures out { IfOk result (λ block. IsTrue (is_out self.new.plain seat.new.worker block.page block.order)) }
-        ensures fresh { IfOk result (λ block. IsFresh self.old.plain block.page) }
-        ensures kept { KeepsOut self.old.plain self.new.plain }
+        ensures worker { seat.new.worker ≡ seat.old.worker }
+        ensures fits { IsSeatOf self.new seat.new }
+        ensures seats { KeepsSeats self.old self.new }
+        ensures has { IfOk result (λ block. IsTrue (has seat.new block.page block.order)) }
+        ensures fresh { IfOk result (λ block. IsNewTo seat.old block.page) }
+        ensures kept { KeepsBlocks seat.old seat.new }
     {
-        let receiver = seat.worker();
-        let Some(head) = self.buddy.side_pop_front(receiver.number() as usize) else {
-            return Err(Refused::NothingPosted);
-        };
-        let State::Posted(order, kind, _) = self.buddy.holding(head) else {
-            unreachable!()
-        };
-        self.buddy.hold(head, State::Out(order, kind, receiver));
-        let pages = order.pages();
-        self.posted -= pages;
-        let page = PageNo::new(self.base + head.number());
-        Ok(Block { page, order, kind })
-    }
-}
-
-/// Whether a request of this order may go on at a mark, with so many free pages.
-fn is_above(min: u32, free: u32, order: Order, mark: Mark) -> bool
-    requires { min ≤ MAX_PAGES }
-    ensures { result ≡ is_above min free order mark }
-{
-    match mark {
-        Mark::Low => free > min + min / 4 + (order.pages() - 1),
-        Mark::Min => free > min + (order.pages() - 1),
-        Mark::Any => true,
+        let worker = seat.worker();
+        self.untied.lawful();
+        seat.enter::<(), EntersCollect>(&mut self.keeper, &());
+        self.untied.collect(worker)
     }
 }

@@ -10,7 +10,7 @@ pub invariant_of-self : goal.invariant_of-self
 invariant_of-self c =
     let a = c.alloc.ensures in
     let crew = workers_stay c.self.inside.zone _ c.index_mut-seat.result.now.worker (request.Alloc c.args.order c.args.kind c.args.mark) a.after in
-    seats_after _ _ _ _ _ _ c.self.invariant crew a.seats a.fits c.index_mut-seat.ensures.value a.seat.worker
+    seats_after _ _ _ _ _ _ c.self.invariant crew a.seats a.fits c.index_mut-seat.ensures.value a.worker
 
 pub alloc-requires : goal.alloc-requires
 alloc-requires c = record { seat = seat_at _ _ _ _ _ _ c.self.invariant c.self.view_is (c.from.ensures ∙ c.number.ensures.same) c.requires c.index_mut-seat.ensures.value }

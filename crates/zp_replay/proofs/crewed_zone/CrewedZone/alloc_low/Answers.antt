@@ -10,7 +10,7 @@ pub invariant_of-self : goal.invariant_of-self
 invariant_of-self c =
     let a = c.alloc_low.ensures in
     let crew = workers_stay c.self.inside.zone _ c.index_mut-seat.result.now.worker (request.AllocLow c.args.order) a.after in
-    seats_after _ _ _ _ _ _ c.self.invariant crew a.seats a.fits c.index_mut-seat.ensures.value a.seat.worker
+    seats_after _ _ _ _ _ _ c.self.invariant crew a.seats a.fits c.index_mut-seat.ensures.value a.worker
 
 pub alloc_low-requires : goal.alloc_low-requires
 alloc_low-requires c = record { seat = seat_at _ _ _ _ _ _ c.self.invariant c.self.view_is (c.from.ensures ∙ c.number.ensures.same) c.requires c.index_mut-seat.ensures.value }

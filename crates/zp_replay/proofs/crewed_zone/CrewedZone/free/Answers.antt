@@ -1,26 +1,35 @@
-use Rattle.std.proofs.Common.{◌∙◌, arith}
+use Rattle.std.proofs.Common.{ap, ◌∙◌, arith}
 use Rattle.zp_model.specs.declared.request.Request.TheVariants as request
-use Rattle.zp_replay.proofs.Seating.{place_at, worker_at, seat_at, seats_after, workers_stay, out_of_same, zone_of_same}
+use Rattle.zp_zone.specs.Seats.{SeatState}
+use Rattle.zp_replay.specs.Asked.{named_zone}
+use Rattle.zp_replay.proofs.Seating.{place_at, worker_at, seat_at, seats_after, seats_checked, fits_checked, has_checked, workers_stay, has_of_out, zone_of_same}
 use Rattle.zp_replay.proofs.crewed_zone.CrewedZone.free.Goals as goal
 
 pub index_mut-seat-requires : goal.index_mut-seat-requires
 index_mut-seat-requires c = omega (arith, place_at _ _ _ _ _ c.self.invariant c.self.view_is (c.from.ensures ∙ c.number.ensures.same) c.requires.worker)
 
+pub check-requires : goal.check-requires
+check-requires c = seat_at _ _ _ _ _ _ c.self.invariant c.self.view_is (c.from.ensures ∙ c.number.ensures.same) c.requires.worker c.index_mut-seat.ensures.value
+
+pub free-requires-clause-seat : goal.free-requires-clause-seat
+free-requires-clause-seat c =
+    let fits = seat_at _ _ _ _ _ _ c.self.invariant c.self.view_is (c.from.ensures ∙ c.number.ensures.same) c.requires.worker c.index_mut-seat.ensures.value in
+    fits_checked _ _ _ _ c.check.ensures.same.0 c.check.ensures.same.1 fits
+
+pub free-requires-clause-has : goal.free-requires-clause-has
+free-requires-clause-has c =
+    let is = worker_at _ _ _ _ _ _ c.self.invariant c.self.view_is (c.from.ensures ∙ c.number.ensures.same) c.requires.worker c.index_mut-seat.ensures.value in
+    has_checked _ _ _ _ c.check.ensures.same.1 (has_of_out c.self.inside.zone _ c.index_mut-seat.result.now _ _ _ c.self.view_is is c.check.ensures.agrees c.requires.out)
+
 pub invariant_of-self : goal.invariant_of-self
 invariant_of-self c =
     let a = c.free.ensures in
-    let crew = workers_stay c.self.inside.zone _ c.index_mut-seat.result.now.worker (request.Free c.args.page c.args.order) a.after in
-    seats_after _ _ _ _ _ _ c.self.invariant crew a.seats a.fits c.index_mut-seat.ensures.value a.seat.worker
-
-pub free-requires-clause-seat : goal.free-requires-clause-seat
-free-requires-clause-seat c = seat_at _ _ _ _ _ _ c.self.invariant c.self.view_is (c.from.ensures ∙ c.number.ensures.same) c.requires.worker c.index_mut-seat.ensures.value
-
-pub free-requires-clause-out : goal.free-requires-clause-out
-free-requires-clause-out c =
-    let is = worker_at _ _ _ _ _ _ c.self.invariant c.self.view_is (c.from.ensures ∙ c.number.ensures.same) c.requires.worker c.index_mut-seat.ensures.value in
-    out_of_same _ _ _ _ _ _ c.self.view_is is c.requires.out
+    let seats = seats_checked _ _ _ c.check.ensures.same.0 c.self.invariant in
+    let crew = workers_stay c.check.new.self _ c.check.new.seat.worker (request.Free c.args.page c.args.order) a.after in
+    seats_after _ _ _ _ _ _ seats crew a.seats a.fits c.index_mut-seat.ensures.value (a.worker ∙ ap (λ (s : SeatState). s.worker) c.check.ensures.same.1)
 
 pub returns : goal.returns
 returns c =
     let is = worker_at _ _ _ _ _ _ c.self.invariant c.self.view_is (c.from.ensures ∙ c.number.ensures.same) c.requires.worker c.index_mut-seat.ensures.value in
-    zone_of_same c.self.inside.zone _ _ _ _ (request.Free c.args.page c.args.order) c.self.view_is is c.free.ensures.after
+    let checked = ap (λ (s : SeatState). s.worker) c.check.ensures.same.1 in
+    zone_of_same c.check.new.self _ _ _ _ (request.Free c.args.page c.args.order) (ap named_zone c.check.ensures.same.0 ∙ c.self.view_is) (checked ∙ is) c.free.ensures.after

@@ -11,4 +11,4 @@ held_by-requires c = seat_at _ _ _ _ _ _ c.self.invariant c.self.view_is (c.from
 pub returns : goal.returns
 returns c =
     let is = worker_at _ _ _ _ _ _ c.self.invariant c.self.view_is (c.from.ensures ∙ c.number.ensures.same) c.requires c.index-seat.ensures in
-    held_of_same _ _ _ _ _ _ _ c.self.view_is is c.held_by.ensures
+    held_of_same c.self.inside.zone _ _ _ _ _ _ c.self.view_is is c.held_by.ensures.out

@@ -1,106 +1,26 @@
-use Rattle.std.proofs.Common.{◌≡◌, ◌+◌, ◌<◌, true, false, set, None, ap, sym, subst, ◌∙◌}
-use Rattle.zp_model.specs.declared.state.State.TheVariants.{Out}
-use Rattle.zp_model.specs.Choose.{choose}
-use Rattle.zp_model.specs.Frames.{Frames}
-use Rattle.zp_model.specs.Mark.{passes}
-use Rattle.zp_model.specs.Step.{Outcome}
-use Rattle.zp_model.specs.Zone.{workers_of}
-use Rattle.zp_zone.specs.NamedZone.{NamedZone}
-use Rattle.zp_zone.specs.Kept.{plain_of, IsKept}
-use Rattle.zp_zone.proofs.Allocated.{IsAsked, alloc_below, alloc_none, chosen_none, chosen_some}
-use Rattle.zp_model.specs.declared.request.Reply.TheVariants as Reply
-use Rattle.zp_zone.proofs.AllocSteps.{held_by, reply_at, after_at, passes_by, nothing_left, nothing_kept, held_out, some_left, some_reply, some_kept}
-use Rattle.zp_zone.proofs.Callers.{lawful_in, alloc_seats, alloc_kept, alloc_out, alloc_fresh}
+use Rattle.std.proofs.Common.{refl}
+use Rattle.zp_model.specs.declared.request.Request.TheVariants as request
+use Rattle.zp_zone.specs.NamedZone.{page_reply}
+use Rattle.zp_zone.proofs.Tied.{others_stay, places_stay, tied_after, seat_replied, moment, blocks_stay}
 use Rattle.zp_zone.proofs.zone.Zone.alloc.Goals as goal
 
-pub returns-then-not-is_above-clause-reply : goal.returns-then-not-is_above-clause-reply
-returns-then-not-is_above-clause-reply c =
-    let p : passes (plain_of c.self.inside.buddy c.self.inside.base c.self.inside.min) c.args.order c.args.mark ≡ false =
-    passes_by c.self.inside.buddy c.self.inside.base c.self.inside.min c.free_pages.result c.args.order c.args.mark false c.free_pages.ensures.pages c.if-not-is_above.ensures in
-    reply_at c.args.self.now _ _ _ _ _ _ _ c.self.view_is (ap (λ (o : Outcome). o.reply) (sym (alloc_below _ _ _ _ _ p)))
+pub enter-requires-clause-others : goal.enter-requires-clause-others
+enter-requires-clause-others c =
+    λ lt agree. others_stay c.self.inside.untied c.self.inside.keeper.whole _ _ (request.Alloc c.args.order c.args.kind c.args.mark) (record { plain = c.self.invariant.0; dealt = c.self.invariant.1 }) c.lawful.ensures lt refl
 
-pub returns-then-not-is_above-clause-after : goal.returns-then-not-is_above-clause-after
-returns-then-not-is_above-clause-after c =
-    let p : passes (plain_of c.self.inside.buddy c.self.inside.base c.self.inside.min) c.args.order c.args.mark ≡ false =
-    passes_by c.self.inside.buddy c.self.inside.base c.self.inside.min c.free_pages.result c.args.order c.args.mark false c.free_pages.ensures.pages c.if-not-is_above.ensures in
-    sym c.self.view_is ∙ after_at c.args.self.now _ _ _ _ _ _ _ c.self.view_is (ap (λ (o : Outcome). o.zone) (sym (alloc_below _ _ _ _ _ p)))
+pub enter-requires-clause-places : goal.enter-requires-clause-places
+enter-requires-clause-places c =
+    λ lt agree. places_stay c.self.inside.untied c.self.inside.keeper.whole _ c.args.seat.now (request.Alloc c.args.order c.args.kind c.args.mark) (record { plain = c.self.invariant.0; dealt = c.self.invariant.1 }) c.lawful.ensures lt agree refl
 
 pub invariant_of-self : goal.invariant_of-self
 invariant_of-self c =
-    let none : choose (c.self.inside.buddy).area c.args.order c.args.kind ≡ None = chosen_none (c.self.inside.buddy).area c.args.order c.args.kind c.in_default.ensures.answer in
-    nothing_kept _ _ _ _ _ _ _ c.self.invariant c.free_pages.ensures.framed none c.in_default.ensures.after
+    tied_after c.self.inside.keeper c.enter.new.keeper c.self.inside.untied c.alloc.new.self c.args.seat.now.worker c.worker-worker.result (request.Alloc c.args.order c.args.kind c.args.mark)
+    c.self.invariant.0 c.self.invariant.1 c.worker-worker.ensures c.enter.ensures.keeper c.alloc.ensures.after
 
-pub returns-in_default-clause-reply : goal.returns-in_default-clause-reply
-returns-in_default-clause-reply c =
-    let p : passes (plain_of c.self.inside.buddy c.self.inside.base c.self.inside.min) c.args.order c.args.mark ≡ true =
-    passes_by c.self.inside.buddy c.self.inside.base c.self.inside.min c.free_pages.result c.args.order c.args.mark true c.free_pages.ensures.pages c.if-not-is_above.ensures in
-    let none : choose (c.self.inside.buddy).area c.args.order c.args.kind ≡ None = chosen_none (c.self.inside.buddy).area c.args.order c.args.kind c.in_default.ensures.answer in
-    reply_at c.args.self.now _ _ _ _ _ _ _ c.self.view_is (ap (λ (o : Outcome). o.reply) (sym (alloc_none _ _ _ _ _ p none)))
-
-pub returns-in_default-clause-after : goal.returns-in_default-clause-after
-returns-in_default-clause-after c =
-    let p : passes (plain_of c.self.inside.buddy c.self.inside.base c.self.inside.min) c.args.order c.args.mark ≡ true =
-    passes_by c.self.inside.buddy c.self.inside.base c.self.inside.min c.free_pages.result c.args.order c.args.mark true c.free_pages.ensures.pages c.if-not-is_above.ensures in
-    let x : IsAsked c.self.inside.buddy c.self.inside.base c.self.inside.min = record { framed = c.free_pages.ensures.framed; lawful = c.self.invariant.lawful } in
-    let none : choose (c.self.inside.buddy).area c.args.order c.args.kind ≡ None = chosen_none (c.self.inside.buddy).area c.args.order c.args.kind c.in_default.ensures.answer in
-    after_at c.args.self.now _ _ _ _ _ _ _ c.self.view_is
-    (nothing_left _ _ _ _ _ _ x none c.in_default.ensures.after ∙ ap (λ (o : Outcome). o.zone) (sym (alloc_none _ _ _ _ _ p none)))
-
-pub invariant_of-self-2 : goal.invariant_of-self-2
-invariant_of-self-2 c =
-    let p : passes (plain_of c.self.inside.buddy c.self.inside.base c.self.inside.min) c.args.order c.args.mark ≡ true =
-    passes_by c.self.inside.buddy c.self.inside.base c.self.inside.min c.free_pages.result c.args.order c.args.mark true c.free_pages.ensures.pages c.if-not-is_above.ensures in
-    let x : IsAsked c.self.inside.buddy c.self.inside.base c.self.inside.min = record { framed = c.free_pages.ensures.framed; lawful = c.self.invariant.lawful } in
-    let s = chosen_some (c.self.inside.buddy).area c.args.order c.in-Some.head c.args.kind c.in-Some.ensures.answer in
-    let held : c.hold.new.self ≡ held_out c.self.inside.buddy c.args.seat.now.worker c.args.order c.args.kind s.0 = held_by _ _ _ _ _ _ _ _ c.in-Some.ensures.after s.1 s.2 (c.hold.ensures.after ∙ ap (λ w. let q : Frames = record c.take.new.self { states = set c.take.new.self.states c.in-Some.head (Out c.args.order c.args.kind w) } in q) c.worker.ensures) in
-    let workers : c.args.seat.now.worker < workers_of (plain_of c.self.inside.buddy c.self.inside.base c.self.inside.min) =
-    (let P : NamedZone → Type 0 = λ z. c.args.seat.now.worker < workers_of z.plain in subst P (sym c.self.view_is) c.requires.seat.worker) in
-    let Q : Frames → Type 0 = λ f. IsKept c.self.inside.name f c.self.inside.base c.self.inside.min c.self.inside.posted in
-    subst Q (sym held) (some_kept c.self.inside.name c.self.inside.buddy c.self.inside.base c.self.inside.min c.args.seat.now.worker c.args.order c.args.kind c.args.mark s.0 c.self.invariant c.free_pages.ensures.framed workers p s.1)
-
-pub returns-clause-reply : goal.returns-clause-reply
-returns-clause-reply c =
-    let p : passes (plain_of c.self.inside.buddy c.self.inside.base c.self.inside.min) c.args.order c.args.mark ≡ true =
-    passes_by c.self.inside.buddy c.self.inside.base c.self.inside.min c.free_pages.result c.args.order c.args.mark true c.free_pages.ensures.pages c.if-not-is_above.ensures in
-    let s = chosen_some (c.self.inside.buddy).area c.args.order c.in-Some.head c.args.kind c.in-Some.ensures.answer in
-    let e : c.new.result ≡ c.self.inside.base + s.0.head = c.new.ensures ∙ ap (λ n. c.self.inside.base + n) (c.number.ensures.same ∙ sym s.2) in
-    reply_at c.args.self.now _ _ _ _ _ _ _ c.self.view_is (ap (λ n. Reply.Page n) e ∙ some_reply _ _ _ _ _ _ _ _ p s.1)
-
-pub returns-clause-after : goal.returns-clause-after
-returns-clause-after c =
-    let p : passes (plain_of c.self.inside.buddy c.self.inside.base c.self.inside.min) c.args.order c.args.mark ≡ true =
-    passes_by c.self.inside.buddy c.self.inside.base c.self.inside.min c.free_pages.result c.args.order c.args.mark true c.free_pages.ensures.pages c.if-not-is_above.ensures in
-    let x : IsAsked c.self.inside.buddy c.self.inside.base c.self.inside.min = record { framed = c.free_pages.ensures.framed; lawful = c.self.invariant.lawful } in
-    let s = chosen_some (c.self.inside.buddy).area c.args.order c.in-Some.head c.args.kind c.in-Some.ensures.answer in
-    let held : c.hold.new.self ≡ held_out c.self.inside.buddy c.args.seat.now.worker c.args.order c.args.kind s.0 = held_by _ _ _ _ _ _ _ _ c.in-Some.ensures.after s.1 s.2 (c.hold.ensures.after ∙ ap (λ w. let q : Frames = record c.take.new.self { states = set c.take.new.self.states c.in-Some.head (Out c.args.order c.args.kind w) } in q) c.worker.ensures) in
-    after_at c.args.self.now _ _ _ _ _ _ _ c.self.view_is
-    (ap (λ (q : Frames). plain_of q c.self.inside.base c.self.inside.min) held ∙ some_left _ _ _ _ _ _ _ _ x p s.1)
-
-pub returns-in_default-clause-fits : goal.returns-in_default-clause-fits
-returns-in_default-clause-fits c =
-    alloc_seats c.args.self.now.plain _ _ _ _ _ (ap (λ (n : NamedZone). n.plain) (returns-in_default-clause-after c)) c.args.seat.now c.requires.seat
-
-pub returns-in_default-clause-seats : goal.returns-in_default-clause-seats
-returns-in_default-clause-seats c = alloc_seats c.args.self.now.plain _ _ _ _ _ (ap (λ (n : NamedZone). n.plain) (returns-in_default-clause-after c))
-
-pub returns-in_default-clause-kept : goal.returns-in_default-clause-kept
-returns-in_default-clause-kept c =
-    alloc_kept c.args.self.now.plain _ _ _ _ _ (lawful_in _ _ _ c.self.view_is c.self.invariant.lawful) (ap (λ (n : NamedZone). n.plain) (returns-in_default-clause-after c))
-
-pub returns-clause-fits : goal.returns-clause-fits
-returns-clause-fits c =
-    alloc_seats c.args.self.now.plain _ _ _ _ _ (ap (λ (n : NamedZone). n.plain) (returns-clause-after c)) c.args.seat.now c.requires.seat
-
-pub returns-clause-seats : goal.returns-clause-seats
-returns-clause-seats c = alloc_seats c.args.self.now.plain _ _ _ _ _ (ap (λ (n : NamedZone). n.plain) (returns-clause-after c))
+pub returns-clause-seat : goal.returns-clause-seat
+returns-clause-seat c =
+    seat_replied c.args.seat.now c.enter.new.self c.self.inside.keeper.whole c.self.inside.untied c.worker-worker.result (request.Alloc c.args.order c.args.kind c.args.mark) (page_reply c.alloc.result)
+    c.self.invariant.0 c.enter.ensures.agreed.1 refl c.worker-worker.ensures c.alloc.ensures.reply c.enter.ensures.seat
 
 pub returns-clause-kept : goal.returns-clause-kept
-returns-clause-kept c =
-    alloc_kept c.args.self.now.plain _ _ _ _ _ (lawful_in _ _ _ c.self.view_is c.self.invariant.lawful) (ap (λ (n : NamedZone). n.plain) (returns-clause-after c))
-
-pub returns-clause-out : goal.returns-clause-out
-returns-clause-out c =
-    alloc_out c.args.self.now.plain _ _ _ _ _ _ (lawful_in _ _ _ c.self.view_is c.self.invariant.lawful) (ap (λ (n : NamedZone). n.plain) (returns-clause-after c)) (returns-clause-reply c)
-
-pub returns-clause-fresh : goal.returns-clause-fresh
-returns-clause-fresh c = alloc_fresh c.args.self.now.plain _ _ _ _ _ (lawful_in _ _ _ c.self.view_is c.self.invariant.lawful) (returns-clause-reply c)
+returns-clause-kept c = blocks_stay _ _ _ _ _ _ (moment c.args.seat.now c.enter.new.self c.self.inside.keeper.whole c.self.inside.untied c.alloc.new.self c.worker-worker.result (request.Alloc c.args.order c.args.kind c.args.mark) c.self.invariant.0 c.enter.ensures.agreed.1 c.worker-worker.ensures c.enter.ensures.seat c.alloc.ensures.after) c.alloc.ensures.kept

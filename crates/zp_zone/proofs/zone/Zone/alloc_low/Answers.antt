@@ -1,94 +1,26 @@
-use Rattle.std.proofs.Common.{◌+◌, ◌≡◌, ◌<◌, set, ap, sym, subst, ◌∙◌}
-use Rattle.zp_model.specs.declared.block.Block.{Block}
-use Rattle.zp_model.specs.declared.state.State.TheVariants.{Out}
-use Rattle.zp_model.specs.Area.{kind_at}
-use Rattle.zp_model.specs.Frames.{Frames}
-use Rattle.zp_model.specs.Zone.{workers_of}
-use Rattle.zp_zone.specs.NamedZone.{NamedZone}
-use Rattle.zp_zone.specs.Kept.{plain_of, IsKept}
-use Rattle.zp_zone.proofs.Allocated.{IsAsked}
-use Rattle.zp_zone.proofs.AllocSteps.{stays_left, stays_kept}
-use Rattle.zp_zone.proofs.LowSteps.{reply_at, after_at, none_stays, none_reply, none_zone, low_out, low_left, kind_stays, low_reply, held_low}
-use Rattle.zp_zone.proofs.LowSteps as steps
-use Rattle.zp_zone.proofs.Callers.{lawful_in, low_seats, low_kept, low_is_out, low_fresh}
+use Rattle.std.proofs.Common.{refl}
+use Rattle.zp_model.specs.declared.request.Request.TheVariants as request
+use Rattle.zp_zone.specs.NamedZone.{block_reply}
+use Rattle.zp_zone.proofs.Tied.{others_stay, places_stay, tied_after, seat_replied, moment, blocks_stay}
 use Rattle.zp_zone.proofs.zone.Zone.alloc_low.Goals as goal
+
+pub enter-requires-clause-others : goal.enter-requires-clause-others
+enter-requires-clause-others c =
+    λ lt agree. others_stay c.self.inside.untied c.self.inside.keeper.whole _ _ (request.AllocLow c.args.order) (record { plain = c.self.invariant.0; dealt = c.self.invariant.1 }) c.lawful.ensures lt refl
+
+pub enter-requires-clause-places : goal.enter-requires-clause-places
+enter-requires-clause-places c =
+    λ lt agree. places_stay c.self.inside.untied c.self.inside.keeper.whole _ c.args.seat.now (request.AllocLow c.args.order) (record { plain = c.self.invariant.0; dealt = c.self.invariant.1 }) c.lawful.ensures lt agree refl
 
 pub invariant_of-self : goal.invariant_of-self
 invariant_of-self c =
-    stays_kept _ _ _ _ _ c.self.invariant c.pages-pages.ensures.framed (none_stays _ _ _ c.in_default.ensures.answer c.in_default.ensures.after)
+    tied_after c.self.inside.keeper c.enter.new.keeper c.self.inside.untied c.alloc_low.new.self c.args.seat.now.worker c.worker-worker.result (request.AllocLow c.args.order)
+    c.self.invariant.0 c.self.invariant.1 c.worker-worker.ensures c.enter.ensures.keeper c.alloc_low.ensures.after
 
-pub returns-in_default-clause-reply : goal.returns-in_default-clause-reply
-returns-in_default-clause-reply c =
-    let f : Frames = c.self.inside.buddy in
-    reply_at c.args.self.now _ (plain_of f c.self.inside.base c.self.inside.min) _ _ _ c.self.view_is (none_reply _ _ _ c.in_default.ensures.answer)
-
-pub returns-in_default-clause-after : goal.returns-in_default-clause-after
-returns-in_default-clause-after c =
-    let f : Frames = c.self.inside.buddy in
-    let x : IsAsked f c.self.inside.base c.self.inside.min = record { framed = c.pages-pages.ensures.framed; lawful = c.self.invariant.lawful } in
-    after_at c.args.self.now _ (plain_of f c.self.inside.base c.self.inside.min) _ _ _ c.self.view_is
-    (stays_left _ _ _ _ x (none_stays _ _ _ c.in_default.ensures.answer c.in_default.ensures.after) ∙ none_zone _ _ _ c.in_default.ensures.answer)
-
-pub returns-in_default-clause-fits : goal.returns-in_default-clause-fits
-returns-in_default-clause-fits c =
-    low_seats c.args.self.now.plain _ _ _ (ap (λ (n : NamedZone). n.plain) (returns-in_default-clause-after c)) c.args.seat.now c.requires.seat
-
-pub returns-in_default-clause-seats : goal.returns-in_default-clause-seats
-returns-in_default-clause-seats c = low_seats c.args.self.now.plain _ _ _ (ap (λ (n : NamedZone). n.plain) (returns-in_default-clause-after c))
-
-pub returns-in_default-clause-kept : goal.returns-in_default-clause-kept
-returns-in_default-clause-kept c =
-    low_kept c.args.self.now.plain _ _ _ (lawful_in _ _ _ c.self.view_is c.self.invariant.lawful) (ap (λ (n : NamedZone). n.plain) (returns-in_default-clause-after c))
-
--- the type that is noted, and the frames that hold the block
-noted_kind : (c : goal.After-new) → c.type_of-kind.result ≡ kind_at (c.self.inside.buddy).area.largest (c.self.inside.buddy).area.kinds c.in-Some.head
-noted_kind c = kind_stays _ c.take_low.new.self _ _ _ c.in-Some.ensures.after c.in-Some.ensures.answer c.type_of-kind.ensures
-
-held : (c : goal.After-new) → c.hold.new.self ≡ low_out c.self.inside.buddy c.args.seat.now.worker c.in-Some.head c.args.order
-held c =
-    held_low _ c.take_low.new.self _ _ _ _ _ c.in-Some.ensures.after c.in-Some.ensures.answer (noted_kind c)
-    (c.hold.ensures.after ∙ ap (λ w. let q : Frames = record c.take_low.new.self { states = set c.take_low.new.self.states c.in-Some.head (Out c.args.order c.type_of-kind.result w) } in q) c.worker-holder.ensures)
-
-pub invariant_of-self-2 : goal.invariant_of-self-2
-invariant_of-self-2 c =
-    let f : Frames = c.self.inside.buddy in
-    let workers : c.args.seat.now.worker < workers_of (plain_of f c.self.inside.base c.self.inside.min) =
-    (let P : NamedZone → Type 0 = λ z. c.args.seat.now.worker < workers_of z.plain in subst P (sym c.self.view_is) c.requires.seat.worker) in
-    let Q : Frames → Type 0 = λ g. IsKept c.self.inside.name g c.self.inside.base c.self.inside.min c.self.inside.posted in
-    subst Q (sym (held c)) (steps.low_kept _ _ _ _ _ _ _ c.self.invariant c.pages-pages.ensures.framed workers c.in-Some.ensures.answer)
-
-pub returns-clause-reply : goal.returns-clause-reply
-returns-clause-reply c =
-    let f : Frames = c.self.inside.buddy in
-    let page : c.new.result ≡ c.self.inside.base + c.in-Some.head = c.new.ensures ∙ ap (λ n. c.self.inside.base + n) c.number.ensures.same in
-    reply_at c.args.self.now _ (plain_of f c.self.inside.base c.self.inside.min) _ _ _ c.self.view_is
-    (low_reply f c.self.inside.base c.self.inside.min c.args.seat.now.worker c.in-Some.head c.args.order c.new.result c.type_of-kind.result c.in-Some.ensures.answer page (noted_kind c))
-
-pub returns-clause-after : goal.returns-clause-after
-returns-clause-after c =
-    let f : Frames = c.self.inside.buddy in
-    let x : IsAsked f c.self.inside.base c.self.inside.min = record { framed = c.pages-pages.ensures.framed; lawful = c.self.invariant.lawful } in
-    after_at c.args.self.now _ (plain_of f c.self.inside.base c.self.inside.min) _ _ _ c.self.view_is
-    (ap (λ (q : Frames). plain_of q c.self.inside.base c.self.inside.min) (held c) ∙ low_left f _ _ _ _ _ x c.in-Some.ensures.answer)
-
-pub returns-clause-fits : goal.returns-clause-fits
-returns-clause-fits c =
-    low_seats c.args.self.now.plain _ _ _ (ap (λ (n : NamedZone). n.plain) (returns-clause-after c)) c.args.seat.now c.requires.seat
-
-pub returns-clause-seats : goal.returns-clause-seats
-returns-clause-seats c = low_seats c.args.self.now.plain _ _ _ (ap (λ (n : NamedZone). n.plain) (returns-clause-after c))
+pub returns-clause-seat : goal.returns-clause-seat
+returns-clause-seat c =
+    seat_replied c.args.seat.now c.enter.new.self c.self.inside.keeper.whole c.self.inside.untied c.worker-worker.result (request.AllocLow c.args.order) (block_reply c.alloc_low.result)
+    c.self.invariant.0 c.enter.ensures.agreed.1 refl c.worker-worker.ensures c.alloc_low.ensures.reply c.enter.ensures.seat
 
 pub returns-clause-kept : goal.returns-clause-kept
-returns-clause-kept c =
-    low_kept c.args.self.now.plain _ _ _ (lawful_in _ _ _ c.self.view_is c.self.invariant.lawful) (ap (λ (n : NamedZone). n.plain) (returns-clause-after c))
-
--- the block that is answered
-abbrev answered : goal.After-new → Block
-answered c = record { page = c.new.result; order = c.args.order; kind = c.type_of-kind.result }
-
-pub returns-clause-out : goal.returns-clause-out
-returns-clause-out c =
-    (low_is_out c.args.self.now.plain _ _ _ (answered c) (lawful_in _ _ _ c.self.view_is c.self.invariant.lawful) (ap (λ (n : NamedZone). n.plain) (returns-clause-after c)) (returns-clause-reply c)).1
-
-pub returns-clause-fresh : goal.returns-clause-fresh
-returns-clause-fresh c = low_fresh c.args.self.now.plain _ _ (answered c) (lawful_in _ _ _ c.self.view_is c.self.invariant.lawful) (returns-clause-reply c)
+returns-clause-kept c = blocks_stay _ _ _ _ _ _ (moment c.args.seat.now c.enter.new.self c.self.inside.keeper.whole c.self.inside.untied c.alloc_low.new.self c.worker-worker.result (request.AllocLow c.args.order) c.self.invariant.0 c.enter.ensures.agreed.1 c.worker-worker.ensures c.enter.ensures.seat c.alloc_low.ensures.after) c.alloc_low.ensures.kept

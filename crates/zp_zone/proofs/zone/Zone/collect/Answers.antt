@@ -1,117 +1,26 @@
-use Rattle.std.proofs.Common.{ℕ, ◌+◌, ◌-◌, ◌^◌, ◌≡◌, ◌<◌, length, set, ap, sym, subst, ◌∙◌, arith}
-use Rattle.zp_model.specs.declared.block.Block.{Block}
+use Rattle.std.proofs.Common.{refl}
 use Rattle.zp_model.specs.declared.request.Request.TheVariants as request
-use Rattle.zp_model.specs.declared.state.State.TheVariants.{Out, Posted}
-use Rattle.zp_model.specs.Frames.{Frames}
-use Rattle.zp_model.specs.Rows.{list_at, state_at, front, rest, IsLoose}
-use Rattle.zp_model.specs.Zone.{workers_of, posted_pages}
-use Rattle.zp_zone.specs.NamedZone.{NamedZone}
-use Rattle.zp_zone.specs.Kept.{plain_of, IsKept}
-use Rattle.zp_zone.proofs.Callers.{lawful_in, reply_in, after_in, collected_out, collected_fresh, collected_others}
-use Rattle.zp_zone.proofs.CollectSteps.{IsFront, none_left, front_noted, front_block, collected_frames, plain-collected, collected_reply, pages_left, collected_kept}
-use Rattle.zp_zone.proofs.zone.Zone.collect.Goals.{After-side_pop_front, After-pages-pages}
+use Rattle.zp_zone.specs.NamedZone.{block_reply}
+use Rattle.zp_zone.proofs.Tied.{others_stay, places_stay, tied_after, seat_replied, moment, blocks_stay}
 use Rattle.zp_zone.proofs.zone.Zone.collect.Goals as goal
 
--- the list is that of the seat's worker
-number : (c : After-side_pop_front) → c.number.result ≡ c.args.seat.now.worker
-number c = c.number.ensures.same ∙ c.worker-receiver.ensures
+pub enter-requires-clause-others : goal.enter-requires-clause-others
+enter-requires-clause-others c =
+    λ lt agree. others_stay c.self.inside.untied c.self.inside.keeper.whole _ _ (request.Collect) (record { plain = c.self.invariant.0; dealt = c.self.invariant.1 }) c.lawful.ensures lt refl
 
-answer : (c : After-side_pop_front) → c.side_pop_front.result ≡ front (list_at (c.self.inside.buddy).sides c.args.seat.now.worker)
-answer c = c.side_pop_front.ensures.answer ∙ ap (λ n. front (list_at (c.self.inside.buddy).sides n)) (number c)
+pub enter-requires-clause-places : goal.enter-requires-clause-places
+enter-requires-clause-places c =
+    λ lt agree. places_stay c.self.inside.untied c.self.inside.keeper.whole _ c.args.seat.now (request.Collect) (record { plain = c.self.invariant.0; dealt = c.self.invariant.1 }) c.lawful.ensures lt agree refl
 
-abbrev popped : Frames → ℕ → Frames
-popped f w = record f { sides = set f.sides w (rest (list_at f.sides w)) }
-
-after : (c : After-side_pop_front) → c.side_pop_front.new.self ≡ popped c.self.inside.buddy c.args.seat.now.worker
-after c = c.side_pop_front.ensures.after ∙ ap (popped c.self.inside.buddy) (number c)
-
-workers : (c : After-side_pop_front) → c.args.seat.now.worker < workers_of (plain_of c.self.inside.buddy c.self.inside.base c.self.inside.min)
-workers c = let P : NamedZone → Type 0 = λ z. c.args.seat.now.worker < workers_of z.plain in subst P (sym c.self.view_is) c.requires.seat.worker
-
--- nothing is posted to the worker
 pub invariant_of-self : goal.invariant_of-self
 invariant_of-self c =
-    let b = (goal.at.invariant_of-self c).After-side_pop_front in
-    let stays : c.side_pop_front.new.self ≡ c.self.inside.buddy = none_left _ _ _ (sym c.in_default.is ∙ answer b) (after b) in
-    let P : Frames → Type 0 = λ f. IsKept c.self.inside.name f c.self.inside.base c.self.inside.min c.self.inside.posted in
-    subst P (sym stays) c.self.invariant
+    tied_after c.self.inside.keeper c.enter.new.keeper c.self.inside.untied c.collect.new.self c.args.seat.now.worker c.worker-worker.result (request.Collect)
+    c.self.invariant.0 c.self.invariant.1 c.worker-worker.ensures c.enter.ensures.keeper c.collect.ensures.after
 
--- what is in front is noted as posted
-pub unreachable-requires : goal.unreachable-requires
-unreachable-requires c =
-    let b = (goal.at.unreachable-requires c).After-side_pop_front in
-    let f : Frames = c.self.inside.buddy in
-    let r = front_noted f c.args.seat.now.worker c.in-Some.head c.self.invariant.aside (sym c.in-Some.is ∙ answer b) in
-    c.in_default-holding.not-Posted r.0 r.1 c.args.seat.now.worker (c.holding.ensures ∙ ap (λ (g : Frames). state_at g.states c.in-Some.head) (after b) ∙ r.2)
-
--- the block in front, by its note
-in_front : (c : After-pages-pages) → c.side_pop_front.result ≡ front (list_at (c.self.inside.buddy).sides c.args.seat.now.worker) →
-    c.side_pop_front.new.self ≡ popped c.self.inside.buddy c.args.seat.now.worker → IsFront c.self.inside.buddy c.args.seat.now.worker c.in-Some.head c.in-Posted.order c.in-Posted.kind
-in_front c answer after =
-    let f : Frames = c.self.inside.buddy in
-    let noted : state_at f.states c.in-Some.head ≡ Posted c.in-Posted.order c.in-Posted.kind c.in-Posted.field-2 =
-    sym (ap (λ (g : Frames). state_at g.states c.in-Some.head) after) ∙ sym c.holding.ensures ∙ c.in-Posted.is in
-    let L : Frames → Type 0 = λ g. IsLoose g.sides c.in-Some.head in
-    let H : Frames → Type 0 = λ g. c.in-Some.head < length g.states in
-    front_block f c.args.seat.now.worker _ _ _ _ c.self.invariant.aside (sym c.in-Some.is ∙ answer) noted (subst H after c.in-Some.ensures.head.0) (subst L after c.in-Some.ensures.loose)
-
--- the frames that hold the block, in the words of the definitions
-left : (c : After-pages-pages) → c.side_pop_front.new.self ≡ popped c.self.inside.buddy c.args.seat.now.worker →
-    c.hold.new.self ≡ collected_frames c.self.inside.buddy c.args.seat.now.worker c.in-Some.head c.in-Posted.order c.in-Posted.kind
-left c after =
-    let out : Frames → ℕ → Frames = λ f w. record f { states = set f.states c.in-Some.head (Out c.in-Posted.order c.in-Posted.kind w) } in
-    c.hold.ensures.after ∙ ap (λ w. out c.side_pop_front.new.self w) c.worker-receiver.ensures ∙ ap (λ f. out f c.args.seat.now.worker) after
-
-pub overflow_sub-self : goal.overflow_sub-self
-overflow_sub-self c =
-    let b = (goal.at.overflow_sub-self c).After-side_pop_front in
-    let d = (goal.at.overflow_sub-self c).After-pages-pages in
-    let f : Frames = c.self.inside.buddy in
-    let counted : c.self.inside.posted ≡ posted_pages (plain_of f c.self.inside.base c.self.inside.min) = c.self.invariant.counted in
-    let less = pages_left f c.self.inside.base c.self.inside.min _ _ _ _ (in_front d (answer b) (after b)) (workers b) in
-    let p : c.pages-pages.result ≡ 2 ^ c.in-Posted.order = c.pages-pages.ensures.pages in
-    omega (arith, less)
-
-pub invariant_of-self-2 : goal.invariant_of-self-2
-invariant_of-self-2 c =
-    let b = (goal.at.invariant_of-self-2 c).After-side_pop_front in
-    let d = (goal.at.invariant_of-self-2 c).After-pages-pages in
-    let f : Frames = c.self.inside.buddy in
-    let P : ℕ → Type 0 = λ n. IsKept c.self.inside.name c.hold.new.self c.self.inside.base c.self.inside.min (c.self.inside.posted - n) in
-    let Q : Frames → Type 0 = λ g. IsKept c.self.inside.name g c.self.inside.base c.self.inside.min (c.self.inside.posted - 2 ^ c.in-Posted.order) in
-    subst P (sym c.pages-pages.ensures.pages)
-    (subst Q (sym (left d (after b))) (collected_kept c.self.inside.name f c.self.inside.base c.self.inside.min _ _ _ _ c.self.invariant (in_front d (answer b) (after b)) (workers b)))
-
-pub returns-clause-reply : goal.returns-clause-reply
-returns-clause-reply c =
-    let b = (goal.at.returns-clause-reply c).After-side_pop_front in
-    let d = (goal.at.returns-clause-reply c).After-pages-pages in
-    let f : Frames = c.self.inside.buddy in
-    let page : c.new-page.result ≡ c.self.inside.base + c.in-Some.head = c.new-page.ensures ∙ ap (λ n. c.self.inside.base + n) c.number-2.ensures.same in
-    reply_in c.args.self.now c.self.inside.name (plain_of f c.self.inside.base c.self.inside.min) c.args.seat.now.worker request.Collect _ c.self.view_is
-    (collected_reply f _ _ _ _ _ _ _ (in_front d (answer b) (after b)) page)
-
-pub returns-clause-after : goal.returns-clause-after
-returns-clause-after c =
-    let b = (goal.at.returns-clause-after c).After-side_pop_front in
-    let d = (goal.at.returns-clause-after c).After-pages-pages in
-    let f : Frames = c.self.inside.buddy in
-    after_in c.args.self.now c.self.inside.name (plain_of f c.self.inside.base c.self.inside.min) _ c.args.seat.now.worker request.Collect c.self.view_is
-    (ap (λ (q : Frames). plain_of q c.self.inside.base c.self.inside.min) (left d (after b)) ∙ plain-collected f _ _ _ _ _ _ (in_front d (answer b) (after b)))
-
--- the block that is answered
-abbrev answered : goal.After-new-page → Block
-answered c = record { page = c.new-page.result; order = c.in-Posted.order; kind = c.in-Posted.kind }
-
-pub returns-clause-out : goal.returns-clause-out
-returns-clause-out c =
-    collected_out c.args.self.now.plain _ c.args.seat.now.worker (answered c) (lawful_in _ _ _ c.self.view_is c.self.invariant.lawful) c.requires.seat.worker
-    (ap (λ (n : NamedZone). n.plain) (returns-clause-after c)) (returns-clause-reply c)
-
-pub returns-clause-fresh : goal.returns-clause-fresh
-returns-clause-fresh c =
-    collected_fresh c.args.self.now.plain c.args.seat.now.worker (answered c) (lawful_in _ _ _ c.self.view_is c.self.invariant.lawful) c.requires.seat.worker (returns-clause-reply c)
+pub returns-clause-seat : goal.returns-clause-seat
+returns-clause-seat c =
+    seat_replied c.args.seat.now c.enter.new.self c.self.inside.keeper.whole c.self.inside.untied c.worker-worker.result (request.Collect) (block_reply c.collect.result)
+    c.self.invariant.0 c.enter.ensures.agreed.1 refl c.worker-worker.ensures c.collect.ensures.reply c.enter.ensures.seat
 
 pub returns-clause-kept : goal.returns-clause-kept
-returns-clause-kept c =
-    collected_others c.args.self.now.plain _ c.args.seat.now.worker (lawful_in _ _ _ c.self.view_is c.self.invariant.lawful) c.requires.seat.worker (ap (λ (n : NamedZone). n.plain) (returns-clause-after c))
+returns-clause-kept c = blocks_stay _ _ _ _ _ _ (moment c.args.seat.now c.enter.new.self c.self.inside.keeper.whole c.self.inside.untied c.collect.new.self c.worker-worker.result (request.Collect) c.self.invariant.0 c.enter.ensures.agreed.1 c.worker-worker.ensures c.enter.ensures.seat c.collect.ensures.after) c.collect.ensures.kept

@@ -1,58 +1,29 @@
-use Rattle.std.proofs.Common.{ℕ, ◌≡◌, ◌<◌, ◌+◌, ◌-◌, ◌∷◌, arith, ap, sym, subst, ◌∙◌, All, drop, length, true}
-use Rattle.std.proofs.lemmas.List.Elements.{All-head}
+use Rattle.std.proofs.Common.{refl}
 use Rattle.zp_model.specs.declared.request.Request.TheVariants as request
-use Rattle.zp_model.specs.Step.{freed, drained}
-use Rattle.zp_model.specs.Run.{is_out}
-use Rattle.zp_model.specs.Zone.{PlainZone}
-use Rattle.zp_zone.specs.NamedZone.{NamedZone, KeepsOutBeside, IsFresh}
-use Rattle.zp_zone.proofs.DrainSteps.{IsLeft, left_here, left_next, none_left, out_at, drained-gone, drained-kept}
-use Rattle.zp_zone.proofs.Callers.{step_seats}
-use Rattle.zp_zone.proofs.zone.Zone.drain.Goals.{After-index-pages-place, After-pages}
+use Rattle.zp_model.specs.declared.request.Reply.TheVariants as reply
+use Rattle.zp_zone.proofs.Tied.{others_stay, places_stay, tied_after, seat_replied, moment, all_new_after, blocks_stay_beside, may_drain}
 use Rattle.zp_zone.proofs.zone.Zone.drain.Goals as goal
 
--- the page that is given back, and those after it
-left : (c : After-index-pages-place) → IsLeft c.args.self.now.plain c.pages.self.plain c.args.seat.now.worker c.args.pages.now (c.index-pages-place.result ∷ drop (c.pages.place + 1) c.args.pages.now)
-left c =
-    let P : ℕ → Type 0 = λ p. IsLeft c.args.self.now.plain c.pages.self.plain c.args.seat.now.worker c.args.pages.now (p ∷ drop (c.pages.place + 1) c.args.pages.now) in
-    let at : c.pages.place < length c.args.pages.now = omega arith in
-    subst P (sym c.index-pages-place.is) (left_here _ _ _ c.args.pages.now c.pages.place c.index-pages-place.result at c.pages.invariant.left)
+pub enter-requires-clause-others : goal.enter-requires-clause-others
+enter-requires-clause-others c =
+    λ lt agree. others_stay c.self.inside.untied c.self.inside.keeper.whole _ _ (request.Drain c.args.kind c.args.pages.now) (record { plain = c.self.invariant.0; dealt = c.self.invariant.1 }) c.lawful.ensures lt (may_drain c.args.seat.now c.self.inside.keeper.whole c.args.kind c.args.pages.now agree c.requires.has c.requires.distinct)
 
-pub free-requires-clause-out : goal.free-requires-clause-out
-free-requires-clause-out c =
-    let d = (goal.at.free-requires-clause-out c).After-index-pages-place in
-    let o : is_out c.pages.self.plain c.args.seat.now.worker c.index-pages-place.result 0 ≡ true =
-    All-head (λ q. is_out c.pages.self.plain c.args.seat.now.worker q 0 ≡ true) _ _ (left d).out in
-    out_at c.pages.self.plain c.args.seat.now.worker c.pages.seat.worker c.index-pages-place.result c.zero.result c.pages.invariant.same.worker c.zero.ensures o
+pub enter-requires-clause-places : goal.enter-requires-clause-places
+enter-requires-clause-places c =
+    λ lt agree. places_stay c.self.inside.untied c.self.inside.keeper.whole _ c.args.seat.now (request.Drain c.args.kind c.args.pages.now) (record { plain = c.self.invariant.0; dealt = c.self.invariant.1 }) c.lawful.ensures lt agree (may_drain c.args.seat.now c.self.inside.keeper.whole c.args.kind c.args.pages.now agree c.requires.has c.requires.distinct)
 
-pub pages-preserved : goal.pages-preserved
-pages-preserved c =
-    let d = (goal.at.pages-preserved c).After-index-pages-place in
-    let i = c.pages.invariant in
-    let f = c.free.ensures in
-    let z : PlainZone = c.pages.self.plain in
-    let page = c.index-pages-place.result in
-    let zone = ap (λ (n : NamedZone). n.plain) f.after ∙ ap (λ k. freed z (page - z.base) k) c.zero.ensures in
-    record {
-      name = ap (λ (n : NamedZone). n.name) f.after ∙ i.name;
-      left = left_next _ _ _ _ _ _ _ (left d) zone f.kept;
-      fits = f.fits;
-      same = record { worker = f.seat.worker ∙ i.same.worker; base = f.seat.base ∙ i.same.base; pages = f.seat.pages ∙ i.same.pages };
-    }
+pub invariant_of-self : goal.invariant_of-self
+invariant_of-self c =
+    tied_after c.self.inside.keeper c.enter.new.keeper c.self.inside.untied c.drain.new.self c.args.seat.now.worker c.worker-worker.result (request.Drain c.args.kind c.args.pages.now)
+    c.self.invariant.0 c.self.invariant.1 c.worker-worker.ensures c.enter.ensures.keeper c.drain.ensures.after
 
--- at the end no page is left
-done : (c : After-pages) → c.pages.self.plain ≡ drained c.args.self.now.plain c.args.pages.now
-done c = none_left _ _ _ c.args.pages.now c.pages.place (omega arith) c.pages.invariant.left
-
-pub returns-clause-seats : goal.returns-clause-seats
-returns-clause-seats c =
-    step_seats c.args.self.now.plain c.pages.self.plain c.args.seat.now.worker (request.Drain c.args.kind c.args.pages.now) (done c)
-
-pub returns-clause-gone : goal.returns-clause-gone
-returns-clause-gone c =
-    let P : PlainZone → Type 0 = λ z. All (IsFresh z) c.args.pages.now in
-    subst P (sym (done c)) (drained-gone c.args.self.now.plain c.args.pages.now)
+pub returns-clause-seat : goal.returns-clause-seat
+returns-clause-seat c =
+    seat_replied c.args.seat.now c.enter.new.self c.self.inside.keeper.whole c.self.inside.untied c.worker-worker.result (request.Drain c.args.kind c.args.pages.now) reply.Drained
+    c.self.invariant.0 c.enter.ensures.agreed.1 (may_drain c.args.seat.now c.self.inside.keeper.whole c.args.kind c.args.pages.now c.enter.ensures.agreed.1 c.requires.has c.requires.distinct) c.worker-worker.ensures refl c.enter.ensures.seat
 
 pub returns-clause-kept : goal.returns-clause-kept
-returns-clause-kept c =
-    let P : PlainZone → Type 0 = λ z. KeepsOutBeside c.args.pages.now c.args.self.now.plain z in
-    subst P (sym (done c)) (drained-kept c.args.self.now.plain c.args.seat.now.worker c.args.pages.now c.requires.out)
+returns-clause-kept c = blocks_stay_beside c.args.pages.now _ _ _ _ _ _ (moment c.args.seat.now c.enter.new.self c.self.inside.keeper.whole c.self.inside.untied c.drain.new.self c.worker-worker.result (request.Drain c.args.kind c.args.pages.now) c.self.invariant.0 c.enter.ensures.agreed.1 c.worker-worker.ensures c.enter.ensures.seat c.drain.ensures.after) c.drain.ensures.kept
+
+pub returns-clause-gone : goal.returns-clause-gone
+returns-clause-gone c = all_new_after _ _ _ _ _ _ c.args.pages.now (moment c.args.seat.now c.enter.new.self c.self.inside.keeper.whole c.self.inside.untied c.drain.new.self c.worker-worker.result (request.Drain c.args.kind c.args.pages.now) c.self.invariant.0 c.enter.ensures.agreed.1 c.worker-worker.ensures c.enter.ensures.seat c.drain.ensures.after) c.drain.ensures.gone

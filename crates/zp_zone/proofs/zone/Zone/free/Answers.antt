@@ -1,57 +1,29 @@
-use Rattle.std.proofs.Common.{ℕ, ◌≡◌, ◌-◌, true, List, ap, sym, subst, ◌∙◌}
-use Rattle.zp_model.specs.Frames.{Frames, IsClear}
-use Rattle.zp_model.specs.Run.{is_out}
-use Rattle.zp_model.specs.Step.{freed}
-use Rattle.zp_model.specs.Frames.{given}
-use Rattle.zp_zone.specs.NamedZone.{NamedZone}
-use Rattle.zp_zone.specs.Kept.{plain_of, IsKept}
-use Rattle.zp_zone.proofs.Allocated.{IsAsked}
-use Rattle.zp_zone.proofs.AllocSteps.{named}
-use Rattle.zp_zone.proofs.Freed.{held_clear, plain-given, given_kept, holding_in}
-use Rattle.zp_zone.proofs.Callers.{freed_seats, freed_gone, freed_kept}
+use Rattle.std.proofs.Common.{refl}
+use Rattle.zp_model.specs.declared.request.Request.TheVariants as request
+use Rattle.zp_model.specs.declared.request.Reply.TheVariants as reply
+use Rattle.zp_zone.proofs.Tied.{others_stay, places_stay, tied_after, seat_replied, moment, new_after, blocks_stay_but, may_free}
 use Rattle.zp_zone.proofs.zone.Zone.free.Goals as goal
 
--- giving back what the zone has out, by its fields, is the step of the zone
-given_in : (Z : NamedZone) (name : List ℕ) (f : Frames) (base min w p k : ℕ) → named name (plain_of f base min) ≡ Z → is_out Z.plain w p k ≡ true →
-    IsAsked f base min → named name (plain_of (given f (p - base) k) base min) ≡ record Z { plain = freed Z.plain (p - Z.plain.base) k }
-given_in Z name f base min w p k e o x =
-    let h = holding_in Z name f base min w p k e o in
-    let back : NamedZone → NamedZone = λ z. record z { plain = freed z.plain (p - z.plain.base) k } in
-    ap (named name) (plain-given f base min w (p - base) k x h) ∙ ap back e
+pub enter-requires-clause-others : goal.enter-requires-clause-others
+enter-requires-clause-others c =
+    λ lt agree. others_stay c.self.inside.untied c.self.inside.keeper.whole _ _ (request.Free c.args.page c.args.order) (record { plain = c.self.invariant.0; dealt = c.self.invariant.1 }) c.lawful.ensures lt (may_free c.args.seat.now c.self.inside.keeper.whole c.args.page c.args.order agree c.requires.has)
 
-pub give-requires : goal.give-requires
-give-requires c =
-    let e : c.at-at.result ≡ c.args.page - c.self.inside.base = c.at-at.ensures ∙ ap (λ n. n - c.self.inside.base) c.number.ensures.same in
-    let h = holding_in c.args.self.now c.self.inside.name c.self.inside.buddy c.self.inside.base c.self.inside.min c.args.seat.now.worker c.args.page c.args.order c.self.view_is c.requires.out in
-    let asked : IsAsked c.self.inside.buddy c.self.inside.base c.self.inside.min = record { framed = c.pages-pages.ensures.framed; lawful = c.self.invariant.lawful } in
-    let P : ℕ → Type 0 = λ n. IsClear c.self.inside.buddy n c.args.order in
-    subst P (sym e) (held_clear c.self.inside.buddy c.self.inside.base c.self.inside.min c.args.seat.now.worker (c.args.page - c.self.inside.base) c.args.order asked h)
+pub enter-requires-clause-places : goal.enter-requires-clause-places
+enter-requires-clause-places c =
+    λ lt agree. places_stay c.self.inside.untied c.self.inside.keeper.whole _ c.args.seat.now (request.Free c.args.page c.args.order) (record { plain = c.self.invariant.0; dealt = c.self.invariant.1 }) c.lawful.ensures lt agree (may_free c.args.seat.now c.self.inside.keeper.whole c.args.page c.args.order agree c.requires.has)
 
 pub invariant_of-self : goal.invariant_of-self
 invariant_of-self c =
-    let e : c.at-at.result ≡ c.args.page - c.self.inside.base = c.at-at.ensures ∙ ap (λ n. n - c.self.inside.base) c.number.ensures.same in
-    let h = holding_in c.args.self.now c.self.inside.name c.self.inside.buddy c.self.inside.base c.self.inside.min c.args.seat.now.worker c.args.page c.args.order c.self.view_is c.requires.out in
-    let left : c.give.new.self ≡ given c.self.inside.buddy (c.args.page - c.self.inside.base) c.args.order = c.give.ensures ∙ ap (λ n. given c.self.inside.buddy n c.args.order) e in
-    let K : Frames → Type 0 = λ f. IsKept c.self.inside.name f c.self.inside.base c.self.inside.min c.self.inside.posted in
-    subst K (sym left) (given_kept c.self.inside.name c.self.inside.buddy c.self.inside.base c.self.inside.min c.args.seat.now.worker (c.args.page - c.self.inside.base) c.args.order c.self.invariant c.pages-pages.ensures.framed h)
+    tied_after c.self.inside.keeper c.enter.new.keeper c.self.inside.untied c.free.new.self c.args.seat.now.worker c.worker-worker.result (request.Free c.args.page c.args.order)
+    c.self.invariant.0 c.self.invariant.1 c.worker-worker.ensures c.enter.ensures.keeper c.free.ensures.after
 
-pub returns-clause-after : goal.returns-clause-after
-returns-clause-after c =
-    let e : c.at-at.result ≡ c.args.page - c.self.inside.base = c.at-at.ensures ∙ ap (λ n. n - c.self.inside.base) c.number.ensures.same in
-    let asked : IsAsked c.self.inside.buddy c.self.inside.base c.self.inside.min = record { framed = c.pages-pages.ensures.framed; lawful = c.self.invariant.lawful } in
-    let left : c.give.new.self ≡ given c.self.inside.buddy (c.args.page - c.self.inside.base) c.args.order = c.give.ensures ∙ ap (λ n. given c.self.inside.buddy n c.args.order) e in
-    ap (λ f. named c.self.inside.name (plain_of f c.self.inside.base c.self.inside.min)) left
-    ∙ given_in c.args.self.now c.self.inside.name c.self.inside.buddy c.self.inside.base c.self.inside.min c.args.seat.now.worker c.args.page c.args.order c.self.view_is c.requires.out asked
-
-pub returns-clause-fits : goal.returns-clause-fits
-returns-clause-fits c = freed_seats c.args.self.now.plain _ _ _ (ap (λ (n : NamedZone). n.plain) (returns-clause-after c)) c.args.seat.now c.requires.seat
-
-pub returns-clause-seats : goal.returns-clause-seats
-returns-clause-seats c = freed_seats c.args.self.now.plain _ _ _ (ap (λ (n : NamedZone). n.plain) (returns-clause-after c))
-
-pub returns-clause-gone : goal.returns-clause-gone
-returns-clause-gone c = freed_gone c.args.self.now.plain _ _ _ (ap (λ (n : NamedZone). n.plain) (returns-clause-after c))
+pub returns-clause-seat : goal.returns-clause-seat
+returns-clause-seat c =
+    seat_replied c.args.seat.now c.enter.new.self c.self.inside.keeper.whole c.self.inside.untied c.worker-worker.result (request.Free c.args.page c.args.order) reply.Freed
+    c.self.invariant.0 c.enter.ensures.agreed.1 (may_free c.args.seat.now c.self.inside.keeper.whole c.args.page c.args.order c.enter.ensures.agreed.1 c.requires.has) c.worker-worker.ensures refl c.enter.ensures.seat
 
 pub returns-clause-kept : goal.returns-clause-kept
-returns-clause-kept c =
-    freed_kept c.args.self.now.plain _ _ _ _ c.requires.out (ap (λ (n : NamedZone). n.plain) (returns-clause-after c))
+returns-clause-kept c = blocks_stay_but c.args.page _ _ _ _ _ _ (moment c.args.seat.now c.enter.new.self c.self.inside.keeper.whole c.self.inside.untied c.free.new.self c.worker-worker.result (request.Free c.args.page c.args.order) c.self.invariant.0 c.enter.ensures.agreed.1 c.worker-worker.ensures c.enter.ensures.seat c.free.ensures.after) c.free.ensures.kept
+
+pub returns-clause-gone : goal.returns-clause-gone
+returns-clause-gone c = new_after _ _ _ _ _ _ c.args.page (moment c.args.seat.now c.enter.new.self c.self.inside.keeper.whole c.self.inside.untied c.free.new.self c.worker-worker.result (request.Free c.args.page c.args.order) c.self.invariant.0 c.enter.ensures.agreed.1 c.worker-worker.ensures c.enter.ensures.seat c.free.ensures.after) c.free.ensures.gone

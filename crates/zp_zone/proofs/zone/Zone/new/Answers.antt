@@ -1,29 +1,16 @@
-use Rattle.std.proofs.Common.{ℕ, List, ap, sym, subst, ◌∙◌}
+use Rattle.std.proofs.Common.{sym, ap, ◌∙◌}
 use Rattle.zp_model.specs.declared.constants.TheConstants.{LARGEST_ORDER}
-use Rattle.zp_model.specs.Frames.{Frames}
-use Rattle.zp_model.specs.Zone.{zone_opening}
-use Rattle.zp_zone.specs.Kept.{plain_of, IsKept}
-use Rattle.zp_zone.specs.Making.{wanted, IsGood}
-use Rattle.zp_zone.proofs.AllocSteps.{named}
-use Rattle.zp_zone.proofs.OpeningZone.{plain-opening, opening_kept}
+use Rattle.zp_model.specs.Books.{Books, opened}
+use Rattle.zp_tie.specs.Ties.{Kept}
 use Rattle.zp_zone.specs.NamedZone.{NamedZone}
-use Rattle.zp_zone.proofs.Callers.{seats_fit}
+use Rattle.zp_zone.proofs.NewSeats.{seats_fit, seats_unused}
 use Rattle.zp_zone.proofs.zone.Zone.new.Goals as goal
-
-pub invariant_of-zone : goal.invariant_of-zone
-invariant_of-zone c =
-    let P : List ℕ → Type 0 = λ q. IsGood (wanted q c.args.config.base c.args.config.pages c.args.config.min c.args.workers) in
-    let good : IsGood (wanted c.in_ok-name.name c.args.config.base c.args.config.pages c.args.config.min c.args.workers) =
-    subst P (sym c.in_ok-name.ensures.ok) c.in_ok-name.ensures.good in
-    let Q : Frames → Type 0 = λ f. IsKept c.in_ok-name.name f c.args.config.base c.args.config.min 0 in
-    subst Q (sym c.in-Ok.ensures) (opening_kept _ _ _ _ _ _ good)
-
-pub returns-clause-zone : goal.returns-clause-zone
-returns-clause-zone c =
-    ap (λ (f : Frames). named c.in_ok-name.name (plain_of f c.args.config.base c.args.config.min)) c.in-Ok.ensures
-    ∙ ap (λ z. named c.in_ok-name.name z) (plain-opening LARGEST_ORDER c.args.config.base c.args.config.pages c.args.config.min c.args.workers)
-    ∙ ap (λ q. named q (zone_opening LARGEST_ORDER c.args.config.base c.args.config.pages c.args.config.min c.args.workers)) c.in_ok-name.ensures.ok
 
 pub returns-clause-fits : goal.returns-clause-fits
 returns-clause-fits c =
-    seats_fit _ _ LARGEST_ORDER c.args.config.base c.args.config.pages c.args.config.min c.args.workers (ap (λ (n : NamedZone). n.plain) (returns-clause-zone c)) c.in-Ok-seats.ensures
+    seats_fit c.begin.new.self.tie _ _ c.begin.new.self.whole c.args.workers (sym (ap (λ (k : Kept Books). k.tie) c.in-Ok-seats.ensures.dealt)) c.in-Ok-seats.ensures.seats
+
+pub returns-clause-unused : goal.returns-clause-unused
+returns-clause-unused c =
+    seats_unused c.begin.new.self.tie _ LARGEST_ORDER c.args.config.base c.args.config.pages c.args.config.min c.args.workers c.args.workers c.begin.new.self.whole
+    (ap (λ (k : Kept Books). k.whole) c.begin.ensures ∙ ap (λ (n : NamedZone). opened n.plain) c.in_ok-untied.ensures.zone) c.in-Ok-seats.ensures.seats

@@ -1,65 +1,25 @@
-use Rattle.std.proofs.Common.{ℕ, List, ◌≡◌, ◌<◌, ◌≤◌, arith, ap, sym, subst, ◌∙◌, length, []}
-use Rattle.std.proofs.lemmas.Result.{err_from_is_err_and}
 use Rattle.zp_model.specs.declared.request.Request.TheVariants as request
-use Rattle.zp_model.specs.declared.request.Reply.TheVariants as Reply
-use Rattle.zp_model.specs.Step.{Outcome, alloc, refill}
-use Rattle.zp_zone.specs.NamedZone.{NamedZone, pages_reply}
-use Rattle.zp_zone.proofs.RefillSteps.{IsGot, alloc_at, given, got_more, got_all, got_stopped, none_got, zone_is}
-use Rattle.zp_zone.proofs.Callers.{step_seats}
-use Rattle.zp_zone.proofs.zone.Zone.refill.Goals.{else-pages-test, then-pages-test+in_default}
+use Rattle.zp_zone.specs.NamedZone.{pages_reply}
+use Rattle.zp_zone.proofs.Tied.{others_stay, places_stay, tied_after, seat_replied, moment, blocks_stay, may_refill}
 use Rattle.zp_zone.proofs.zone.Zone.refill.Goals as goal
 
-pub returns-in_err-first-clause-reply : goal.returns-in_err-first-clause-reply
-returns-in_err-first-clause-reply c =
-    let p = err_from_is_err_and c.from_residual.result c.from_residual.ensures.1 in
-    let z = c.args.self.now.plain in
-    let w = c.args.seat.now.worker in
-    let refused = c.in_err-first.ensures.reply ∙ ap (λ k. (alloc z w k c.args.kind c.args.mark).reply) c.zero.ensures in
-    ap pages_reply p.1 ∙ ap Reply.Refused p.2 ∙ refused ∙ ap (λ (o : Outcome). o.reply) (sym (none_got z w c.args.kind c.args.mark c.args.count _ c.requires.some refused))
+pub enter-requires-clause-others : goal.enter-requires-clause-others
+enter-requires-clause-others c =
+    λ lt agree. others_stay c.self.inside.untied c.self.inside.keeper.whole _ _ (request.Refill c.args.kind c.args.mark c.args.count) (record { plain = c.self.invariant.0; dealt = c.self.invariant.1 }) c.lawful.ensures lt (may_refill c.self.inside.keeper.whole.plain c.args.seat.now.worker c.args.count c.args.kind c.args.mark c.requires.some c.requires.batch)
 
-pub pages-preserved : goal.pages-preserved
-pages-preserved c =
-    let i = c.pages.invariant in
-    let a = c.in-Ok.ensures in
-    let G : List ℕ → Type 0 = λ q. IsGot c.args.self.now.plain c.alloc-in-pages.new.self.plain c.args.seat.now.worker c.args.kind c.args.mark c.args.count q in
-    let lt : length c.pages.pages.items < c.args.count = omega (arith, c.pages-test.true, c.len.ensures.value, c.from.ensures) in
-    let g = given _ _ c.args.seat.now.worker _ _ _ _ _ _ i.same.worker (a.seat.worker ∙ i.same.worker) c.zero-in-pages.ensures a.reply (ap (λ (n : NamedZone). n.plain) a.after) a.out a.fresh a.kept in
-    record {
-      name = ap (λ (n : NamedZone). n.name) a.after ∙ i.name;
-      got = subst G (sym c.push-in-pages.ensures.items) (got_more _ _ _ _ _ _ _ _ _ i.got lt g);
-      fits = a.fits;
-      same = record { worker = a.seat.worker ∙ i.same.worker; base = a.seat.base ∙ i.same.base; pages = a.seat.pages ∙ i.same.pages };
-    }
+pub enter-requires-clause-places : goal.enter-requires-clause-places
+enter-requires-clause-places c =
+    λ lt agree. places_stay c.self.inside.untied c.self.inside.keeper.whole _ c.args.seat.now (request.Refill c.args.kind c.args.mark c.args.count) (record { plain = c.self.invariant.0; dealt = c.self.invariant.1 }) c.lawful.ensures lt agree (may_refill c.self.inside.keeper.whole.plain c.args.seat.now.worker c.args.count c.args.kind c.args.mark c.requires.some c.requires.batch)
 
--- the refill at its end: it has all the pages, or is stopped
-done : (c : goal.Left-pages) → refill c.args.self.now.plain c.args.seat.now.worker c.args.kind c.args.mark [] c.args.count ≡ record { reply = Reply.Pages c.pages.pages.items; zone = c.pages-test.self.plain }
-done c =
-    let i = c.pages.invariant in
-    elim c.pages-test.branch [
-      | else-pages-test w ↦
-          let le : c.args.count ≤ length c.pages.pages.items = omega (arith, w.pages-test.false, c.len.ensures.value, c.from.ensures) in
-          got_all _ _ _ _ _ _ _ i.got le ∙ ap (λ (n : NamedZone). let o : Outcome = record { reply = Reply.Pages c.pages.pages.items; zone = n.plain } in o) (sym w.self-is)
-      | then-pages-test+in_default w ↦
-          let lt : length c.pages.pages.items < c.args.count = omega (arith, w.pages-test.true, c.len.ensures.value, c.from.ensures) in
-          let a = w.alloc-in-pages.ensures in
-          let same = alloc_at c.pages.self.plain c.args.seat.now.worker c.pages.seat.worker w.zero-in-pages.result c.args.kind c.args.mark i.same.worker w.zero-in-pages.ensures in
-          let left = ap (λ (n : NamedZone). n.plain) w.self-is ∙ ap (λ (n : NamedZone). n.plain) a.after ∙ ap (λ (o : Outcome). o.zone) same in
-          got_stopped _ _ _ _ _ _ _ w.in_default.field-0 _ i.got lt (w.in_default.ensures.reply ∙ ap (λ (o : Outcome). o.reply) same) left
-    ]
+pub invariant_of-self : goal.invariant_of-self
+invariant_of-self c =
+    tied_after c.self.inside.keeper c.enter.new.keeper c.self.inside.untied c.refill.new.self c.args.seat.now.worker c.worker-worker.result (request.Refill c.args.kind c.args.mark c.args.count)
+    c.self.invariant.0 c.self.invariant.1 c.worker-worker.ensures c.enter.ensures.keeper c.refill.ensures.after
 
-pub returns-clause-reply : goal.returns-clause-reply
-returns-clause-reply c = ap (λ (o : Outcome). o.reply) (sym (done c))
+pub returns-clause-seat : goal.returns-clause-seat
+returns-clause-seat c =
+    seat_replied c.args.seat.now c.enter.new.self c.self.inside.keeper.whole c.self.inside.untied c.worker-worker.result (request.Refill c.args.kind c.args.mark c.args.count) (pages_reply c.refill.result)
+    c.self.invariant.0 c.enter.ensures.agreed.1 (may_refill c.self.inside.keeper.whole.plain c.args.seat.now.worker c.args.count c.args.kind c.args.mark c.requires.some c.requires.batch) c.worker-worker.ensures c.refill.ensures.reply c.enter.ensures.seat
 
-pub returns-clause-after : goal.returns-clause-after
-returns-clause-after c =
-    let i = c.pages.invariant in
-    let N : NamedZone → List ℕ = λ n. n.name in
-    let name : c.pages-test.self.name ≡ c.args.self.now.name = elim c.pages-test.branch [
-      | else-pages-test w ↦ ap N w.self-is ∙ i.name
-      | then-pages-test+in_default w ↦ ap N w.self-is ∙ ap N w.alloc-in-pages.ensures.after ∙ i.name
-    ] in
-    zone_is c.args.self.now c.pages-test.self _ name (ap (λ (o : Outcome). o.zone) (sym (done c)))
-
-pub returns-clause-seats : goal.returns-clause-seats
-returns-clause-seats c =
-    step_seats c.args.self.now.plain c.pages-test.self.plain c.args.seat.now.worker (request.Refill c.args.kind c.args.mark c.args.count) (ap (λ (o : Outcome). o.zone) (sym (done c)))
+pub returns-clause-kept : goal.returns-clause-kept
+returns-clause-kept c = blocks_stay _ _ _ _ _ _ (moment c.args.seat.now c.enter.new.self c.self.inside.keeper.whole c.self.inside.untied c.refill.new.self c.worker-worker.result (request.Refill c.args.kind c.args.mark c.args.count) c.self.invariant.0 c.enter.ensures.agreed.1 c.worker-worker.ensures c.enter.ensures.seat c.refill.ensures.after) c.refill.ensures.kept

@@ -3,7 +3,7 @@ use Rattle.zp_model.specs.Described.{IsDescribedAt}
 use Rattle.zp_zone.specs.NamedZone.{NamedZone, IsToldOf}
 use Rattle.zp_zone.specs.Kept.{plain_of}
 use Rattle.zp_zone.proofs.Described.{entry_described}
-use Rattle.zp_zone.proofs.zone.Zone.entry.Goals as goal
+use Rattle.zp_zone.proofs.untied_zone.UntiedZone.entry.Goals as goal
 
 pub returns-clause-described : goal.returns-clause-described
 returns-clause-described c =

@@ -1,0 +1,191 @@
+//! A zone without its seats: its making, and what it tells.
+ghost use Rattle.std.specs.Prelude.{◌≡◌, ◌<◌, ◌≤◌, ◌+◌, ℕ, false, length, IfOk, IfErr, IfSome, IfNone, IsSome, OnOk, OnErr, IsTrue, ◌↔◌, ◌-◌};
+ghost use Rattle.std.specs.Option.{option_map};
+ghost use Rattle.zp_model.specs.declared.constants.TheConstants.{LARGEST_ORDER};
+ghost use Rattle.zp_model.specs.Block.{size};
+ghost use Rattle.zp_model.specs.Zone.{zone_opening, is_of, pages_of, posted_pages};
+ghost use Rattle.zp_zone.specs.Kept.{holding_of};
+ghost use Rattle.zp_model.specs.Mark.{level_of, level_above};
+ghost use Rattle.zp_model.specs.Info.{counts_of};
+ghost use Rattle.zp_model.specs.Run.{is_out};
+ghost use Rattle.zp_model.specs.Lawful.{IsLawful};
+ghost use Rattle.zp_model.specs.Naming.{IsName};
+ghost use Rattle.zp_zone.specs.NamedZone.{IsPageOf, IsToldOf};
+ghost use Rattle.zp_zone.specs.Making.{wanted, IsGood, IsWhy};
+
+mod batches;
+mod requests;
+
+use crate::config::{ZoneConfig, checked_name};
+use crate::page::ZonePage;
+use std::alloc::Global;
+use std::marker::Model;
+use zp_buddy::Buddy;
+use zp_model::{
+    BASE_LIMIT, Counts, Level, MAX_PAGES, Name, Order, PageAt, PageNo, Refused, State, Worker,
+};
+
+/// A zone without its seats: whoever calls names the worker. Contracts see its name and the plain zone, which is always
+/// lawful.
+#[derive(Drop)]
+pub(crate) struct UntiedZone {
+    buddy: Buddy,
+    name: Name,
+    base: u32,
+    min: u32,
+    /// How many pages are in posted blocks.
+    posted: u32,
+}
+
+impl Model for UntiedZone {
+    ghost use Rattle.zp_zone.specs.NamedZone.{NamedZone};
+    ghost use Rattle.zp_zone.specs.Kept.{plain_of, IsKept};
+
+    ghost Value = { NamedZone };
+
+    ghost view = { λ z. record { name = z.name; plain = plain_of z.buddy z.base z.min } };
+
+    ghost invariant = { λ z. IsKept z.name z.buddy z.base z.min z.posted };
+}
+
+impl UntiedZone {
+    /// A zone with all its pages free. Refused 1 to 5 where the config is wrong, the least number that applies, and 6 where
+    /// it is not and there is no memory.
+    pub fn new(alloc: Global, config: ZoneConfig<'_>, workers: u32) -> Result<UntiedZone, Refused>
+        ensures good { OnOk result (IsGood (wanted config.entry.name.now config.entry.base config.entry.pages config.entry.min workers)) }
+        ensures why { IfErr result (IsWhy (wanted config.entry.name.now config.entry.base config.entry.pages config.entry.min workers)) }
+        ensures zone { IfOk result (λ z. z ≡ record { name = config.entry.name.now; plain = zone_opening LARGEST_ORDER config.entry.base config.entry.pages config.entry.min workers }) }
+    {
+        let name = checked_name(config, workers)?;
+        let Ok(buddy) = Buddy::new(alloc, config.pages, workers as usize) else {
+            return Err(Refused::Memory);
+        };
+        let zone = UntiedZone {
+            buddy,
+            name,
+            base: config.base,
+            min: config.min,
+            posted: 0,
+        };
+        Ok(zone)
+    }
+
+    /// Each zone is lawful.
+    pub fn lawful(&self)
+        ensures { IsLawful self.now.plain }
+    {
+        // the invariant is at hand where a field is
+        let _ = &self.name;
+    }
+
+    /// Whether the block at this page, of this order, is out to the worker.
+    pub fn held_by(&self, worker: Worker, page: PageNo, order: Order) -> bool
+        ensures { result ≡ is_out self.now.plain worker page order }
+    {
+        match place_of(page, self.base, self.buddy.pages()) {
+            None => false,
+            Some(at) => is_out_to(self.buddy.holding(at), order, worker),
+        }
+    }
+
+    /// The zone's name.
+    pub fn name(&self) -> &str
+        ensures name { result.now ≡ self.now.name }
+        ensures named { IsName result.now }
+    {
+        self.name.as_str()
+    }
+
+    /// How many pages the zone has.
+    pub fn pages(&self) -> u32
+        ensures pages { result ≡ pages_of self.now.plain }
+        ensures within { result ≤ MAX_PAGES }
+    {
+        self.buddy.pages()
+    }
+
+    /// What the zone tells of an absolute page, where the page is one of its own. In each zone all of it describes the plain
+    /// zone.
+    pub fn entry(&self, page: PageNo) -> Option<ZonePage>
+        ensures when { IsSome result ↔ IsPageOf self.now.plain page }
+        ensures described { IfSome result (λ e. IsToldOf self.now.plain page e.state e.back e.forward) }
+    {
+        let at = place_of(page, self.base, self.buddy.pages())?;
+        let entry = self.buddy.entry(at);
+        Some(ZonePage {
+            state: entry.state,
+            back: absolute(self.base, entry.back),
+            forward: absolute(self.base, entry.forward),
+        })
+    }
+
+    /// How many free blocks of each order there are, and how many free pages. Each zone is lawful.
+    pub fn counts(&self) -> Counts
+        ensures counts { result ≡ counts_of self.now.plain.area.largest self.now.plain.area.free }
+        ensures lawful { IsLawful self.now.plain }
+    {
+        self.buddy.counts()
+    }
+
+    /// The highest mark that the free pages are above.
+    pub fn level(&self) -> Level
+        ensures { result ≡ level_of self.now.plain }
+    {
+        level_above(self.min, self.buddy.free_pages())
+    }
+
+    /// How many pages are in posted blocks.
+    pub fn posted_pages(&self) -> u32
+        ensures pages { result ≡ posted_pages self.now.plain }
+        ensures within { size self.now.plain.area.free + result ≤ pages_of self.now.plain }
+    {
+        self.posted
+    }
+}
+
+/// The place of an absolute page in a zone, where it has one.
+fn place_of(page: PageNo, base: u32, pages: u32) -> Option<PageAt>
+    requires { pages ≤ MAX_PAGES }
+    ensures some { IfSome result (λ at. (base ≤ page) × (at ≡ page - base) × (at < pages)) }
+    ensures none { IfNone result (base ≤ page → pages ≤ page - base) }
+{
+    let number = page.number();
+    if number < base || number - base >= pages {
+        return None;
+    }
+    Some(PageAt::at(number - base))
+}
+
+/// A place of a zone as an absolute page.
+fn absolute(base: u32, place: Option<PageAt>) -> Option<PageNo>
+    requires { base ≤ BASE_LIMIT }
+    ensures { result ≡ option_map (λ h. base + h) place }
+{
+    place.map(|at| PageNo::new(base + at.number()))
+}
+
+/// Whether a page's state notes a block of this order that is out to this worker.
+fn is_out_to(state: State, order: Order, worker: Worker) -> bool
+    ensures { result ≡ is_of worker order (holding_of state) }
+{
+    match state {
+        State::Out(out, _, holder) => out == order && holder == worker,
+        _ => false,
+    }
+}
+
+/// The highest mark that so many free pages are above.
+fn level_above(min: u32, free: u32) -> Level
+    requires { min ≤ MAX_PAGES }
+    ensures { result ≡ level_above min free }
+{
+    if free > min + min / 2 {
+        Level::High
+    } else if free > min + min / 4 {
+        Level::Low
+    } else if free > min {
+        Level::Min
+    } else {
+        Level::Short
+    }
+}
