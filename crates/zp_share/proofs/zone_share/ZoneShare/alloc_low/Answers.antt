@@ -1,0 +1,46 @@
+use Rattle.std.proofs.Common.{refl, ap, ◌∙◌, ◌-◌}
+use Rattle.zp_model.specs.declared.request.Request.TheVariants as request
+use Rattle.zp_model.specs.declared.request.Reply.{Reply}
+use Rattle.zp_model.specs.declared.request.Reply.TheVariants as reply
+use Rattle.zp_share.specs.declared.zone_share.ZoneShare.TheInside.{Inside}
+use Rattle.std.specs.Prelude.{slice_set}
+use Rattle.zp_share.specs.declared.page_use.PageUse.TheVariants.{Lent}
+use Rattle.zp_share.specs.PageUses.{UsesState}
+use Rattle.zp_share.proofs.Closing.{IsAnswered, answered_parts, new_page, section_is}
+use Rattle.zp_share.proofs.zone_share.ZoneShare.alloc_low.Goals as goal
+
+abbrev lent_after : goal.After-add → Inside
+lent_after c = record { seat = c.alloc_low.new.seat; uses = c.lend.new.self; cached = c.self.inside.cached; sections = c.add.new.self }
+
+abbrev refused_after : goal.After-add-in-Err → Inside
+refused_after c = record { seat = c.alloc_low.new.seat; uses = c.self.inside.uses; cached = c.self.inside.cached; sections = c.add-in-Err.new.self }
+
+abbrev reply_of : goal.After-add → Reply
+reply_of c = reply.Block c.in-Ok.block
+
+lent : (c : goal.After-add) → IsAnswered (request.AllocLow c.args.order) (reply_of c) c.self.inside (lent_after c)
+lent c =
+    answered_parts (request.AllocLow c.args.order) (reply_of c) c.self.inside (lent_after c) c.worker-worker.result c.self.invariant
+    (new_page (request.AllocLow c.args.order) (reply_of c) c.self.inside c.alloc_low.new.seat c.in-Ok.block.page c.in-Ok.block.order c.self.invariant c.in-Ok.ensures.seat c.in-Ok.ensures.has c.in-Ok.ensures.fresh)
+    c.in-Ok.ensures.seat (c.lend.ensures ∙ ap (λ k. let u : UsesState = record { base = c.self.inside.uses.base; uses = slice_set c.self.inside.uses.uses (c.in-Ok.block.page - c.self.inside.uses.base) (Lent k c.in-Ok.block.kind) } in u) c.in-Ok.ensures.order) refl c.add.ensures c.worker-worker.ensures
+
+refused : (c : goal.After-add-in-Err) → IsAnswered (request.AllocLow c.args.order) (reply.Refused c.in-Err.refused) c.self.inside (refused_after c)
+refused c =
+    answered_parts (request.AllocLow c.args.order) (reply.Refused c.in-Err.refused) c.self.inside (refused_after c) c.worker-worker.result c.self.invariant tt
+    c.in-Err.ensures.seat refl refl c.add-in-Err.ensures c.worker-worker.ensures
+
+pub invariant_of-self : goal.invariant_of-self
+invariant_of-self c = (lent c).whole
+
+pub invariant_of-self-in-Err : goal.invariant_of-self-in-Err
+invariant_of-self-in-Err c = (refused c).whole
+
+pub returns-in-Ok-clause-section : goal.returns-in-Ok-clause-section
+returns-in-Ok-clause-section c =
+    λ room. section_is (request.AllocLow c.args.order) (reply_of c) c.args.zone.now c.alloc_low.new.self c.self.inside (lent_after c) c.args.self.now c.self.invariant c.self.view_is (lent c)
+    c.in-Ok.ensures.reply c.in-Ok.ensures.after c.requires c.in-Ok.ensures.fits c.in-Ok.ensures.known c.in-Ok.ensures.agrees
+
+pub returns-in-Err-clause-section : goal.returns-in-Err-clause-section
+returns-in-Err-clause-section c =
+    λ room. section_is (request.AllocLow c.args.order) (reply.Refused c.in-Err.refused) c.args.zone.now c.alloc_low.new.self c.self.inside (refused_after c) c.args.self.now c.self.invariant c.self.view_is (refused c)
+    c.in-Err.ensures.reply c.in-Err.ensures.after c.requires c.in-Err.ensures.fits c.in-Err.ensures.known c.in-Err.ensures.agrees

@@ -1,0 +1,3 @@
+pub mod ListSettings
+pub mod PageUses
+pub mod ZoneShares

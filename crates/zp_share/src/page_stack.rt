@@ -1,0 +1,95 @@
+//! A worker's list of pages of one type.
+ghost use Rattle.std.specs.Prelude.{◌≡◌, ◌<◌, ◌≤◌, ◌+◌, [], ◌∷◌, ◌++◌, length};
+ghost use Rattle.zp_model.specs.Rows.{front, rest};
+ghost use Rattle.zp_share.specs.ZoneShares.{back, without_back};
+
+use arrayvec::ArrayVec;
+use std::marker::Model;
+use zp_model::{LONGEST_LIST, PageList, PageNo};
+
+/// Absolute pages, at most `LONGEST_LIST`, in place. Contracts see them with the front first; in the vector it is last, so
+/// that taking and putting at the front move no page.
+#[derive(Drop)]
+pub struct PageStack {
+    pages: ArrayVec<PageNo, LONGEST_LIST>,
+}
+
+impl Model for PageStack {
+    ghost use Rattle.std.specs.Prelude.{List, ℕ, reverse};
+
+    ghost Value = { List ℕ };
+
+    ghost view = { λ s. reverse s.pages.items };
+}
+
+impl PageStack {
+    pub fn new() -> PageStack
+        ensures { result ≡ [] }
+    {
+        PageStack {
+            pages: ArrayVec::new(),
+        }
+    }
+
+    pub fn len(&self) -> usize
+        ensures same { result ≡ length self.now }
+        ensures within { result ≤ LONGEST_LIST }
+    {
+        self.pages.len()
+    }
+
+    pub fn push_front(&mut self, page: PageNo)
+        requires { length self.old < LONGEST_LIST }
+        ensures { self.new ≡ page ∷ self.old }
+    {
+        self.pages.push(page);
+    }
+
+    pub fn pop_front(&mut self) -> Option<PageNo>
+        ensures answer { result ≡ front self.old }
+        ensures after { self.new ≡ rest self.old }
+    {
+        self.pages.pop()
+    }
+
+    /// Puts all of these in front, in their order.
+    pub fn push_all_front(&mut self, pages: &[PageNo])
+        requires { length pages.now + length self.old ≤ LONGEST_LIST }
+        ensures { self.new ≡ pages.now ++ self.old }
+    {
+        'pages: for left in 0..pages.len() {
+            let place = pages.len() - 1 - left;
+            self.pages.push(pages[place]);
+        }
+    }
+
+    /// The pages at the back, the last one first.
+    pub fn back(&self, count: usize) -> &[PageNo]
+        requires { count ≤ length self.now }
+        ensures pages { result.now ≡ back count self.now }
+        ensures many { length result.now ≡ count }
+        ensures within { length result.now ≤ LONGEST_LIST }
+    {
+        &self.pages.as_slice()[..count]
+    }
+
+    /// Takes the pages at the back away.
+    pub fn drop_back(&mut self, count: usize)
+        requires { count ≤ length self.old }
+        ensures { self.new ≡ without_back count self.old }
+    {
+        self.pages.drain(..count);
+    }
+}
+
+/// These pages, as a request or a reply keeps them.
+pub fn page_list(pages: &[PageNo]) -> PageList
+    requires { length pages.now ≤ LONGEST_LIST }
+    ensures { result ≡ pages.now }
+{
+    let mut list = PageList::new();
+    for page in pages {
+        list.push(*page);
+    }
+    list
+}

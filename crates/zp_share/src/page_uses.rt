@@ -1,0 +1,75 @@
+//! What each page of a zone is to one worker.
+ghost use Rattle.std.specs.Prelude.{◌≡◌, ◌<◌, ◌≤◌, ◌-◌, All, length, replicate, slice_set, IfOk};
+ghost use Rattle.zp_share.specs.declared.page_use.PageUse.TheVariants.{Away, Lent};
+ghost use Rattle.zp_share.specs.PageUses.{use_of, all_as, IsPlace};
+
+use crate::page_use::PageUse;
+use std::alloc::{AllocError, Global};
+use std::marker::Model;
+use zp_model::{Block, PageNo};
+
+/// One entry for each page of a zone, made with the share.
+#[derive(Drop)]
+pub struct PageUses {
+    base: u32,
+    uses: Vec<PageUse>,
+}
+
+impl Model for PageUses {
+    ghost use Rattle.zp_share.specs.PageUses.{UsesState};
+
+    ghost Value = { UsesState };
+
+    ghost view = { λ u. record { base = u.base; uses = u.uses.items } };
+}
+
+impl PageUses {
+    /// No page is the worker's.
+    pub fn new(alloc: Global, base: u32, pages: u32) -> Result<PageUses, AllocError>
+        ensures { IfOk result (λ u. u ≡ record { base = base; uses = replicate pages Away }) }
+    {
+        let uses = Vec::from_elem(alloc, PageUse::Away, pages as usize)?;
+        Ok(PageUses { base, uses })
+    }
+
+    /// What an absolute page is to the worker.
+    pub fn of(&self, page: PageNo) -> PageUse
+        ensures { result ≡ use_of self.now.base self.now.uses page }
+    {
+        let number = page.number();
+        if number < self.base {
+            return PageUse::Away;
+        }
+        match self.uses.get((number - self.base) as usize) {
+            Some(used) => *used,
+            None => PageUse::Away,
+        }
+    }
+
+    /// An absolute page of the zone gets another use.
+    pub fn set(&mut self, page: PageNo, used: PageUse)
+        requires { IsPlace self.old page }
+        ensures { self.new ≡ record self.old { uses = slice_set self.old.uses (page - self.old.base) used } }
+    {
+        self.uses[(page.number() - self.base) as usize] = used;
+    }
+
+    /// A block of the zone is lent.
+    pub fn lend(&mut self, block: &Block)
+        requires { IsPlace self.old block.now.page }
+        ensures { self.new ≡ record self.old { uses = slice_set self.old.uses (block.now.page - self.old.base) (Lent block.now.order block.now.kind) } }
+    {
+        self.set(block.page, PageUse::Lent(block.order, block.kind));
+    }
+
+    /// All of these pages get one use.
+    pub fn set_all(&mut self, pages: &[PageNo], used: PageUse)
+        requires { All (IsPlace self.old) pages.now }
+        ensures { self.new ≡ record self.old { uses = all_as self.old.base used pages.now self.old.uses } }
+    {
+        for page in pages {
+            let same = used;
+            self.set(*page, same);
+        }
+    }
+}

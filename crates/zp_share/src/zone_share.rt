@@ -1,0 +1,148 @@
+//! What one worker has of one zone.
+ghost use Rattle.std.specs.Prelude.{◌≡◌, ◌<◌, ◌≤◌, ℕ, length, IfOk, IfErr, true, false, Ok, Err};
+ghost use Rattle.zp_model.specs.Zone.{workers_of};
+ghost use Rattle.zp_model.specs.declared.request.Request.TheVariants as request;
+ghost use Rattle.zp_model.specs.declared.request.Reply.TheVariants as reply;
+ghost use Rattle.zp_model.specs.declared.refused.Refused.TheVariants.{NotLent, JournalFull, Memory};
+ghost use Rattle.zp_model.specs.Rows.{front};
+ghost use Rattle.zp_zone.specs.NamedZone.{page_reply, block_reply, pages_reply};
+ghost use Rattle.zp_zone.specs.Seats.{IsSeatOf, IsUnused};
+ghost use Rattle.zp_share.specs.ZoneShares.{use_in, is_lent, cached_of, back, IsShare, SharesIn, IsSection, IsLeft, IsSameSeat, taken, putting, opening_share};
+
+use crate::page_stack::PageStack;
+use crate::page_use::PageUse;
+use crate::page_uses::PageUses;
+use crate::sections::Sections;
+use arrayvec::ArrayVec;
+use std::alloc::Global;
+use std::marker::Model;
+use zp_model::{
+    Block, Entry, LONGEST_LIST, MAX_BATCH, Mark, MigrateType, Order, PageList, PageNo, Refused,
+    Reply, Request, TYPES, Worker,
+};
+use zp_zone::{Seat, Zone};
+
+mod requests;
+
+/// What one worker has of a zone: its lists of pages of order 0, one for each type, the blocks lent to it, and its sections.
+#[derive(Drop)]
+pub struct ZoneShare {
+    seat: Seat,
+    uses: PageUses,
+    cached: [PageStack; TYPES],
+    sections: Sections,
+}
+
+impl Model for ZoneShare {
+    ghost use Rattle.std.specs.Prelude.{◌≡◌};
+    ghost use Rattle.zp_share.specs.ZoneShares.{ZoneShareState, IsShare};
+
+    ghost Value = { ZoneShareState };
+
+    ghost view = { λ s. record { seat = s.seat; uses = s.uses.uses; cached = s.cached; sections = s.sections } };
+
+    ghost invariant = { λ s. (s.uses.base ≡ s.seat.part.base) × IsShare (record { seat = s.seat; uses = s.uses.uses; cached = s.cached; sections = s.sections }) };
+}
+
+impl ZoneShare {
+    /// The share of a seat with which no request was made. Refused 6.
+    pub fn new(alloc: Global, seat: Seat) -> Result<ZoneShare, Refused>
+        requires { IsUnused seat }
+        ensures share { IfOk result (λ s. s ≡ opening_share seat (length seat.part.blocks)) }
+        ensures why { IfErr result (λ e. e ≡ Memory) }
+    {
+        let Ok(uses) = PageUses::new(alloc, seat.base(), seat.pages()) else {
+            return Err(Refused::Memory);
+        };
+        Ok(ZoneShare {
+            seat,
+            uses,
+            cached: [PageStack::new(), PageStack::new(), PageStack::new()],
+            sections: Sections::new(),
+        })
+    }
+
+    pub fn worker(&self) -> Worker
+        ensures { result ≡ self.now.seat.worker }
+    {
+        self.seat.worker()
+    }
+
+    /// Whether the block at this page, of this order, is lent. In each share the blocks out to its worker are its cached
+    /// pages and its lent blocks, each once.
+    pub fn is_lent(&self, page: PageNo, order: Order) -> bool
+        ensures lent { result ≡ is_lent self.now page order }
+        ensures share { IsShare self.now }
+    {
+        match self.uses.of(page) {
+            PageUse::Lent(lent, _) => lent.number() == order.number(),
+            _ => false,
+        }
+    }
+
+    /// How many pages the list of this type has.
+    pub fn cached_len(&self, kind: MigrateType) -> usize
+        ensures same { result ≡ length (cached_of self.now kind) }
+        ensures within { result ≤ LONGEST_LIST }
+    {
+        self.cached[kind.number()].len()
+    }
+
+    /// How many sections were made.
+    pub fn sections(&self) -> u64
+        ensures { result ≡ self.now.sections.made }
+    {
+        self.sections.made()
+    }
+
+    /// The last section's worker, request and reply.
+    pub fn last(&self) -> &Option<Entry>
+        ensures { result.now ≡ self.now.sections.last }
+    {
+        self.sections.last()
+    }
+
+    /// Nothing changes, and the share and the zone agree: what is out in the worker's name is what the share has.
+    pub fn check(&mut self, zone: &mut Zone)
+        requires { IsSeatOf zone.old self.old.seat }
+        ensures same { IsLeft zone.old zone.new self.old self.new }
+        ensures agrees { SharesIn zone.old self.old }
+        ensures known { self.new.seat.worker < workers_of zone.new.plain }
+        ensures fits { IsSeatOf zone.new self.new.seat }
+    {
+        zone.check(&mut self.seat);
+    }
+
+    /// Takes the front of the list of this type, and lends it.
+    pub fn take_cached(&mut self, kind: MigrateType) -> Option<PageNo>
+        ensures answer { result ≡ front (cached_of self.old kind) }
+        ensures after { self.new ≡ taken kind self.old }
+        ensures seat { self.new.seat ≡ self.old.seat }
+    {
+        let page = self.cached[kind.number()].pop_front()?;
+        self.uses.set(page, PageUse::Lent(Order::zero(), kind));
+        Some(page)
+    }
+
+    /// Puts a lent page at the front of the list of its type. Refused 20 where the page is not lent with order 0, and 21
+    /// where the list has `high_len` pages.
+    pub fn put_cached(&mut self, page: PageNo, high_len: usize) -> Result<(), Refused>
+        requires { high_len ≤ LONGEST_LIST }
+        ensures answer { result ≡ (putting self.old page high_len).answer }
+        ensures after { self.new ≡ (putting self.old page high_len).share }
+        ensures seat { self.new.seat ≡ self.old.seat }
+    {
+        let PageUse::Lent(order, kind) = self.uses.of(page) else {
+            return Err(Refused::NotLent);
+        };
+        if order.number() != 0 {
+            return Err(Refused::NotLent);
+        }
+        if self.cached_len(kind) >= high_len {
+            return Err(Refused::ListFull);
+        }
+        self.cached[kind.number()].push_front(page);
+        self.uses.set(page, PageUse::Cached(kind));
+        Ok(())
+    }
+}
