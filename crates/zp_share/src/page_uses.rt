@@ -68,6 +68,7 @@ impl PageUses {
         ensures { self.new ≡ record self.old { uses = all_as self.old.base used pages.now self.old.uses } }
     {
         for page in pages {
+            // a copy, since the call takes its own
             let same = used;
             self.set(*page, same);
         }

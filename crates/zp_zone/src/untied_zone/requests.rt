@@ -80,6 +80,7 @@ impl UntiedZone {
     {
         // a clause of this call says that what is noted as free is free, which the next call rests on
         let _pages = self.buddy.pages();
+        // the worker is named for the condition alone
         let _ = worker;
         let at = PageAt::at(page.number() - self.base);
         self.buddy.give(at, order);

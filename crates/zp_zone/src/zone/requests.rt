@@ -70,7 +70,8 @@ impl Zone {
         self.untied.alloc_low(worker, order)
     }
 
-    /// Gives back the seat's block at this page, of this order. It is never refused; `held_by` tells whether it may be called.
+    /// Gives back the seat's block at this page, of this order. It is never refused. After a
+    /// `check`, `held_by` tells whether it may be called.
     pub fn free(&mut self, seat: &mut Seat, page: PageNo, order: Order)
         requires seat { IsSeatOf self.old seat.old }
         requires has { IsTrue (has seat.old page order) }
@@ -93,7 +94,7 @@ impl Zone {
     }
 
     /// Posts the seat's block at this page, of this order, to a worker: it goes to the end of the worker's list. It is never
-    /// refused; `held_by` tells whether it may be called.
+    /// refused. After a `check`, `held_by` tells whether it may be called.
     pub fn post(&mut self, seat: &mut Seat, page: PageNo, order: Order, to: Worker)
         requires seat { IsSeatOf self.old seat.old }
         requires has { IsTrue (has seat.old page order) }
