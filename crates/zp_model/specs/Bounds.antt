@@ -1,6 +1,6 @@
--- What may be a zone's base, how many pages it may have, and how many workers.
+-- What may be a zone's base, how many pages it may have, and how many workers; and what may be the settings of workers' lists.
 use Rattle.std.specs.Prelude.{ℕ, ◌%◌, ◌≡◌, ◌≤◌, ◌<◌}
-use Rattle.zp_model.specs.declared.constants.TheConstants.{BASE_LIMIT, BASE_STEP, MAX_PAGES, MAX_WORKERS}
+use Rattle.zp_model.specs.declared.constants.TheConstants.{BASE_LIMIT, BASE_STEP, LONGEST_LIST, MAX_BATCH, MAX_PAGES, MAX_WORKERS}
 
 abbrev pub IsBase : ℕ → Type 0
 IsBase base = (base % BASE_STEP ≡ 0) × (base ≤ BASE_LIMIT)
@@ -10,3 +10,11 @@ IsPages pages = (0 < pages) × (pages ≤ MAX_PAGES)
 
 abbrev pub IsCrew : ℕ → Type 0
 IsCrew workers = (0 < workers) × (workers ≤ MAX_WORKERS)
+
+-- how many pages a refill asks for and a drain gives back, and how many pages a list holds at most: batch 0 means no lists, else
+-- a list has room for more than a batch (this profile)
+pub record AreLists (batch high_len : ℕ) : Type 0 where
+  pub most : batch ≤ MAX_BATCH
+  pub longest : high_len ≤ LONGEST_LIST
+  pub none : batch ≡ 0 → high_len ≡ 0
+  pub room : 1 ≤ batch → batch < high_len

@@ -26,6 +26,9 @@ pub const MAX_PAGES: u32 = 65536;
 /// The largest number of workers of a zone.
 pub const MAX_WORKERS: u32 = 32;
 
+/// The most zones of a row.
+pub const MAX_ZONES: usize = 4;
+
 /// What the base of a zone is a multiple of.
 pub const BASE_STEP: u32 = 1_024;
 

@@ -24,7 +24,7 @@ pub use block::Block;
 pub use blocks_law::{each_page_in_one_block, unjoined_blocks_are_maximal};
 pub use constants::{
     BASE_LIMIT, BASE_STEP, CLAIM_PAGES, LARGEST_ORDER, LEAST_MOVABLE_CLAIM, LONGEST_LIST,
-    LONGEST_NAME, MAX_BATCH, MAX_PAGES, MAX_WORKERS, NAME_PLACES, NUMBER_PLACES, ORDERS,
+    LONGEST_NAME, MAX_BATCH, MAX_PAGES, MAX_WORKERS, MAX_ZONES, NAME_PLACES, NUMBER_PLACES, ORDERS,
     PAGEBLOCK_PAGES, TYPES,
 };
 pub use counts::Counts;

@@ -15,7 +15,8 @@ use Rattle.zp_model.proofs.Settles.{stands_cases}
 use Rattle.zp_share.specs.declared.page_use.PageUse.{PageUse}
 use Rattle.zp_share.specs.declared.page_use.PageUse.TheVariants.{Away, Lent, Cached}
 use Rattle.zp_share.specs.PageUses.{held, is_cached_as, all_as, uses_after}
-use Rattle.zp_share.specs.ZoneShares.{ZoneShareState, IsShare, use_in, is_lent, cached_of, back, without_back, last_of, lists_after, answered}
+use Rattle.zp_share.specs.PlainShares.{back, without_back, lists_after}
+use Rattle.zp_share.specs.ZoneShares.{ZoneShareState, IsShare, use_in, is_lent, cached_of, last_of, answered}
 use Rattle.zp_share.proofs.OneUse.{IsIn, in_by_use, length-all_as, held-cached, held-away}
 use Rattle.zp_share.proofs.Listing.{IsListing, lent-uncached, lent_there, unlisted, added, back_removed}
 

@@ -10,7 +10,8 @@ use Rattle.zp_zone.specs.Seats.{HasPages, has}
 use Rattle.zp_share.specs.declared.page_use.PageUse.TheVariants.{Cached}
 use Rattle.zp_share.specs.declared.zone_share.ZoneShare.TheInside.{Inside}
 use Rattle.zp_share.specs.PageUses.{IsPlace}
-use Rattle.zp_share.specs.ZoneShares.{ZoneShareState, cached_of, back as back_pages}
+use Rattle.zp_share.specs.PlainShares.{back as back_pages}
+use Rattle.zp_share.specs.ZoneShares.{ZoneShareState, cached_of}
 use Rattle.zp_share.proofs.OneUse.{IsIn}
 use Rattle.zp_share.proofs.Stacks.{All-by_standing, is_distinct-true, distinct-back, length-back, back_stands}
 use Rattle.zp_share.proofs.Listing.{number_in, standing_cached, standing_in}

@@ -15,7 +15,8 @@ use Rattle.zp_share.specs.declared.page_use.PageUse.{PageUse}
 use Rattle.zp_share.specs.declared.page_use.PageUse.TheVariants.{Away, Lent, Cached}
 use Rattle.zp_share.specs.declared.zone_share.ZoneShare.TheInside.{Inside}
 use Rattle.zp_share.specs.PageUses.{held, uses_after}
-use Rattle.zp_share.specs.ZoneShares.{ZoneShareState, SectionsState, IsShare, SharesIn, IsSection, use_in, lists_after, answered}
+use Rattle.zp_share.specs.PlainShares.{SectionsState, lists_after}
+use Rattle.zp_share.specs.ZoneShares.{ZoneShareState, IsShare, SharesIn, IsSection, use_in, answered}
 use Rattle.zp_share.proofs.OneUse.{IsIn, in_at}
 use Rattle.zp_share.proofs.Stacks.{standing_of_all, distinct-by_test}
 use Rattle.zp_share.proofs.Answering.{IsNew, AreNew, IsFit, answered_keeps, answered-blocks, length-uses_after}

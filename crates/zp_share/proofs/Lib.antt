@@ -6,3 +6,14 @@ pub mod Closing
 pub mod Opened
 pub mod Taking
 pub mod Batches
+pub mod Tried
+pub mod Placed
+pub mod Telling
+pub mod Carrying
+pub mod Draining
+pub mod Lending
+pub mod Freeing
+pub mod DrainingAll
+pub mod Owners
+pub mod Crews
+pub mod Gathered

@@ -13,7 +13,7 @@ use Rattle.zp_laws.proofs.Settling.{stands-append, distinct-append}
 use Rattle.zp_share.specs.declared.page_use.PageUse.{PageUse}
 use Rattle.zp_share.specs.declared.page_use.PageUse.TheVariants.{Away, Lent, Cached}
 use Rattle.zp_share.specs.PageUses.{use_of, is_lent_as, is_cached_as, all_as}
-use Rattle.zp_share.specs.ZoneShares.{back, without_back}
+use Rattle.zp_share.specs.PlainShares.{back, without_back}
 use Rattle.zp_share.proofs.OneUse.{IsIn, in_by_use, use-all_as}
 use Rattle.zp_share.proofs.Stacks.{left_of_back, back_stands, distinct-without_back}
 

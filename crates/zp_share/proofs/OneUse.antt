@@ -2,8 +2,7 @@
 use Rattle.std.proofs.Common.{ℕ, ◌-◌, ◌≡◌, ◌≤◌, ◌<◌, inl, inr, refl, sym, ◌∙◌, ap, subst, arith, Bool, true, false, List, [], ◌∷◌, ◌++◌, length, get_or, take, map, cond, leb, ◌+◌, All}
 use Rattle.std.specs.Prelude.{slice_set}
 use Rattle.std.proofs.lemmas.Bool.{cases_lt, cases_eq, le-leb, leb-true, eq-eqb, ne_eqb}
-use Rattle.std.proofs.lemmas.List.{get_or-set_same, get_or-set_other, get_or_past, map-set, length-set}
-use Rattle.std.proofs.lemmas.List.{take_more}
+use Rattle.std.proofs.lemmas.List.{get_or-set_same, get_or-set_other, get_or_past, map-set, length-set, take_more}
 use Rattle.std.proofs.lemmas.List.Elements.{All-get_or}
 use Rattle.zp_model.specs.declared.migrate_type.MigrateType.{MigrateType}
 use Rattle.zp_model.specs.Rows.{stands_in}
@@ -17,7 +16,7 @@ abbrev pub IsIn : ℕ → List PageUse → ℕ → Type 0
 IsIn base us p = let u : UsesState = record { base = base; uses = us } in IsPlace u p
 
 -- the use of a page that is set, and of another
-use-set : (base p : ℕ) (u : PageUse) (us : List PageUse) → IsIn base us p → use_of base (slice_set us (p - base) u) p ≡ u
+pub use-set : (base p : ℕ) (u : PageUse) (us : List PageUse) → IsIn base us p → use_of base (slice_set us (p - base) u) p ≡ u
 use-set base p u us i =
     ap (λ b. cond b (use_at (slice_set us (p - base) u) (p - base)) Away) (le-leb base p i.from) ∙ get_or-set_same us (p - base) u Away i.below
 

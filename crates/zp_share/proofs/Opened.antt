@@ -1,10 +1,11 @@
 -- A share of a seat with which no request was made.
-use Rattle.std.proofs.Common.{ℕ, ◌≡◌, ◌-◌, ◌==◌, refl, sym, ◌∙◌, ap, subst, arith, Bool, true, false, List, [], length, map, cond, leb, Option, None, inl, inr}
+use Rattle.std.proofs.Common.{ℕ, ◌≡◌, ◌≤◌, ◌+◌, ◌-◌, ◌==◌, ◌++◌, ◌∷◌, refl, sym, ◌∙◌, ap, subst, arith, Bool, true, false, List, [], length, map, get_or, cond, leb, Option, None, inl, inr, All}
 use Rattle.std.specs.Prelude.{replicate}
 use Rattle.std.specs.List.{IsDistinct}
 use Rattle.std.proofs.Math.ListN.{get_or-map}
 use Rattle.std.proofs.lemmas.Bool.{cases_lt}
-use Rattle.std.proofs.lemmas.List.{ext_get_or, get_or-replicate, length-replicate, get_or_past, length-map}
+use Rattle.std.proofs.lemmas.List.{ext_get_or, get_or-replicate, get_or_default, length-replicate, length-append, get_or_past, length-map}
+use Rattle.std.proofs.lemmas.List.Elements.{All-nil, All-cons, All-head, All-tail, All-map}
 use Rattle.zp_model.specs.declared.request.Entry.{Entry}
 use Rattle.zp_model.specs.MigrateType.{types_count}
 use Rattle.zp_model.specs.Rows.{list_at, stands_in}
@@ -56,3 +57,26 @@ opening_whole o b n e eu eb en el es =
     let same : share_of o ≡ opening_share o.seat (length o.seat.part.blocks) =
     (λ i. let s : ZoneShareState = record { seat = o.seat; uses = (eu i).uses; cached = el i; sections = es i } in s) ∙ ap (opening_share o.seat) en in
     (ap (λ u. u.base) eu ∙ eb, subst (λ s. IsShare s) (sym same) (opening_keeps o.seat e))
+
+-- the first ones of a list hold what all hold
+All-first : {X : Type 0} (P : X → Type 0) (xs ys : List X) → All P (xs ++ ys) → All P xs
+All-first P [] ys a = All-nil P
+All-first P (x ∷ xs) ys a = All-cons P x xs (All-head P x (xs ++ ys) a) (All-first P xs ys (All-tail P x (xs ++ ys) a))
+
+-- the shares of a worker's seats so far are few, and each is the worker's
+pub opened_fit : (seats ys left : List SeatState) (zs : List ZoneShareState) (w n : ℕ) → zs ≡ map (λ (t : SeatState). opening_share t (length t.part.blocks)) ys → ys ++ left ≡ seats →
+    length seats ≤ n → All (λ (s : SeatState). s.worker ≡ w) seats → (length zs ≤ n) × All (λ (z : ZoneShareState). z.seat.worker ≡ w) zs
+opened_fit seats ys left zs w n e f few each =
+    let opened : SeatState → ZoneShareState = λ t. opening_share t (length t.part.blocks) in
+    let many : length ys + length left ≡ length seats = sym (length-append ys left) ∙ ap length f in
+    let alike : length zs ≡ length ys = ap length e ∙ length-map ys opened in
+    let all : All (λ (s : SeatState). s.worker ≡ w) ys = All-first (λ (s : SeatState). s.worker ≡ w) ys left (subst (λ l. All (λ (s : SeatState). s.worker ≡ w) l) (sym f) each) in (
+      omega (arith, many, alike, few),
+      subst (λ l. All (λ (z : ZoneShareState). z.seat.worker ≡ w) l) (sym e) (All-map (λ (z : ZoneShareState). z.seat.worker ≡ w) opened ys all),
+    )
+
+-- the first seat's worker, as the code reads it, is that of all
+pub first_worker : (seats : List SeatState) (first : SeatState) (w : ℕ) (d : SeatState) → 1 ≤ length seats → first ≡ get_or seats 0 first → w ≡ first.worker →
+    All (λ (s : SeatState). s.worker ≡ (get_or seats 0 d).worker) seats → All (λ (s : SeatState). s.worker ≡ w) seats
+first_worker seats first w d some at e each =
+    subst (λ n. All (λ (s : SeatState). s.worker ≡ n) seats) (sym (e ∙ ap (λ s. s.worker) at ∙ ap (λ s. s.worker) (get_or_default seats 0 first d (omega (arith, some))))) each

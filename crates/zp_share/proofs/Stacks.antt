@@ -13,7 +13,7 @@ use Rattle.zp_model.specs.Rows.{stands_in}
 use Rattle.zp_model.specs.Run.{is_distinct}
 use Rattle.zp_model.proofs.Settles.{stands_first, stands_later, stands_cases, distinct_first, distinct_more, distinct_rest}
 use Rattle.zp_laws.proofs.Settling.{stands-append}
-use Rattle.zp_share.specs.ZoneShares.{back, without_back}
+use Rattle.zp_share.specs.PlainShares.{back, without_back}
 
 -- what holds of each page that stands there holds of all
 pub All-by_standing : (P : ℕ → Type 0) (xs : List ℕ) → ((q : ℕ) → stands_in q xs ≡ true → P q) → All P xs

@@ -2,6 +2,7 @@
 use Rattle.std.proofs.Common.{ℕ, ◌-◌, ◌≡◌, ◌<◌, refl, sym, ◌∙◌, ap, subst, true, List, [], ◌∷◌, length, get_or, Some}
 use Rattle.std.specs.Prelude.{slice_set}
 use Rattle.std.proofs.Math.Seq.{map-set_same}
+use Rattle.std.proofs.lemmas.Bool.{eq-eqb}
 use Rattle.std.proofs.lemmas.List.{get_or_default}
 use Rattle.zp_model.specs.declared.migrate_type.MigrateType.{MigrateType}
 use Rattle.zp_model.specs.MigrateType.{type_number}
@@ -11,8 +12,8 @@ use Rattle.zp_share.specs.declared.page_use.PageUse.{PageUse}
 use Rattle.zp_share.specs.declared.page_use.PageUse.TheVariants.{Away, Lent, Cached}
 use Rattle.zp_share.specs.declared.zone_share.ZoneShare.TheInside.{Inside}
 use Rattle.zp_share.specs.PageUses.{UsesState, IsPlace, use_of, held, is_lent_as, is_cached_as}
-use Rattle.zp_share.specs.ZoneShares.{ZoneShareState, IsShare, use_in, cached_of, put}
-use Rattle.zp_share.proofs.OneUse.{IsIn, in_by_use, in_at}
+use Rattle.zp_share.specs.ZoneShares.{ZoneShareState, IsShare, use_in, is_lent, cached_of}
+use Rattle.zp_share.proofs.OneUse.{IsIn, in_by_use, in_at, use-set}
 use Rattle.zp_share.proofs.Stacks.{distinct-by_test}
 use Rattle.zp_share.proofs.Listing.{IsListing, standing_cached, standing_in, lent_there, added, front_removed, number_in}
 use Rattle.zp_share.proofs.Answering.{listing, only}
@@ -51,7 +52,10 @@ taken_keeps s p t ps x f =
     (front_removed s.seat.part.base p t (Lent 0 t) ps s.uses s.cached (listing s x) (λ r. refl) f)
 
 -- a lent page goes to the front of its type's list
-put_keeps : (s : ZoneShareState) (p : ℕ) (t : MigrateType) → IsShare s → use_in s p ≡ Lent 0 t → IsShare (put p t s)
+abbrev put_in : ℕ → MigrateType → ZoneShareState → ZoneShareState
+put_in p t s = record s { uses = slice_set s.uses (p - s.seat.part.base) (Cached t); cached = slice_set s.cached (type_number t) (p ∷ cached_of s t) }
+
+put_keeps : (s : ZoneShareState) (p : ℕ) (t : MigrateType) → IsShare s → use_in s p ≡ Lent 0 t → IsShare (put_in p t s)
 put_keeps s p t x u =
     let i : IsIn s.seat.part.base s.uses p = in_by_use s.seat.part.base p s.uses (lent_there 0 (use_in s p) (ap (is_lent_as 0) u)) in
     kept s p (Cached t) (slice_set s.cached (type_number t) (p ∷ cached_of s t)) x i (ap (held s.seat.worker) u)
@@ -94,6 +98,16 @@ put_whole o u t j n p d ys x en lent ej ey eu =
     let at : use_in (share_of o) p ≡ Lent 0 t = ap (λ b. use_of b o.uses.uses p) (sym x.0) ∙ sym lent ∙ ap (λ k. Lent k t) ej in
     let V : List PageUse → List (List ℕ) → ZoneShareState = λ us ls. record { seat = o.seat; uses = us; cached = ls; sections = o.sections } in
     let same : V u.uses (slice_set o.cached n ys) ≡ V (slice_set o.uses.uses (p - o.uses.base) (Cached t)) (slice_set o.cached n ys) = λ i. V (eu i).uses (slice_set o.cached n ys) in
-    let named : V (slice_set o.uses.uses (p - o.uses.base) (Cached t)) (slice_set o.cached n ys) ≡ put p t (share_of o) =
+    let named : V (slice_set o.uses.uses (p - o.uses.base) (Cached t)) (slice_set o.cached n ys) ≡ put_in p t (share_of o) =
     λ i. V (slice_set o.uses.uses (p - x.0 i) (Cached t)) (list_changed o.cached n t d ys (λ l. p ∷ l) lt en ey i) in
     (ap (λ v. v.base) eu ∙ x.0, subst (λ v. IsShare v) (sym (same ∙ named)) (put_keeps (share_of o) p t x.1 at))
+
+-- a page of the zone that was just lent is lent
+pub lent_now : (o : Inside) (u : UsesState) (ls : List (List ℕ)) (t : MigrateType) (p z k : ℕ) → IsWhole o → IsPlace o.uses p → z ≡ k →
+    u ≡ record { base = o.uses.base; uses = slice_set o.uses.uses (p - o.uses.base) (Lent z t) } →
+    is_lent (record { seat = o.seat; uses = u.uses; cached = ls; sections = o.sections }) p k ≡ true
+lent_now o u ls t p z k x place ez eu =
+    ap (λ v. is_lent_as k (use_of o.seat.part.base v.uses p)) eu
+    ∙ ap (λ b. is_lent_as k (use_of b (slice_set o.uses.uses (p - o.uses.base) (Lent z t)) p)) (sym x.0)
+    ∙ ap (is_lent_as k) (use-set o.uses.base p (Lent z t) o.uses.uses place)
+    ∙ eq-eqb z k ez

@@ -1,3 +1,6 @@
-pub mod ListSettings
 pub mod PageUses
+pub mod PlainShares
 pub mod ZoneShares
+pub mod Commands
+pub mod Shares
+pub mod Gathering

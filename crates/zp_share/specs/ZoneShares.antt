@@ -1,26 +1,20 @@
--- What one worker has of one zone: its lists of pages, the blocks lent to it, and its sections there (this profile).
-use Rattle.std.specs.Prelude.{ℕ, ◌+◌, ◌-◌, ◌≡◌, ◌==◌, ◌<◌, Bool, List, [], ◌∷◌, ◌++◌, length, map, take, reverse, replicate, slice_set, Option, None, Some, Result, Ok, Err, cond, ltb}
+-- What one worker has of one zone: its lists of pages, the blocks lent to it, and its sections there, tied to the zone (this
+-- profile).
+use Rattle.std.specs.Prelude.{ℕ, ◌≡◌, ◌==◌, ◌<◌, Bool, List, [], ◌∷◌, length, map, Option, None, Some}
 use Rattle.std.specs.List.{IsDistinct}
 use Rattle.zp_model.specs.declared.migrate_type.MigrateType.{MigrateType}
-use Rattle.zp_model.specs.declared.refused.Refused.{Refused}
-use Rattle.zp_model.specs.declared.refused.Refused.TheVariants.{NotLent, ListFull}
 use Rattle.zp_model.specs.declared.request.Entry.{Entry}
 use Rattle.zp_model.specs.declared.request.Request.{Request}
 use Rattle.zp_model.specs.declared.request.Reply.{Reply}
-use Rattle.zp_model.specs.MigrateType.{type_number, types_count}
+use Rattle.zp_model.specs.MigrateType.{types_count}
 use Rattle.zp_model.specs.Rows.{list_at, stands_in}
 use Rattle.zp_model.specs.Zone.{workers_of}
 use Rattle.zp_model.specs.Books.{own}
 use Rattle.zp_model.specs.Step.{step}
 use Rattle.zp_zone.specs.Seats.{ZoneState, SeatState, asked, replied}
 use Rattle.zp_share.specs.declared.page_use.PageUse.{PageUse}
-use Rattle.zp_share.specs.declared.page_use.PageUse.TheVariants.{Away, Lent, Cached}
-use Rattle.zp_share.specs.PageUses.{use_of, held, is_lent_as, is_cached_as, uses_after}
-
-pub record SectionsState : Type 0 where
-  -- how many were made, and the last one
-  pub made : ℕ
-  pub last : Option Entry
+use Rattle.zp_share.specs.PageUses.{held, is_cached_as}
+use Rattle.zp_share.specs.PlainShares.{SectionsState, PlainZoneShare, used_as, lends, list_of, share_after, opening_own}
 
 pub record ZoneShareState : Type 0 where
   -- the worker, what ties it to the zone, and its part of the zone's books
@@ -31,17 +25,21 @@ pub record ZoneShareState : Type 0 where
   pub cached : List (List ℕ)
   pub sections : SectionsState
 
+-- without what ties it to the zone
+abbrev pub plain_share : ZoneShareState → PlainZoneShare
+plain_share s = record { worker = s.seat.worker; base = s.seat.part.base; uses = s.uses; cached = s.cached; sections = s.sections }
+
 -- what an absolute page is to the worker
 abbrev pub use_in : ZoneShareState → ℕ → PageUse
-use_in s p = use_of s.seat.part.base s.uses p
+use_in s p = used_as (plain_share s) p
 
 -- whether the block of order k at an absolute page is lent
 abbrev pub is_lent : ZoneShareState → ℕ → ℕ → Bool
-is_lent s p k = is_lent_as k (use_in s p)
+is_lent s p k = lends (plain_share s) p k
 
 -- the list of a type
 abbrev pub cached_of : ZoneShareState → MigrateType → List ℕ
-cached_of s t = list_at s.cached (type_number t)
+cached_of s t = list_of (plain_share s) t
 
 -- the last entry of a list, where it has one
 abbrev pub last_of : List Entry → Option Entry
@@ -66,28 +64,11 @@ pub record SharesIn (z : ZoneState) (s : ZoneShareState) : Type 0 where
   pub worker : s.seat.worker < workers_of z.plain
   pub blocks : own s.seat.worker z.plain.out ≡ map (held s.seat.worker) s.uses
 
--- the n pages at the back of a list, the last one first, and the list without them
-abbrev pub back : ℕ → List ℕ → List ℕ
-back n xs = take n (reverse xs)
-
-abbrev pub without_back : ℕ → List ℕ → List ℕ
-without_back n xs = take (length xs - n) xs
-
--- what a request, answered so, makes of the lists: a refill's pages are put on in front, and those of a drain leave the back
-abbrev pub lists_after : Request → Reply → List (List ℕ) → List (List ℕ)
-lists_after (Request.Refill t m n) (Reply.Pages ps) ls = slice_set ls (type_number t) (ps ++ list_at ls (type_number t))
-lists_after (Request.Drain t ps) Reply.Drained ls = slice_set ls (type_number t) (without_back (length ps) (list_at ls (type_number t)))
-lists_after r q ls = ls
-
--- the share, when its request is answered so: one section more
+-- the share, when its request is answered so
 abbrev pub answered : Request → Reply → ZoneShareState → ZoneShareState
 answered r q s =
-    record {
-      seat = replied r q s.seat;
-      uses = uses_after s.seat.part.base r q s.uses;
-      cached = lists_after r q s.cached;
-      sections = record { made = s.sections.made + 1; last = Some (record { worker = s.seat.worker; request = r; reply = q }) };
-    }
+    let after : PlainZoneShare = share_after r q (plain_share s) in
+    record { seat = replied r q s.seat; uses = after.uses; cached = after.cached; sections = after.sections }
 
 -- one section: the request is a step of the lent zone, the share changes as the reply says, and the two agree before and after
 pub record IsSection (r : Request) (q : Reply) (z y : ZoneState) (s t : ZoneShareState) : Type 0 where
@@ -107,33 +88,8 @@ pub record IsLeft (z y : ZoneState) (s t : ZoneShareState) : Type 0 where
   pub zone : y ≡ z
   pub share : t ≡ s
 
--- the front of a type's list is lent
-abbrev pub taken_at : MigrateType → List ℕ → ZoneShareState → ZoneShareState
-taken_at t [] s = s
-taken_at t (p ∷ ps) s = record s { uses = slice_set s.uses (p - s.seat.part.base) (Lent 0 t); cached = slice_set s.cached (type_number t) ps }
-
-abbrev pub taken : MigrateType → ZoneShareState → ZoneShareState
-taken t s = taken_at t (cached_of s t) s
-
--- a lent page goes to the front of its type's list
-abbrev pub put : ℕ → MigrateType → ZoneShareState → ZoneShareState
-put p t s = record s { uses = slice_set s.uses (p - s.seat.part.base) (Cached t); cached = slice_set s.cached (type_number t) (p ∷ cached_of s t) }
-
-pub record Putting : Type 0 where
-  pub answer : Result (Unit {0}) Refused
-  pub share : ZoneShareState
-
--- a page is put on its list: only where it is lent with order 0, and its list has room
-abbrev pub putting_as : PageUse → ℕ → ℕ → ZoneShareState → Putting
-putting_as (Lent k t) p high s =
-    cond (k == 0)
-    (cond (ltb (length (cached_of s t)) high) (record { answer = Ok tt; share = put p t s }) (record { answer = Err ListFull; share = s }))
-    (record { answer = Err NotLent; share = s })
-putting_as u p high s = record { answer = Err NotLent; share = s }
-
-abbrev pub putting : ZoneShareState → ℕ → ℕ → Putting
-putting s p high = putting_as (use_in s p) p high s
-
 -- a share of a seat with which no request was made, in a zone of so many pages
 abbrev pub opening_share : SeatState → ℕ → ZoneShareState
-opening_share seat pages = record { seat = seat; uses = replicate pages Away; cached = replicate types_count []; sections = record { made = 0; last = None } }
+opening_share seat pages =
+    let own : PlainZoneShare = opening_own seat.worker seat.part.base pages in
+    record { seat = seat; uses = own.uses; cached = own.cached; sections = own.sections }

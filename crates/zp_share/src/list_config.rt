@@ -2,7 +2,7 @@
 //!
 //! In Linux: `pcp->batch` and `pcp->high`.
 ghost use Rattle.std.specs.Prelude.{◌≡◌, ◌≤◌, IfSome, IsSome, ◌↔◌};
-ghost use Rattle.zp_share.specs.ListSettings.{IsSettings};
+ghost use Rattle.zp_model.specs.Bounds.{AreLists};
 
 use zp_model::{LONGEST_LIST, MAX_BATCH};
 
@@ -11,13 +11,13 @@ use zp_model::{LONGEST_LIST, MAX_BATCH};
 pub struct ListConfig {
     batch: u8,
     high_len: u8,
-    ghost settings: { IsSettings batch high_len },
+    ghost settings: { AreLists batch high_len },
 }
 
 impl ListConfig {
     /// Batch 0 with no room, or batch 1 to 31 and room for more than that and at most 64 pages.
     pub fn new(batch: u8, high_len: u8) -> Option<ListConfig>
-        ensures when { IsSome result ↔ IsSettings batch high_len }
+        ensures when { IsSome result ↔ AreLists batch high_len }
         ensures some { IfSome result (λ c. (c.batch ≡ batch) × (c.high_len ≡ high_len)) }
     {
         let none = batch == 0 && high_len == 0;

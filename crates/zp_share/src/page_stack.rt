@@ -1,7 +1,7 @@
 //! A worker's list of pages of one type.
 ghost use Rattle.std.specs.Prelude.{◌≡◌, ◌<◌, ◌≤◌, ◌+◌, [], ◌∷◌, ◌++◌, length};
 ghost use Rattle.zp_model.specs.Rows.{front, rest};
-ghost use Rattle.zp_share.specs.ZoneShares.{back, without_back};
+ghost use Rattle.zp_share.specs.PlainShares.{back, without_back};
 
 use arrayvec::ArrayVec;
 use std::marker::Model;

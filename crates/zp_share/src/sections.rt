@@ -4,6 +4,9 @@ ghost use Rattle.std.specs.Prelude.{◌≡◌, ◌<◌, ◌+◌, ◌==◌, Some,
 use std::marker::Model;
 use zp_model::{Entry, Reply, Request, Worker};
 
+/// The number of sections after which none can be counted.
+pub const LAST_SECTION: u64 = u64::MAX;
+
 /// How many there were, and the last one.
 #[derive(Drop)]
 pub struct Sections {
@@ -12,7 +15,7 @@ pub struct Sections {
 }
 
 impl Model for Sections {
-    ghost use Rattle.zp_share.specs.ZoneShares.{SectionsState};
+    ghost use Rattle.zp_share.specs.PlainShares.{SectionsState};
 
     ghost Value = { SectionsState };
 
@@ -37,10 +40,10 @@ impl Sections {
 
     /// Whether no further section can be counted.
     pub fn are_full(&self) -> bool
-        ensures full { result ≡ (self.now.made == u64.MAX) }
-        ensures room { result ≡ false → self.now.made < u64.MAX }
+        ensures full { result ≡ (self.now.made == LAST_SECTION) }
+        ensures room { result ≡ false → self.now.made < LAST_SECTION }
     {
-        self.made == u64::MAX
+        self.made == LAST_SECTION
     }
 
     pub fn last(&self) -> &Option<Entry>
@@ -51,7 +54,7 @@ impl Sections {
 
     /// One section more, in which a worker's request was answered so.
     pub fn add(&mut self, worker: Worker, request: Request, reply: Reply)
-        requires { self.old.made < u64.MAX }
+        requires { self.old.made < LAST_SECTION }
         ensures { self.new ≡ record { made = self.old.made + 1; last = Some (record { worker = worker; request = request; reply = reply }) } }
     {
         self.made += 1;

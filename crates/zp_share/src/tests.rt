@@ -4,6 +4,7 @@ ghost use Rattle.std.specs.Prelude.{◌≡◌, ◌≤◌, ◌<◌, IfOk, IfSome}
 ghost use Rattle.zp_zone.specs.Seats.{IsSeatOf, KeepsSeats};
 
 mod batches;
+mod commands;
 
 use super::*;
 use std::alloc::Global;

@@ -1,5 +1,5 @@
 //! What one worker has of one zone.
-ghost use Rattle.std.specs.Prelude.{◌≡◌, ◌<◌, ◌≤◌, ℕ, length, IfOk, IfErr, true, false, Ok, Err};
+ghost use Rattle.std.specs.Prelude.{◌≡◌, ◌<◌, ◌≤◌, ◌↔◌, ℕ, length, IfOk, IfErr, IfSome, IsSome, IsTrue};
 ghost use Rattle.zp_model.specs.Zone.{workers_of};
 ghost use Rattle.zp_model.specs.declared.request.Request.TheVariants as request;
 ghost use Rattle.zp_model.specs.declared.request.Reply.TheVariants as reply;
@@ -7,7 +7,9 @@ ghost use Rattle.zp_model.specs.declared.refused.Refused.TheVariants.{NotLent, J
 ghost use Rattle.zp_model.specs.Rows.{front};
 ghost use Rattle.zp_zone.specs.NamedZone.{page_reply, block_reply, pages_reply};
 ghost use Rattle.zp_zone.specs.Seats.{IsSeatOf, IsUnused};
-ghost use Rattle.zp_share.specs.ZoneShares.{use_in, is_lent, cached_of, back, IsShare, SharesIn, IsSection, IsLeft, IsSameSeat, taken, putting, opening_share};
+ghost use Rattle.zp_share.specs.Gathering.{cached_pages};
+ghost use Rattle.zp_share.specs.PlainShares.{lent_kind, taken, putting};
+ghost use Rattle.zp_share.specs.ZoneShares.{use_in, is_lent, cached_of, IsShare, SharesIn, IsLeft, plain_share, opening_share};
 
 use crate::page_stack::PageStack;
 use crate::page_use::PageUse;
@@ -80,12 +82,35 @@ impl ZoneShare {
         }
     }
 
+    /// The type of the block at this page, where it is lent with this order.
+    pub(crate) fn lent_kind(&self, page: PageNo, order: Order) -> Option<MigrateType>
+        ensures kind { result ≡ lent_kind (use_in self.now page) order }
+        ensures lent { IsSome result ↔ IsTrue (is_lent self.now page order) }
+    {
+        match self.uses.of(page) {
+            PageUse::Lent(lent, kind) if lent.number() == order.number() => Some(kind),
+            _ => None,
+        }
+    }
+
     /// How many pages the list of this type has.
     pub fn cached_len(&self, kind: MigrateType) -> usize
         ensures same { result ≡ length (cached_of self.now kind) }
         ensures within { result ≤ LONGEST_LIST }
+        ensures share { IsShare self.now }
     {
         self.cached[kind.number()].len()
+    }
+
+    /// How many pages all lists have.
+    pub(crate) fn cached_pages(&self) -> u32
+        ensures { result ≡ cached_pages (plain_share self.now) }
+    {
+        let mut pages = 0;
+        for list in &self.cached {
+            pages += list.len() as u32;
+        }
+        pages
     }
 
     /// How many sections were made.
@@ -109,6 +134,7 @@ impl ZoneShare {
         ensures agrees { SharesIn zone.old self.old }
         ensures known { self.new.seat.worker < workers_of zone.new.plain }
         ensures fits { IsSeatOf zone.new self.new.seat }
+        ensures whole { IsShare self.old }
     {
         zone.check(&mut self.seat);
     }
@@ -116,8 +142,9 @@ impl ZoneShare {
     /// Takes the front of the list of this type, and lends it.
     pub fn take_cached(&mut self, kind: MigrateType) -> Option<PageNo>
         ensures answer { result ≡ front (cached_of self.old kind) }
-        ensures after { self.new ≡ taken kind self.old }
+        ensures after { plain_share self.new ≡ taken kind (plain_share self.old) }
         ensures seat { self.new.seat ≡ self.old.seat }
+        ensures lent { IfSome result (λ page. IsTrue (is_lent self.new page 0)) }
     {
         let page = self.cached[kind.number()].pop_front()?;
         self.uses.set(page, PageUse::Lent(Order::zero(), kind));
@@ -128,8 +155,8 @@ impl ZoneShare {
     /// where the list has `high_len` pages.
     pub fn put_cached(&mut self, page: PageNo, high_len: usize) -> Result<(), Refused>
         requires { high_len ≤ LONGEST_LIST }
-        ensures answer { result ≡ (putting self.old page high_len).answer }
-        ensures after { self.new ≡ (putting self.old page high_len).share }
+        ensures answer { result ≡ (putting (plain_share self.old) page high_len).answer }
+        ensures after { plain_share self.new ≡ (putting (plain_share self.old) page high_len).share }
         ensures seat { self.new.seat ≡ self.old.seat }
     {
         let PageUse::Lent(order, kind) = self.uses.of(page) else {

@@ -1,12 +1,14 @@
 //! The sections of a share with the lent zone: each is one request on the zone, and the same change in the share.
-ghost use Rattle.std.specs.Prelude.{◌≡◌, ◌<◌, ◌≤◌, length, [], true, false, Ok, Err};
+ghost use Rattle.std.specs.Prelude.{◌≡◌, ◌≢◌, ◌<◌, ◌≤◌, length, [], true, false, Ok, Err, IfOk, IsTrue};
 ghost use Rattle.zp_model.specs.Zone.{workers_of};
 ghost use Rattle.zp_model.specs.declared.request.Request.TheVariants as request;
 ghost use Rattle.zp_model.specs.declared.request.Reply.TheVariants as reply;
 ghost use Rattle.zp_model.specs.declared.refused.Refused.TheVariants.{NotLent, JournalFull};
 ghost use Rattle.zp_zone.specs.NamedZone.{page_reply, block_reply, pages_reply};
 ghost use Rattle.zp_zone.specs.Seats.{IsSeatOf, KeepsSeats};
-ghost use Rattle.zp_share.specs.ZoneShares.{is_lent, cached_of, back, IsSection, IsLeft, IsSameSeat};
+ghost use Rattle.zp_share.specs.declared.sections.TheConstants.{LAST_SECTION};
+ghost use Rattle.zp_share.specs.PlainShares.{back};
+ghost use Rattle.zp_share.specs.ZoneShares.{is_lent, cached_of, IsSection, IsLeft, IsSameSeat};
 
 use super::ZoneShare;
 use crate::page_stack::page_list;
@@ -28,11 +30,12 @@ impl ZoneShare {
         mark: Mark,
     ) -> Result<PageNo, Refused>
         requires { IsSeatOf zone.old self.old.seat }
-        ensures full { self.old.sections.made ≡ u64.MAX → (result ≡ Err JournalFull) × IsLeft zone.old zone.new self.old self.new }
-        ensures section { self.old.sections.made < u64.MAX → IsSection (request.Alloc order kind mark) (page_reply result) zone.old zone.new self.old self.new }
+        ensures full { self.old.sections.made ≡ LAST_SECTION → (result ≡ Err JournalFull) × IsLeft zone.old zone.new self.old self.new }
+        ensures section { self.old.sections.made ≢ LAST_SECTION → IsSection (request.Alloc order kind mark) (page_reply result) zone.old zone.new self.old self.new }
         ensures seat { IsSameSeat self.old self.new }
         ensures fits { IsSeatOf zone.new self.new.seat }
         ensures seats { KeepsSeats zone.old zone.new }
+        ensures lent { IfOk result (λ page. IsTrue (is_lent self.new page order)) }
     {
         if self.sections.are_full() {
             return Err(Refused::JournalFull);
@@ -55,11 +58,12 @@ impl ZoneShare {
     /// The lowest block of this order, which is then lent. Refused 11 by the zone, and 30 at the last number of sections.
     pub fn alloc_low(&mut self, zone: &mut Zone, order: Order) -> Result<Block, Refused>
         requires { IsSeatOf zone.old self.old.seat }
-        ensures full { self.old.sections.made ≡ u64.MAX → (result ≡ Err JournalFull) × IsLeft zone.old zone.new self.old self.new }
-        ensures section { self.old.sections.made < u64.MAX → IsSection (request.AllocLow order) (block_reply result) zone.old zone.new self.old self.new }
+        ensures full { self.old.sections.made ≡ LAST_SECTION → (result ≡ Err JournalFull) × IsLeft zone.old zone.new self.old self.new }
+        ensures section { self.old.sections.made ≢ LAST_SECTION → IsSection (request.AllocLow order) (block_reply result) zone.old zone.new self.old self.new }
         ensures seat { IsSameSeat self.old self.new }
         ensures fits { IsSeatOf zone.new self.new.seat }
         ensures seats { KeepsSeats zone.old zone.new }
+        ensures lent { IfOk result (λ block. IsTrue (is_lent self.new block.page block.order)) }
     {
         if self.sections.are_full() {
             return Err(Refused::JournalFull);
@@ -83,8 +87,8 @@ impl ZoneShare {
     pub fn free_block(&mut self, zone: &mut Zone, page: PageNo, order: Order) -> Result<(), Refused>
         requires { IsSeatOf zone.old self.old.seat }
         ensures not_lent { is_lent self.old page order ≡ false → (result ≡ Err NotLent) × IsLeft zone.old zone.new self.old self.new }
-        ensures full { is_lent self.old page order ≡ true → self.old.sections.made ≡ u64.MAX → (result ≡ Err JournalFull) × IsLeft zone.old zone.new self.old self.new }
-        ensures section { is_lent self.old page order ≡ true → self.old.sections.made < u64.MAX → (result ≡ Ok tt) × IsSection (request.Free page order) reply.Freed zone.old zone.new self.old self.new }
+        ensures full { is_lent self.old page order ≡ true → self.old.sections.made ≡ LAST_SECTION → (result ≡ Err JournalFull) × IsLeft zone.old zone.new self.old self.new }
+        ensures section { is_lent self.old page order ≡ true → self.old.sections.made ≢ LAST_SECTION → (result ≡ Ok tt) × IsSection (request.Free page order) reply.Freed zone.old zone.new self.old self.new }
         ensures seat { IsSameSeat self.old self.new }
         ensures fits { IsSeatOf zone.new self.new.seat }
         ensures seats { KeepsSeats zone.old zone.new }
@@ -112,8 +116,8 @@ impl ZoneShare {
         requires seat { IsSeatOf zone.old self.old.seat }
         requires to { to < workers_of zone.old.plain }
         ensures not_lent { is_lent self.old page order ≡ false → (result ≡ Err NotLent) × IsLeft zone.old zone.new self.old self.new }
-        ensures full { is_lent self.old page order ≡ true → self.old.sections.made ≡ u64.MAX → (result ≡ Err JournalFull) × IsLeft zone.old zone.new self.old self.new }
-        ensures section { is_lent self.old page order ≡ true → self.old.sections.made < u64.MAX → (result ≡ Ok tt) × IsSection (request.Post page order to) reply.Posted zone.old zone.new self.old self.new }
+        ensures full { is_lent self.old page order ≡ true → self.old.sections.made ≡ LAST_SECTION → (result ≡ Err JournalFull) × IsLeft zone.old zone.new self.old self.new }
+        ensures section { is_lent self.old page order ≡ true → self.old.sections.made ≢ LAST_SECTION → (result ≡ Ok tt) × IsSection (request.Post page order to) reply.Posted zone.old zone.new self.old self.new }
         ensures seat { IsSameSeat self.old self.new }
         ensures fits { IsSeatOf zone.new self.new.seat }
         ensures seats { KeepsSeats zone.old zone.new }
@@ -136,11 +140,12 @@ impl ZoneShare {
     /// of sections.
     pub fn collect(&mut self, zone: &mut Zone) -> Result<Block, Refused>
         requires { IsSeatOf zone.old self.old.seat }
-        ensures full { self.old.sections.made ≡ u64.MAX → (result ≡ Err JournalFull) × IsLeft zone.old zone.new self.old self.new }
-        ensures section { self.old.sections.made < u64.MAX → IsSection request.Collect (block_reply result) zone.old zone.new self.old self.new }
+        ensures full { self.old.sections.made ≡ LAST_SECTION → (result ≡ Err JournalFull) × IsLeft zone.old zone.new self.old self.new }
+        ensures section { self.old.sections.made ≢ LAST_SECTION → IsSection request.Collect (block_reply result) zone.old zone.new self.old self.new }
         ensures seat { IsSameSeat self.old self.new }
         ensures fits { IsSeatOf zone.new self.new.seat }
         ensures seats { KeepsSeats zone.old zone.new }
+        ensures lent { IfOk result (λ block. IsTrue (is_lent self.new block.page block.order)) }
     {
         if self.sections.are_full() {
             return Err(Refused::JournalFull);
@@ -174,8 +179,8 @@ impl ZoneShare {
         requires empty { cached_of self.old kind ≡ [] }
         requires some { 1 ≤ batch }
         requires batch { batch ≤ MAX_BATCH }
-        ensures full { self.old.sections.made ≡ u64.MAX → (result ≡ Err JournalFull) × IsLeft zone.old zone.new self.old self.new }
-        ensures section { self.old.sections.made < u64.MAX → IsSection (request.Refill kind mark batch) (pages_reply result) zone.old zone.new self.old self.new }
+        ensures full { self.old.sections.made ≡ LAST_SECTION → (result ≡ Err JournalFull) × IsLeft zone.old zone.new self.old self.new }
+        ensures section { self.old.sections.made ≢ LAST_SECTION → IsSection (request.Refill kind mark batch) (pages_reply result) zone.old zone.new self.old self.new }
         ensures seat { IsSameSeat self.old self.new }
         ensures fits { IsSeatOf zone.new self.new.seat }
         ensures seats { KeepsSeats zone.old zone.new }
@@ -206,8 +211,8 @@ impl ZoneShare {
         requires seat { IsSeatOf zone.old self.old.seat }
         requires some { 1 ≤ count }
         requires within { count ≤ length (cached_of self.old kind) }
-        ensures full { self.old.sections.made ≡ u64.MAX → (result ≡ Err JournalFull) × IsLeft zone.old zone.new self.old self.new }
-        ensures section { self.old.sections.made < u64.MAX → (result ≡ Ok tt) × IsSection (request.Drain kind (back count (cached_of self.old kind))) reply.Drained zone.old zone.new self.old self.new }
+        ensures full { self.old.sections.made ≡ LAST_SECTION → (result ≡ Err JournalFull) × IsLeft zone.old zone.new self.old self.new }
+        ensures section { self.old.sections.made ≢ LAST_SECTION → (result ≡ Ok tt) × IsSection (request.Drain kind (back count (cached_of self.old kind))) reply.Drained zone.old zone.new self.old self.new }
         ensures seat { IsSameSeat self.old self.new }
         ensures fits { IsSeatOf zone.new self.new.seat }
         ensures seats { KeepsSeats zone.old zone.new }

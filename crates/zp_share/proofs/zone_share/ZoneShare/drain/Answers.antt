@@ -9,7 +9,8 @@ use Rattle.zp_zone.specs.Seats.{HasPages, asked, replied}
 use Rattle.zp_share.specs.declared.page_use.PageUse.TheVariants.{Away}
 use Rattle.zp_share.specs.declared.zone_share.ZoneShare.TheInside.{Inside}
 use Rattle.zp_share.specs.PageUses.{UsesState, IsPlace, all_as}
-use Rattle.zp_share.specs.ZoneShares.{IsSection, cached_of, back, without_back, lists_after}
+use Rattle.zp_share.specs.PlainShares.{back, without_back, lists_after}
+use Rattle.zp_share.specs.ZoneShares.{IsSection, cached_of}
 use Rattle.zp_share.proofs.Closing.{share_of, IsAnswered, answered_parts, section_is}
 use Rattle.zp_share.proofs.Taking.{list_changed}
 use Rattle.zp_share.proofs.Batches.{IsBackOf, back_was, back_has, back_distinct, back_places, number_at}

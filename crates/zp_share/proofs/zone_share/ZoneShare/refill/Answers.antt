@@ -5,7 +5,7 @@ use Rattle.zp_model.specs.declared.request.Reply.TheVariants as reply
 use Rattle.zp_share.specs.declared.page_use.PageUse.TheVariants.{Cached}
 use Rattle.zp_share.specs.declared.zone_share.ZoneShare.TheInside.{Inside}
 use Rattle.zp_share.specs.PageUses.{UsesState, IsPlace, all_as}
-use Rattle.zp_share.specs.ZoneShares.{SectionsState, lists_after}
+use Rattle.zp_share.specs.PlainShares.{SectionsState, lists_after}
 use Rattle.zp_share.proofs.Answering.{AreNew}
 use Rattle.zp_share.proofs.Closing.{share_of, IsAnswered, answered_parts, new_pages, section_is}
 use Rattle.zp_share.proofs.Taking.{list_changed}

@@ -1,0 +1,17 @@
+use Rattle.std.proofs.Common.{◌≡◌, ◌-◌, arith, rules}
+use Rattle.zp_model.specs.declared.refused.Refused.TheVariants.{JournalFull}
+use Rattle.zp_share.specs.Shares.{world}
+use Rattle.zp_share.proofs.Lending.{down_ok, down_below, goes_on}
+use Rattle.zp_share.proofs.commands.+alloc.Goals as goal
+use Rattle.zp_share.proofs.commands.+alloc.Goals.{then-zone-eq0, else-zone-eq0}
+
+pub returns-in-Ok-clause-told : goal.returns-in-Ok-clause-told
+returns-in-Ok-clause-told g n c = λ rows e. down_ok _ _ _ _ _ _ _ _ (c.in-Ok.ensures.told rows e)
+
+pub returns-in-Err-2-clause-told : goal.returns-in-Err-2-clause-told
+returns-in-Err-2-clause-told g n c =
+    λ rows e.
+    let above : c.args.zone ≡ 0 → ⊥ = elim c.if-zone-eq0.branch [ then-zone-eq0 w ↦ search rules | else-zone-eq0 w ↦ w.if-zone-eq0.false ] in
+    let other : c.in-Err.refused ≡ JournalFull → ⊥ = elim c.if-zone-eq0.branch [ then-zone-eq0 w ↦ search rules | else-zone-eq0 w ↦ search rules ] in
+    down_below c.args.order c.args.kind c.args.mark c.args.zone (c.args.zone - 1) (world rows c.args.share.now) c.in-Err.refused _ c.alloc_in.new.share c.alloc.result _ c.alloc.new.share
+    (omega (arith, above)) (c.in-Err.ensures.told rows e) (goes_on c.in-Err.refused other) c.alloc.ensures.told

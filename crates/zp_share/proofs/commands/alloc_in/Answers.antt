@@ -1,0 +1,30 @@
+use Rattle.std.proofs.Common.{◌∙◌, subst, sym, ap}
+use Rattle.zp_share.specs.Shares.{IsShareOf}
+use Rattle.zp_share.proofs.Carrying.{moved_fits}
+use Rattle.zp_share.proofs.Lending.{front_ok, from_list, from_refill}
+use Rattle.zp_share.proofs.commands.alloc_in.Goals as goal
+use Rattle.zp_share.proofs.commands.alloc_in.Goals.{then-cached_len-eq0+in_ok-refill, else-cached_len-eq0}
+
+pub returns-clause-fits : goal.returns-clause-fits
+returns-clause-fits g c =
+    moved_fits (g.Z.Zones.keys c.if-cached_len-eq0.zones) c.if-cached_len-eq0.share c.take_cached.new.self c.args.zone
+    (elim c.if-cached_len-eq0.branch [
+      | then-cached_len-eq0+in_ok-refill w ↦ subst (λ s. IsShareOf (g.Z.Zones.keys c.if-cached_len-eq0.zones) s) (sym w.share-is) (subst (λ z. IsShareOf (g.Z.Zones.keys z) w.refill.new.share) (sym w.zones-is) w.refill.ensures.fits)
+      | else-cached_len-eq0 w ↦ subst (λ s. IsShareOf (g.Z.Zones.keys c.if-cached_len-eq0.zones) s) (sym w.share-is) (subst (λ z. IsShareOf (g.Z.Zones.keys z) c.args.share.now) (sym w.zones-is) c.requires.fits)
+    ])
+    c.take_cached.ensures.others c.take_cached.ensures.seat
+
+pub returns-clause-told : goal.returns-clause-told
+returns-clause-told g c =
+    λ rows e.
+    elim c.if-cached_len-eq0.branch [
+      | then-cached_len-eq0+in_ok-refill w ↦
+          from_refill rows c.args.share.now c.take_cached.new.self c.if-cached_len-eq0.share w.refill.new.share c.args.zone c.args.order c.cached_len.result c.args.kind c.args.mark
+          w.in_ok-refill.field-0.items c.ok_or.result _ _
+          (sym c.is_listed.ensures ∙ c.if-not-is_listed.false) c.cached_len.ensures.same w.if-cached_len-eq0.true (w.in_ok-refill.ensures.told rows e) (ap g.Z.Zones.told w.zones-is) w.share-is
+          c.take_cached.ensures.others c.take_cached.ensures.after (front_ok _ c.take_cached.result c.ok_or.result c.ok_or.ensures.value c.take_cached.ensures.answer)
+      | else-cached_len-eq0 w ↦
+          from_list rows c.args.share.now c.take_cached.new.self c.if-cached_len-eq0.share c.args.zone c.args.order c.cached_len.result c.args.kind c.args.mark c.ok_or.result _ _ e
+          (sym c.is_listed.ensures ∙ c.if-not-is_listed.false) c.cached_len.ensures.same w.if-cached_len-eq0.false (ap g.Z.Zones.told w.zones-is) w.share-is
+          c.take_cached.ensures.others c.take_cached.ensures.after (front_ok _ c.take_cached.result c.ok_or.result c.ok_or.ensures.value c.take_cached.ensures.answer)
+    ]

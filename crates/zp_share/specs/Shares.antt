@@ -1,0 +1,103 @@
+-- A worker's share of a row of zones, and what its calls with the zones promise (this profile).
+use Rattle.std.specs.Prelude.{ℕ, ◌≡◌, ◌<◌, Bool, true, false, List, [], length, map, All, slice_index_or, slice_set, Option, Some, Result, Ok, Err, cond}
+use Rattle.atomic_table.specs.Seated.{TableId}
+use Rattle.zp_model.specs.declared.refused.Refused.{Refused}
+use Rattle.zp_model.specs.declared.refused.Refused.TheVariants.{NotLent, JournalFull}
+use Rattle.zp_model.specs.declared.request.Request.{Request}
+use Rattle.zp_model.specs.declared.request.Reply.{Reply}
+use Rattle.zp_model.specs.declared.migrate_type.MigrateType.{MigrateType}
+use Rattle.zp_model.specs.Zone.{workers_of}
+use Rattle.zp_zone.specs.NamedZone.{NamedZone}
+use Rattle.zp_zone.specs.Seats.{ZoneState, SeatState}
+use Rattle.zp_share.specs.PlainShares.{PlainShare}
+use Rattle.zp_share.specs.ZoneShares.{ZoneShareState, plain_share, answered, opening_share, cached_of}
+use Rattle.zp_share.specs.Commands.{World, Done}
+
+pub record ShareState : Type 0 where
+  pub worker : ℕ
+  -- how many pages a refill asks for, and how many a list holds at most
+  pub batch : ℕ
+  pub high_len : ℕ
+  -- what it has of each zone, the lowest first
+  pub zones : List ZoneShareState
+
+-- past the end of a row there is nothing
+abbrev pub no_tie : TableId
+no_tie = record { words = 0; slots = 0; views_name = 0; atom = 0; block = 0; offset = 0; slot_names = [] }
+
+abbrev pub no_seat : SeatState
+no_seat = record { tie = no_tie; worker = 0; part = record { base = 0; blocks = []; entries = [] } }
+
+-- what the share has of zone i
+abbrev pub share_at : ShareState → ℕ → ZoneShareState
+share_at s i = slice_index_or s.zones i (opening_share no_seat 0)
+
+abbrev pub with_zone_share : ℕ → ZoneShareState → ShareState → ShareState
+with_zone_share i x s = record s { zones = slice_set s.zones i x }
+
+-- the share without what ties it to the zones
+abbrev pub plain : ShareState → PlainShare
+plain s = record { batch = s.batch; high_len = s.high_len; zones = map plain_share s.zones }
+
+abbrev pub world : List NamedZone → ShareState → World
+world zones s = record { zones = zones; share = plain s }
+
+-- what of a zone never changes: its tie, its name, and the number of its workers
+pub record ZoneKey : Type 0 where
+  pub tie : TableId
+  pub name : List ℕ
+  pub workers : ℕ
+
+abbrev pub key_of : ZoneState → ZoneKey
+key_of z = record { tie = z.tie; name = z.name; workers = workers_of z.plain }
+
+-- the zone without its tie and its entries
+abbrev pub named_zone : ZoneState → NamedZone
+named_zone z = record { name = z.name; plain = z.plain }
+
+abbrev pub ties_of : ShareState → List TableId
+ties_of s = map (λ (z : ZoneShareState). z.seat.tie) s.zones
+
+-- the share is one of the zones with these keys, place by place
+abbrev pub IsShareOf : List ZoneKey → ShareState → Type 0
+IsShareOf keys s = ties_of s ≡ map (λ (k : ZoneKey). k.tie) keys
+
+-- each of the zones has this worker
+abbrev pub HaveWorker : List ZoneKey → ℕ → Type 0
+HaveWorker keys w = All (λ (k : ZoneKey). w < k.workers) keys
+
+-- whether an answer is a section: refused 20 or 30 it is none
+abbrev pub is_section : Reply → Bool
+is_section (Reply.Refused NotLent) = false
+is_section (Reply.Refused JournalFull) = false
+is_section q = true
+
+-- the share after a request to zone i that was answered so: one section more, or as it was
+abbrev pub noted_at : ℕ → Request → Reply → ShareState → ShareState
+noted_at i r q s = cond (is_section q) (with_zone_share i (answered r q (share_at s i)) s) s
+
+-- the answer of a call that has no other
+abbrev pub done_reply : Reply → Result (Unit {0}) Refused → Reply
+done_reply q (Ok u) = q
+done_reply q (Err r) = Reply.Refused r
+
+-- what was to be done is what was answered and left; the zones are told here
+pub record IsDone {A : Type 0} (d : Done A) (a : A) (rows : Option (List NamedZone)) (s : ShareState) : Type 0 where
+  pub answer : a ≡ d.answer
+  pub zones : rows ≡ Some d.world.zones
+  pub share : plain s ≡ d.world.share
+
+-- no list of the share has a page
+abbrev pub HasEmptyLists : ShareState → Type 0
+HasEmptyLists s = (i : ℕ) (t : MigrateType) → i < length s.zones → cached_of (share_at s i) t ≡ []
+
+-- each list that is empty stays so
+abbrev pub KeepsEmptyLists : ShareState → ShareState → Type 0
+KeepsEmptyLists s u = (i : ℕ) (t : MigrateType) → cached_of (share_at s i) t ≡ [] → cached_of (share_at u i) t ≡ []
+
+-- the worker, the settings and the number of zones stay
+pub record IsSameShare (s u : ShareState) : Type 0 where
+  pub worker : u.worker ≡ s.worker
+  pub batch : u.batch ≡ s.batch
+  pub high_len : u.high_len ≡ s.high_len
+  pub places : length u.zones ≡ length s.zones

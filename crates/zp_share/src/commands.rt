@@ -1,0 +1,200 @@
+//! A worker's commands, each made of sections with zones of a row and of moves on the worker's own lists.
+//!
+//! In Linux: `rmqueue` with `rmqueue_pcplist`, `free_unref_page`, and `drain_pages`.
+ghost use Rattle.std.specs.Prelude.{ℕ, ◌≡◌, ◌<◌, ◌≤◌, ◌+◌, ◌*◌, List, [], length, false, Some, Ok, Err, IfOk, IfErr, OnOk, IsTrue};
+ghost use Rattle.zp_model.specs.declared.migrate_type.MigrateType.{MigrateType};
+ghost use Rattle.zp_model.specs.declared.refused.Refused.TheVariants.{NotLent};
+ghost use Rattle.zp_model.specs.declared.constants.TheConstants.{LONGEST_LIST, TYPES, MAX_ZONES};
+ghost use Rattle.zp_zone.specs.NamedZone.{NamedZone};
+ghost use Rattle.zp_share.specs.ZoneShares.{is_lent, cached_of};
+ghost use Rattle.zp_share.specs.Commands.{alloc_in, alloc_down, free_in, drain_full, drain_list, drain_zone, drain_all};
+ghost use Rattle.zp_share.specs.Shares.{IsShareOf, IsSameShare, IsDone, HasEmptyLists, KeepsEmptyLists, share_at, world};
+
+use crate::share::Share;
+use crate::zones::Zones;
+use zp_model::{Mark, MigrateType, Order, PageNo, Refused};
+
+/// A block as it was lent: the place of its zone in the row, its first page, and its order.
+#[derive(Clone, Copy, PartialEq, Eq, Debug, Drop)]
+pub struct Lent {
+    pub zone: usize,
+    pub page: PageNo,
+    pub order: Order,
+}
+
+/// A block of this order for this type, held to this mark, out of the zone at this place or the nearest below it that gives one;
+/// the block is then lent. Single pages come from the worker's list, which is refilled where it is empty; what lies on the list
+/// is held to no mark. Refused as the last zone tried refuses it; a refusal 30 ends the walk.
+pub fn alloc<Z: Zones>(
+    share: &mut Share,
+    zones: &mut Z,
+    order: Order,
+    kind: MigrateType,
+    zone: usize,
+    mark: Mark,
+) -> Result<Lent, Refused>
+    requires fits { IsShareOf (Z.keys zones.old) share.old }
+    requires zone { zone < length share.old.zones }
+    ensures keys { Z.keys zones.new ≡ Z.keys zones.old }
+    ensures fits { IsShareOf (Z.keys zones.new) share.new }
+    ensures same { IsSameShare share.old share.new }
+    ensures lent { IfOk result (λ l. IsTrue (is_lent (share_at share.new l.zone) l.page l.order)) }
+    ensures place { IfOk result (λ l. l.zone ≤ zone) }
+    ensures told { (rows : List NamedZone) → Z.told zones.old ≡ Some rows → IsDone (alloc_down order kind mark zone (world rows share.old)) result (Z.told zones.new) share.new }
+{
+    match alloc_in(share, zones, zone, order, kind, mark) {
+        Ok(page) => Ok(Lent { zone, page, order }),
+        Err(refused) if zone == 0 || refused == Refused::JournalFull => Err(refused),
+        Err(_) => alloc(share, zones, order, kind, zone - 1, mark),
+    }
+}
+
+/// A block of the zone at this place alone: its first page.
+fn alloc_in<Z: Zones>(
+    share: &mut Share,
+    zones: &mut Z,
+    zone: usize,
+    order: Order,
+    kind: MigrateType,
+    mark: Mark,
+) -> Result<PageNo, Refused>
+    requires fits { IsShareOf (Z.keys zones.old) share.old }
+    requires zone { zone < length share.old.zones }
+    ensures keys { Z.keys zones.new ≡ Z.keys zones.old }
+    ensures fits { IsShareOf (Z.keys zones.new) share.new }
+    ensures same { IsSameShare share.old share.new }
+    ensures lent { IfOk result (λ page. IsTrue (is_lent (share_at share.new zone) page order)) }
+    ensures told { (rows : List NamedZone) → Z.told zones.old ≡ Some rows → IsDone (alloc_in (world rows share.old) zone order kind mark) result (Z.told zones.new) share.new }
+{
+    if !share.is_listed(order) {
+        return zones.alloc_block(share, zone, order, kind, mark);
+    }
+    if share.cached_len(zone, kind) == 0 {
+        zones.refill(share, zone, kind, mark)?;
+    }
+    // a refill that is not refused has got a page
+    share.take_cached(zone, kind).ok_or(Refused::NoBlock)
+}
+
+/// Gives back the block of this order at this page of the zone at this place. A single page goes to the front of the list of its
+/// type; a list that has `high_len` pages gives back a batch, before and after. Refused 20 where the block is not lent with
+/// this order, and 30.
+pub fn free<Z: Zones>(
+    share: &mut Share,
+    zones: &mut Z,
+    zone: usize,
+    page: PageNo,
+    order: Order,
+) -> Result<(), Refused>
+    requires fits { IsShareOf (Z.keys zones.old) share.old }
+    requires zone { zone < length share.old.zones }
+    ensures keys { Z.keys zones.new ≡ Z.keys zones.old }
+    ensures fits { IsShareOf (Z.keys zones.new) share.new }
+    ensures same { IsSameShare share.old share.new }
+    ensures not_lent { is_lent (share_at share.old zone) page order ≡ false → result ≡ Err NotLent }
+    ensures gone { OnOk result (is_lent (share_at share.new zone) page order ≡ false) }
+    ensures told { (rows : List NamedZone) → Z.told zones.old ≡ Some rows → IsDone (free_in (world rows share.old) zone page order) result (Z.told zones.new) share.new }
+{
+    let Some(kind) = share.lent_kind(zone, page, order) else {
+        return Err(Refused::NotLent);
+    };
+    if !share.is_listed(order) {
+        return zones.free_block(share, zone, page, order);
+    }
+    drain_full(share, zones, zone, kind)?;
+    share.put_cached(zone, page)?;
+    // the page is given back whatever becomes of this drain
+    let _ = drain_full(share, zones, zone, kind);
+    Ok(())
+}
+
+/// Gives back a batch of a list that has `high_len` pages. Refused 30.
+fn drain_full<Z: Zones>(
+    share: &mut Share,
+    zones: &mut Z,
+    zone: usize,
+    kind: MigrateType,
+) -> Result<(), Refused>
+    requires fits { IsShareOf (Z.keys zones.old) share.old }
+    requires zone { zone < length share.old.zones }
+    requires lists { 1 ≤ share.old.batch }
+    ensures keys { Z.keys zones.new ≡ Z.keys zones.old }
+    ensures fits { IsShareOf (Z.keys zones.new) share.new }
+    ensures same { IsSameShare share.old share.new }
+    ensures lent { (p k : ℕ) → is_lent (share_at share.new zone) p k ≡ is_lent (share_at share.old zone) p k }
+    ensures told { (rows : List NamedZone) → Z.told zones.old ≡ Some rows → IsDone (drain_full (world rows share.old) zone kind) result (Z.told zones.new) share.new }
+{
+    let lists = share.lists();
+    if share.cached_len(zone, kind) < lists.high_len() {
+        return Ok(());
+    }
+    zones.drain(share, zone, kind, usize::from(lists.batch()))
+}
+
+/// Gives back all pages of the worker's lists, zone by zone, each list in one section: how many they were. Refused 30; then the
+/// lists before that one are empty, and that one and the rest as they were.
+pub fn drain_all<Z: Zones>(share: &mut Share, zones: &mut Z) -> Result<usize, Refused>
+    requires fits { IsShareOf (Z.keys zones.old) share.old }
+    ensures keys { Z.keys zones.new ≡ Z.keys zones.old }
+    ensures fits { IsShareOf (Z.keys zones.new) share.new }
+    ensures same { IsSameShare share.old share.new }
+    ensures empty { OnOk result (HasEmptyLists share.new) }
+    ensures few { IfOk result (λ n. n ≤ MAX_ZONES * (TYPES * LONGEST_LIST)) }
+    ensures told { (rows : List NamedZone) → Z.told zones.old ≡ Some rows → IsDone (drain_all (world rows share.old)) result (Z.told zones.new) share.new }
+{
+    let mut drained = 0;
+    for zone in 0..share.zones() {
+        drained = drain_zone(share, zones, zone, drained)?;
+    }
+    Ok(drained)
+}
+
+/// Gives back the lists of the zone at this place: how many pages were given back, with those before.
+fn drain_zone<Z: Zones>(
+    share: &mut Share,
+    zones: &mut Z,
+    zone: usize,
+    before: usize,
+) -> Result<usize, Refused>
+    requires fits { IsShareOf (Z.keys zones.old) share.old }
+    requires zone { zone < length share.old.zones }
+    requires room { before + TYPES * LONGEST_LIST ≤ MAX_ZONES * (TYPES * LONGEST_LIST) }
+    ensures keys { Z.keys zones.new ≡ Z.keys zones.old }
+    ensures fits { IsShareOf (Z.keys zones.new) share.new }
+    ensures same { IsSameShare share.old share.new }
+    ensures room { IfOk result (λ n. n ≤ before + TYPES * LONGEST_LIST) }
+    ensures empty { OnOk result ((t : MigrateType) → cached_of (share_at share.new zone) t ≡ []) }
+    ensures others { KeepsEmptyLists share.old share.new }
+    ensures told { (rows : List NamedZone) → Z.told zones.old ≡ Some rows → IsDone (drain_zone before (world rows share.old) zone) result (Z.told zones.new) share.new }
+{
+    let unmovable = drain_list(share, zones, zone, MigrateType::Unmovable, before)?;
+    let reclaimable = drain_list(share, zones, zone, MigrateType::Reclaimable, unmovable)?;
+    drain_list(share, zones, zone, MigrateType::Movable, reclaimable)
+}
+
+/// Gives back one list, where it is not empty: how many pages were given back, with those before.
+fn drain_list<Z: Zones>(
+    share: &mut Share,
+    zones: &mut Z,
+    zone: usize,
+    kind: MigrateType,
+    before: usize,
+) -> Result<usize, Refused>
+    requires fits { IsShareOf (Z.keys zones.old) share.old }
+    requires zone { zone < length share.old.zones }
+    requires room { before + LONGEST_LIST ≤ MAX_ZONES * (TYPES * LONGEST_LIST) }
+    ensures keys { Z.keys zones.new ≡ Z.keys zones.old }
+    ensures fits { IsShareOf (Z.keys zones.new) share.new }
+    ensures same { IsSameShare share.old share.new }
+    ensures room { IfOk result (λ n. n ≤ before + LONGEST_LIST) }
+    ensures empty { OnOk result (cached_of (share_at share.new zone) kind ≡ []) }
+    ensures others { KeepsEmptyLists share.old share.new }
+    ensures told { (rows : List NamedZone) → Z.told zones.old ≡ Some rows → IsDone (drain_list before (world rows share.old) zone kind) result (Z.told zones.new) share.new }
+{
+    let count = share.cached_len(zone, kind);
+    if count == 0 {
+        return Ok(before);
+    }
+    zones.drain(share, zone, kind, count)?;
+    Ok(before + count)
+}

@@ -1,0 +1,143 @@
+//! A row of zones in one hand.
+ghost use Rattle.std.specs.Prelude.{ℕ, ◌≡◌, ◌≤◌, ◌<◌, All, length, map};
+ghost use Rattle.zp_model.specs.declared.constants.TheConstants.{MAX_ZONES};
+ghost use Rattle.zp_share.specs.Commands.{zone_at};
+ghost use Rattle.zp_share.specs.Shares.{IsShareOf, key_of, named_zone, plain};
+ghost use Rattle.zp_share.specs.Gathering.{AddsUp, IsCrewOf, gathered, owns_at};
+
+use crate::gathering::{Totals, gather};
+use crate::share::Share;
+use crate::zones::Zones;
+use arrayvec::ArrayVec;
+use std::marker::Model;
+use zp_model::{
+    Block, Counts, MAX_BATCH, MAX_ZONES, Mark, MigrateType, Order, PageNo, Refused, Worker,
+};
+use zp_zone::Zone;
+
+/// A row of zones for one thread, the lowest first. It tells what its zones are.
+#[derive(Drop)]
+pub struct PlainZones {
+    zones: Vec<Zone>,
+}
+
+impl Model for PlainZones {
+    ghost use Rattle.std.specs.Prelude.{List};
+    ghost use Rattle.zp_zone.specs.Seats.{ZoneState};
+
+    ghost Value = { List ZoneState };
+
+    ghost view = { λ z. z.zones.items };
+}
+
+impl PlainZones {
+    pub fn new(zones: Vec<Zone>) -> PlainZones
+        ensures { result ≡ zones.items }
+    {
+        PlainZones { zones }
+    }
+
+    pub fn as_slice(&self) -> &[Zone]
+        ensures { result.now ≡ self.now }
+    {
+        &self.zones
+    }
+
+    /// Where the pages of each zone are, with the shares of all its workers. All stay as they were.
+    pub fn gather(&mut self, shares: &mut [Share]) -> ArrayVec<Totals, MAX_ZONES>
+        requires few { length self.old ≤ MAX_ZONES }
+        requires fits { All (IsShareOf (map key_of self.old)) shares.old }
+        requires crew { All (IsCrewOf shares.old) self.old }
+        ensures zones { self.new ≡ self.old }
+        ensures shares { shares.new ≡ shares.old }
+        ensures totals { result.items ≡ gathered (map named_zone self.old) (map plain shares.old) }
+        ensures adds_up { (i : ℕ) → i < length self.old → AddsUp (zone_at (map named_zone self.old) i).plain (owns_at (map plain shares.old) i) }
+    {
+        gather(&mut self.zones, shares)
+    }
+
+    /// The zones that the row was made of.
+    pub fn into_zones(self) -> Vec<Zone>
+        ensures { result.items ≡ self }
+    {
+        self.zones
+    }
+}
+
+impl Zones for PlainZones {
+    ghost use Rattle.std.specs.Prelude.{map, Some};
+    ghost use Rattle.zp_share.specs.Shares.{key_of, named_zone};
+
+    ghost keys = { λ z. map key_of z };
+
+    ghost told = { λ z. Some (map named_zone z) };
+
+    fn alloc_block(
+        &mut self,
+        share: &mut Share,
+        zone: usize,
+        order: Order,
+        kind: MigrateType,
+        mark: Mark,
+    ) -> Result<PageNo, Refused> {
+        share.alloc_block(&mut self.zones[zone], zone, order, kind, mark)
+    }
+
+    fn alloc_low(
+        &mut self,
+        share: &mut Share,
+        zone: usize,
+        order: Order,
+    ) -> Result<Block, Refused> {
+        share.alloc_low(&mut self.zones[zone], zone, order)
+    }
+
+    fn free_block(
+        &mut self,
+        share: &mut Share,
+        zone: usize,
+        page: PageNo,
+        order: Order,
+    ) -> Result<(), Refused> {
+        share.free_block(&mut self.zones[zone], zone, page, order)
+    }
+
+    fn post(
+        &mut self,
+        share: &mut Share,
+        zone: usize,
+        page: PageNo,
+        order: Order,
+        to: Worker,
+    ) -> Result<(), Refused> {
+        share.post(&mut self.zones[zone], zone, page, order, to)
+    }
+
+    fn collect(&mut self, share: &mut Share, zone: usize) -> Result<Block, Refused> {
+        share.collect(&mut self.zones[zone], zone)
+    }
+
+    fn refill(
+        &mut self,
+        share: &mut Share,
+        zone: usize,
+        kind: MigrateType,
+        mark: Mark,
+    ) -> Result<ArrayVec<PageNo, MAX_BATCH>, Refused> {
+        share.refill(&mut self.zones[zone], zone, kind, mark)
+    }
+
+    fn drain(
+        &mut self,
+        share: &mut Share,
+        zone: usize,
+        kind: MigrateType,
+        count: usize,
+    ) -> Result<(), Refused> {
+        share.drain(&mut self.zones[zone], zone, kind, count)
+    }
+
+    fn counts(&mut self, zone: usize) -> Counts {
+        self.zones[zone].counts()
+    }
+}
