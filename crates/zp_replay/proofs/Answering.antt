@@ -1,22 +1,18 @@
 -- Answers to commands one after another, and what is written of them.
-use Rattle.std.proofs.Common.{ℕ, ◌+◌, ◌≡◌, ◌<◌, ◌≤◌, List, [], ◌∷◌, ◌++◌, length, take, drop, get_or, cond, Option, None, Some, Bool, true, false, refl, sym, ap, inl, inr, ◌∙◌, append_assoc, arith, length-append}
+use Rattle.std.proofs.Common.{ℕ, ◌+◌, ◌≡◌, ◌<◌, List, [], ◌∷◌, ◌++◌, length, take, drop, get_or, Option, Result, refl, sym, ap, inl, inr, ◌∙◌, append_assoc, arith}
 use Rattle.std.proofs.Math.Seq.{take-append_seam}
 use Rattle.std.proofs.lemmas.List.{append-nil, take_more, take_all, take-append-le, take-append-drop}
 use Rattle.std.proofs.lemmas.Bool.{cases_lt}
-use Rattle.zp_model.specs.declared.refused.Refused.TheVariants.{NotLent}
-use Rattle.zp_model.specs.declared.request.Request.{Request}
-use Rattle.zp_model.specs.declared.request.Request.TheVariants as request
-use Rattle.zp_model.specs.declared.request.Reply.TheVariants.{Refused}
-use Rattle.zp_model.specs.Run.{is_out}
+use Rattle.zp_model.specs.declared.refused.Refused.{Refused}
 use Rattle.zp_trace.specs.declared.line.Call.{Call}
-use Rattle.zp_trace.specs.declared.line.Call.TheVariants.{Info, Alloc, Low, Free, Post, Collect}
+use Rattle.zp_trace.specs.declared.line.Call.TheVariants.{Info, Alloc, Low, Free, Post, Collect, Drain}
 use Rattle.zp_trace.specs.declared.line.Command.{Command}
 use Rattle.zp_zone.specs.Streams.{IsWritten, IsBegun}
 use Rattle.zp_zone.proofs.Written.{written-same, written-then, begun-then}
-use Rattle.zp_replay.specs.declared.bindings.Binding.{Binding}
-use Rattle.zp_replay.specs.Labels.{bind, binding_of, bound_to}
-use Rattle.zp_replay.specs.Row.{zone_at, number_of, outcome_at, answering}
-use Rattle.zp_replay.specs.Replies.{ReplayState, replied, asked, asked_for, asked_of, answer_to, answer, answers}
+use Rattle.zp_share.specs.Commands.{Done}
+use Rattle.zp_replay.specs.declared.granted.Granted.{Granted}
+use Rattle.zp_replay.specs.Crews.{CrewState, IsCommandDone, names_of, world_of}
+use Rattle.zp_replay.specs.Replies.{ReplayState, Answered, reply_line, carried_out, said, answer_to, answer, answers}
 
 pub left-append : (z : ReplayState) (cs ds : List Command) → (answers z (cs ++ ds)).left ≡ (answers (answers z cs).left ds).left
 left-append z [] ds = refl
@@ -72,31 +68,21 @@ begun_more z now cs i c x y w lt is e f g =
     (begun-same x w _ _ (text-more z now cs i c lt is e)
     (begun-then x y w (answers z (take i cs)).text (answer now c).text f g)))
 
--- a command binds one label at most
-bind-most : (bs : List Binding) (b : Option Binding) → length (bind bs b) ≤ length bs + 1
-bind-most bs None = omega arith
-bind-most bs (Some b) = omega (arith, length-append bs (b ∷ []))
+-- what is said of a call that is no info is what was carried out
+said_other : (s : ReplayState) (w : ℕ) (call : Call) → (call ≡ Info → ⊥) → answer_to s w call ≡ said s w call (carried_out (names_of s.crew) s.bindings w (world_of s.crew w) call)
+said_other s w Info other = absurd (other refl)
+said_other s w (Alloc label k t zone m) other = refl
+said_other s w (Low label k zone) other = refl
+said_other s w (Free label) other = refl
+said_other s w (Post label to) other = refl
+said_other s w (Collect label zone) other = refl
+said_other s w Drain other = refl
 
-asked_of-bound : (s : ReplayState) (w : ℕ) (b : Option Binding) (q : Binding → Request) → length (asked_of s w b q).left.bindings ≡ length s.bindings
-asked_of-bound s w None q = refl
-asked_of-bound s w (Some b) q = each (is_out (zone_at s.zones b.zone).plain w b.page b.order)
-  where
-    each : (o : Bool) → length (cond o (asked s b.zone w (q b)) (replied (Refused NotLent) s)).left.bindings ≡ length s.bindings
-    each true = refl
-    each false = refl
+text-done : (s : ReplayState) (w : ℕ) (call : Call) (d : Done (Result Granted Refused)) (a : Result Granted Refused) → a ≡ d.answer → reply_line w a ≡ (said s w call d).text
+text-done s w call d a e = ap (reply_line w) e
 
-asked_for-bound : (s : ReplayState) (i w : ℕ) (label : List ℕ) (q : Request) → length (asked_for s i w label q).left.bindings ≤ length s.bindings + 1
-asked_for-bound s i w label q = bind-most s.bindings (binding_of w label i q (outcome_at s.zones i w q).reply)
-
-answer_to-bound : (s : ReplayState) (w : ℕ) (call : Call) → length (answer_to s w call).left.bindings ≤ length s.bindings + 1
-answer_to-bound s w Info = omega arith
-answer_to-bound s w (Alloc label k t zone m) =
-    let q = request.Alloc k t m in
-    asked_for-bound s (answering s.zones w q (number_of s.zones zone)) w label q
-answer_to-bound s w (Low label k zone) = asked_for-bound s (number_of s.zones zone) w label (request.AllocLow k)
-answer_to-bound s w (Free label) = omega (arith, asked_of-bound s w (bound_to s.bindings w label) (λ b. request.Free b.page b.order))
-answer_to-bound s w (Post label to) = omega (arith, asked_of-bound s w (bound_to s.bindings w label) (λ b. request.Post b.page b.order to))
-answer_to-bound s w (Collect label zone) = asked_for-bound s (number_of s.zones zone) w label request.Collect
-
-pub answer-bound : (now next : ReplayState) (c : Command) → next ≡ (answer now c).left → length next.bindings ≤ length now.bindings + 1
-answer-bound now next c e = omega (arith, answer_to-bound now c.worker c.call, ap (λ (s : ReplayState). length s.bindings) e)
+-- the line that is written, where the call was carried out
+pub text_told : (s : ReplayState) (w : ℕ) (call : Call) (a : Result Granted Refused) (c : CrewState) → (call ≡ Info → ⊥) → IsCommandDone (carried_out (names_of s.crew) s.bindings w (world_of s.crew w) call) a w s.crew c →
+    reply_line w a ≡ (answer_to s w call).text
+text_told s w call a c other f =
+    text-done s w call (carried_out (names_of s.crew) s.bindings w (world_of s.crew w) call) a f.answer ∙ sym (ap (λ (x : Answered). x.text) (said_other s w call other))

@@ -1,5 +1,5 @@
 pub mod Reading
-pub mod Seating
+pub mod Opening
 pub mod Rows
 pub mod Declared
 pub mod Answering
@@ -10,3 +10,4 @@ pub mod Endings
 pub mod SerialFlag
 pub mod CommandLine
 pub mod Schedules
+pub mod Worlds

@@ -7,18 +7,18 @@ use Rattle.zp_model.specs.declared.migrate_type.MigrateType.{MigrateType}
 use Rattle.zp_model.specs.declared.migrate_type.MigrateType.TheVariants.{Unmovable, Reclaimable, Movable}
 use Rattle.zp_model.specs.declared.mark.Mark.{Mark}
 use Rattle.zp_model.specs.declared.mark.Mark.TheVariants as mark
-use Rattle.zp_model.specs.Bounds.{IsCrew}
+use Rattle.zp_model.specs.Bounds.{IsCrew, AreLists}
 use Rattle.zp_model.specs.declared.constants.TheConstants.{LARGEST_ORDER, MAX_PAGES, MAX_WORKERS, BASE_LIMIT, LONGEST_NAME}
 use Rattle.zp_trace.specs.declared.bounds.TheConstants.{MOST_LINES}
 use Rattle.zp_trace.specs.declared.line.ZoneLine.{ZoneLine}
 use Rattle.zp_trace.specs.declared.line.Call.{Call}
-use Rattle.zp_trace.specs.declared.line.Call.TheVariants.{Info, Alloc, Low, Free, Post, Collect}
+use Rattle.zp_trace.specs.declared.line.Call.TheVariants.{Info, Alloc, Low, Free, Post, Collect, Drain}
 use Rattle.zp_trace.specs.declared.line.Command.{Command}
 use Rattle.zp_trace.specs.declared.trace.Header.{Header}
 use Rattle.zp_trace.specs.Lines.{Line}
 use Rattle.zp_trace.specs.Lines as line
 use Rattle.zp_trace.specs.Spelling.{space, line_feed, joined, kind_word, call_words, mark_word, line_text, text_of}
-use Rattle.zp_trace.specs.Grammar.{IsZoneLine, IsHeader, IsDeclared, AreLists, IsCallOf, IsCommandOf, IsAllowedAfter, IsBeginning}
+use Rattle.zp_trace.specs.Grammar.{IsZoneLine, IsHeader, IsDeclared, IsCallOf, IsCommandOf, IsAllowedAfter, IsBeginning}
 use Rattle.zp_trace.proofs.HeaderLines.{header_is, zones_are_few}
 
 -- the bytes of words with one byte more after each
@@ -54,8 +54,8 @@ workers_short n is = omega (arith, worker_short n is.1, length-line (codes "work
 
 lists_short : (batch high : ℕ) → AreLists batch high → length (line_text (line.Lists batch high)) ≤ 40
 lists_short batch high is =
-    let b : length (decimal batch) ≤ 1 = length-decimal-le 1 batch (omega arith) (omega (arith, is.0)) (omega arith) in
-    let h : length (decimal high) ≤ 1 = length-decimal-le 1 high (omega arith) (omega (arith, is.1)) (omega arith) in
+    let b : length (decimal batch) ≤ 2 = length-decimal-le 2 batch (omega arith) (omega (arith, is.most)) (omega arith) in
+    let h : length (decimal high) ≤ 2 = length-decimal-le 2 high (omega arith) (omega (arith, is.longest)) (omega arith) in
     omega (arith, length-line (codes "lists") (decimal batch ∷ decimal high ∷ []))
 
 length-kind_word : (kind : MigrateType) → length (kind_word kind) ≡ 1
@@ -79,6 +79,9 @@ declared_short h name good is =
 
 call_short : (h : Header) (worker : ℕ) (call : Call) → IsHeader h → worker < h.workers → IsCallOf h call → spaced (decimal worker ∷ call_words call) ≤ 40
 call_short h worker Info good at is =
+    let w : length (decimal worker) ≤ 2 = worker_short worker (omega (arith, good.workers.1)) in
+    omega arith
+call_short h worker Drain good at is =
     let w : length (decimal worker) ≤ 2 = worker_short worker (omega (arith, good.workers.1)) in
     omega arith
 call_short h worker (Alloc label order kind zone m) good at is =

@@ -1,4 +1,5 @@
 pub mod Row
+pub mod Crews
 pub mod Labels
 pub mod Replies
 pub mod Output

@@ -1,114 +1,104 @@
--- What each command is answered, as text, and the zones and bindings that it leaves.
-use Rattle.std.specs.Prelude.{ℕ, List, [], ◌∷◌, ◌++◌, codes, cond, Option, None, Some, Result, Ok, Err}
+-- What each command is answered, as text, and the crew and bindings that it leaves.
+use Rattle.std.specs.Prelude.{ℕ, List, [], ◌∷◌, ◌++◌, codes, Option, None, Some, Result, Ok, Err}
 use Rattle.std.specs.List.{flat_map}
 use Rattle.std.specs.Fmt.{decimal}
-use Rattle.zp_model.specs.declared.request.Request.{Request}
 use Rattle.zp_model.specs.declared.request.Request.TheVariants as request
 use Rattle.zp_model.specs.declared.request.Reply.{Reply}
-use Rattle.zp_model.specs.declared.request.Reply.TheVariants.{Page, Block, Freed, Posted, Pages, Drained, Refused}
-use Rattle.zp_model.specs.declared.refused.Refused.{Refused as Refusal}
-use Rattle.zp_model.specs.declared.refused.Refused.TheVariants.{NotLent}
+use Rattle.zp_model.specs.declared.request.Reply.TheVariants as reply
+use Rattle.zp_model.specs.declared.refused.Refused.{Refused}
+use Rattle.zp_model.specs.declared.refused.Refused.TheVariants.{NoBlock, NotLent}
 use Rattle.zp_model.specs.Refused.{refused_number}
 use Rattle.zp_model.specs.Info.{counts_of, info_line}
-use Rattle.zp_model.specs.Run.{is_out}
 use Rattle.zp_trace.specs.declared.line.Call.{Call}
 use Rattle.zp_trace.specs.declared.line.Call.TheVariants as call
 use Rattle.zp_trace.specs.declared.line.Command.{Command}
+use Rattle.zp_trace.specs.Grammar.{bound_label}
 use Rattle.zp_zone.specs.NamedZone.{NamedZone}
+use Rattle.zp_share.specs.declared.commands.Lent.{Lent}
+use Rattle.zp_share.specs.Commands.{World, Done, done, told_as, section, section_of, done_answer, alloc_down, free_in, drain_all}
 use Rattle.zp_replay.specs.declared.granted.Granted.{Granted}
-use Rattle.zp_replay.specs.declared.granted.Granted.TheVariants as granted
+use Rattle.zp_replay.specs.declared.granted.Granted.TheVariants.{Page, Block, Freed, Posted, Drained}
 use Rattle.zp_replay.specs.declared.bindings.Binding.{Binding}
-use Rattle.zp_replay.specs.Labels.{bound_to, bind, binding_of}
-use Rattle.zp_replay.specs.Row.{zone_at, number_of, outcome_at, row_after, answering}
+use Rattle.zp_replay.specs.Labels.{bound_to, bind_to, lent_by}
+use Rattle.zp_replay.specs.Crews.{CrewState, names_of, world_of, with_world}
+use Rattle.zp_replay.specs.Row.{number_of}
 
 abbrev pub line_feed : ℕ
 line_feed = 10
 
--- a reply in words
-abbrev pub reply_words : Reply → List ℕ
-reply_words (Page p) = codes "page " ++ decimal p
-reply_words (Block b) = codes "block " ++ (decimal b.page ++ (codes " order " ++ decimal b.order))
-reply_words Freed = codes "freed"
-reply_words Posted = codes "posted"
-reply_words (Pages ps) = codes "pages" ++ flat_map (λ p. codes " " ++ decimal p) ps
-reply_words Drained = codes "freed"
-reply_words (Refused r) = codes "refused " ++ decimal (refused_number r)
+-- what a worker got, or that it was done, in words
+abbrev pub granted_words : Granted → List ℕ
+granted_words (Page l) = codes "page " ++ decimal l.page
+granted_words (Block l) = codes "block " ++ (decimal l.page ++ (codes " order " ++ decimal l.order))
+granted_words Freed = codes "freed"
+granted_words Posted = codes "posted"
+granted_words (Drained n) = codes "drained " ++ decimal n
 
--- whose reply it is, and the reply
-abbrev pub reply_line : ℕ → Reply → List ℕ
-reply_line worker reply = decimal worker ++ (codes ": " ++ (reply_words reply ++ line_feed ∷ []))
+abbrev pub answer_words : Result Granted Refused → List ℕ
+answer_words (Ok g) = granted_words g
+answer_words (Err r) = codes "refused " ++ decimal (refused_number r)
 
--- what a line of a worker is answered, as a reply of the plain zone
-abbrev pub reply_of : Result Granted Refusal → Reply
-reply_of (Ok (granted.Page p)) = Page p
-reply_of (Ok (granted.Block b)) = Block b
-reply_of (Ok granted.Freed) = Freed
-reply_of (Ok granted.Posted) = Posted
-reply_of (Err r) = Refused r
-
--- of the lowest block the trace is told its page alone
-abbrev pub as_page : Reply → Reply
-as_page (Block b) = Page b.page
-as_page r = r
+-- whose answer it is, and the answer
+abbrev pub reply_line : ℕ → Result Granted Refused → List ℕ
+reply_line worker answer = decimal worker ++ (codes ": " ++ (answer_words answer ++ line_feed ∷ []))
 
 -- the info line of a zone
 abbrev pub info_of : NamedZone → List ℕ
 info_of z = info_line z.name (counts_of z.plain.area.largest z.plain.area.free)
 
--- the zones, and the bindings of labels so far
+-- an answer, where it was not refused
+abbrev pub granted_as : {A : Type 0} → (A → Granted) → Result A Refused → Result Granted Refused
+granted_as f (Ok a) = Ok (f a)
+granted_as f (Err r) = Err r
+
+-- the block that zone i answers; a zone answers these requests with a block, or refuses them
+abbrev pub block_in : ℕ → Reply → Result Lent Refused
+block_in i (reply.Block b) = Ok (record { zone = i; page = b.page; order = b.order })
+block_in i (reply.Refused r) = Err r
+block_in i q = Err NoBlock
+
+-- of the block that a label is bound to; 20 where it was never bound
+abbrev pub of_bound : Option Binding → World → (Lent → Done (Result Granted Refused)) → Done (Result Granted Refused)
+of_bound None v f = done (Err NotLent) v
+of_bound (Some b) v f = f b.lent
+
+-- what worker w's call makes of its world, where the zones have these names; an info makes nothing of it
+abbrev pub carried_out : List (List ℕ) → List Binding → ℕ → World → Call → Done (Result Granted Refused)
+carried_out names bs w v call.Info = done (Ok Freed) v
+carried_out names bs w v (call.Alloc label k t zone m) = told_as (granted_as (λ l. Page l)) (alloc_down k t m (number_of names zone) v)
+carried_out names bs w v (call.Low label k zone) =
+    let i = number_of names zone in told_as (λ q. granted_as (λ l. Page l) (block_in i q)) (section v i (request.AllocLow k))
+carried_out names bs w v (call.Free label) = of_bound (bound_to bs w label) v (λ l. told_as (granted_as (λ _. Freed)) (free_in v l.zone l.page l.order))
+carried_out names bs w v (call.Post label to) =
+    of_bound (bound_to bs w label) v (λ l. told_as (λ q. granted_as (λ _. Posted) (done_answer q)) (section_of v l.zone l.page l.order (request.Post l.page l.order to)))
+carried_out names bs w v (call.Collect label zone) =
+    let i = number_of names zone in told_as (λ q. granted_as (λ l. Block l) (block_in i q)) (section v i request.Collect)
+carried_out names bs w v call.Drain = told_as (granted_as (λ n. Drained n)) (drain_all v)
+
+-- the crew, and the bindings of labels so far
 pub record ReplayState : Type 0 where
-  pub zones : List NamedZone
+  pub crew : CrewState
   pub bindings : List Binding
 
-abbrev pub standing : List NamedZone → List Binding → ReplayState
-standing zones bs = record { zones = zones; bindings = bs }
-
--- what a worker is told, and what is left
-pub record LineReply : Type 0 where
-  pub reply : Reply
-  pub left : ReplayState
-
-abbrev pub replied : Reply → ReplayState → LineReply
-replied r s = record { reply = r; left = s }
-
--- zone i is asked
-abbrev pub asked : ReplayState → ℕ → ℕ → Request → LineReply
-asked s i w q = replied (outcome_at s.zones i w q).reply (standing (row_after s.zones i w q) s.bindings)
-
--- and the label bound to the block that it hands out
-abbrev pub asked_for : ReplayState → ℕ → ℕ → List ℕ → Request → LineReply
-asked_for s i w label q =
-    let r = (outcome_at s.zones i w q).reply in
-    replied r (standing (row_after s.zones i w q) (bind s.bindings (binding_of w label i q r)))
-
--- of the block of a binding its zone is asked: refused 20 where the label was never bound, or the block is not out to the worker
-abbrev pub asked_of : ReplayState → ℕ → Option Binding → (Binding → Request) → LineReply
-asked_of s w None q = replied (Refused NotLent) s
-asked_of s w (Some b) q =
-    cond (is_out (zone_at s.zones b.zone).plain w b.page b.order) (asked s b.zone w (q b)) (replied (Refused NotLent) s)
+abbrev pub standing : CrewState → List Binding → ReplayState
+standing c bs = record { crew = c; bindings = bs }
 
 -- what is written in answer, and what it leaves
 pub record Answered : Type 0 where
   pub text : List ℕ
   pub left : ReplayState
 
-abbrev pub said : ℕ → LineReply → Answered
-said w t = record { text = reply_line w t.reply; left = t.left }
+-- a worker is told the answer, and the label that its call names is bound to the block in it
+abbrev pub said : ReplayState → ℕ → Call → Done (Result Granted Refused) → Answered
+said s w c d = record {
+  text = reply_line w d.answer;
+  left = standing (with_world w d.world s.crew) (bind_to s.bindings w (bound_label c) (lent_by d.answer));
+}
 
--- an alloc asks the zone named, and those below it; low and collect ask that zone alone
 abbrev pub answer_to : ReplayState → ℕ → Call → Answered
-answer_to s w call.Info = record { text = flat_map info_of s.zones; left = s }
-answer_to s w (call.Alloc label k t zone m) =
-    let q = request.Alloc k t m in
-    said w (asked_for s (answering s.zones w q (number_of s.zones zone)) w label q)
-answer_to s w (call.Low label k zone) =
-    let t = asked_for s (number_of s.zones zone) w label (request.AllocLow k) in
-    said w (replied (as_page t.reply) t.left)
-answer_to s w (call.Free label) = said w (asked_of s w (bound_to s.bindings w label) (λ b. request.Free b.page b.order))
-answer_to s w (call.Post label to) = said w (asked_of s w (bound_to s.bindings w label) (λ b. request.Post b.page b.order to))
-answer_to s w (call.Collect label zone) = said w (asked_for s (number_of s.zones zone) w label request.Collect)
+answer_to s w call.Info = record { text = flat_map info_of s.crew.zones; left = s }
+answer_to s w c = said s w c (carried_out (names_of s.crew) s.bindings w (world_of s.crew w) c)
 
--- the answer to a command
 abbrev pub answer : ReplayState → Command → Answered
 answer s c = answer_to s c.worker c.call
 

@@ -1,19 +1,17 @@
-//! The labels of workers, and the blocks that they are bound to.
-ghost use Rattle.std.specs.Prelude.{◌≡◌, ◌<◌, ◌∷◌, [], ◌++◌, length, vec_capacity};
-ghost use Rattle.zp_replay.specs.Labels.{names, bound_to};
+//! Labels of workers, each bound to a block.
+ghost use Rattle.std.specs.Prelude.{◌≡◌, List};
+ghost use Rattle.zp_replay.specs.Labels.{names, bound_to, lent_by};
 
-use zp_model::{Name, Order, PageNo, Worker};
+use crate::granted::Granted;
+use zp_model::{Name, Refused, Worker};
+use zp_share::Lent;
 
-/// A label of a worker, and the block that it was bound to.
+/// A label of a worker, and the block that it is bound to.
 #[derive(Clone, Copy, PartialEq, Eq, Debug, Drop)]
 pub struct Binding {
     pub worker: Worker,
     pub label: Name,
-    /// The number of the block's zone, the first one's being 0.
-    pub zone: usize,
-    /// The block's first page.
-    pub page: PageNo,
-    pub order: Order,
+    pub lent: Lent,
 }
 
 /// Whether a binding is of this label of this worker.
@@ -32,4 +30,14 @@ pub fn bound_to(bindings: &[Binding], worker: Worker, label: Name) -> Option<Bin
         .rev()
         .copied()
         .find(|binding| names(binding, worker, label))
+}
+
+/// The block that a worker is answered.
+pub fn lent_by(answer: &Result<Granted, Refused>) -> Option<Lent>
+    ensures { result ≡ lent_by answer.now }
+{
+    match answer {
+        Ok(Granted::Page(lent) | Granted::Block(lent)) => Some(*lent),
+        Ok(_) | Err(_) => None,
+    }
 }

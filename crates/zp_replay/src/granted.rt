@@ -1,14 +1,16 @@
-//! What a line of a worker is answered where it is not refused.
+//! What a worker is given.
 
-use zp_model::{Block, PageNo};
+use zp_share::Lent;
 
-/// What a worker gets, or that it was done.
+/// What a worker gets, or that what it asked for was done.
 #[derive(Clone, Copy, PartialEq, Eq, Debug, Drop)]
 pub enum Granted {
-    /// The first page of the block that was asked for.
-    Page(PageNo),
-    /// A block of which the worker did not know page and order.
-    Block(Block),
+    /// A block, of which the worker is told its page.
+    Page(Lent),
+    /// A block, of which the worker is told its page and its order.
+    Block(Lent),
     Freed,
     Posted,
+    /// The worker's lists were given back: how many pages.
+    Drained(u32),
 }

@@ -5,7 +5,7 @@
 #![tactic(auto)]
 
 mod bindings;
-mod crewed_zone;
+mod crew;
 pub mod device;
 mod ending;
 mod exit;

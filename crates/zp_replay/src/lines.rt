@@ -2,14 +2,16 @@
 ghost use Rattle.std.specs.Prelude.{◌≡◌, ◌≤◌, ◌+◌, ◌*◌, ◌++◌, codes, length, Ok};
 ghost use Rattle.std.specs.Fmt.{decimal};
 ghost use Rattle.arrayvec.specs.ArrayString.{array_string_len};
-ghost use Rattle.zp_replay.specs.Asked.{named_zone};
-ghost use Rattle.zp_replay.specs.Replies.{reply_line, reply_of, reply_words};
-ghost use Rattle.zp_replay.specs.Output.{level_word, counted, total_line, total_of, totals, bad_line};
+ghost use Rattle.zp_model.specs.Mark.{level_of};
+ghost use Rattle.zp_model.specs.Zone.{pages_of};
+ghost use Rattle.zp_replay.specs.Replies.{reply_line, granted_words};
+ghost use Rattle.zp_replay.specs.Output.{level_word, counted, total_line, bad_line};
 
 use crate::granted::Granted;
 use arrayvec::ArrayString;
 use itoa::Buffer;
 use zp_model::{LONGEST_NAME, Level, Refused, Worker};
+use zp_share::Totals;
 use zp_zone::Zone;
 
 /// The most bytes of a line.
@@ -21,18 +23,9 @@ const DIGITS: usize = 10;
 /// A line, as it is made.
 pub type Line = ArrayString<LINE>;
 
-/// How many pages of a zone are free, posted, on workers' lists, and lent.
-#[derive(Clone, Copy, PartialEq, Eq, Debug, Drop)]
-pub struct Totals {
-    pub free: u32,
-    pub posted: u32,
-    pub cached: u32,
-    pub lent: u32,
-}
-
-/// What a worker is answered: `W: page P`, `W: block P order K`, `W: freed`, `W: posted` or `W: refused C`.
+/// What a worker is answered: `W: page P`, `W: block P order K`, `W: freed`, `W: posted`, `W: drained N` or `W: refused C`.
 pub fn reply_line(worker: Worker, reply: Result<Granted, Refused>) -> Line
-    ensures { result.bytes ≡ reply_line worker (reply_of reply) }
+    ensures { result.bytes ≡ reply_line worker reply }
 {
     let mut line = line_of(worker);
     match reply {
@@ -46,17 +39,18 @@ pub fn reply_line(worker: Worker, reply: Result<Granted, Refused>) -> Line
 /// Appends what a worker gets, or that it was done.
 fn push_granted(line: &mut Line, granted: Granted)
     requires { array_string_len line.old ≤ DIGITS + 2 }
-    ensures bytes { line.new.bytes ≡ line.old.bytes ++ reply_words (reply_of (Ok granted)) }
+    ensures bytes { line.new.bytes ≡ line.old.bytes ++ granted_words granted }
     ensures len { array_string_len line.new ≤ 3 * DIGITS + 15 }
 {
     match granted {
-        Granted::Page(page) => push_counted(line, "page ", page.number()),
-        Granted::Block(block) => {
-            push_counted(line, "block ", block.page.number());
-            push_counted(line, " order ", u32::from(block.order.number()));
+        Granted::Page(lent) => push_counted(line, "page ", lent.page.number()),
+        Granted::Block(lent) => {
+            push_counted(line, "block ", lent.page.number());
+            push_counted(line, " order ", u32::from(lent.order.number()));
         }
         Granted::Freed => line.push_str("freed"),
         Granted::Posted => line.push_str("posted"),
+        Granted::Drained(pages) => push_counted(line, "drained ", pages),
     }
 }
 
@@ -71,26 +65,12 @@ fn line_of(worker: Worker) -> Line
     line
 }
 
-/// Where a zone's pages are. No worker has lists, so what is neither free nor posted is lent.
-fn totals_of(zone: &Zone) -> Totals
-    ensures { result ≡ totals zone.now.plain }
-{
-    let free = zone.counts().free;
-    let posted = zone.posted_pages();
-    Totals {
-        free,
-        posted,
-        cached: 0,
-        lent: zone.pages() - free - posted,
-    }
-}
-
-/// A zone's total line.
-pub fn total_of(zone: &Zone) -> Line
-    ensures { result.bytes ≡ total_of (named_zone zone.now) }
+/// A zone's total line, with where its pages are.
+pub fn total_line_of(zone: &Zone, totals: &Totals) -> Line
+    ensures { result.bytes ≡ total_line zone.now.name (pages_of zone.now.plain) totals.now (level_of zone.now.plain) }
 {
     let name = zone.name();
-    total_line(name, zone.pages(), &totals_of(zone), zone.level())
+    total_line(name, zone.pages(), totals, zone.level())
 }
 
 /// `total NAME pages A free B posted C cached D lent E level L`.

@@ -16,6 +16,7 @@ mod several_workers;
 mod several_zones;
 mod stale_labels;
 mod worked;
+mod workers_lists;
 
 /// How the devices of a replay behave.
 #[derive(Clone, Copy, Drop)]

@@ -1,7 +1,7 @@
 -- Where no line that may stand next stands, the next line is the bad one.
 use Rattle.std.proofs.Common.{ℕ, ◌≡◌, ◌<◌, ◌+◌, List, [], ◌∷◌, ◌++◌, map, length, length-append, sym, ap, subst, ◌∙◌, arith, Result, Err}
 use Rattle.std.proofs.lemmas.List.{length-map}
-use Rattle.zp_model.specs.Bounds.{IsCrew}
+use Rattle.zp_model.specs.Bounds.{IsCrew, AreLists}
 use Rattle.zp_trace.specs.declared.bounds.TheConstants.{MOST_LINES}
 use Rattle.zp_trace.specs.declared.line.ZoneLine.{ZoneLine}
 use Rattle.zp_trace.specs.declared.line.Command.{Command}
@@ -12,7 +12,7 @@ use Rattle.zp_trace.specs.declared.trace.TraceFault.TheVariants as fault
 use Rattle.zp_trace.specs.Lines.{Line}
 use Rattle.zp_trace.specs.Lines as line
 use Rattle.zp_trace.specs.Spelling.{line_text, text_of, header_of}
-use Rattle.zp_trace.specs.Grammar.{IsNextZone, AreLists, IsNextCommand, IsAllowedAfter, IsBeginning, IsBadLine, lines_of}
+use Rattle.zp_trace.specs.Grammar.{IsNextZone, IsNextCommand, IsAllowedAfter, IsBeginning, IsBadLine, lines_of}
 use Rattle.zp_trace.proofs.HeaderLines.{zones_alone, no_workers_yet, up_to_workers, lines_with, lines_split}
 use Rattle.zp_trace.proofs.CommandLines.{same_trace, lines_count}
 

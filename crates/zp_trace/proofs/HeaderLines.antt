@@ -3,15 +3,15 @@ use Rattle.std.proofs.Common.{ℕ, ◌≡◌, ◌<◌, ◌≤◌, ◌+◌, List,
 use Rattle.std.proofs.lemmas.List.{map-append, append-nil}
 use Rattle.std.proofs.lemmas.List.Elements.{All-from_recursion}
 use Rattle.std.specs.List.{AllByRecursion}
-use Rattle.zp_model.specs.Bounds.{IsCrew}
-use Rattle.zp_trace.specs.declared.bounds.TheConstants.{MOST_ZONES}
+use Rattle.zp_model.specs.Bounds.{IsCrew, AreLists}
+use Rattle.zp_model.specs.declared.constants.TheConstants.{MAX_ZONES}
 use Rattle.zp_trace.specs.declared.line.ZoneLine.{ZoneLine}
 use Rattle.zp_trace.specs.declared.line.Command.{Command}
 use Rattle.zp_trace.specs.declared.trace.Header.{Header}
 use Rattle.zp_trace.specs.Lines.{Line}
 use Rattle.zp_trace.specs.Lines as line
 use Rattle.zp_trace.specs.Spelling.{line_text, text_of, header_of}
-use Rattle.zp_trace.specs.Grammar.{IsZoneLine, IsNextZone, AreLists, IsHeader, IsBeginning, lines_of}
+use Rattle.zp_trace.specs.Grammar.{IsZoneLine, IsNextZone, IsHeader, IsBeginning, lines_of}
 use Rattle.zp_trace.proofs.Beginnings.{begin_more, text_more}
 
 -- lines of which the first is no zone's
@@ -99,11 +99,11 @@ zones_are before (z ∷ zs) rest begins =
     let next = begins (map line.Zone before) (line.Zone z) (map line.Zone zs ++ rest) refl in
     (next.2.1, zones_are (before ++ (z ∷ [])) zs rest (subst IsBeginning (zone_moved before z (map line.Zone zs ++ rest)) begins))
 
-pub zones_are_few : (before zs : List ZoneLine) (rest : List Line) → length before ≤ MOST_ZONES → IsBeginning (map line.Zone before ++ (map line.Zone zs ++ rest)) → length before + length zs ≤ MOST_ZONES
+pub zones_are_few : (before zs : List ZoneLine) (rest : List Line) → length before ≤ MAX_ZONES → IsBeginning (map line.Zone before ++ (map line.Zone zs ++ rest)) → length before + length zs ≤ MAX_ZONES
 zones_are_few before [] rest few begins = omega (arith, few)
 zones_are_few before (z ∷ zs) rest few begins =
     let next = begins (map line.Zone before) (line.Zone z) (map line.Zone zs ++ rest) refl in
-    let room : length (before ++ (z ∷ [])) ≤ MOST_ZONES = omega (arith, next.2.0, ap length (zones_alone before next.0 next.1), length-append before (z ∷ [])) in
+    let room : length (before ++ (z ∷ [])) ≤ MAX_ZONES = omega (arith, next.2.0, ap length (zones_alone before next.0 next.1), length-append before (z ∷ [])) in
     let more = zones_are_few (before ++ (z ∷ [])) zs rest room (subst IsBeginning (zone_moved before z (map line.Zone zs ++ rest)) begins) in
     omega (arith, more, length-append before (z ∷ []))
 

@@ -5,15 +5,15 @@ use Rattle.zp_model.specs.declared.migrate_type.MigrateType.{MigrateType}
 use Rattle.zp_model.specs.declared.migrate_type.MigrateType.TheVariants.{Unmovable, Reclaimable, Movable}
 use Rattle.zp_model.specs.declared.mark.Mark.{Mark}
 use Rattle.zp_model.specs.declared.mark.Mark.TheVariants as mark
-use Rattle.zp_model.specs.Bounds.{IsCrew}
+use Rattle.zp_model.specs.Bounds.{IsCrew, AreLists}
 use Rattle.zp_model.specs.Naming.{IsName}
 use Rattle.zp_trace.specs.declared.line.ZoneLine.{ZoneLine}
 use Rattle.zp_trace.specs.declared.line.Call.{Call}
-use Rattle.zp_trace.specs.declared.line.Call.TheVariants.{Info, Alloc, Low, Free, Post, Collect}
+use Rattle.zp_trace.specs.declared.line.Call.TheVariants.{Info, Alloc, Low, Free, Post, Collect, Drain}
 use Rattle.zp_trace.specs.declared.line.Command.{Command}
 use Rattle.zp_trace.specs.declared.trace.Header.{Header}
 use Rattle.zp_trace.specs.Spelling.{line_feed, joined, IsWord, AreWords, zone_words, workers_words, lists_words, call_words, command_words, kind_word, mark_word}
-use Rattle.zp_trace.specs.Grammar.{IsZoneLine, AreLists, IsHeader, IsDeclared, IsCallOf, IsCommandOf}
+use Rattle.zp_trace.specs.Grammar.{IsZoneLine, IsHeader, IsDeclared, IsCallOf, IsCommandOf}
 use Rattle.zp_trace.proofs.WordLists.{number_is_word, name_is_word}
 
 pub zone_are_words : (z : ZoneLine) → IsZoneLine z → AreWords (zone_words z)
@@ -26,7 +26,7 @@ workers_are_words n is =
 
 pub lists_are_words : (batch high : ℕ) → AreLists batch high → AreWords (lists_words batch high)
 lists_are_words batch high is =
-    (omega arith, omega arith, (search rules, (number_is_word batch (omega (arith, is.0)), (number_is_word high (omega (arith, is.1)), tt))))
+    (omega arith, omega arith, (search rules, (number_is_word batch (omega (arith, is.most)), (number_is_word high (omega (arith, is.longest)), tt))))
 
 kind_is_word : (kind : MigrateType) → IsWord (kind_word kind)
 kind_is_word Unmovable = search rules
@@ -45,6 +45,7 @@ declared_name h zone header (k, z, inside, here, same) =
 
 call_are_words : (h : Header) (call : Call) → IsHeader h → IsCallOf h call → (length (call_words call) ≤ 6) × AllByRecursion IsWord (call_words call)
 call_are_words h Info header is = (omega arith, search rules)
+call_are_words h Drain header is = (omega arith, search rules)
 call_are_words h (Alloc label order kind zone m) header is =
     (omega arith, (search rules, (name_is_word label is.0, (number_is_word order (omega (arith, is.1)), (kind_is_word kind, (name_is_word zone (declared_name h zone header is.2), (mark_is_word m, tt)))))))
 call_are_words h (Low label order zone) header is =

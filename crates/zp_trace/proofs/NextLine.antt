@@ -7,7 +7,7 @@ use Rattle.zp_model.specs.declared.mark.Mark.{Mark}
 use Rattle.zp_model.specs.declared.mark.Mark.TheVariants as mark
 use Rattle.zp_trace.specs.declared.line.ZoneLine.{ZoneLine}
 use Rattle.zp_trace.specs.declared.line.Call.{Call}
-use Rattle.zp_trace.specs.declared.line.Call.TheVariants.{Info, Alloc, Low, Free, Post, Collect}
+use Rattle.zp_trace.specs.declared.line.Call.TheVariants.{Info, Alloc, Low, Free, Post, Collect, Drain}
 use Rattle.zp_trace.specs.declared.line.Command.{Command}
 use Rattle.zp_trace.specs.declared.trace.Header.{Header}
 use Rattle.zp_trace.specs.declared.trace.Trace.{Trace}
@@ -64,17 +64,19 @@ same_mark mark.Any mark.Low e = absurd (omega (arith, first_of_mark mark.Any mar
 same_mark mark.Any mark.Min e = absurd (omega (arith, first_of_mark mark.Any mark.Min e))
 same_mark mark.Any mark.Any e = refl
 
--- a post and a collect have as many words, and other keywords
+-- some calls have as many words, and other keywords
 first_byte : (words others : List (List ℕ)) → words ≡ others → get_or (get_or words 0 []) 0 0 ≡ get_or (get_or others 0 []) 0 0
 first_byte words others e = ap (λ (ws : List (List ℕ)). get_or (get_or ws 0 []) 0 0) e
 
 same_call : (h : Header) (a b : Call) → IsHeader h → IsCallOf h a → IsCallOf h b → call_words a ≡ call_words b → a ≡ b
 same_call h Info Info header p q e = refl
+same_call h Info Drain header p q e = absurd (omega (arith, first_byte (call_words Info) (call_words Drain) e))
 same_call h Info (Alloc lab ord typ name mk) header p q e = cc
 same_call h Info (Low lab ord name) header p q e = cc
 same_call h Info (Free lab) header p q e = cc
 same_call h Info (Post lab other) header p q e = cc
 same_call h Info (Collect lab name) header p q e = cc
+same_call h (Alloc label order kind zone m) Drain header p q e = cc
 same_call h (Alloc label order kind zone m) Info header p q e = cc
 same_call h (Alloc label order kind zone m) (Alloc lab ord typ name mk) header p q e =
     let first : label ≡ lab = cc in
@@ -90,6 +92,7 @@ same_call h (Alloc label order kind zone m) (Low lab ord name) header p q e = cc
 same_call h (Alloc label order kind zone m) (Free lab) header p q e = cc
 same_call h (Alloc label order kind zone m) (Post lab other) header p q e = cc
 same_call h (Alloc label order kind zone m) (Collect lab name) header p q e = cc
+same_call h (Low label order zone) Drain header p q e = cc
 same_call h (Low label order zone) Info header p q e = cc
 same_call h (Low label order zone) (Alloc lab ord typ name mk) header p q e = cc
 same_call h (Low label order zone) (Low lab ord name) header p q e =
@@ -101,6 +104,7 @@ same_call h (Low label order zone) (Low lab ord name) header p q e =
 same_call h (Low label order zone) (Free lab) header p q e = cc
 same_call h (Low label order zone) (Post lab other) header p q e = cc
 same_call h (Low label order zone) (Collect lab name) header p q e = cc
+same_call h (Free label) Drain header p q e = cc
 same_call h (Free label) Info header p q e = cc
 same_call h (Free label) (Alloc lab ord typ name mk) header p q e = cc
 same_call h (Free label) (Low lab ord name) header p q e = cc
@@ -109,6 +113,7 @@ same_call h (Free label) (Free lab) header p q e =
     cc
 same_call h (Free label) (Post lab other) header p q e = cc
 same_call h (Free label) (Collect lab name) header p q e = cc
+same_call h (Post label to) Drain header p q e = cc
 same_call h (Post label to) Info header p q e = cc
 same_call h (Post label to) (Alloc lab ord typ name mk) header p q e = cc
 same_call h (Post label to) (Low lab ord name) header p q e = cc
@@ -119,6 +124,7 @@ same_call h (Post label to) (Post lab other) header p q e =
     let same_to = same_number (decimal to) to other (omega (arith, p.1, header.workers.1)) (omega (arith, q.1, header.workers.1)) refl to_text in
     cc
 same_call h (Post label to) (Collect lab name) header p q e = absurd (omega (arith, first_byte (call_words (Post label to)) (call_words (Collect lab name)) e))
+same_call h (Collect label zone) Drain header p q e = cc
 same_call h (Collect label zone) Info header p q e = cc
 same_call h (Collect label zone) (Alloc lab ord typ name mk) header p q e = cc
 same_call h (Collect label zone) (Low lab ord name) header p q e = cc
@@ -128,6 +134,13 @@ same_call h (Collect label zone) (Collect lab name) header p q e =
     let first : label ≡ lab = cc in
     let zones : zone ≡ name = cc in
     cc
+same_call h Drain Info header p q e = absurd (omega (arith, first_byte (call_words Drain) (call_words Info) e))
+same_call h Drain (Alloc lab ord typ name mk) header p q e = cc
+same_call h Drain (Low lab ord name) header p q e = cc
+same_call h Drain (Free lab) header p q e = cc
+same_call h Drain (Post lab other) header p q e = cc
+same_call h Drain (Collect lab name) header p q e = cc
+same_call h Drain Drain header p q e = refl
 
 pub same_command : (h : Header) (c d : Command) → IsHeader h → IsCommandOf h c → IsCommandOf h d → command_words c ≡ command_words d → c ≡ d
 same_command h c d header p q e =

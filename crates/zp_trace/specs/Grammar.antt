@@ -1,12 +1,12 @@
 -- Which lines may stand after which, what the text of a trace is, and which line of a text is its bad line.
 use Rattle.std.specs.Prelude.{ℕ, ◌+◌, ◌≡◌, ◌≢◌, ◌<◌, ◌≤◌, List, [], ◌∷◌, ◌++◌, length, map, All, Any, Option, Some, None}
-use Rattle.zp_model.specs.declared.constants.TheConstants.{LARGEST_ORDER}
-use Rattle.zp_model.specs.Bounds.{IsBase, IsPages, IsCrew}
+use Rattle.zp_model.specs.declared.constants.TheConstants.{LARGEST_ORDER, MAX_ZONES}
+use Rattle.zp_model.specs.Bounds.{IsBase, IsPages, IsCrew, AreLists}
 use Rattle.zp_model.specs.Naming.{IsName}
-use Rattle.zp_trace.specs.declared.bounds.TheConstants.{MOST_LINES, MOST_ZONES}
+use Rattle.zp_trace.specs.declared.bounds.TheConstants.{MOST_LINES}
 use Rattle.zp_trace.specs.declared.line.ZoneLine.{ZoneLine}
 use Rattle.zp_trace.specs.declared.line.Call.{Call}
-use Rattle.zp_trace.specs.declared.line.Call.TheVariants.{Info, Alloc, Low, Free, Post, Collect}
+use Rattle.zp_trace.specs.declared.line.Call.TheVariants.{Info, Alloc, Low, Free, Post, Collect, Drain}
 use Rattle.zp_trace.specs.declared.line.Command.{Command}
 use Rattle.zp_trace.specs.declared.trace.Header.{Header}
 use Rattle.zp_trace.specs.declared.trace.Trace.{Trace}
@@ -23,16 +23,12 @@ IsAbove z other = (other.name ≢ z.name) × (other.base + other.pages ≤ z.bas
 
 -- a zone that may be declared after these: not too many, each another name, and each below it
 abbrev pub IsNextZone : List ZoneLine → ZoneLine → Type 0
-IsNextZone zones z = (length zones < MOST_ZONES) × IsZoneLine z × All (IsAbove z) zones
-
--- how many pages a worker's list gets at a time, and how many it may have: so far workers have no lists
-abbrev pub AreLists : ℕ → ℕ → Type 0
-AreLists batch high = (batch ≡ 0) × (high ≡ 0)
+IsNextZone zones z = (length zones < MAX_ZONES) × IsZoneLine z × All (IsAbove z) zones
 
 -- what each trace begins with
 pub record IsHeader (h : Header) : Type 0 where
   pub some : 0 < length h.zones
-  pub few : length h.zones ≤ MOST_ZONES
+  pub few : length h.zones ≤ MAX_ZONES
   pub zones : All IsZoneLine h.zones
   pub workers : IsCrew h.workers
   pub lists : AreLists h.batch h.high
@@ -49,6 +45,7 @@ IsCallOf h (Low label order zone) = IsName label × (order ≤ LARGEST_ORDER) ×
 IsCallOf h (Free label) = IsName label
 IsCallOf h (Post label to) = IsName label × (to < h.workers)
 IsCallOf h (Collect label zone) = IsName label × IsDeclared h zone
+IsCallOf h Drain = Unit {0}
 
 abbrev pub IsCommandOf : Header → Command → Type 0
 IsCommandOf h c = (c.worker < h.workers) × IsCallOf h c.call
@@ -61,6 +58,7 @@ bound_label (Low label order zone) = Some label
 bound_label (Free label) = None
 bound_label (Post label to) = None
 bound_label (Collect label zone) = Some label
+bound_label Drain = None
 
 -- the command binds this label of this worker, if it is answered a block
 abbrev pub Binds : ℕ → List ℕ → Command → Type 0
@@ -74,6 +72,7 @@ HasLabel before worker (Low label order zone) = Unit {0}
 HasLabel before worker (Free label) = Any (Binds worker label) before
 HasLabel before worker (Post label to) = Any (Binds worker label) before
 HasLabel before worker (Collect label zone) = Unit {0}
+HasLabel before worker Drain = Unit {0}
 
 -- a command that may stand after these in a trace of this header
 abbrev pub IsNextCommand : Header → List Command → Command → Type 0

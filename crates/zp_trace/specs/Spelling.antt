@@ -10,7 +10,7 @@ use Rattle.zp_model.specs.declared.mark.Mark.TheVariants as mark
 use Rattle.zp_trace.specs.declared.bounds.TheConstants.{MOST_WORDS}
 use Rattle.zp_trace.specs.declared.line.ZoneLine.{ZoneLine}
 use Rattle.zp_trace.specs.declared.line.Call.{Call}
-use Rattle.zp_trace.specs.declared.line.Call.TheVariants.{Info, Alloc, Low, Free, Post, Collect}
+use Rattle.zp_trace.specs.declared.line.Call.TheVariants.{Info, Alloc, Low, Free, Post, Collect, Drain}
 use Rattle.zp_trace.specs.declared.trace.Header.{Header}
 use Rattle.zp_trace.specs.declared.line.Command.{Command}
 use Rattle.zp_trace.specs.Lines.{Line}
@@ -65,6 +65,7 @@ call_words (Low label order zone) = codes "low" ∷ label ∷ decimal order ∷ 
 call_words (Free label) = codes "free" ∷ label ∷ []
 call_words (Post label to) = codes "post" ∷ label ∷ decimal to ∷ []
 call_words (Collect label zone) = codes "collect" ∷ label ∷ zone ∷ []
+call_words Drain = codes "drain" ∷ []
 
 abbrev pub command_words : Command → List (List ℕ)
 command_words c = decimal c.worker ∷ call_words c.call

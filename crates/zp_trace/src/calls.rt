@@ -4,7 +4,7 @@ ghost use Rattle.zp_model.specs.declared.migrate_type.MigrateType.{MigrateType};
 ghost use Rattle.zp_model.specs.declared.mark.Mark.{Mark};
 ghost use Rattle.zp_trace.specs.declared.trace.Header.{Header};
 ghost use Rattle.zp_trace.specs.declared.line.Call.{Call};
-ghost use Rattle.zp_trace.specs.declared.line.Call.TheVariants.{Info, Alloc, Low, Free, Post, Collect};
+ghost use Rattle.zp_trace.specs.declared.line.Call.TheVariants.{Info, Alloc, Low, Free, Post, Collect, Drain};
 ghost use Rattle.zp_trace.specs.declared.line.Command.{Command};
 ghost use Rattle.zp_trace.specs.Spelling.{spelled, call_words, command_words};
 ghost use Rattle.zp_trace.specs.Grammar.{IsHeader, IsDeclared, IsCallOf, IsCommandOf};
@@ -19,6 +19,15 @@ fn is_info(words: &[&[u8]]) -> bool
 {
     match words {
         [keyword] => is_text(keyword, "info"),
+        _ => false,
+    }
+}
+
+fn is_drain(words: &[&[u8]]) -> bool
+    ensures { IsTrue result ↔ (spelled words.now ≡ call_words Drain) }
+{
+    match words {
+        [keyword] => is_text(keyword, "drain"),
         _ => false,
     }
 }
@@ -138,6 +147,9 @@ fn call_of(header: &Header, words: &[&[u8]]) -> Option<Call>
 {
     if is_info(words) {
         return Some(Call::Info);
+    }
+    if is_drain(words) {
+        return Some(Call::Drain);
     }
     if let Some(call) = alloc_of(header, words) {
         return Some(call);

@@ -1,16 +1,15 @@
 //! The lines before the worker lines, from their words.
 ghost use Rattle.std.specs.Prelude.{◌≡◌, ◌<◌, ◌≤◌, ◌+◌, ◌↔◌, ℕ, length, All, IsTrue, IfSome, IfNone};
-ghost use Rattle.zp_trace.specs.declared.bounds.TheConstants.{MOST_ZONES};
+ghost use Rattle.zp_model.specs.declared.constants.TheConstants.{MAX_ZONES};
 ghost use Rattle.zp_trace.specs.declared.line.ZoneLine.{ZoneLine};
-ghost use Rattle.zp_model.specs.Bounds.{IsCrew};
+ghost use Rattle.zp_model.specs.Bounds.{IsCrew, AreLists};
 ghost use Rattle.zp_trace.specs.Spelling.{spelled, zone_words, workers_words, lists_words};
-ghost use Rattle.zp_trace.specs.Grammar.{IsZoneLine, IsAbove, AreLists};
+ghost use Rattle.zp_trace.specs.Grammar.{IsZoneLine, IsAbove};
 
-use crate::bounds::MOST_ZONES;
 use crate::line::ZoneLine;
 use crate::number::parse_number;
 use crate::values::{base_of, crew_of, is_text, min_of, pages_of};
-use zp_model::Name;
+use zp_model::{LONGEST_LIST, MAX_BATCH, MAX_ZONES, Name};
 
 /// The zone that such words declare.
 pub fn zone_of(words: &[&[u8]]) -> Option<ZoneLine>
@@ -51,9 +50,9 @@ fn is_above(zone: &ZoneLine, other: &ZoneLine) -> bool
 
 /// Whether there may be one zone more after these, and this zone is above each of them.
 pub fn may_follow(before: &[ZoneLine], zone: &ZoneLine) -> bool
-    ensures { IsTrue result ↔ ((length before.now < MOST_ZONES) × All (IsAbove zone.now) before.now) }
+    ensures { IsTrue result ↔ ((length before.now < MAX_ZONES) × All (IsAbove zone.now) before.now) }
 {
-    before.len() < MOST_ZONES && before.iter().all(|other| is_above(zone, other))
+    before.len() < MAX_ZONES && before.iter().all(|other| is_above(zone, other))
 }
 
 /// How many workers such words say that there are.
@@ -70,11 +69,16 @@ pub fn workers_of(words: &[&[u8]]) -> Option<u32>
     crew_of(count)
 }
 
-/// How many pages workers' lists get at a time and may have: so far workers have no lists.
+/// Whether workers' lists may get so many pages at a time, and have so many.
 fn may_be_lists(batch: u32, high: u32) -> bool
     ensures { IsTrue result ↔ AreLists batch high }
 {
-    batch == 0 && high == 0
+    let none = batch == 0 && high == 0;
+    let some = 1 <= batch
+        && batch as usize <= MAX_BATCH
+        && batch < high
+        && high as usize <= LONGEST_LIST;
+    none || some
 }
 
 /// The two numbers of pages that such words say of the workers' lists.

@@ -1,27 +1,15 @@
 //! Which labels are bound by the commands so far.
 ghost use Rattle.std.specs.Prelude.{◌≡◌, ◌↔◌, Any, IsTrue};
-ghost use Rattle.zp_trace.specs.Grammar.{bound_label, Binds, HasLabel};
+ghost use Rattle.zp_trace.specs.Grammar.{Binds, HasLabel};
 
 use crate::line::{Call, Command};
 use zp_model::{Name, Worker};
-
-/// The label that a call binds to the block that it is answered.
-fn bound_label(call: &Call) -> Option<Name>
-    ensures { result ≡ bound_label call.now }
-{
-    match call {
-        Call::Alloc { label, .. } | Call::Low { label, .. } | Call::Collect { label, .. } => {
-            Some(*label)
-        }
-        Call::Info | Call::Free { .. } | Call::Post { .. } => None,
-    }
-}
 
 /// Whether a command binds this label of this worker, if it is answered a block.
 fn binds(command: &Command, worker: Worker, label: Name) -> bool
     ensures { IsTrue result ↔ Binds worker label command.now }
 {
-    command.worker == worker && bound_label(&command.call) == Some(label)
+    command.worker == worker && command.call.bound_label() == Some(label)
 }
 
 /// Whether one of the commands does.
@@ -39,6 +27,7 @@ pub fn has_label(before: &[Command], command: &Command) -> bool
         Call::Free { label } | Call::Post { label, .. } => {
             is_bound(before, command.worker, label)
         }
-        Call::Info | Call::Alloc { .. } | Call::Low { .. } | Call::Collect { .. } => true,
+        Call::Info | Call::Alloc { .. } | Call::Low { .. } | Call::Collect { .. } | Call::Drain =>
+            true,
     }
 }

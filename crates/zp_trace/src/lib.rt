@@ -16,7 +16,7 @@ mod trace;
 mod values;
 mod words;
 
-pub use bounds::{MOST_LINES, MOST_ZONES};
+pub use bounds::MOST_LINES;
 pub use grammar_law::{
     a_good_text_has_no_bad_line, a_text_has_one_bad_line, a_text_writes_one_trace,
 };

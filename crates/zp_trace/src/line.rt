@@ -1,4 +1,6 @@
 //! The lines of a trace.
+ghost use Rattle.std.specs.Prelude.{◌≡◌};
+ghost use Rattle.zp_trace.specs.Grammar.{bound_label};
 
 use zp_model::{Mark, MigrateType, Name, Order, Worker};
 
@@ -47,6 +49,8 @@ pub enum Call {
         label: Name,
         zone: Name,
     },
+    /// All pages of the worker's lists, given back.
+    Drain,
 }
 
 /// One worker line: who asks, and for what.
@@ -54,4 +58,18 @@ pub enum Call {
 pub struct Command {
     pub worker: Worker,
     pub call: Call,
+}
+
+impl Call {
+    /// The label that the call binds to the block that it is answered.
+    pub fn bound_label(&self) -> Option<Name>
+        ensures { result ≡ bound_label self.now }
+    {
+        match self {
+            Call::Alloc { label, .. } | Call::Low { label, .. } | Call::Collect { label, .. } => {
+                Some(*label)
+            }
+            Call::Info | Call::Free { .. } | Call::Post { .. } | Call::Drain => None,
+        }
+    }
 }

@@ -1,12 +1,12 @@
 //! The parser of whole texts.
 ghost use Rattle.std.specs.Prelude.{◌≡◌, ◌++◌, List, ℕ, map, IfSome, IfNone, IfOk, Err, All};
-ghost use Rattle.zp_model.specs.Bounds.{IsCrew};
+ghost use Rattle.zp_model.specs.Bounds.{IsCrew, AreLists};
 ghost use Rattle.zp_trace.specs.declared.line.ZoneLine.{ZoneLine};
 ghost use Rattle.zp_trace.specs.declared.line.Command.{Command};
 ghost use Rattle.zp_trace.specs.Lines as line;
 ghost use Rattle.zp_trace.specs.declared.trace.TraceFault.TheVariants as fault;
 ghost use Rattle.zp_trace.specs.Spelling.{line_text, text_of, header_of};
-ghost use Rattle.zp_trace.specs.Grammar.{IsNextZone, AreLists, IsHeader, IsCommandOf, IsNextCommand, IsBeginning, IsTraceText, IsBadLine};
+ghost use Rattle.zp_trace.specs.Grammar.{IsNextZone, IsHeader, IsCommandOf, IsNextCommand, IsBeginning, IsTraceText, IsBadLine};
 
 use crate::bounds::MOST_LINES;
 use crate::calls::command_of;

@@ -37,7 +37,7 @@ fn order(number: u8) -> Result<Order, Fail> {
 #[test]
 fn a_trace_says_what_its_text_writes(rt: HostRuntime) -> Result<(), Fail> {
     let text =
-        "zone DMA 1024 13 9\nzone Normal 3072 65536 0\nworkers 12\nlists 0 0\n0 info\n11 alloc a 2 R DMA any\n3 alloc b 0 U Normal low\n3 alloc b 10 M DMA min\n11 free a\n4 low b 1 DMA\n4 post b 11\n4 collect b Normal\n";
+        "zone DMA 1024 13 9\nzone Normal 3072 65536 0\nworkers 12\nlists 4 6\n0 info\n11 alloc a 2 R DMA any\n3 alloc b 0 U Normal low\n3 alloc b 10 M DMA min\n11 free a\n4 low b 1 DMA\n4 post b 11\n4 collect b Normal\n7 drain\n";
     let trace = parse_trace(rt.alloc(), text.as_bytes())
         .ok()
         .ok_or("the text is a trace")?;
@@ -52,10 +52,10 @@ fn a_trace_says_what_its_text_writes(rt: HostRuntime) -> Result<(), Fail> {
     assert_eq!(rt; zones[1].pages, 65536);
     assert_eq!(rt; zones[1].min, 0);
     assert_eq!(rt; trace.header.workers, 12);
-    assert_eq!(rt; trace.header.batch, 0);
-    assert_eq!(rt; trace.header.high, 0);
+    assert_eq!(rt; trace.header.batch, 4);
+    assert_eq!(rt; trace.header.high, 6);
     let commands = trace.commands.as_slice();
-    assert_eq!(rt; commands.len(), 8);
+    assert_eq!(rt; commands.len(), 9);
     assert!(rt; !trace.commands.is_empty());
     let expected = [
         (0, Call::Info),
@@ -112,6 +112,7 @@ fn a_trace_says_what_its_text_writes(rt: HostRuntime) -> Result<(), Fail> {
                 zone: name("Normal")?,
             },
         ),
+        (7, Call::Drain),
     ];
     for (command, (worker, call)) in commands.iter().zip(expected) {
         assert_eq!(rt; command.worker.number(), worker);
@@ -134,6 +135,11 @@ fn good_traces(rt: HostRuntime) -> Result<(), Fail> {
             &rt,
             "zone DMA 0 1023 0\nworkers 1\nlists 0 0\n0 alloc a 10 M DMA any\n0 alloc b 9 M DMA any\n0 alloc c 9 M DMA any\n"
         ),
+        0
+    );
+    assert_eq!(rt; bad_line(&rt, "zone DMA 0 8 0\nworkers 1\nlists 1 2\n"), 0);
+    assert_eq!(rt;
+        bad_line(&rt, "zone DMA 0 8 0\nworkers 1\nlists 31 64\n0 drain\n"),
         0
     );
     assert_eq!(rt;
@@ -224,7 +230,12 @@ fn bad_headers(rt: HostRuntime) {
         ("zone DMA 0 4096 0\nlists 0 0\n", 2),
         ("zone DMA 0 4096 0\n0 info\n", 2),
         ("zone DMA 0 4096 0\nworkers 1\nlists 4 4\n0 info\n", 3),
-        ("zone DMA 0 4096 0\nworkers 1\nlists 4 6\n0 info\n", 3),
+        ("zone DMA 0 4096 0\nworkers 1\nlists 32 40\n0 info\n", 3),
+        ("zone DMA 0 4096 0\nworkers 1\nlists 31 65\n0 info\n", 3),
+        (
+            "zone DMA 0 4096 0\nworkers 1\nlists 4294967297 6\n0 info\n",
+            3,
+        ),
         ("zone DMA 0 4096 0\nworkers 1\nlists 0 1\n0 info\n", 3),
         ("zone DMA 0 4096 0\nworkers 1\nlists 1 0\n0 info\n", 3),
         ("zone DMA 0 4096 0\nworkers 1\nlists 0 00\n0 info\n", 3),
@@ -361,7 +372,10 @@ fn bad_commands(rt: HostRuntime) -> Result<(), Fail> {
         ("0 alloc a 0 M DMA any\n0 fre a\n", 5),
         ("0 alloc a 0 M DMA any\n1 free a\n", 5),
         ("0 alloc a 0 M DMA any\n0 free a\n0 free a\n0 free b\n", 7),
-        ("0 drain\n", 4),
+        ("0 drain a\n", 4),
+        ("0 drains\n", 4),
+        ("1 drain\n", 4),
+        ("0 drain\n0 drain", 5),
         ("lists 0 0\n", 4),
         ("0 alloc a 11 M DMA any\n", 4),
         ("0 alloc a 256 M DMA any\n", 4),

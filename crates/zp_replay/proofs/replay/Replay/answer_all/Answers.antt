@@ -1,8 +1,8 @@
-use Rattle.std.proofs.Common.{◌<◌, length, take, sym, subst, ◌∙◌, arith}
+use Rattle.std.proofs.Common.{◌<◌, length, sym, subst, ◌∙◌, arith}
 use Rattle.zp_replay.specs.Asked.{IsCommandFor}
-use Rattle.zp_replay.proofs.Rows.{still-asked}
 use Rattle.zp_replay.specs.Replies.{standing}
-use Rattle.zp_replay.proofs.Answering.{left_more, written_more, begun_more, answer-bound}
+use Rattle.zp_replay.proofs.Rows.{same-then, still-asked}
+use Rattle.zp_replay.proofs.Answering.{left_more, written_more, begun_more}
 use Rattle.zp_replay.proofs.Outputs.{on_err}
 use Rattle.zp_replay.proofs.replay.Replay.answer_all.Goals as goal
 
@@ -11,7 +11,7 @@ answer-requires g c =
     let at : c.loop-command.command-index < length c.args.commands.now = omega arith in
     let i = c.loop-command.invariant in
     record {
-      command = still-asked (standing c.args.self.now.zones.items c.args.self.now.bindings.items) (standing c.loop-command.self.zones.items c.loop-command.self.bindings.items) (take c.loop-command.command-index c.args.commands.now) _ i.left (subst (IsCommandFor c.args.self.now.zones.items) (sym c.command-item.is) (c.requires.commands c.loop-command.command-index c.command-item.result at));
+      command = still-asked _ _ _ i.same (subst (IsCommandFor c.args.self.now.crew) (sym c.command-item.is) (c.requires.commands c.loop-command.command-index c.command-item.result at));
       room = omega (arith, i.bound, i.room, c.requires.room);
     }
 
@@ -27,9 +27,10 @@ loop-command-preserved g c =
     let i = c.loop-command.invariant in
     let a = c.in_ok-answer.ensures in
     record {
-      left = left_more _ _ _ _ _ _ at c.command-item.is i.left a.left;
+      left = left_more _ _ (standing c.answer.new.self.crew c.answer.new.self.bindings.items) _ _ _ at c.command-item.is i.left a.left;
       written = written_more _ _ _ _ _ _ _ _ at c.command-item.is i.left i.written a.ok;
       calm = a.calm ∙ i.calm;
-      bound = omega (arith, i.bound, answer-bound (standing c.loop-command.self.zones.items c.loop-command.self.bindings.items) _ c.command-item.result a.left);
+      same = same-then _ _ _ i.same a.same;
+      bound = omega (arith, i.bound, a.bound);
       room = omega (arith, i.room, a.room);
     }

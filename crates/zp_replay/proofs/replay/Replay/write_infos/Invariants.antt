@@ -7,6 +7,6 @@ use Rattle.zp_replay.proofs.replay.Replay.write_infos.Given as goal
 -- the lines of the zones so far were written, and no call failed
 abbrev pub invariant-loop-zone : goal.invariant-loop-zone
 invariant-loop-zone g l = record {
-  written : IsWritten (g.W.Writer.contents l.initial.writer) (g.W.Writer.contents l.writer) (flat_map info_of (take l.zone-index l.self.zones.items));
+  written : IsWritten (g.W.Writer.contents l.initial.writer) (g.W.Writer.contents l.writer) (flat_map info_of (take l.zone-index l.self.crew.zones));
   calm : g.W.Writer.failures l.writer ≡ g.W.Writer.failures l.initial.writer;
 }

@@ -1,26 +1,46 @@
-use Rattle.std.proofs.Common.{◌≡◌, ◌<◌, List, length, get_or, ap, ◌∙◌, arith}
-use Rattle.zp_zone.specs.NamedZone.{NamedZone}
+use Rattle.std.proofs.Common.{◌≡◌, ◌<◌, List, get_or, length, ap, ◌∙◌, arith}
+use Rattle.std.proofs.lemmas.List.FromFn.{length-range_with_len}
 use Rattle.zp_zone.proofs.Written.{written-same}
+use Rattle.zp_share.specs.declared.gathering.Totals.{Totals}
+use Rattle.zp_replay.specs.Crews.{CrewState}
 use Rattle.zp_replay.specs.Output.{total_of}
 use Rattle.zp_replay.proofs.Answering.{begun-same}
-use Rattle.zp_replay.proofs.Outputs.{on_err, begun_item, written_item}
+use Rattle.zp_replay.proofs.Outputs.{on_err, begun_item, written_item, gathered_here, length-gathered, number_here}
 use Rattle.zp_replay.proofs.replay.Replay.write_total_lines.Goals as goal
+
+pub total_line-line-requires-clause-place : goal.total_line-line-requires-clause-place
+total_line-line-requires-clause-place g c =
+    let i = c.loop-number.invariant in
+    omega (arith, c.len-number-end.ensures.value, length-gathered c.gather-totals.new.self _ i.totals)
+
+pub total_line-line-requires-clause-totals : goal.total_line-line-requires-clause-totals
+total_line-line-requires-clause-totals g c =
+    let i = c.loop-number.invariant in
+    ap (λ (ts : List Totals). get_or ts c.loop-number.number _) c.deref.ensures.0
+    ∙ gathered_here c.gather-totals.new.self _ c.loop-number.number _ i.totals (omega (arith, c.len-number-end.ensures.value, length-gathered c.gather-totals.new.self _ i.totals))
 
 pub returns-in_err-write_all-clause-err : goal.returns-in_err-write_all-clause-err
 returns-in_err-write_all-clause-err g c =
-    let i = c.loop-zone.invariant in
-    let is = c.zone-item.is ∙ ap (λ (zs : List NamedZone). get_or zs c.loop-zone.zone-index c.zone-item.result) c.deref-zone-items.ensures.value in
-    let at : c.loop-zone.zone-index < length c.args.self.now.zones.items = omega (arith, ap length c.deref-zone-items.ensures.value) in
-    let line : c.as_bytes.result.now ≡ total_of c.zone-item.result = c.as_bytes.ensures.value ∙ c.deref.ensures.0 ∙ c.total_of.ensures ∙ ap total_of c.zone.ensures in
-    on_err c.from_residual.result (begun_item total_of _ _ _ _ _ _ at is i.written (begun-same _ _ _ _ line c.in_err-write_all.ensures.err))
+    let i = c.loop-number.invariant in
+    let crew = c.args.self.now.crew in
+    let at : c.loop-number.number < length crew.zones = omega (arith, c.len-number-end.ensures.value, length-gathered c.gather-totals.new.self _ i.totals, ap (λ (x : CrewState). length x.zones) i.crew) in
+    let line : c.as_bytes.result.now ≡ total_of crew c.loop-number.number =
+    c.as_bytes.ensures.value ∙ c.deref-in-loop-number.ensures.0 ∙ c.total_line-line.ensures ∙ ap (λ (x : CrewState). total_of x c.loop-number.number) i.crew in
+    on_err c.from_residual.result
+    (begun_item (total_of crew) _ c.loop-number.number c.loop-number.number _ _ _ (omega (arith, at, length-range_with_len 0 (length crew.zones))) (number_here _ _ at) i.written
+    (begun-same _ _ _ _ line c.in_err-write_all.ensures.err))
 
-pub loop-zone-preserved : goal.loop-zone-preserved
-loop-zone-preserved g c =
-    let i = c.loop-zone.invariant in
-    let is = c.zone-item.is ∙ ap (λ (zs : List NamedZone). get_or zs c.loop-zone.zone-index c.zone-item.result) c.deref-zone-items.ensures.value in
-    let at : c.loop-zone.zone-index < length c.args.self.now.zones.items = omega (arith, ap length c.deref-zone-items.ensures.value) in
-    let line : c.as_bytes.result.now ≡ total_of c.zone-item.result = c.as_bytes.ensures.value ∙ c.deref.ensures.0 ∙ c.total_of.ensures ∙ ap total_of c.zone.ensures in
+pub loop-number-preserved : goal.loop-number-preserved
+loop-number-preserved g c =
+    let i = c.loop-number.invariant in
+    let crew = c.args.self.now.crew in
+    let at : c.loop-number.number < length crew.zones = omega (arith, c.len-number-end.ensures.value, length-gathered c.gather-totals.new.self _ i.totals, ap (λ (x : CrewState). length x.zones) i.crew) in
+    let line : c.as_bytes.result.now ≡ total_of crew c.loop-number.number =
+    c.as_bytes.ensures.value ∙ c.deref-in-loop-number.ensures.0 ∙ c.total_line-line.ensures ∙ ap (λ (x : CrewState). total_of x c.loop-number.number) i.crew in
     record {
-      written = written_item total_of _ _ _ _ _ _ at is i.written (written-same _ _ _ _ line c.in_ok-write_all.ensures.ok);
+      crew = i.crew;
+      totals = i.totals;
+      written = written_item (total_of crew) _ c.loop-number.number c.loop-number.number _ _ _ (omega (arith, at, length-range_with_len 0 (length crew.zones))) (number_here _ _ at) i.written
+          (written-same _ _ _ _ line c.in_ok-write_all.ensures.ok);
       calm = c.in_ok-write_all.ensures.calm ∙ i.calm;
     }

@@ -1,0 +1,28 @@
+use Rattle.std.proofs.Common.{◌∙◌, refl, map}
+use Rattle.zp_share.specs.Commands.{free_in}
+use Rattle.zp_share.specs.Shares.{named_zone}
+use Rattle.zp_replay.proofs.Worlds.{IsTurn, done_after, same_after, shares_after}
+use Rattle.zp_replay.proofs.crew.Crew.free.Goals as goal
+
+turn : (c : goal.After-self-1) →
+    IsTurn c.self.inside.zones c.free.new.zones c.self.inside.shares.items c.from.result c.args.worker c.index_mut-share.result.now c.index_mut-share.result.now c.free.new.share c.args.self.now
+turn c = record {
+  view = c.self.view_is;
+  are = c.self.invariant;
+  place = c.from.ensures ∙ c.number.ensures.same;
+  there = c.requires.worker;
+  share = c.index_mut-share.ensures.value;
+  keys = c.free.ensures.keys;
+  fits = c.free.ensures.fits;
+  worker = c.free.ensures.same.worker;
+}
+
+pub invariant_of-self : goal.invariant_of-self
+invariant_of-self c = shares_after _ _ _ _ _ _ _ _ _ (turn c)
+
+pub returns-clause-done : goal.returns-clause-done
+returns-clause-done c =
+    done_after (λ v. free_in v c.args.lent.zone c.args.lent.page c.args.lent.order) c.free.result _ _ _ _ _ _ _ _ _ (turn c) (c.free.ensures.told (map named_zone c.self.inside.zones) refl)
+
+pub returns-clause-same : goal.returns-clause-same
+returns-clause-same c = same_after _ _ _ _ _ _ _ _ _ (turn c)
