@@ -78,9 +78,9 @@ left_some n w zs rows lt e =
 
 -- the front seats of all rows are the next worker's
 pub fronts_are : (n w : ℕ) (zs : List ZoneState) (rows : List (List SeatState)) (own : List SeatState) → w < n → rows ≡ map (seats_left n w) zs →
-    own ≡ map (λ (row : List SeatState). get_or row 0 no_seat) rows → own ≡ map (seat_in w) zs
+    own ≡ map (λ (crew : List SeatState). get_or crew 0 no_seat) rows → own ≡ map (seat_in w) zs
 fronts_are n w zs rows own lt e f =
-    let front : List SeatState → SeatState = λ row. get_or row 0 no_seat in
+    let front : List SeatState → SeatState = λ crew. get_or crew 0 no_seat in
     f ∙ ap (map front) e ∙ map-map front (seats_left n w) zs ∙ alike (λ z. front (seats_left n w z)) (seat_in w) (λ z. front_seat n w z lt) zs
 
 -- the rows without their front seats

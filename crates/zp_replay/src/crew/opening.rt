@@ -81,7 +81,7 @@ fn declared_zone(alloc: Global, line: &ZoneLine, workers: u32) -> Result<(Zone, 
 /// The front seat of each row, taken off it.
 fn next_seats(alloc: Global, seats: &mut [SeatRow]) -> Result<Vec<Seat>, Refused>
     requires { All (λ (row : List SeatState). 1 ≤ length row) seats.old }
-    ensures front { IfOk result (λ own. own.items ≡ map (λ row. slice_index_or row 0 no_seat) seats.old) }
+    ensures front { IfOk result (λ own. own.items ≡ map (λ crew. slice_index_or crew 0 no_seat) seats.old) }
     ensures rest { OnOk result (seats.new ≡ map (λ (row : List SeatState). drop 1 row) seats.old) }
     ensures why { IfErr result (λ r. r ≡ Refused.Memory) }
 {

@@ -7,7 +7,7 @@ use Rattle.zp_replay.proofs.crew.opening.next_seats.Given as goal
 abbrev pub invariant-loop-row : goal.invariant-loop-row
 invariant-loop-row l =
     record {
-      own : l.own.items ≡ map (λ (row : List SeatState). get_or row 0 no_seat) (take l.row-index l.initial.seats);
+      own : l.own.items ≡ map (λ (crew : List SeatState). get_or crew 0 no_seat) (take l.row-index l.initial.seats);
       rest : l.seats ≡ map (λ (row : List SeatState). drop 1 row) (take l.row-index l.initial.seats) ++ drop l.row-index l.initial.seats;
       room : length l.seats ≤ vec_capacity l.own;
     }
