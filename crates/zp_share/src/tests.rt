@@ -5,6 +5,10 @@ ghost use Rattle.zp_zone.specs.Seats.{IsSeatOf, KeepsSeats};
 
 mod batches;
 mod commands;
+mod hand;
+mod limits;
+mod makings;
+mod types;
 
 use super::*;
 use std::alloc::Global;

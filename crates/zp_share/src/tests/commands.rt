@@ -1,92 +1,16 @@
 //! Commands of one worker with lists of its own, over a row of one zone.
-ghost use Rattle.std.specs.Prelude.{◌≡◌, ◌≤◌, ◌<◌, length, map, IfOk};
-ghost use Rattle.zp_share.specs.Shares.{IsShareOf, key_of};
-
+use super::hand::*;
 use super::*;
 use std::process::Abort;
 
-/// A row of one zone, and the share of its one worker, whose lists get four pages at a time and have six at most.
-#[derive(Drop)]
-struct Hand {
-    zones: PlainZones,
-    share: Share,
-    ghost fits: { IsShareOf (map key_of zones) share },
-    ghost one: { length share.zones ≡ 1 },
-}
-
+/// A zone whose worker's lists get four pages at a time and have six at most.
 fn dealt(alloc: Global, pages: u32, min: u32) -> Result<Hand, Refused> {
-    let config = ZoneConfig {
-        name: "DMA",
-        base: 0,
-        pages,
-        min,
-    };
-    let (zone, mut seats) = Zone::new(alloc, config, 1)?;
-    let Some(seat) = seats.pop() else {
-        return Err(Refused::BadWorkers);
-    };
-    let Some(lists) = ListConfig::new(4, 6) else {
-        return Err(Refused::Memory);
-    };
-    let (Ok(mut zones), Ok(mut own)) = (Vec::with_capacity(alloc, 1), Vec::with_capacity(alloc, 1))
-    else {
-        return Err(Refused::Memory);
-    };
-    zones.push_reserved(zone);
-    own.push_reserved(seat);
-    let share = Share::new(alloc, own, lists)?;
-    Ok(Hand {
-        zones: PlainZones::new(zones),
-        share,
-    })
+    hand_with(alloc, pages, min, 4, 6)
 }
 
-/// A block for Movable out of the zone.
-fn taken(hand: &mut Hand, order: Order, mark: Mark) -> Result<Lent, Refused> {
-    let kind = MigrateType::Movable;
-    alloc(&mut hand.share, &mut hand.zones, order, kind, 0, mark)
-}
-
-/// Takes a block, which has to begin at this page.
+/// Takes a block for Movable, which has to begin at this page.
 fn expect_block(rt: &impl Abort, hand: &mut Hand, order: Order, mark: Mark, page: u32) {
-    let expected = Lent {
-        zone: 0,
-        page: PageNo::new(page),
-        order,
-    };
-    assert!(rt; taken(hand, order, mark) == Ok(expected));
-}
-
-/// Takes a page of order 0, which has to be this one.
-fn expect_page(rt: &impl Abort, hand: &mut Hand, mark: Mark, page: u32) {
-    expect_block(rt, hand, Order::zero(), mark, page);
-}
-
-/// Gives back all pages of the lists, which have to be so many.
-fn expect_drained(rt: &impl Abort, hand: &mut Hand, pages: usize) {
-    let drained = drain_all(&mut hand.share, &mut hand.zones);
-    assert_eq!(rt; drained, Ok(pages));
-}
-
-/// Gives back a page, with this answer.
-fn expect_freed(rt: &impl Abort, hand: &mut Hand, page: u32, answer: Result<(), Refused>) {
-    let freed = free(
-        &mut hand.share,
-        &mut hand.zones,
-        0,
-        PageNo::new(page),
-        Order::zero(),
-    );
-    assert_eq!(rt; freed, answer);
-}
-
-/// Compares the free pages of the zone, those on the list, and the sections made.
-fn expect_left(rt: &impl Abort, hand: &Hand, free: u32, cached: usize, sections: u64) {
-    let zones = hand.zones.as_slice();
-    assert_eq!(rt; zones.len(), 1);
-    assert_eq!(rt; zones[0].counts().free, free);
-    assert_eq!(rt; hand.share.cached_len(0, MigrateType::Movable), cached);
-    assert_eq!(rt; hand.share.sections(0), sections);
+    expect_block_for(rt, hand, order, MigrateType::Movable, mark, page);
 }
 
 /// The first page of an empty list brings three others with it; a page given back comes again, and cannot be given back twice.
@@ -136,7 +60,7 @@ fn a_refill_that_is_stopped_gives_what_it_got(rt: HostRuntime) {
     expect_left(&rt, &hand, 2, 1, 2);
     expect_page(&rt, &mut hand, Mark::Min, 5);
     expect_left(&rt, &hand, 2, 0, 2);
-    let none = taken(&mut hand, Order::zero(), Mark::Min);
+    let none = taken_for(&mut hand, Order::zero(), MigrateType::Movable, Mark::Min);
     assert_eq!(rt; none.err(), Some(Refused::BelowMark));
     expect_left(&rt, &hand, 2, 0, 3);
 }
