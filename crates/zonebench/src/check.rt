@@ -1,6 +1,7 @@
 //! The checksums of the workloads: what another allocator with the same rule of placement answers too.
 
 use crate::bench::{Bench, NoMemory};
+use crate::cached::CachedBench;
 use crate::workload::{SIZES, Workload};
 use std::alloc::Global;
 use zp_model::Order;
@@ -29,6 +30,16 @@ fn print_sums(
     Ok(())
 }
 
+/// Prints the checksums of pairs of cached pages, a line for each size of a zone.
+fn print_cached_sums(rt: &impl Print, alloc: Global, name: &str, ops: u32) -> anyhow::Result<()> {
+    for pages in SIZES {
+        let mut bench = CachedBench::new(alloc, pages)?;
+        bench.pairs(ops);
+        println!(rt; "{name} {pages} {ops} {:016x}", bench.checksum())?;
+    }
+    Ok(())
+}
+
 /// Prints all checksums: the workload, the pages of the zone, the calls or rounds, and the checksum of the answers.
 pub fn print_all(rt: &impl Print, alloc: Global) -> anyhow::Result<()> {
     print_sums(rt, alloc, "pairs 0", &Workload::Pairs(Order::zero()), 1000)?;
@@ -39,5 +50,6 @@ pub fn print_all(rt: &impl Print, alloc: Global) -> anyhow::Result<()> {
     print_sums(rt, alloc, "churn", &Workload::Churn, 100_000)?;
     print_sums(rt, alloc, "press", &Workload::Press, 100_000)?;
     print_sums(rt, alloc, "burst", &Workload::Burst, 2)?;
+    print_cached_sums(rt, alloc, "cached pairs 0", 1000)?;
     Ok(())
 }

@@ -1,10 +1,11 @@
-//! `zonebench [check]`: workloads over a zone, each with its seed.
+//! `zonebench [check]`: workloads over a zone, each with its seed, and one of a worker with lists of its own.
 //!
 //! With no word it prints how long a call of each takes, with a line of progress for each on standard error. With `check` it
 //! prints the checksums of the pages answered, which do not depend on the machine.
 #![tactic(auto)]
 
 mod bench;
+mod cached;
 mod check;
 mod random;
 mod timing;

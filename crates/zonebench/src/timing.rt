@@ -1,10 +1,11 @@
 //! The time of each workload.
 
 use crate::bench::Bench;
+use crate::cached::CachedBench;
 use crate::workload::{SIZES, Workload};
 use std::alloc::Global;
 use std::rt::Clock;
-use std::time::Instant;
+use std::time::{Duration, Instant};
 use zp_model::Order;
 
 /// The calls that are timed, about.
@@ -23,7 +24,39 @@ fn tenths_a_call(
     let start = Instant::now(rt)?;
     let calls = workload.run(&mut bench, ops)?;
     let time = start.elapsed(rt)?;
-    Ok(time.as_nanos().saturating_mul(10) / u128::from(calls.max(1)))
+    Ok(tenths_each(time, calls))
+}
+
+/// Tenths of a nanosecond that a call of pairs of cached pages takes in a zone of so many pages.
+fn tenths_a_cached_call(
+    rt: &impl Clock,
+    alloc: Global,
+    pages: u32,
+    ops: u32,
+) -> anyhow::Result<u128> {
+    let mut bench = CachedBench::new(alloc, pages)?;
+    let start = Instant::now(rt)?;
+    let calls = bench.pairs(ops);
+    let time = start.elapsed(rt)?;
+    Ok(tenths_each(time, calls))
+}
+
+/// Tenths of a nanosecond for each of so many calls.
+fn tenths_each(time: Duration, calls: u64) -> u128 {
+    time.as_nanos().saturating_mul(10) / u128::from(calls.max(1))
+}
+
+/// Begins a line of the table, and tells so on standard error.
+fn print_name(rt: &(impl Print + Eprint), name: &str) -> anyhow::Result<()> {
+    eprintln!(rt; "{name} ..")?;
+    print!(rt; "{name:<34}")?;
+    Ok(())
+}
+
+/// Prints the time at one size of a zone.
+fn print_tenths(rt: &impl Print, tenths: u128) -> anyhow::Result<()> {
+    print!(rt; "{:>10}.{}", tenths / 10, tenths % 10)?;
+    Ok(())
 }
 
 /// Prints a line of the table: the time of a workload at each size.
@@ -34,11 +67,26 @@ fn print_times(
     workload: &Workload,
     ops: [u32; 3],
 ) -> anyhow::Result<()> {
-    eprintln!(rt; "{name} ..")?;
-    print!(rt; "{name:<34}")?;
+    print_name(rt, name)?;
     for (pages, ops) in SIZES.iter().zip(ops) {
         let tenths = tenths_a_call(rt, alloc, workload, *pages, ops)?;
-        print!(rt; "{:>10}.{}", tenths / 10, tenths % 10)?;
+        print_tenths(rt, tenths)?;
+    }
+    println!(rt;)?;
+    Ok(())
+}
+
+/// Prints a line of the table: the time of pairs of cached pages at each size.
+fn print_cached_times(
+    rt: &(impl Print + Eprint + Clock),
+    alloc: Global,
+    name: &str,
+    ops: u32,
+) -> anyhow::Result<()> {
+    print_name(rt, name)?;
+    for pages in SIZES {
+        let tenths = tenths_a_cached_call(rt, alloc, pages, ops)?;
+        print_tenths(rt, tenths)?;
     }
     println!(rt;)?;
     Ok(())
@@ -91,5 +139,6 @@ pub fn print_all(rt: &(impl Print + Eprint + Clock), alloc: Global) -> anyhow::R
         [100_000, 20_000, 1000],
     )?;
     print_times(rt, alloc, "claims of order 10", &Workload::Claims, same)?;
+    print_cached_times(rt, alloc, "cached pairs of order 0", CALLS / 2)?;
     Ok(())
 }
