@@ -1,7 +1,7 @@
 //! A worker's commands, each made of sections with zones of a row and of moves on the worker's own lists.
 //!
 //! In Linux: `rmqueue` with `rmqueue_pcplist`, `free_unref_page`, and `drain_pages`.
-ghost use Rattle.std.specs.Prelude.{ℕ, ◌≡◌, ◌<◌, ◌≤◌, ◌+◌, ◌*◌, List, [], length, false, Some, Ok, Err, IfOk, IfErr, OnOk, IsTrue};
+ghost use Rattle.std.specs.Prelude.{ℕ, ◌≡◌, ◌<◌, ◌≤◌, ◌+◌, ◌*◌, List, [], length, false, Some, Ok, Err, IfOk, OnOk, IsTrue};
 ghost use Rattle.zp_model.specs.declared.migrate_type.MigrateType.{MigrateType};
 ghost use Rattle.zp_model.specs.declared.refused.Refused.TheVariants.{NotLent};
 ghost use Rattle.zp_model.specs.declared.constants.TheConstants.{LONGEST_LIST, TYPES, MAX_ZONES};

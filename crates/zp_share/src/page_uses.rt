@@ -1,5 +1,5 @@
 //! What each page of a zone is to one worker.
-ghost use Rattle.std.specs.Prelude.{◌≡◌, ◌<◌, ◌≤◌, ◌-◌, All, length, replicate, slice_set, IfOk};
+ghost use Rattle.std.specs.Prelude.{◌≡◌, ◌<◌, ◌-◌, All, replicate, slice_set, IfOk};
 ghost use Rattle.zp_share.specs.declared.page_use.PageUse.TheVariants.{Away, Lent};
 ghost use Rattle.zp_share.specs.PageUses.{use_of, all_as, IsPlace};
 

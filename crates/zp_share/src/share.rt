@@ -1,9 +1,9 @@
 //! A worker's share of a row of zones.
-ghost use Rattle.std.specs.Prelude.{ℕ, ◌≡◌, ◌<◌, ◌≤◌, ◌==◌, [], ◌∷◌, map, length, All, IfOk, IfErr, IfSome, IsSome, IsTrue, ◌↔◌, slice_index_or};
+ghost use Rattle.std.specs.Prelude.{◌≡◌, ◌<◌, ◌≤◌, ◌==◌, map, length, All, IfOk, IfErr, IfSome, IsSome, IsTrue, ◌↔◌, slice_index_or};
 ghost use Rattle.zp_model.specs.Zone.{workers_of};
 ghost use Rattle.zp_model.specs.Rows.{front};
 ghost use Rattle.zp_model.specs.declared.refused.Refused.TheVariants.{Memory};
-ghost use Rattle.zp_model.specs.declared.constants.TheConstants.{LONGEST_LIST, MAX_BATCH};
+ghost use Rattle.zp_model.specs.declared.constants.TheConstants.{LONGEST_LIST};
 ghost use Rattle.zp_zone.specs.Seats.{SeatState, IsSeatOf, IsUnused};
 ghost use Rattle.zp_model.specs.Bounds.{AreLists};
 ghost use Rattle.zp_share.specs.PlainShares.{taken, putting, lent_kind};

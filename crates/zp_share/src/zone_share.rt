@@ -1,11 +1,8 @@
 //! What one worker has of one zone.
-ghost use Rattle.std.specs.Prelude.{◌≡◌, ◌<◌, ◌≤◌, ◌↔◌, ℕ, length, IfOk, IfErr, IfSome, IsSome, IsTrue};
+ghost use Rattle.std.specs.Prelude.{◌≡◌, ◌<◌, ◌≤◌, ◌↔◌, length, IfOk, IfErr, IfSome, IsSome, IsTrue};
 ghost use Rattle.zp_model.specs.Zone.{workers_of};
-ghost use Rattle.zp_model.specs.declared.request.Request.TheVariants as request;
-ghost use Rattle.zp_model.specs.declared.request.Reply.TheVariants as reply;
-ghost use Rattle.zp_model.specs.declared.refused.Refused.TheVariants.{NotLent, JournalFull, Memory};
+ghost use Rattle.zp_model.specs.declared.refused.Refused.TheVariants.{Memory};
 ghost use Rattle.zp_model.specs.Rows.{front};
-ghost use Rattle.zp_zone.specs.NamedZone.{page_reply, block_reply, pages_reply};
 ghost use Rattle.zp_zone.specs.Seats.{IsSeatOf, IsUnused};
 ghost use Rattle.zp_share.specs.Gathering.{cached_pages};
 ghost use Rattle.zp_share.specs.PlainShares.{lent_kind, taken, putting};
@@ -15,13 +12,9 @@ use crate::page_stack::PageStack;
 use crate::page_use::PageUse;
 use crate::page_uses::PageUses;
 use crate::sections::Sections;
-use arrayvec::ArrayVec;
 use std::alloc::Global;
 use std::marker::Model;
-use zp_model::{
-    Block, Entry, LONGEST_LIST, MAX_BATCH, Mark, MigrateType, Order, PageList, PageNo, Refused,
-    Reply, Request, TYPES, Worker,
-};
+use zp_model::{Entry, LONGEST_LIST, MigrateType, Order, PageNo, Refused, TYPES, Worker};
 use zp_zone::{Seat, Zone};
 
 mod requests;

@@ -15,7 +15,7 @@ use crate::page_stack::page_list;
 use crate::page_use::PageUse;
 use arrayvec::ArrayVec;
 use zp_model::{
-    Block, MAX_BATCH, Mark, MigrateType, Order, PageList, PageNo, Refused, Reply, Request, Worker,
+    Block, MAX_BATCH, Mark, MigrateType, Order, PageNo, Refused, Reply, Request, Worker,
 };
 use zp_zone::Zone;
 
