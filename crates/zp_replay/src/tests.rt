@@ -11,6 +11,7 @@ use std::sync::ledger::{Blank, Ledger};
 use std::test::*;
 
 mod bad_lines;
+mod crews;
 mod flags_and_exits;
 mod several_workers;
 mod several_zones;
