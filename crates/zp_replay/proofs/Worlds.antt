@@ -19,7 +19,7 @@ use Rattle.zp_zone.specs.Seats.{ZoneState}
 use Rattle.zp_share.specs.PlainShares.{PlainShare}
 use Rattle.zp_share.specs.ZoneShares.{answered}
 use Rattle.zp_share.specs.Commands.{World, Done, done_answer, no_zone}
-use Rattle.zp_share.specs.Shares.{ShareState, ZoneKey, IsShareOf, IsDone, HaveWorker, done_reply, is_section, key_of, named_zone, noted_at, plain, share_at, with_zone_share, world}
+use Rattle.zp_share.specs.Shares.{ShareState, ZoneKey, IsShareOf, IsDone, HasWorkerAt, no_key, no_tie, done_reply, is_section, key_of, named_zone, noted_at, plain, share_at, with_zone_share, world}
 use Rattle.zp_share.specs.Gathering.{IsCrewOf}
 use Rattle.zp_share.proofs.Owners.{sum-map}
 use Rattle.zp_replay.specs.Crews.{CrewState, AreSharesOf, IsCommandDone, IsSameCrew, world_of}
@@ -67,16 +67,17 @@ there_in : (zones : List ZoneState) (shares : List ShareState) (n w : ℕ) (befo
 there_in zones shares n w before view place there =
     omega (arith, ap (λ (c : CrewState). length c.shares) view, length-map shares plain)
 
--- each zone has each worker of the crew
-pub have_worker : (zones : List ZoneState) (shares : List ShareState) (to : ℕ) (before : CrewState) → crew_of zones shares ≡ before → AreSharesOf zones shares → to < length before.shares →
-    HaveWorker (map key_of zones) to
-have_worker zones shares to before view are lt k d at =
-    let z : to < workers_of (get_or zones k (any d)).plain =
-    omega (arith, are.crew k (any d) (omega (arith, length-map zones key_of)), ap (λ (c : CrewState). length c.shares) view, length-map shares plain) in
-    subst (λ (x : ZoneKey). to < x.workers) (sym (get_or-there key_of zones k (any d) d (omega (arith, length-map zones key_of)))) z
+-- the zone at a place has each worker of the crew
+pub have_worker : (zones : List ZoneState) (shares : List ShareState) (i to : ℕ) (before : CrewState) → crew_of zones shares ≡ before → AreSharesOf zones shares → i < length before.zones →
+    to < length before.shares → HasWorkerAt (map key_of zones) i to
+have_worker zones shares i to before view are place lt =
+    let here : i < length zones = omega (arith, place, ap (λ (c : CrewState). length c.zones) view, length-map zones named_zone) in
+    let known : to < workers_of (get_or zones i none).plain =
+    omega (arith, lt, are.crew i none here, ap (λ (c : CrewState). length c.shares) view, length-map shares plain) in
+    subst (λ (x : ZoneKey). to < x.workers) (sym (get_or-there key_of zones i none no_key here)) known
   where
-    any : ZoneKey → ZoneState
-    any x = record { tie = x.tie; name = x.name; plain = no_zone.plain; entries = [] }
+    none : ZoneState
+    none = record { tie = no_tie; name = []; plain = no_zone.plain; entries = [] }
 
 -- the shares after a turn are those of the zones after it
 pub shares_after : (zones new : List ZoneState) (shares : List ShareState) (n w : ℕ) (s d u : ShareState) (before : CrewState) → IsTurn zones new shares n w s d u before →

@@ -16,14 +16,9 @@ use Rattle.zp_share.specs.declared.page_use.PageUse.{PageUse}
 use Rattle.zp_share.specs.declared.page_use.PageUse.TheVariants.{Away, Lent, Cached}
 use Rattle.zp_share.specs.PageUses.{held, is_cached_as, all_as, uses_after}
 use Rattle.zp_share.specs.PlainShares.{back, without_back, lists_after}
-use Rattle.zp_share.specs.ZoneShares.{ZoneShareState, IsShare, use_in, is_lent, cached_of, last_of, answered}
+use Rattle.zp_share.specs.ZoneShares.{ZoneShareState, IsShare, IsNew, use_in, is_lent, cached_of, last_of, answered}
 use Rattle.zp_share.proofs.OneUse.{IsIn, in_by_use, length-all_as, held-cached, held-away}
 use Rattle.zp_share.proofs.Listing.{IsListing, lent-uncached, lent_there, unlisted, added, back_removed}
-
--- a page of the zone that is none of the share's
-pub record IsNew (s : ZoneShareState) (p : ℕ) : Type 0 where
-  pub place : IsIn s.seat.part.base s.uses p
-  pub away : use_in s p ≡ Away
 
 pub record AreNew (s : ZoneShareState) (ps : List ℕ) : Type 0 where
   pub each : (q : ℕ) → stands_in q ps ≡ true → IsNew s q

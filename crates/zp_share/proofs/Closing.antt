@@ -16,10 +16,10 @@ use Rattle.zp_share.specs.declared.page_use.PageUse.TheVariants.{Away, Lent, Cac
 use Rattle.zp_share.specs.declared.zone_share.ZoneShare.TheInside.{Inside}
 use Rattle.zp_share.specs.PageUses.{held, uses_after}
 use Rattle.zp_share.specs.PlainShares.{SectionsState, lists_after}
-use Rattle.zp_share.specs.ZoneShares.{ZoneShareState, IsShare, SharesIn, IsSection, use_in, answered}
+use Rattle.zp_share.specs.ZoneShares.{ZoneShareState, IsShare, IsNew, SharesIn, IsSection, use_in, answered}
 use Rattle.zp_share.proofs.OneUse.{IsIn, in_at}
 use Rattle.zp_share.proofs.Stacks.{standing_of_all, distinct-by_test}
-use Rattle.zp_share.proofs.Answering.{IsNew, AreNew, IsFit, answered_keeps, answered-blocks, length-uses_after}
+use Rattle.zp_share.proofs.Answering.{AreNew, IsFit, answered_keeps, answered-blocks, length-uses_after}
 
 -- the share that these parts are
 abbrev pub share_of : Inside → ZoneShareState

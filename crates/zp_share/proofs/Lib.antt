@@ -7,6 +7,7 @@ pub mod Opened
 pub mod Taking
 pub mod Batches
 pub mod Tried
+pub mod Refusing
 pub mod Placed
 pub mod Telling
 pub mod Carrying

@@ -4,7 +4,6 @@ use Rattle.std.specs.Prelude.{slice_set}
 use Rattle.std.proofs.Math.ListN.{get_or-map}
 use Rattle.std.proofs.Math.Seq.{map-set_same}
 use Rattle.std.proofs.lemmas.List.{length-map, set-get_or, get_or-map as get_or_map}
-use Rattle.std.proofs.lemmas.List.Elements.{All-get_or}
 use Rattle.atomic_table.specs.Seated.{TableId}
 use Rattle.zp_model.specs.declared.request.Request.{Request}
 use Rattle.zp_model.specs.declared.request.Reply.{Reply}
@@ -12,7 +11,7 @@ use Rattle.zp_model.specs.Zone.{workers_of}
 use Rattle.zp_laws.proofs.Sameness.{step-same}
 use Rattle.zp_zone.specs.Seats.{ZoneState, IsSeatOf}
 use Rattle.zp_share.specs.ZoneShares.{ZoneShareState, answered, opening_share}
-use Rattle.zp_share.specs.Shares.{ShareState, ZoneKey, IsShareOf, HaveWorker, key_of, ties_of, share_at, with_zone_share, is_section, noted_at, no_seat}
+use Rattle.zp_share.specs.Shares.{ShareState, ZoneKey, IsShareOf, HasWorkerAt, no_key, key_of, ties_of, share_at, with_zone_share, is_section, noted_at, no_seat}
 use Rattle.zp_share.proofs.Tried.{IsTried, step-section}
 
 -- a share turns to the zone at a place of its row, with which the zone and what the share has of it alone become others
@@ -59,14 +58,11 @@ seat_at old zs s i z row fits place zone =
     read : (zs : List ZoneState) (i : ℕ) (d : TableId) (z : ZoneState) → i < length zs → get_or (map (λ (v : ZoneState). v.tie) zs) i d ≡ (get_or zs i z).tie
     read zs i d z lt = get_or_map (λ (v : ZoneState). v.tie) zs i z d lt
 
--- a worker of each zone is one of the zone at a place
-pub worker_at : (old zs : List ZoneState) (i w : ℕ) (z : ZoneState) → zs ≡ old → i < length zs → z ≡ get_or zs i z → HaveWorker (map key_of old) w → w < workers_of z.plain
-worker_at old zs i w z row lt zone have =
-    let ks = map key_of zs in
-    let all : HaveWorker ks w = subst (λ l. HaveWorker (map key_of l) w) (sym row) have in
-    let here : w < (get_or ks i (key_of z)).workers =
-    All-get_or (λ (k : ZoneKey). w < k.workers) ks i (key_of z) (subst (λ n. i < n) (sym (length-map zs key_of)) lt) all in
-    subst (λ (k : ZoneKey). w < k.workers) (get_or-map key_of zs i z ∙ sym (ap key_of zone)) here
+-- a worker of the zone at a place is one of the zone that is lent from there
+pub worker_at : (old zs : List ZoneState) (i w : ℕ) (z : ZoneState) → zs ≡ old → i < length zs → z ≡ get_or zs i z → HasWorkerAt (map key_of old) i w → w < workers_of z.plain
+worker_at old zs i w z row lt zone has =
+    let here : HasWorkerAt (map key_of zs) i w = subst (λ l. HasWorkerAt (map key_of l) i w) (sym row) has in
+    subst (λ (k : ZoneKey). w < k.workers) (get_or_map key_of zs i z no_key lt ∙ sym (ap key_of zone)) here
 
 -- whatever comes of the request, the zone's key stays
 key-kept : (r : Request) (q : Reply) (z y : ZoneState) (a b : ZoneShareState) → IsTried r q z y a b → key_of y ≡ key_of z

@@ -1,5 +1,5 @@
 -- A worker's share of a row of zones, and what its calls with the zones promise (this profile).
-use Rattle.std.specs.Prelude.{ℕ, ◌≡◌, ◌<◌, Bool, true, false, List, [], length, map, All, slice_index_or, slice_set, Option, Some, Result, Ok, Err, cond}
+use Rattle.std.specs.Prelude.{ℕ, ◌≡◌, ◌<◌, Bool, true, false, List, [], length, map, slice_index_or, slice_set, Option, Some, Result, Ok, Err, cond}
 use Rattle.atomic_table.specs.Seated.{TableId}
 use Rattle.zp_model.specs.declared.refused.Refused.{Refused}
 use Rattle.zp_model.specs.declared.refused.Refused.TheVariants.{NotLent, JournalFull}
@@ -62,9 +62,13 @@ ties_of s = map (λ (z : ZoneShareState). z.seat.tie) s.zones
 abbrev pub IsShareOf : List ZoneKey → ShareState → Type 0
 IsShareOf keys s = ties_of s ≡ map (λ (k : ZoneKey). k.tie) keys
 
--- each of the zones has this worker
-abbrev pub HaveWorker : List ZoneKey → ℕ → Type 0
-HaveWorker keys w = All (λ (k : ZoneKey). w < k.workers) keys
+-- past the end of a row there is no zone, and no worker
+abbrev pub no_key : ZoneKey
+no_key = record { tie = no_tie; name = []; workers = 0 }
+
+-- the zone at place i has this worker
+abbrev pub HasWorkerAt : List ZoneKey → ℕ → ℕ → Type 0
+HasWorkerAt keys i w = w < (slice_index_or keys i no_key).workers
 
 -- whether an answer is a section: refused 20 or 30 it is none
 abbrev pub is_section : Reply → Bool

@@ -1,8 +1,10 @@
 -- What one worker has of one zone: its lists of pages, the blocks lent to it, and its sections there, tied to the zone (this
 -- profile).
-use Rattle.std.specs.Prelude.{ℕ, ◌≡◌, ◌==◌, ◌<◌, Bool, List, [], ◌∷◌, length, map, Option, None, Some}
+use Rattle.std.specs.Prelude.{ℕ, ◌≡◌, ◌==◌, ◌<◌, ◌⊎◌, Bool, List, [], ◌∷◌, length, map, Option, None, Some}
 use Rattle.std.specs.List.{IsDistinct}
 use Rattle.zp_model.specs.declared.migrate_type.MigrateType.{MigrateType}
+use Rattle.zp_model.specs.declared.refused.Refused.{Refused}
+use Rattle.zp_model.specs.declared.refused.Refused.TheVariants.{BelowMark, NoBlock, JournalFull}
 use Rattle.zp_model.specs.declared.request.Entry.{Entry}
 use Rattle.zp_model.specs.declared.request.Request.{Request}
 use Rattle.zp_model.specs.declared.request.Reply.{Reply}
@@ -13,7 +15,8 @@ use Rattle.zp_model.specs.Books.{own}
 use Rattle.zp_model.specs.Step.{step}
 use Rattle.zp_zone.specs.Seats.{ZoneState, SeatState, asked, replied}
 use Rattle.zp_share.specs.declared.page_use.PageUse.{PageUse}
-use Rattle.zp_share.specs.PageUses.{held, is_cached_as}
+use Rattle.zp_share.specs.declared.page_use.PageUse.TheVariants.{Away}
+use Rattle.zp_share.specs.PageUses.{UsesState, IsPlace, held, is_cached_as}
 use Rattle.zp_share.specs.PlainShares.{SectionsState, PlainZoneShare, used_as, lends, list_of, share_after, opening_own}
 
 pub record ZoneShareState : Type 0 where
@@ -36,6 +39,14 @@ use_in s p = used_as (plain_share s) p
 -- whether the block of order k at an absolute page is lent
 abbrev pub is_lent : ZoneShareState → ℕ → ℕ → Bool
 is_lent s p k = lends (plain_share s) p k
+
+abbrev pub uses_of : ZoneShareState → UsesState
+uses_of s = record { base = s.seat.part.base; uses = s.uses }
+
+-- an absolute page of the zone that is none of the share's: neither in its name nor on a list
+pub record IsNew (s : ZoneShareState) (p : ℕ) : Type 0 where
+  pub place : IsPlace (uses_of s) p
+  pub away : use_in s p ≡ Away
 
 -- the list of a type
 abbrev pub cached_of : ZoneShareState → MigrateType → List ℕ
@@ -82,6 +93,10 @@ pub record IsSection (r : Request) (q : Reply) (z y : ZoneState) (s t : ZoneShar
 pub record IsSameSeat (s t : ZoneShareState) : Type 0 where
   pub tie : t.seat.tie ≡ s.seat.tie
   pub worker : t.seat.worker ≡ s.seat.worker
+
+-- why no block is given: the mark, the want of a block, or that no section can be made
+abbrev pub IsAllocRefusal : Refused → Type 0
+IsAllocRefusal e = (e ≡ BelowMark) ⊎ ((e ≡ NoBlock) ⊎ (e ≡ JournalFull))
 
 -- nothing was asked of the zone, and nothing changed
 pub record IsLeft (z y : ZoneState) (s t : ZoneShareState) : Type 0 where

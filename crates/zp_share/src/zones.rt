@@ -1,14 +1,14 @@
 //! A row of zones to which a worker turns with its share.
-ghost use Rattle.std.specs.Prelude.{◌≡◌, ◌<◌, ◌≤◌, ◌↔◌, ◌⊎◌, List, [], length, false, Option, Some, Err, IfOk, IfErr, IsTrue};
+ghost use Rattle.std.specs.Prelude.{ℕ, ◌≡◌, ◌<◌, ◌≤◌, ◌↔◌, ◌⊎◌, List, [], length, true, false, Option, Some, Ok, Err, All, IfOk, IfErr, IsTrue};
 ghost use Rattle.zp_model.specs.declared.request.Request.TheVariants as request;
 ghost use Rattle.zp_model.specs.declared.request.Reply.TheVariants as reply;
-ghost use Rattle.zp_model.specs.declared.refused.Refused.TheVariants.{NotLent, JournalFull};
+ghost use Rattle.zp_model.specs.declared.refused.Refused.TheVariants.{NoBlock, NothingPosted, NotLent, JournalFull};
 ghost use Rattle.zp_model.specs.Info.{counts_of};
 ghost use Rattle.zp_zone.specs.NamedZone.{NamedZone, page_reply, block_reply, pages_reply};
 ghost use Rattle.zp_share.specs.PlainShares.{back};
-ghost use Rattle.zp_share.specs.ZoneShares.{is_lent, cached_of};
+ghost use Rattle.zp_share.specs.ZoneShares.{IsNew, IsAllocRefusal, is_lent, cached_of};
 ghost use Rattle.zp_share.specs.Commands.{section, section_of, zone_at};
-ghost use Rattle.zp_share.specs.Shares.{ZoneKey, IsShareOf, HaveWorker, IsDone, share_at, noted_at, done_reply, world};
+ghost use Rattle.zp_share.specs.Shares.{ZoneKey, IsShareOf, HasWorkerAt, IsDone, share_at, noted_at, done_reply, world};
 
 use crate::share::Share;
 use arrayvec::ArrayVec;
@@ -38,7 +38,9 @@ pub trait Zones {
         ensures fits { IsShareOf (keys self.new) share.new }
         ensures share { share.new ≡ noted_at zone (request.Alloc order kind mark) (page_reply result) share.old }
         ensures told { (rows : List NamedZone) → told self.old ≡ Some rows → IsDone (section (world rows share.old) zone (request.Alloc order kind mark)) (page_reply result) (told self.new) share.new }
-        ensures lent { IfOk result (λ page. IsTrue (is_lent (share_at share.new zone) page order)) };
+        ensures lent { IfOk result (λ page. IsTrue (is_lent (share_at share.new zone) page order)) }
+        ensures fresh { IfOk result (λ page. IsNew (share_at share.old zone) page) }
+        ensures only { IfErr result IsAllocRefusal };
 
     /// The lowest block of this order, which is then lent. Refused 11 or 30.
     fn alloc_low(&mut self, share: &mut Share, zone: usize, order: Order) -> Result<Block, Refused>
@@ -48,7 +50,9 @@ pub trait Zones {
         ensures fits { IsShareOf (keys self.new) share.new }
         ensures share { share.new ≡ noted_at zone (request.AllocLow order) (block_reply result) share.old }
         ensures told { (rows : List NamedZone) → told self.old ≡ Some rows → IsDone (section (world rows share.old) zone (request.AllocLow order)) (block_reply result) (told self.new) share.new }
-        ensures lent { IfOk result (λ block. IsTrue (is_lent (share_at share.new zone) block.page block.order)) };
+        ensures lent { IfOk result (λ block. IsTrue (is_lent (share_at share.new zone) block.page block.order)) }
+        ensures fresh { IfOk result (λ block. IsNew (share_at share.old zone) block.page) }
+        ensures only { IfErr result (λ e. (e ≡ NoBlock) ⊎ (e ≡ JournalFull)) };
 
     /// Gives back a lent block. Refused 20 where it is not lent with this order, and 30.
     fn free_block(
@@ -78,7 +82,7 @@ pub trait Zones {
     ) -> Result<(), Refused>
         requires fits { IsShareOf (keys self.old) share.old }
         requires zone { zone < length share.old.zones }
-        requires to { HaveWorker (keys self.old) to }
+        requires to { HasWorkerAt (keys self.old) zone to }
         ensures keys { keys self.new ≡ keys self.old }
         ensures fits { IsShareOf (keys self.new) share.new }
         ensures share { share.new ≡ noted_at zone (request.Post page order to) (done_reply reply.Posted result) share.old }
@@ -94,7 +98,9 @@ pub trait Zones {
         ensures fits { IsShareOf (keys self.new) share.new }
         ensures share { share.new ≡ noted_at zone request.Collect (block_reply result) share.old }
         ensures told { (rows : List NamedZone) → told self.old ≡ Some rows → IsDone (section (world rows share.old) zone request.Collect) (block_reply result) (told self.new) share.new }
-        ensures lent { IfOk result (λ block. IsTrue (is_lent (share_at share.new zone) block.page block.order)) };
+        ensures lent { IfOk result (λ block. IsTrue (is_lent (share_at share.new zone) block.page block.order)) }
+        ensures fresh { IfOk result (λ block. IsNew (share_at share.old zone) block.page) }
+        ensures only { IfErr result (λ e. (e ≡ NothingPosted) ⊎ (e ≡ JournalFull)) };
 
     /// Fills an empty list with up to a batch of pages of its type, the one taken first in front: the pages. Refused 10, 11 or
     /// 30.
@@ -112,7 +118,11 @@ pub trait Zones {
         ensures keys { keys self.new ≡ keys self.old }
         ensures fits { IsShareOf (keys self.new) share.new }
         ensures share { share.new ≡ noted_at zone (request.Refill kind mark share.old.batch) (pages_reply result) share.old }
-        ensures told { (rows : List NamedZone) → told self.old ≡ Some rows → IsDone (section (world rows share.old) zone (request.Refill kind mark share.old.batch)) (pages_reply result) (told self.new) share.new };
+        ensures told { (rows : List NamedZone) → told self.old ≡ Some rows → IsDone (section (world rows share.old) zone (request.Refill kind mark share.old.batch)) (pages_reply result) (told self.new) share.new }
+        ensures some { IfOk result (λ pages. 1 ≤ length pages.items) }
+        ensures most { IfOk result (λ pages. length pages.items ≤ share.old.batch) }
+        ensures fresh { IfOk result (λ pages. All (IsNew (share_at share.old zone)) pages.items) }
+        ensures only { IfErr result IsAllocRefusal };
 
     /// Gives back `count` pages from the back of the list of this type, the last one first. Refused 30.
     fn drain(

@@ -1,15 +1,15 @@
 //! The sections of a share with the lent zone at a place of the row: each is one request on the zone, and the same change in the
 //! share.
-ghost use Rattle.std.specs.Prelude.{◌≡◌, ◌≢◌, ◌<◌, ◌≤◌, length, [], true, false, Ok, Err, IfOk, IsTrue};
+ghost use Rattle.std.specs.Prelude.{◌≡◌, ◌≢◌, ◌<◌, ◌≤◌, length, [], true, false, Ok, Err, All, IfOk, IfErr, IsTrue, ◌⊎◌};
 ghost use Rattle.zp_model.specs.Zone.{workers_of};
 ghost use Rattle.zp_model.specs.declared.request.Request.TheVariants as request;
 ghost use Rattle.zp_model.specs.declared.request.Reply.TheVariants as reply;
-ghost use Rattle.zp_model.specs.declared.refused.Refused.TheVariants.{NotLent, JournalFull};
+ghost use Rattle.zp_model.specs.declared.refused.Refused.TheVariants.{NoBlock, NothingPosted, NotLent, JournalFull};
 ghost use Rattle.zp_zone.specs.NamedZone.{page_reply, block_reply, pages_reply};
 ghost use Rattle.zp_zone.specs.Seats.{IsSeatOf, KeepsSeats};
 ghost use Rattle.zp_share.specs.declared.sections.TheConstants.{LAST_SECTION};
 ghost use Rattle.zp_share.specs.PlainShares.{back};
-ghost use Rattle.zp_share.specs.ZoneShares.{is_lent, cached_of, IsSection, IsLeft, IsSameSeat};
+ghost use Rattle.zp_share.specs.ZoneShares.{IsNew, IsAllocRefusal, is_lent, cached_of, IsSection, IsLeft, IsSameSeat};
 ghost use Rattle.zp_share.specs.Shares.{share_at, with_zone_share};
 
 use super::Share;
@@ -37,6 +37,8 @@ impl Share {
         ensures fits { IsSeatOf zone.new (share_at self.new place).seat }
         ensures seats { KeepsSeats zone.old zone.new }
         ensures lent { IfOk result (λ page. IsTrue (is_lent (share_at self.new place) page order)) }
+        ensures fresh { IfOk result (λ page. IsNew (share_at self.old place) page) }
+        ensures only { IfErr result IsAllocRefusal }
     {
         self.zones[place].alloc_block(zone, order, kind, mark)
     }
@@ -57,6 +59,8 @@ impl Share {
         ensures fits { IsSeatOf zone.new (share_at self.new place).seat }
         ensures seats { KeepsSeats zone.old zone.new }
         ensures lent { IfOk result (λ block. IsTrue (is_lent (share_at self.new place) block.page block.order)) }
+        ensures fresh { IfOk result (λ block. IsNew (share_at self.old place) block.page) }
+        ensures only { IfErr result (λ e. (e ≡ NoBlock) ⊎ (e ≡ JournalFull)) }
     {
         self.zones[place].alloc_low(zone, order)
     }
@@ -117,6 +121,8 @@ impl Share {
         ensures fits { IsSeatOf zone.new (share_at self.new place).seat }
         ensures seats { KeepsSeats zone.old zone.new }
         ensures lent { IfOk result (λ block. IsTrue (is_lent (share_at self.new place) block.page block.order)) }
+        ensures fresh { IfOk result (λ block. IsNew (share_at self.old place) block.page) }
+        ensures only { IfErr result (λ e. (e ≡ NothingPosted) ⊎ (e ≡ JournalFull)) }
     {
         self.zones[place].collect(zone)
     }
@@ -140,6 +146,10 @@ impl Share {
         ensures same { IsSameSeat (share_at self.old place) (share_at self.new place) }
         ensures fits { IsSeatOf zone.new (share_at self.new place).seat }
         ensures seats { KeepsSeats zone.old zone.new }
+        ensures some { IfOk result (λ pages. 1 ≤ length pages.items) }
+        ensures most { IfOk result (λ pages. length pages.items ≤ self.old.batch) }
+        ensures fresh { IfOk result (λ pages. All (IsNew (share_at self.old place)) pages.items) }
+        ensures only { IfErr result IsAllocRefusal }
     {
         let batch = self.lists.batch();
         self.zones[place].refill(zone, kind, mark, batch)

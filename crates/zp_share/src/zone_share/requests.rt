@@ -1,14 +1,14 @@
 //! The sections of a share with the lent zone: each is one request on the zone, and the same change in the share.
-ghost use Rattle.std.specs.Prelude.{◌≡◌, ◌≢◌, ◌<◌, ◌≤◌, length, [], true, false, Ok, Err, IfOk, IsTrue};
+ghost use Rattle.std.specs.Prelude.{◌≡◌, ◌≢◌, ◌<◌, ◌≤◌, length, [], true, false, Ok, Err, All, IfOk, IfErr, IsTrue, ◌⊎◌};
 ghost use Rattle.zp_model.specs.Zone.{workers_of};
 ghost use Rattle.zp_model.specs.declared.request.Request.TheVariants as request;
 ghost use Rattle.zp_model.specs.declared.request.Reply.TheVariants as reply;
-ghost use Rattle.zp_model.specs.declared.refused.Refused.TheVariants.{NotLent, JournalFull};
+ghost use Rattle.zp_model.specs.declared.refused.Refused.TheVariants.{NoBlock, NothingPosted, NotLent, JournalFull};
 ghost use Rattle.zp_zone.specs.NamedZone.{page_reply, block_reply, pages_reply};
 ghost use Rattle.zp_zone.specs.Seats.{IsSeatOf, KeepsSeats};
 ghost use Rattle.zp_share.specs.declared.sections.TheConstants.{LAST_SECTION};
 ghost use Rattle.zp_share.specs.PlainShares.{back};
-ghost use Rattle.zp_share.specs.ZoneShares.{is_lent, cached_of, IsSection, IsLeft, IsSameSeat};
+ghost use Rattle.zp_share.specs.ZoneShares.{IsNew, IsAllocRefusal, is_lent, cached_of, IsSection, IsLeft, IsSameSeat};
 
 use super::ZoneShare;
 use crate::page_stack::page_list;
@@ -36,6 +36,8 @@ impl ZoneShare {
         ensures fits { IsSeatOf zone.new self.new.seat }
         ensures seats { KeepsSeats zone.old zone.new }
         ensures lent { IfOk result (λ page. IsTrue (is_lent self.new page order)) }
+        ensures fresh { IfOk result (λ page. IsNew self.old page) }
+        ensures only { IfErr result IsAllocRefusal }
     {
         if self.sections.are_full() {
             return Err(Refused::JournalFull);
@@ -64,6 +66,8 @@ impl ZoneShare {
         ensures fits { IsSeatOf zone.new self.new.seat }
         ensures seats { KeepsSeats zone.old zone.new }
         ensures lent { IfOk result (λ block. IsTrue (is_lent self.new block.page block.order)) }
+        ensures fresh { IfOk result (λ block. IsNew self.old block.page) }
+        ensures only { IfErr result (λ e. (e ≡ NoBlock) ⊎ (e ≡ JournalFull)) }
     {
         if self.sections.are_full() {
             return Err(Refused::JournalFull);
@@ -146,6 +150,8 @@ impl ZoneShare {
         ensures fits { IsSeatOf zone.new self.new.seat }
         ensures seats { KeepsSeats zone.old zone.new }
         ensures lent { IfOk result (λ block. IsTrue (is_lent self.new block.page block.order)) }
+        ensures fresh { IfOk result (λ block. IsNew self.old block.page) }
+        ensures only { IfErr result (λ e. (e ≡ NothingPosted) ⊎ (e ≡ JournalFull)) }
     {
         if self.sections.are_full() {
             return Err(Refused::JournalFull);
@@ -184,6 +190,10 @@ impl ZoneShare {
         ensures seat { IsSameSeat self.old self.new }
         ensures fits { IsSeatOf zone.new self.new.seat }
         ensures seats { KeepsSeats zone.old zone.new }
+        ensures some { IfOk result (λ pages. 1 ≤ length pages.items) }
+        ensures most { IfOk result (λ pages. length pages.items ≤ batch) }
+        ensures fresh { IfOk result (λ pages. All (IsNew self.old) pages.items) }
+        ensures only { IfErr result IsAllocRefusal }
     {
         if self.sections.are_full() {
             return Err(Refused::JournalFull);

@@ -21,7 +21,7 @@ turn c = record {
 }
 
 pub post-requires-clause-to : goal.post-requires-clause-to
-post-requires-clause-to c = have_worker c.self.inside.zones c.self.inside.shares.items c.args.to c.args.self.now c.self.view_is c.self.invariant c.requires.to
+post-requires-clause-to c = have_worker c.self.inside.zones c.self.inside.shares.items c.args.lent.zone c.args.to c.args.self.now c.self.view_is c.self.invariant c.requires.zone c.requires.to
 
 pub invariant_of-self : goal.invariant_of-self
 invariant_of-self c = shares_after _ _ _ _ _ _ _ _ _ (turn c)

@@ -1,4 +1,4 @@
-use Rattle.std.proofs.Common.{refl, ap, ◌∙◌, ◌-◌}
+use Rattle.std.proofs.Common.{subst, refl, ap, ◌∙◌, ◌-◌}
 use Rattle.zp_model.specs.declared.request.Request.TheVariants as request
 use Rattle.zp_model.specs.declared.request.Reply.{Reply}
 use Rattle.zp_model.specs.declared.request.Reply.TheVariants as reply
@@ -6,7 +6,9 @@ use Rattle.zp_share.specs.declared.zone_share.ZoneShare.TheInside.{Inside}
 use Rattle.std.specs.Prelude.{slice_set}
 use Rattle.zp_share.specs.declared.page_use.PageUse.TheVariants.{Lent}
 use Rattle.zp_share.specs.PageUses.{UsesState}
-use Rattle.zp_share.proofs.Closing.{IsAnswered, answered_parts, new_page, section_is}
+use Rattle.zp_share.proofs.Closing.{share_of, IsAnswered, answered_parts, new_page, section_is}
+use Rattle.zp_share.proofs.Refusing.{low_only}
+use Rattle.zp_share.specs.ZoneShares.{IsNew}
 use Rattle.zp_share.proofs.zone_share.ZoneShare.alloc_low.Goals as goal
 
 abbrev lent_after : goal.After-add → Inside
@@ -18,10 +20,13 @@ refused_after c = record { seat = c.alloc_low.new.seat; uses = c.self.inside.use
 abbrev reply_of : goal.After-add → Reply
 reply_of c = reply.Block c.in-Ok.block
 
+new : (c : goal.After-add) → IsNew (share_of c.self.inside) c.in-Ok.block.page
+new c = new_page (request.AllocLow c.args.order) (reply_of c) c.self.inside c.alloc_low.new.seat c.in-Ok.block.page c.in-Ok.block.order c.self.invariant c.in-Ok.ensures.seat c.in-Ok.ensures.has c.in-Ok.ensures.fresh
+
 lent : (c : goal.After-add) → IsAnswered (request.AllocLow c.args.order) (reply_of c) c.self.inside (lent_after c)
 lent c =
     answered_parts (request.AllocLow c.args.order) (reply_of c) c.self.inside (lent_after c) c.worker-worker.result c.self.invariant
-    (new_page (request.AllocLow c.args.order) (reply_of c) c.self.inside c.alloc_low.new.seat c.in-Ok.block.page c.in-Ok.block.order c.self.invariant c.in-Ok.ensures.seat c.in-Ok.ensures.has c.in-Ok.ensures.fresh)
+    (new c)
     c.in-Ok.ensures.seat (c.lend.ensures ∙ ap (λ k. let u : UsesState = record { base = c.self.inside.uses.base; uses = slice_set c.self.inside.uses.uses (c.in-Ok.block.page - c.self.inside.uses.base) (Lent k c.in-Ok.block.kind) } in u) c.in-Ok.ensures.order) refl c.add.ensures c.worker-worker.ensures
 
 refused : (c : goal.After-add-in-Err) → IsAnswered (request.AllocLow c.args.order) (reply.Refused c.in-Err.refused) c.self.inside (refused_after c)
@@ -44,3 +49,9 @@ pub returns-in-Err-clause-section : goal.returns-in-Err-clause-section
 returns-in-Err-clause-section c =
     λ room. section_is (request.AllocLow c.args.order) (reply.Refused c.in-Err.refused) c.args.zone.now c.alloc_low.new.self c.self.inside (refused_after c) c.args.self.now c.self.invariant c.self.view_is (refused c)
     c.in-Err.ensures.reply c.in-Err.ensures.after c.requires c.in-Err.ensures.fits c.in-Err.ensures.known c.in-Err.ensures.agrees
+
+pub returns-in-Err-clause-only : goal.returns-in-Err-clause-only
+returns-in-Err-clause-only c = low_only c.args.zone.now.plain c.self.inside.seat.worker c.args.order c.in-Err.refused c.in-Err.ensures.reply
+
+pub returns-in-Ok-clause-fresh : goal.returns-in-Ok-clause-fresh
+returns-in-Ok-clause-fresh c = subst (λ s. IsNew s c.in-Ok.block.page) c.self.view_is (new c)

@@ -10,6 +10,9 @@ use Rattle.zp_share.proofs.Answering.{AreNew}
 use Rattle.zp_share.proofs.Closing.{share_of, IsAnswered, answered_parts, new_pages, section_is}
 use Rattle.zp_share.proofs.Taking.{list_changed}
 use Rattle.zp_share.proofs.Batches.{new_places, number_at}
+use Rattle.zp_share.proofs.Refusing.{refill_only}
+use Rattle.zp_share.specs.ZoneShares.{IsNew}
+use Rattle.zp_share.proofs.Stacks.{All-by_standing}
 use Rattle.zp_share.proofs.zone_share.ZoneShare.refill.Goals as goal
 
 abbrev got_after : goal.After-add → Inside
@@ -90,3 +93,9 @@ returns-in-Err-clause-section c =
     λ room. section_is (request.Refill c.args.kind c.args.mark c.args.batch) (reply.Refused c.in-Err.refused) c.args.zone.now c.refill.new.self c.self.inside (refused_after c) c.args.self.now
     c.self.invariant c.self.view_is (refused c)
     c.in-Err.ensures.reply c.in-Err.ensures.after c.requires.seat c.in-Err.ensures.fits c.in-Err.ensures.known c.in-Err.ensures.agrees
+
+pub returns-in-Err-clause-only : goal.returns-in-Err-clause-only
+returns-in-Err-clause-only c = refill_only c.args.zone.now.plain c.self.inside.seat.worker c.args.kind c.args.mark c.args.batch c.in-Err.refused c.in-Err.ensures.reply
+
+pub returns-in-Ok-clause-fresh : goal.returns-in-Ok-clause-fresh
+returns-in-Ok-clause-fresh c = All-by_standing (IsNew c.args.self.now) c.in-Ok.pages.items (λ q e. subst (λ s. IsNew s q) c.self.view_is ((new c).each q e))
