@@ -1,5 +1,5 @@
 -- The lists of all zones, given back zone by zone.
-use Rattle.std.proofs.Common.{ℕ, ◌-◌, ◌+◌, ◌≡◌, ◌<◌, ◌≤◌, refl, sym, ◌∙◌, ap, subst, arith, inl, inr, List, [], length, Option, Some, Result, Ok, Err, suc}
+use Rattle.std.proofs.Common.{ℕ, ◌-◌, ◌+◌, ◌≡◌, ◌<◌, ◌≤◌, ◌⊎◌, refl, sym, ◌∙◌, ap, subst, arith, inl, inr, List, [], length, Option, Some, Result, Ok, Err, suc}
 use Rattle.std.specs.List.{range_with_len}
 use Rattle.std.proofs.lemmas.Bool.{cases_eq}
 use Rattle.std.proofs.lemmas.List.{length-map}
@@ -8,7 +8,7 @@ use Rattle.zp_model.specs.declared.refused.Refused.{Refused}
 use Rattle.zp_zone.specs.NamedZone.{NamedZone}
 use Rattle.zp_share.specs.ZoneShares.{plain_share, cached_of}
 use Rattle.zp_share.specs.Commands.{World, Done, done, and_then, drain_zone, drain_zones, drain_all}
-use Rattle.zp_share.specs.Shares.{ShareState, IsDone, IsSameShare, KeepsEmptyLists, share_at, world}
+use Rattle.zp_share.specs.Shares.{ShareState, IsDone, IsSameShare, KeepsEmptyLists, HasSameLent, KeepsOrEmptiesLists, share_at, world}
 use Rattle.zp_share.proofs.Carrying.{then_err}
 
 -- the zones from place i on are left, and n pages were given back before
@@ -66,3 +66,17 @@ empty_more n s u x k e i t lt = elim (cases_eq i n) [ inl same ↦ ap (λ j. cac
 
 pub same_share : (s u v : ShareState) → IsSameShare s u → IsSameShare u v → IsSameShare s v
 same_share s u v x y = record { worker = y.worker ∙ x.worker; batch = y.batch ∙ x.batch; high_len = y.high_len ∙ x.high_len; places = y.places ∙ x.places }
+
+-- one command after the other
+pub same_lent_then : (s u v : ShareState) → HasSameLent s u → HasSameLent u v → HasSameLent s v
+same_lent_then s u v f g i p k = g i p k ∙ f i p k
+
+pub lists_then : (s u v : ShareState) → KeepsOrEmptiesLists s u → KeepsOrEmptiesLists u v → KeepsOrEmptiesLists s v
+lists_then s u v f g i t = go (g i t) (f i t)
+  where
+    go : (cached_of (share_at v i) t ≡ []) ⊎ (cached_of (share_at v i) t ≡ cached_of (share_at u i) t) →
+        (cached_of (share_at u i) t ≡ []) ⊎ (cached_of (share_at u i) t ≡ cached_of (share_at s i) t) →
+        (cached_of (share_at v i) t ≡ []) ⊎ (cached_of (share_at v i) t ≡ cached_of (share_at s i) t)
+    go (inl none) before = inl none
+    go (inr same) (inl none) = inl (same ∙ none)
+    go (inr same) (inr before) = inr (same ∙ before)

@@ -1,5 +1,5 @@
 -- A block given back: to its zone, or to the front of its list.
-use Rattle.std.proofs.Common.{ℕ, ◌-◌, ◌≡◌, ◌==◌, refl, sym, ◌∙◌, ap, subst, List, [], ◌∷◌, length, Option, Some, Result, Ok, Err, Bool, true, false, cond}
+use Rattle.std.proofs.Common.{ℕ, ◌-◌, ◌<◌, ◌≡◌, ◌==◌, refl, sym, ◌∙◌, ap, subst, List, [], ◌∷◌, length, Option, Some, Result, Ok, Err, Bool, true, false, cond}
 use Rattle.std.specs.Prelude.{slice_set, ltb}
 use Rattle.zp_model.specs.declared.migrate_type.MigrateType.{MigrateType}
 use Rattle.zp_model.specs.declared.refused.Refused.{Refused}
@@ -13,9 +13,10 @@ use Rattle.zp_share.specs.PageUses.{use_of, is_lent_as}
 use Rattle.zp_share.specs.PlainShares.{PlainZoneShare, Putting, used_as, lends, lent_kind, list_of, put, putting, putting_as}
 use Rattle.zp_share.specs.ZoneShares.{plain_share, use_in, is_lent}
 use Rattle.zp_share.specs.Commands.{World, Done, done, told_as, and_then, done_answer, section, is_listed, drain_full, put_page, free_listed, free_as, free_in}
-use Rattle.zp_share.specs.Shares.{ShareState, IsDone, share_at, with_zone_share, plain, world}
+use Rattle.zp_share.specs.Shares.{ShareState, HasSameLent, IsDone, share_at, with_zone_share, plain, world}
 use Rattle.zp_share.proofs.OneUse.{IsIn, in_by_use, use-all_as}
 use Rattle.zp_share.proofs.Answering.{only}
+use Rattle.zp_share.proofs.LentBlocks.{same_lent}
 use Rattle.zp_share.proofs.Carrying.{own-plain, moved, then_ok, then_err}
 
 -- a page that is put on its list is lent no more
@@ -42,6 +43,26 @@ put_use x p k high v (Cached t) f e = absurd (cc)
 pub put_gone : (s u : ShareState) (i p k high : ℕ) (v : Unit {0}) → Ok v ≡ (putting (plain_share (share_at s i)) p high).answer →
     plain_share (share_at u i) ≡ (putting (plain_share (share_at s i)) p high).share → is_lent (share_at u i) p k ≡ false
 put_gone s u i p k high v e f = ap (λ x. lends x p k) f ∙ put_use (plain_share (share_at s i)) p k high v (used_as (plain_share (share_at s i)) p) refl e
+
+-- where a page is not put, the share stays
+put_nothing : (x : PlainZoneShare) (p high : ℕ) (e : Refused) (u : PageUse) → Err e ≡ (putting_as u p high x).answer → (putting_as u p high x).share ≡ x
+put_nothing x p high e Away f = refl
+put_nothing x p high e (Lent j t) f = go (j == 0) (ltb (length (list_of x t)) high) f
+  where
+    go : (b c : Bool) →
+        (let y : Putting = cond b (cond c (record { answer = Ok tt; share = put p t x }) (record { answer = Err ListFull; share = x })) (record { answer = Err NotLent; share = x }) in
+        Err e ≡ y.answer → y.share ≡ x)
+    go true true f = absurd (cc)
+    go true false f = refl
+    go false c f = refl
+put_nothing x p high e (Cached t) f = refl
+
+pub not_put_lent : (s u : ShareState) (i p high : ℕ) (e : Refused) → i < length s.zones → Err e ≡ (putting (plain_share (share_at s i)) p high).answer → u ≡ with_zone_share i (share_at u i) s →
+    plain_share (share_at u i) ≡ (putting (plain_share (share_at s i)) p high).share → HasSameLent s u
+not_put_lent s u i p high e lt f is after =
+    let x : PlainZoneShare = plain_share (share_at s i) in
+    let same : plain_share (share_at u i) ≡ x = after ∙ put_nothing x p high e (used_as x p) f in
+    subst (λ v. HasSameLent s v) (sym is) (same_lent s i (share_at u i) lt (λ q k. ap (λ y. lends y q k) same))
 
 -- a page is put on its list
 pub puts : (rows : List NamedZone) (s u : ShareState) (i p : ℕ) (r : Result (Unit {0}) Refused) (told : Option (List NamedZone)) → told ≡ Some rows →

@@ -30,6 +30,16 @@ pub down_ok : (k : ℕ) (t : MigrateType) (m : Mark) (n : ℕ) (w : World) (p : 
     IsDone (alloc_in w n k t m) (Ok p) told u → IsDone (alloc_down k t m n w) (Ok (record { zone = n; page = p; order = k })) told u
 down_ok k t m n w p told u x = stops k t m n w (Ok p) (Ok (record { zone = n; page = p; order = k })) told u x refl refl
 
+-- where it is refused, the lowest zone is the last, and so is one that answers 30
+pub down_lowest : (k : ℕ) (t : MigrateType) (m : Mark) (n : ℕ) (w : World) (e : Refused) (told : Option (List NamedZone)) (u : ShareState) → n ≡ 0 →
+    IsDone (alloc_in w n k t m) (Err e) told u → IsDone (alloc_down k t m n w) (Err e) told u
+down_lowest k t m zero w e told u none x = told_as_is (lent_in 0 k) (alloc_in w 0 k t m) (Err e) (Err e) told u x refl
+down_lowest k t m (suc i) w e told u none x = absurd (omega (arith, none))
+
+pub down_full : (k : ℕ) (t : MigrateType) (m : Mark) (n : ℕ) (w : World) (e : Refused) (told : Option (List NamedZone)) (u : ShareState) → e ≡ JournalFull →
+    IsDone (alloc_in w n k t m) (Err e) told u → IsDone (alloc_down k t m n w) (Err e) told u
+down_full k t m n w e told u full x = stops k t m n w (Err e) (Err e) told u x (ap (λ r. goes_down (Err r)) full) refl
+
 -- each refusal but 30 leaves the block to the zones below
 pub goes_on : (e : Refused) → (e ≡ JournalFull → ⊥) → goes_down (Err e) ≡ true
 goes_on JournalFull ne = absurd (ne refl)

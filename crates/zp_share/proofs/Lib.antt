@@ -11,6 +11,7 @@ pub mod Refusing
 pub mod Placed
 pub mod Telling
 pub mod Carrying
+pub mod LentBlocks
 pub mod Draining
 pub mod Lending
 pub mod Freeing

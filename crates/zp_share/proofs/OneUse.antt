@@ -20,7 +20,7 @@ pub use-set : (base p : ℕ) (u : PageUse) (us : List PageUse) → IsIn base us 
 use-set base p u us i =
     ap (λ b. cond b (use_at (slice_set us (p - base) u) (p - base)) Away) (le-leb base p i.from) ∙ get_or-set_same us (p - base) u Away i.below
 
-use-set_other : (base p q : ℕ) (u : PageUse) (us : List PageUse) → base ≤ p → (q ≡ p → ⊥) → use_of base (slice_set us (p - base) u) q ≡ use_of base us q
+pub use-set_other : (base p q : ℕ) (u : PageUse) (us : List PageUse) → base ≤ p → (q ≡ p → ⊥) → use_of base (slice_set us (p - base) u) q ≡ use_of base us q
 use-set_other base p q u us le ne = go base p q u us le ne (leb base q) refl
   where
     go : (base p q : ℕ) (u : PageUse) (us : List PageUse) → base ≤ p → (q ≡ p → ⊥) → (b : Bool) → leb base q ≡ b →

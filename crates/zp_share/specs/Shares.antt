@@ -1,5 +1,5 @@
 -- A worker's share of a row of zones, and what its calls with the zones promise (this profile).
-use Rattle.std.specs.Prelude.{ℕ, ◌≡◌, ◌<◌, Bool, true, false, List, [], length, map, slice_index_or, slice_set, Option, Some, Result, Ok, Err, cond}
+use Rattle.std.specs.Prelude.{ℕ, ◌≡◌, ◌≢◌, ◌<◌, ◌≤◌, ◌+◌, ◌⊎◌, IsTrue, IfOk, IfErr, Bool, true, false, List, [], length, map, slice_index_or, slice_set, Option, Some, Result, Ok, Err, cond}
 use Rattle.atomic_table.specs.Seated.{TableId}
 use Rattle.zp_model.specs.declared.refused.Refused.{Refused}
 use Rattle.zp_model.specs.declared.refused.Refused.TheVariants.{NotLent, JournalFull}
@@ -9,8 +9,9 @@ use Rattle.zp_model.specs.declared.migrate_type.MigrateType.{MigrateType}
 use Rattle.zp_model.specs.Zone.{workers_of}
 use Rattle.zp_zone.specs.NamedZone.{NamedZone}
 use Rattle.zp_zone.specs.Seats.{ZoneState, SeatState}
+use Rattle.zp_share.specs.declared.commands.Lent.{Lent}
 use Rattle.zp_share.specs.PlainShares.{PlainShare}
-use Rattle.zp_share.specs.ZoneShares.{ZoneShareState, plain_share, answered, opening_share, cached_of}
+use Rattle.zp_share.specs.ZoneShares.{ZoneShareState, plain_share, answered, opening_share, is_lent, cached_of}
 use Rattle.zp_share.specs.Commands.{World, Done}
 
 pub record ShareState : Type 0 where
@@ -90,6 +91,53 @@ pub record IsDone {A : Type 0} (d : Done A) (a : A) (rows : Option (List NamedZo
   pub answer : a ≡ d.answer
   pub zones : rows ≡ Some d.world.zones
   pub share : plain s ≡ d.world.share
+
+-- how many sections were made with zone i
+abbrev pub sections_at : ShareState → ℕ → ℕ
+sections_at s i = (share_at s i).sections.made
+
+-- one section was made with each zone from place n up to place m
+abbrev pub WereAsked : ℕ → ℕ → ShareState → ShareState → Type 0
+WereAsked n m s u = (i : ℕ) → n ≤ i → i ≤ m → sections_at u i ≡ sections_at s i + 1
+
+-- each block that is lent stays so
+abbrev pub KeepsLent : ShareState → ShareState → Type 0
+KeepsLent s u = (i p k : ℕ) → IsTrue (is_lent (share_at s i) p k) → IsTrue (is_lent (share_at u i) p k)
+
+-- the same blocks are lent
+abbrev pub HasSameLent : ShareState → ShareState → Type 0
+HasSameLent s u = (i p k : ℕ) → is_lent (share_at u i) p k ≡ is_lent (share_at s i) p k
+
+-- the same blocks are lent, but for those at page q of zone j
+abbrev pub HasSameLentBut : ℕ → ℕ → ShareState → ShareState → Type 0
+HasSameLentBut j q s u = (i p k : ℕ) → (i ≡ j → p ≢ q) → is_lent (share_at u i) p k ≡ is_lent (share_at s i) p k
+
+-- no block is lent at page p of zone i
+abbrev pub IsNoneLentAt : ℕ → ℕ → ShareState → Type 0
+IsNoneLentAt i p s = (k : ℕ) → is_lent (share_at s i) p k ≡ false
+
+-- what is lent after an answer: the block answered, at a page where none was lent, and else the same blocks as before
+abbrev pub IsLentBy : Result Lent Refused → ShareState → ShareState → Type 0
+IsLentBy (Ok l) s u = IsNoneLentAt l.zone l.page s × HasSameLentBut l.zone l.page s u
+IsLentBy (Err e) s u = HasSameLent s u
+
+-- from place n down a zone is asked where the one above it was refused: one section was made with each zone above the one that gave a
+-- block, and with all of them where none did, unless a refusal 30 ended the walk
+abbrev pub AreAskedDown : ℕ → Result Lent Refused → ShareState → ShareState → Type 0
+AreAskedDown n (Ok l) s u = WereAsked (l.zone + 1) n s u
+AreAskedDown n (Err e) s u = (e ≡ JournalFull) ⊎ WereAsked 0 n s u
+
+-- where zone i alone was asked for a page: what is lent after the answer, and that a refusal but 30 is one section with the zone
+pub record IsAskedFor (i : ℕ) (r : Result ℕ Refused) (s u : ShareState) : Type 0 where
+  pub fresh : IfOk r (λ p. IsNoneLentAt i p s)
+  pub others : IfOk r (λ p. HasSameLentBut i p s u)
+  pub left : IfErr r (λ e. HasSameLent s u)
+  pub asked : IfErr r (λ e. (e ≡ JournalFull) ⊎ (sections_at u i ≡ sections_at s i + 1))
+  pub elsewhere : (j : ℕ) → j ≢ i → share_at u j ≡ share_at s j
+
+-- each list is as it was, or empty
+abbrev pub KeepsOrEmptiesLists : ShareState → ShareState → Type 0
+KeepsOrEmptiesLists s u = (i : ℕ) (t : MigrateType) → (cached_of (share_at u i) t ≡ []) ⊎ (cached_of (share_at u i) t ≡ cached_of (share_at s i) t)
 
 -- no list of the share has a page
 abbrev pub HasEmptyLists : ShareState → Type 0

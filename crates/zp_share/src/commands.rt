@@ -1,14 +1,14 @@
 //! A worker's commands, each made of sections with zones of a row and of moves on the worker's own lists.
 //!
 //! In Linux: `rmqueue` with `rmqueue_pcplist`, `free_unref_page`, and `drain_pages`.
-ghost use Rattle.std.specs.Prelude.{ℕ, ◌≡◌, ◌<◌, ◌≤◌, ◌+◌, ◌*◌, List, [], length, false, Some, Ok, Err, IfOk, OnOk, IsTrue};
+ghost use Rattle.std.specs.Prelude.{ℕ, ◌≡◌, ◌<◌, ◌≤◌, ◌+◌, ◌*◌, ◌⊎◌, List, [], length, false, Some, Ok, Err, IfOk, IfErr, OnOk, IsTrue};
 ghost use Rattle.zp_model.specs.declared.migrate_type.MigrateType.{MigrateType};
-ghost use Rattle.zp_model.specs.declared.refused.Refused.TheVariants.{NotLent};
+ghost use Rattle.zp_model.specs.declared.refused.Refused.TheVariants.{NotLent, ListFull, JournalFull};
 ghost use Rattle.zp_model.specs.declared.constants.TheConstants.{LONGEST_LIST, TYPES, MAX_ZONES};
 ghost use Rattle.zp_zone.specs.NamedZone.{NamedZone};
-ghost use Rattle.zp_share.specs.ZoneShares.{is_lent, cached_of};
+ghost use Rattle.zp_share.specs.ZoneShares.{IsAllocRefusal, is_lent, cached_of};
 ghost use Rattle.zp_share.specs.Commands.{alloc_in, alloc_down, free_in, drain_full, drain_list, drain_zone, drain_all};
-ghost use Rattle.zp_share.specs.Shares.{IsShareOf, IsSameShare, IsDone, HasEmptyLists, KeepsEmptyLists, share_at, world};
+ghost use Rattle.zp_share.specs.Shares.{IsShareOf, IsSameShare, IsDone, IsAskedFor, IsLentBy, AreAskedDown, KeepsLent, HasSameLent, HasSameLentBut, HasEmptyLists, KeepsEmptyLists, KeepsOrEmptiesLists, share_at, world};
 
 use crate::share::Share;
 use crate::zones::Zones;
@@ -39,7 +39,13 @@ pub fn alloc<Z: Zones>(
     ensures fits { IsShareOf (Z.keys zones.new) share.new }
     ensures same { IsSameShare share.old share.new }
     ensures lent { IfOk result (λ l. IsTrue (is_lent (share_at share.new l.zone) l.page l.order)) }
+    ensures order { IfOk result (λ l. l.order ≡ order) }
     ensures place { IfOk result (λ l. l.zone ≤ zone) }
+    ensures kept { KeepsLent share.old share.new }
+    ensures blocks { IsLentBy result share.old share.new }
+    ensures only { IfErr result IsAllocRefusal }
+    ensures asked { AreAskedDown zone result share.old share.new }
+    ensures above { (i : ℕ) → zone < i → share_at share.new i ≡ share_at share.old i }
     ensures told { (rows : List NamedZone) → Z.told zones.old ≡ Some rows → IsDone (alloc_down order kind mark zone (world rows share.old)) result (Z.told zones.new) share.new }
 {
     match alloc_in(share, zones, zone, order, kind, mark) {
@@ -64,6 +70,8 @@ fn alloc_in<Z: Zones>(
     ensures fits { IsShareOf (Z.keys zones.new) share.new }
     ensures same { IsSameShare share.old share.new }
     ensures lent { IfOk result (λ page. IsTrue (is_lent (share_at share.new zone) page order)) }
+    ensures only { IfErr result IsAllocRefusal }
+    ensures asked { IsAskedFor zone result share.old share.new }
     ensures told { (rows : List NamedZone) → Z.told zones.old ≡ Some rows → IsDone (alloc_in (world rows share.old) zone order kind mark) result (Z.told zones.new) share.new }
 {
     if !share.is_listed(order) {
@@ -93,6 +101,10 @@ pub fn free<Z: Zones>(
     ensures same { IsSameShare share.old share.new }
     ensures not_lent { is_lent (share_at share.old zone) page order ≡ false → result ≡ Err NotLent }
     ensures gone { OnOk result (is_lent (share_at share.new zone) page order ≡ false) }
+    ensures others { HasSameLentBut zone page share.old share.new }
+    ensures left { IfErr result (λ e. HasSameLent share.old share.new) }
+    ensures same_where_not_lent { result ≡ Err NotLent → share.new ≡ share.old }
+    ensures only { IfErr result (λ e. (e ≡ NotLent) ⊎ ((e ≡ ListFull) ⊎ (e ≡ JournalFull))) }
     ensures told { (rows : List NamedZone) → Z.told zones.old ≡ Some rows → IsDone (free_in (world rows share.old) zone page order) result (Z.told zones.new) share.new }
 {
     let Some(kind) = share.lent_kind(zone, page, order) else {
@@ -121,7 +133,8 @@ fn drain_full<Z: Zones>(
     ensures keys { Z.keys zones.new ≡ Z.keys zones.old }
     ensures fits { IsShareOf (Z.keys zones.new) share.new }
     ensures same { IsSameShare share.old share.new }
-    ensures lent { (p k : ℕ) → is_lent (share_at share.new zone) p k ≡ is_lent (share_at share.old zone) p k }
+    ensures lent { HasSameLent share.old share.new }
+    ensures only { IfErr result (λ e. e ≡ JournalFull) }
     ensures told { (rows : List NamedZone) → Z.told zones.old ≡ Some rows → IsDone (drain_full (world rows share.old) zone kind) result (Z.told zones.new) share.new }
 {
     let lists = share.lists();
@@ -139,6 +152,9 @@ pub fn drain_all<Z: Zones>(share: &mut Share, zones: &mut Z) -> Result<usize, Re
     ensures fits { IsShareOf (Z.keys zones.new) share.new }
     ensures same { IsSameShare share.old share.new }
     ensures empty { OnOk result (HasEmptyLists share.new) }
+    ensures lists { KeepsOrEmptiesLists share.old share.new }
+    ensures lent { HasSameLent share.old share.new }
+    ensures only { IfErr result (λ e. e ≡ JournalFull) }
     ensures few { IfOk result (λ n. n ≤ MAX_ZONES * (TYPES * LONGEST_LIST)) }
     ensures told { (rows : List NamedZone) → Z.told zones.old ≡ Some rows → IsDone (drain_all (world rows share.old)) result (Z.told zones.new) share.new }
 {
@@ -165,6 +181,9 @@ fn drain_zone<Z: Zones>(
     ensures room { IfOk result (λ n. n ≤ before + TYPES * LONGEST_LIST) }
     ensures empty { OnOk result ((t : MigrateType) → cached_of (share_at share.new zone) t ≡ []) }
     ensures others { KeepsEmptyLists share.old share.new }
+    ensures lists { KeepsOrEmptiesLists share.old share.new }
+    ensures lent { HasSameLent share.old share.new }
+    ensures only { IfErr result (λ e. e ≡ JournalFull) }
     ensures told { (rows : List NamedZone) → Z.told zones.old ≡ Some rows → IsDone (drain_zone before (world rows share.old) zone) result (Z.told zones.new) share.new }
 {
     let unmovable = drain_list(share, zones, zone, MigrateType::Unmovable, before)?;
@@ -189,6 +208,9 @@ fn drain_list<Z: Zones>(
     ensures room { IfOk result (λ n. n ≤ before + LONGEST_LIST) }
     ensures empty { OnOk result (cached_of (share_at share.new zone) kind ≡ []) }
     ensures others { KeepsEmptyLists share.old share.new }
+    ensures lists { KeepsOrEmptiesLists share.old share.new }
+    ensures lent { HasSameLent share.old share.new }
+    ensures only { IfErr result (λ e. e ≡ JournalFull) }
     ensures told { (rows : List NamedZone) → Z.told zones.old ≡ Some rows → IsDone (drain_list before (world rows share.old) zone kind) result (Z.told zones.new) share.new }
 {
     let count = share.cached_len(zone, kind);

@@ -175,6 +175,7 @@ impl Share {
         ensures seat { (share_at self.new zone).seat ≡ (share_at self.old zone).seat }
         ensures others { self.new ≡ with_zone_share zone (share_at self.new zone) self.old }
         ensures lent { IfSome result (λ page. IsTrue (is_lent (share_at self.new zone) page 0)) }
+        ensures share { IsShare (share_at self.old zone) }
     {
         self.zones[zone].take_cached(kind)
     }

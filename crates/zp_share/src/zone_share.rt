@@ -138,6 +138,7 @@ impl ZoneShare {
         ensures after { plain_share self.new ≡ taken kind (plain_share self.old) }
         ensures seat { self.new.seat ≡ self.old.seat }
         ensures lent { IfSome result (λ page. IsTrue (is_lent self.new page 0)) }
+        ensures share { IsShare self.old }
     {
         let page = self.cached[kind.number()].pop_front()?;
         self.uses.set(page, PageUse::Lent(Order::zero(), kind));

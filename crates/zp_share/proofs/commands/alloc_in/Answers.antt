@@ -1,7 +1,8 @@
-use Rattle.std.proofs.Common.{◌∙◌, subst, sym, ap}
+use Rattle.std.proofs.Common.{◌∙◌, subst, sym, ap, rules}
 use Rattle.zp_share.specs.Shares.{IsShareOf}
 use Rattle.zp_share.proofs.Carrying.{moved_fits}
 use Rattle.zp_share.proofs.Lending.{front_ok, from_list, from_refill}
+use Rattle.zp_share.proofs.LentBlocks.{filled_before, filled_now, taken_asked}
 use Rattle.zp_share.proofs.commands.alloc_in.Goals as goal
 use Rattle.zp_share.proofs.commands.alloc_in.Goals.{then-cached_len-eq0+in_ok-refill, else-cached_len-eq0}
 
@@ -28,3 +29,15 @@ returns-clause-told g c =
           (sym c.is_listed.ensures ∙ c.if-not-is_listed.false) c.cached_len.ensures.same w.if-cached_len-eq0.false (ap g.Z.Zones.told w.zones-is) w.share-is
           c.take_cached.ensures.others c.take_cached.ensures.after (front_ok _ c.take_cached.result c.ok_or.result c.ok_or.ensures.value c.take_cached.ensures.answer)
     ]
+
+pub returns-clause-asked : goal.returns-clause-asked
+returns-clause-asked g c =
+    taken_asked c.args.share.now c.if-cached_len-eq0.share c.take_cached.new.self c.args.zone c.args.kind c.take_cached.result c.ok_or.result
+    (search rules)
+    (elim c.if-cached_len-eq0.branch [
+      | then-cached_len-eq0+in_ok-refill w ↦
+          filled_now c.args.share.now c.if-cached_len-eq0.share c.args.zone c.args.share.now.batch c.args.kind c.args.mark w.in_ok-refill.field-0.items c.requires.zone c.cached_len.ensures.share
+          (w.share-is ∙ w.in_ok-refill.ensures.share) w.in_ok-refill.ensures.fresh w.in_ok-refill.ensures.some
+      | else-cached_len-eq0 w ↦ filled_before c.args.share.now c.if-cached_len-eq0.share c.args.zone c.cached_len.result c.args.kind w.share-is c.cached_len.ensures.same w.if-cached_len-eq0.false
+    ])
+    c.take_cached.ensures.share c.take_cached.ensures.others c.take_cached.ensures.after c.take_cached.ensures.answer c.ok_or.ensures.value

@@ -1,7 +1,7 @@
 use Rattle.std.proofs.Common.{◌≡◌, ◌<◌, ◌≤◌, ◌+◌, ◌*◌, ◌∙◌, sym, subst, Err, length, rules}
 use Rattle.zp_share.specs.Commands.{drain_all}
 use Rattle.zp_share.specs.Shares.{IsDone, world}
-use Rattle.zp_share.proofs.DrainingAll.{drained_one, drained_all, drained_err, empty_more, same_share}
+use Rattle.zp_share.proofs.DrainingAll.{drained_one, drained_all, drained_err, empty_more, same_share, same_lent_then, lists_then}
 use Rattle.zp_share.proofs.commands.drain_all.Goals as goal
 
 pub loop-zone-preserved : goal.loop-zone-preserved
@@ -17,7 +17,15 @@ loop-zone-preserved g c =
       λ rows e.
           drained_one (world rows c.args.share.now) (length c.args.share.now.zones) c.loop-zone.drained c.in_ok-drained.drained c.loop-zone.zone _ _ c.loop-zone.share c.drain_zone.new.share lt
           (x.5 rows e) c.in_ok-drained.ensures.told,
+      same_lent_then c.args.share.now c.loop-zone.share c.drain_zone.new.share x.6 c.drain_zone.ensures.lent,
+      lists_then c.args.share.now c.loop-zone.share c.drain_zone.new.share x.7 c.drain_zone.ensures.lists,
     )
+
+pub returns-in_err-drained-clause-lent : goal.returns-in_err-drained-clause-lent
+returns-in_err-drained-clause-lent g c = same_lent_then c.args.share.now c.loop-zone.share c.drain_zone.new.share c.loop-zone.invariant.6 c.drain_zone.ensures.lent
+
+pub returns-in_err-drained-clause-lists : goal.returns-in_err-drained-clause-lists
+returns-in_err-drained-clause-lists g c = lists_then c.args.share.now c.loop-zone.share c.drain_zone.new.share c.loop-zone.invariant.7 c.drain_zone.ensures.lists
 
 pub returns-in_err-drained-clause-told : goal.returns-in_err-drained-clause-told
 returns-in_err-drained-clause-told g c =

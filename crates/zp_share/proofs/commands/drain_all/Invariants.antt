@@ -1,7 +1,7 @@
 use Rattle.std.proofs.Common.{◌≡◌, ◌≤◌, ◌*◌, List, length, Some}
 use Rattle.zp_model.specs.declared.constants.TheConstants.{LONGEST_LIST, TYPES}
 use Rattle.zp_zone.specs.NamedZone.{NamedZone}
-use Rattle.zp_share.specs.Shares.{IsShareOf, IsSameShare, world}
+use Rattle.zp_share.specs.Shares.{IsShareOf, IsSameShare, HasSameLent, KeepsOrEmptiesLists, world}
 use Rattle.zp_share.proofs.DrainingAll.{IsDrainedTo, AreEmptyBelow}
 use Rattle.zp_share.proofs.commands.drain_all.Given as goal
 
@@ -14,3 +14,5 @@ invariant-loop-zone g l =
     × (l.drained ≤ l.zone * (TYPES * LONGEST_LIST))
     × AreEmptyBelow l.zone l.share
     × ((rows : List NamedZone) → g.Z.Zones.told l.fn.zones ≡ Some rows → IsDrainedTo (world rows l.fn.share) (length l.fn.share.zones) l.drained l.zone (g.Z.Zones.told l.zones) l.share)
+    × HasSameLent l.fn.share l.share
+    × KeepsOrEmptiesLists l.fn.share l.share

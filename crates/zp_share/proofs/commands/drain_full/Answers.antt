@@ -1,9 +1,9 @@
 use Rattle.std.proofs.Common.{rules}
-use Rattle.zp_share.proofs.Draining.{lent-drained}
+use Rattle.zp_share.proofs.Draining.{same_lent_drained}
 use Rattle.zp_share.proofs.commands.drain_full.Goals as goal
 
 pub returns-clause-lent : goal.returns-clause-lent
 returns-clause-lent g c =
-    lent-drained c.args.share.now c.drain.new.share c.args.zone c.from.result c.args.kind c.drain.result c.requires.zone c.cached_len.ensures.share
+    same_lent_drained c.args.share.now c.drain.new.share c.args.zone c.from.result c.args.kind c.drain.result c.requires.zone c.cached_len.ensures.share
     (search rules)
     c.drain.ensures.share
