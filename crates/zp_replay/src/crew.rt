@@ -1,9 +1,9 @@
 //! A row of zones with the shares of all its workers, in one hand.
-ghost use Rattle.std.specs.Prelude.{◌≡◌, ◌<◌, ◌≤◌, length, map, IfOk, IfErr};
+ghost use Rattle.std.specs.Prelude.{ℕ, ◌≡◌, ◌<◌, ◌≤◌, length, map, IfOk, IfErr};
 ghost use Rattle.zp_model.specs.declared.constants.TheConstants.{MAX_ZONES};
 ghost use Rattle.zp_model.specs.declared.request.Request.TheVariants as request;
-ghost use Rattle.zp_share.specs.Commands.{alloc_down, drain_all, free_in, section, section_of, told_as, done_answer};
-ghost use Rattle.zp_share.specs.Gathering.{gathered};
+ghost use Rattle.zp_share.specs.Commands.{zone_at, alloc_down, drain_all, free_in, section, section_of, told_as, done_answer};
+ghost use Rattle.zp_share.specs.Gathering.{AddsUp, gathered, owns_at};
 ghost use Rattle.zp_share.specs.Shares.{named_zone};
 ghost use Rattle.zp_trace.specs.Grammar.{IsHeader};
 ghost use Rattle.zp_replay.specs.Crews.{IsCommandDone, IsSameCrew, world_of};
@@ -149,9 +149,11 @@ impl Crew {
         Ok(pages as u32)
     }
 
-    /// Where the pages of each zone are. All stay as they were.
+    /// Where the pages of each zone are: each page in one place, so that a zone's numbers add up to its pages. All stay as they
+    /// were.
     pub fn gather(&mut self) -> ArrayVec<Totals, MAX_ZONES>
         ensures totals { result.items ≡ gathered self.old.zones self.old.shares }
+        ensures adds_up { (i : ℕ) → i < length self.old.zones → AddsUp (zone_at self.old.zones i).plain (owns_at self.old.shares i) }
         ensures same { self.new ≡ self.old }
     {
         self.zones.gather(&mut self.shares)
