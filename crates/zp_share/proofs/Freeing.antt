@@ -1,6 +1,7 @@
 -- A block given back: to its zone, or to the front of its list.
-use Rattle.std.proofs.Common.{ℕ, ◌-◌, ◌<◌, ◌≡◌, ◌==◌, refl, sym, ◌∙◌, ap, subst, List, [], ◌∷◌, length, Option, Some, Result, Ok, Err, Bool, true, false, cond}
+use Rattle.std.proofs.Common.{ℕ, ◌-◌, ◌<◌, ◌≡◌, ◌==◌, refl, sym, ◌∙◌, ap, subst, List, [], ◌∷◌, length, Option, Some, None, Result, Ok, Err, Bool, true, false, cond}
 use Rattle.std.specs.Prelude.{slice_set, ltb}
+use Rattle.std.proofs.lemmas.Bool.{eq-eqb, eqb-true, lt-ltb}
 use Rattle.zp_model.specs.declared.migrate_type.MigrateType.{MigrateType}
 use Rattle.zp_model.specs.declared.refused.Refused.{Refused}
 use Rattle.zp_model.specs.declared.refused.Refused.TheVariants.{NotLent, ListFull}
@@ -43,6 +44,27 @@ put_use x p k high v (Cached t) f e = absurd (cc)
 pub put_gone : (s u : ShareState) (i p k high : ℕ) (v : Unit {0}) → Ok v ≡ (putting (plain_share (share_at s i)) p high).answer →
     plain_share (share_at u i) ≡ (putting (plain_share (share_at s i)) p high).share → is_lent (share_at u i) p k ≡ false
 put_gone s u i p k high v e f = ap (λ x. lends x p k) f ∙ put_use (plain_share (share_at s i)) p k high v (used_as (plain_share (share_at s i)) p) refl e
+
+-- a lent page is put where its list has room
+pub put_room_ok : (x : PlainZoneShare) (p k high : ℕ) (t : MigrateType) → Some t ≡ lent_kind (used_as x p) k → k ≡ 0 → length (list_of x t) < high → (putting x p high).answer ≡ Ok tt
+put_room_ok x p k high t e zero room = go (used_as x p) e
+  where
+    lent : (j : ℕ) (v : MigrateType) (b : Bool) → (j == k) ≡ b → Some t ≡ cond b (Some v) None → (putting_as (Lent j v) p high x).answer ≡ Ok tt
+    lent j v true e f =
+        let same : t ≡ v = cc in
+        let none : (j == 0) ≡ true = eq-eqb j 0 (eqb-true j k e ∙ zero) in
+        let less : ltb (length (list_of x v)) high ≡ true = lt-ltb (length (list_of x v)) high (subst (λ u. length (list_of x u) < high) same room) in
+        let full : Putting = record { answer = Err ListFull; share = x } in
+        let done : Putting = record { answer = Ok tt; share = put p v x } in
+        let other : Putting = record { answer = Err NotLent; share = x } in
+        ap (λ b. let y : Putting = cond b (cond (ltb (length (list_of x v)) high) done full) other in y.answer) none
+        ∙ ap (λ b. let y : Putting = cond b done full in y.answer) less
+    lent j v false e f = absurd (cc)
+
+    go : (u : PageUse) → Some t ≡ lent_kind u k → (putting_as u p high x).answer ≡ Ok tt
+    go Away f = absurd (cc)
+    go (Lent j v) f = lent j v (j == k) refl f
+    go (Cached v) f = absurd (cc)
 
 -- where a page is not put, the share stays
 put_nothing : (x : PlainZoneShare) (p high : ℕ) (e : Refused) (u : PageUse) → Err e ≡ (putting_as u p high x).answer → (putting_as u p high x).share ≡ x

@@ -12,6 +12,7 @@ pub mod Placed
 pub mod Telling
 pub mod Carrying
 pub mod LentBlocks
+pub mod Lengths
 pub mod Draining
 pub mod Lending
 pub mod Freeing

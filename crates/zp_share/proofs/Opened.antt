@@ -7,14 +7,14 @@ use Rattle.std.proofs.lemmas.Bool.{cases_lt}
 use Rattle.std.proofs.lemmas.List.{ext_get_or, get_or-replicate, get_or_default, length-replicate, length-append, get_or_past, length-map}
 use Rattle.std.proofs.lemmas.List.Elements.{All-nil, All-cons, All-head, All-tail, All-map}
 use Rattle.zp_model.specs.declared.request.Entry.{Entry}
-use Rattle.zp_model.specs.MigrateType.{types_count}
+use Rattle.zp_model.specs.MigrateType.{type_number, types_count}
 use Rattle.zp_model.specs.Rows.{list_at, stands_in}
 use Rattle.zp_model.specs.Zone.{Holding}
 use Rattle.zp_zone.specs.Seats.{SeatState, IsUnused}
 use Rattle.zp_share.specs.declared.page_use.PageUse.TheVariants.{Away}
 use Rattle.zp_share.specs.declared.zone_share.ZoneShare.TheInside.{Inside}
 use Rattle.zp_share.specs.PageUses.{use_at, held, is_cached_as}
-use Rattle.zp_share.specs.ZoneShares.{ZoneShareState, IsShare, last_of, opening_share}
+use Rattle.zp_share.specs.ZoneShares.{ZoneShareState, IsShare, HasAtMost, last_of, opening_share}
 use Rattle.zp_share.proofs.Stacks.{distinct_nil}
 use Rattle.zp_share.proofs.Closing.{share_of, IsWhole}
 
@@ -74,6 +74,12 @@ opened_fit seats ys left zs w n e f few each =
       omega (arith, many, alike, few),
       subst (λ l. All (λ (z : ZoneShareState). z.seat.worker ≡ w) l) (sym e) (All-map (λ (z : ZoneShareState). z.seat.worker ≡ w) opened ys all),
     )
+
+-- and their lists have no page
+pub opened_short : (ys : List SeatState) (zs : List ZoneShareState) (n : ℕ) → zs ≡ map (λ (t : SeatState). opening_share t (length t.part.blocks)) ys → All (HasAtMost n) zs
+opened_short ys zs n e =
+    let opened : SeatState → ZoneShareState = λ t. opening_share t (length t.part.blocks) in
+    subst (λ l. All (HasAtMost n) l) (sym e) (All-map (HasAtMost n) opened ys (λ k d lt t. omega (arith, ap (λ (l : List ℕ). length l) (blank_list (type_number t)))))
 
 -- the first seat's worker, as the code reads it, is that of all
 pub first_worker : (seats : List SeatState) (first : SeatState) (w : ℕ) (d : SeatState) → 1 ≤ length seats → first ≡ get_or seats 0 first → w ≡ first.worker →

@@ -1,6 +1,6 @@
 -- What one worker has of one zone: its lists of pages, the blocks lent to it, and its sections there, tied to the zone (this
 -- profile).
-use Rattle.std.specs.Prelude.{ℕ, ◌≡◌, ◌==◌, ◌<◌, ◌⊎◌, Bool, List, [], ◌∷◌, length, map, Option, None, Some}
+use Rattle.std.specs.Prelude.{ℕ, ◌≡◌, ◌==◌, ◌<◌, ◌≤◌, ◌⊎◌, Bool, List, [], ◌∷◌, length, map, Option, None, Some}
 use Rattle.std.specs.List.{IsDistinct}
 use Rattle.zp_model.specs.declared.migrate_type.MigrateType.{MigrateType}
 use Rattle.zp_model.specs.declared.refused.Refused.{Refused}
@@ -51,6 +51,10 @@ pub record IsNew (s : ZoneShareState) (p : ℕ) : Type 0 where
 -- the list of a type
 abbrev pub cached_of : ZoneShareState → MigrateType → List ℕ
 cached_of s t = list_of (plain_share s) t
+
+-- no list has more than n pages
+abbrev pub HasAtMost : ℕ → ZoneShareState → Type 0
+HasAtMost n s = (t : MigrateType) → length (cached_of s t) ≤ n
 
 -- the last entry of a list, where it has one
 abbrev pub last_of : List Entry → Option Entry

@@ -3,10 +3,11 @@
 //! In Linux: `rmqueue` with `rmqueue_pcplist`, `free_unref_page`, and `drain_pages`.
 ghost use Rattle.std.specs.Prelude.{ℕ, ◌≡◌, ◌<◌, ◌≤◌, ◌+◌, ◌*◌, ◌⊎◌, List, [], length, false, Some, Ok, Err, IfOk, IfErr, OnOk, IsTrue};
 ghost use Rattle.zp_model.specs.declared.migrate_type.MigrateType.{MigrateType};
-ghost use Rattle.zp_model.specs.declared.refused.Refused.TheVariants.{NotLent, ListFull, JournalFull};
+ghost use Rattle.zp_model.specs.declared.refused.Refused.TheVariants.{NotLent, JournalFull};
 ghost use Rattle.zp_model.specs.declared.constants.TheConstants.{LONGEST_LIST, TYPES, MAX_ZONES};
 ghost use Rattle.zp_zone.specs.NamedZone.{NamedZone};
-ghost use Rattle.zp_share.specs.ZoneShares.{IsAllocRefusal, is_lent, cached_of};
+ghost use Rattle.zp_share.specs.PlainShares.{lent_kind};
+ghost use Rattle.zp_share.specs.ZoneShares.{IsAllocRefusal, use_in, is_lent, cached_of};
 ghost use Rattle.zp_share.specs.Commands.{alloc_in, alloc_down, free_in, drain_full, drain_list, drain_zone, drain_all};
 ghost use Rattle.zp_share.specs.Shares.{IsShareOf, IsSameShare, IsDone, IsAskedFor, IsLentBy, AreAskedDown, KeepsLent, HasSameLent, HasSameLentBut, HasEmptyLists, KeepsEmptyLists, KeepsOrEmptiesLists, share_at, world};
 
@@ -104,7 +105,7 @@ pub fn free<Z: Zones>(
     ensures others { HasSameLentBut zone page share.old share.new }
     ensures left { IfErr result (λ e. HasSameLent share.old share.new) }
     ensures same_where_not_lent { result ≡ Err NotLent → share.new ≡ share.old }
-    ensures only { IfErr result (λ e. (e ≡ NotLent) ⊎ ((e ≡ ListFull) ⊎ (e ≡ JournalFull))) }
+    ensures only { IfErr result (λ e. (e ≡ NotLent) ⊎ (e ≡ JournalFull)) }
     ensures told { (rows : List NamedZone) → Z.told zones.old ≡ Some rows → IsDone (free_in (world rows share.old) zone page order) result (Z.told zones.new) share.new }
 {
     let Some(kind) = share.lent_kind(zone, page, order) else {
@@ -120,7 +121,7 @@ pub fn free<Z: Zones>(
     Ok(())
 }
 
-/// Gives back a batch of a list that has `high_len` pages. Refused 30.
+/// Gives back a batch of a list that has `high_len` pages, so that it has room for a page. Refused 30.
 fn drain_full<Z: Zones>(
     share: &mut Share,
     zones: &mut Z,
@@ -134,6 +135,8 @@ fn drain_full<Z: Zones>(
     ensures fits { IsShareOf (Z.keys zones.new) share.new }
     ensures same { IsSameShare share.old share.new }
     ensures lent { HasSameLent share.old share.new }
+    ensures kinds { (p k : ℕ) → lent_kind (use_in (share_at share.new zone) p) k ≡ lent_kind (use_in (share_at share.old zone) p) k }
+    ensures room { OnOk result (length (cached_of (share_at share.new zone) kind) < share.old.high_len) }
     ensures only { IfErr result (λ e. e ≡ JournalFull) }
     ensures told { (rows : List NamedZone) → Z.told zones.old ≡ Some rows → IsDone (drain_full (world rows share.old) zone kind) result (Z.told zones.new) share.new }
 {

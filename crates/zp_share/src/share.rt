@@ -35,14 +35,14 @@ pub struct Share {
 impl Model for Share {
     ghost use Rattle.std.specs.Prelude.{◌≡◌, ◌≤◌, All, length};
     ghost use Rattle.zp_model.specs.declared.constants.TheConstants.{MAX_ZONES};
-    ghost use Rattle.zp_share.specs.ZoneShares.{ZoneShareState};
+    ghost use Rattle.zp_share.specs.ZoneShares.{ZoneShareState, HasAtMost};
     ghost use Rattle.zp_share.specs.Shares.{ShareState};
 
     ghost Value = { ShareState };
 
     ghost view = { λ s. record { worker = s.worker; batch = s.lists.batch; high_len = s.lists.high_len; zones = s.zones.items } };
 
-    ghost invariant = { λ s. (length s.zones.items ≤ MAX_ZONES) × All (λ (z : ZoneShareState). z.seat.worker ≡ s.worker) s.zones.items };
+    ghost invariant = { λ s. (length s.zones.items ≤ MAX_ZONES) × All (λ (z : ZoneShareState). z.seat.worker ≡ s.worker) s.zones.items × All (HasAtMost s.lists.high_len) s.zones.items };
 }
 
 impl Share {
@@ -124,6 +124,7 @@ impl Share {
         requires { zone < length self.now.zones }
         ensures same { result ≡ length (cached_of (share_at self.now zone) kind) }
         ensures within { result ≤ LONGEST_LIST }
+        ensures room { result ≤ self.now.high_len }
         ensures share { IsShare (share_at self.now zone) }
     {
         self.zones[zone].cached_len(kind)

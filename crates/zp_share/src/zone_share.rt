@@ -6,7 +6,7 @@ ghost use Rattle.zp_model.specs.Rows.{front};
 ghost use Rattle.zp_zone.specs.Seats.{IsSeatOf, IsUnused};
 ghost use Rattle.zp_share.specs.Gathering.{cached_pages};
 ghost use Rattle.zp_share.specs.PlainShares.{lent_kind, taken, putting};
-ghost use Rattle.zp_share.specs.ZoneShares.{use_in, is_lent, cached_of, IsShare, SharesIn, IsLeft, plain_share, opening_share};
+ghost use Rattle.zp_share.specs.ZoneShares.{HasAtMost, use_in, is_lent, cached_of, IsShare, SharesIn, IsLeft, plain_share, opening_share};
 
 use crate::page_stack::PageStack;
 use crate::page_use::PageUse;
@@ -139,6 +139,7 @@ impl ZoneShare {
         ensures seat { self.new.seat ≡ self.old.seat }
         ensures lent { IfSome result (λ page. IsTrue (is_lent self.new page 0)) }
         ensures share { IsShare self.old }
+        ensures lists { (n : ℕ) → HasAtMost n self.old → HasAtMost n self.new }
     {
         let page = self.cached[kind.number()].pop_front()?;
         self.uses.set(page, PageUse::Lent(Order::zero(), kind));
@@ -152,6 +153,7 @@ impl ZoneShare {
         ensures answer { result ≡ (putting (plain_share self.old) page high_len).answer }
         ensures after { plain_share self.new ≡ (putting (plain_share self.old) page high_len).share }
         ensures seat { self.new.seat ≡ self.old.seat }
+        ensures lists { HasAtMost high_len self.old → HasAtMost high_len self.new }
     {
         let PageUse::Lent(order, kind) = self.uses.of(page) else {
             return Err(Refused::NotLent);

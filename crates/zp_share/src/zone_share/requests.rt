@@ -1,5 +1,5 @@
 //! The sections of a share with the lent zone: each is one request on the zone, and the same change in the share.
-ghost use Rattle.std.specs.Prelude.{◌≡◌, ◌≢◌, ◌<◌, ◌≤◌, length, [], true, false, Ok, Err, All, IfOk, IfErr, IsTrue, ◌⊎◌};
+ghost use Rattle.std.specs.Prelude.{ℕ, ◌≡◌, ◌≢◌, ◌<◌, ◌≤◌, length, [], true, false, Ok, Err, All, IfOk, IfErr, IsTrue, ◌⊎◌};
 ghost use Rattle.zp_model.specs.Zone.{workers_of};
 ghost use Rattle.zp_model.specs.declared.request.Request.TheVariants as request;
 ghost use Rattle.zp_model.specs.declared.request.Reply.TheVariants as reply;
@@ -8,7 +8,7 @@ ghost use Rattle.zp_zone.specs.NamedZone.{page_reply, block_reply, pages_reply};
 ghost use Rattle.zp_zone.specs.Seats.{IsSeatOf, KeepsSeats};
 ghost use Rattle.zp_share.specs.declared.sections.TheConstants.{LAST_SECTION};
 ghost use Rattle.zp_share.specs.PlainShares.{back};
-ghost use Rattle.zp_share.specs.ZoneShares.{IsNew, IsAllocRefusal, is_lent, cached_of, IsSection, IsLeft, IsSameSeat};
+ghost use Rattle.zp_share.specs.ZoneShares.{HasAtMost, IsNew, IsAllocRefusal, is_lent, cached_of, IsSection, IsLeft, IsSameSeat};
 
 use super::ZoneShare;
 use crate::page_stack::page_list;
@@ -38,6 +38,7 @@ impl ZoneShare {
         ensures lent { IfOk result (λ page. IsTrue (is_lent self.new page order)) }
         ensures fresh { IfOk result (λ page. IsNew self.old page) }
         ensures only { IfErr result IsAllocRefusal }
+        ensures lists { (n : ℕ) → HasAtMost n self.old → HasAtMost n self.new }
     {
         if self.sections.are_full() {
             return Err(Refused::JournalFull);
@@ -68,6 +69,7 @@ impl ZoneShare {
         ensures lent { IfOk result (λ block. IsTrue (is_lent self.new block.page block.order)) }
         ensures fresh { IfOk result (λ block. IsNew self.old block.page) }
         ensures only { IfErr result (λ e. (e ≡ NoBlock) ⊎ (e ≡ JournalFull)) }
+        ensures lists { (n : ℕ) → HasAtMost n self.old → HasAtMost n self.new }
     {
         if self.sections.are_full() {
             return Err(Refused::JournalFull);
@@ -96,6 +98,7 @@ impl ZoneShare {
         ensures seat { IsSameSeat self.old self.new }
         ensures fits { IsSeatOf zone.new self.new.seat }
         ensures seats { KeepsSeats zone.old zone.new }
+        ensures lists { (n : ℕ) → HasAtMost n self.old → HasAtMost n self.new }
     {
         if !self.is_lent(page, order) {
             return Err(Refused::NotLent);
@@ -125,6 +128,7 @@ impl ZoneShare {
         ensures seat { IsSameSeat self.old self.new }
         ensures fits { IsSeatOf zone.new self.new.seat }
         ensures seats { KeepsSeats zone.old zone.new }
+        ensures lists { (n : ℕ) → HasAtMost n self.old → HasAtMost n self.new }
     {
         if !self.is_lent(page, order) {
             return Err(Refused::NotLent);
@@ -152,6 +156,7 @@ impl ZoneShare {
         ensures lent { IfOk result (λ block. IsTrue (is_lent self.new block.page block.order)) }
         ensures fresh { IfOk result (λ block. IsNew self.old block.page) }
         ensures only { IfErr result (λ e. (e ≡ NothingPosted) ⊎ (e ≡ JournalFull)) }
+        ensures lists { (n : ℕ) → HasAtMost n self.old → HasAtMost n self.new }
     {
         if self.sections.are_full() {
             return Err(Refused::JournalFull);
@@ -194,6 +199,7 @@ impl ZoneShare {
         ensures most { IfOk result (λ pages. length pages.items ≤ batch) }
         ensures fresh { IfOk result (λ pages. All (IsNew self.old) pages.items) }
         ensures only { IfErr result IsAllocRefusal }
+        ensures lists { (n : ℕ) → batch ≤ n → HasAtMost n self.old → HasAtMost n self.new }
     {
         if self.sections.are_full() {
             return Err(Refused::JournalFull);
@@ -226,6 +232,7 @@ impl ZoneShare {
         ensures seat { IsSameSeat self.old self.new }
         ensures fits { IsSeatOf zone.new self.new.seat }
         ensures seats { KeepsSeats zone.old zone.new }
+        ensures lists { (n : ℕ) → HasAtMost n self.old → HasAtMost n self.new }
     {
         if self.sections.are_full() {
             return Err(Refused::JournalFull);

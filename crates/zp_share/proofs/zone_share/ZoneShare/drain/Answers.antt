@@ -14,6 +14,8 @@ use Rattle.zp_share.specs.ZoneShares.{IsSection, cached_of}
 use Rattle.zp_share.proofs.Closing.{share_of, IsAnswered, answered_parts, section_is}
 use Rattle.zp_share.proofs.Taking.{list_changed}
 use Rattle.zp_share.proofs.Batches.{IsBackOf, back_was, back_has, back_distinct, back_places, number_at}
+use Rattle.zp_share.specs.ZoneShares.{HasAtMost}
+use Rattle.zp_share.proofs.Lengths.{most_drained}
 use Rattle.zp_share.proofs.zone_share.ZoneShare.drain.Goals as goal
 
 pub drain-requires-clause-has : goal.drain-requires-clause-has
@@ -78,3 +80,8 @@ returns-clause-section c =
           refl (c.drain.ensures.after ∙ ap (λ l. asked c.self.inside.seat.worker (request.Drain c.args.kind l) c.args.zone.now) c.as_slice.ensures.same)
           c.requires.seat c.drain.ensures.fits c.drain.ensures.known c.drain.ensures.agrees),
     )
+
+pub returns-clause-lists : goal.returns-clause-lists
+returns-clause-lists c =
+    λ n f.
+    subst (HasAtMost n) (sym (drained c).same) (most_drained (share_of c.self.inside) c.args.kind n c.page_list-pages.result (subst (HasAtMost n) (sym c.self.view_is) f))

@@ -1,4 +1,4 @@
-use Rattle.std.proofs.Common.{◌+◌, ◌≡◌, refl, sym, ◌∙◌, ap, subst, ◌++◌, get_or, Some, All}
+use Rattle.std.proofs.Common.{[], arith, ◌+◌, ◌≡◌, refl, sym, ◌∙◌, ap, subst, ◌++◌, get_or, Some, All}
 use Rattle.std.specs.Prelude.{slice_set}
 use Rattle.zp_model.specs.declared.request.Request.TheVariants as request
 use Rattle.zp_model.specs.declared.request.Reply.TheVariants as reply
@@ -13,6 +13,8 @@ use Rattle.zp_share.proofs.Batches.{new_places, number_at}
 use Rattle.zp_share.proofs.Refusing.{refill_only}
 use Rattle.zp_share.specs.ZoneShares.{IsNew}
 use Rattle.zp_share.proofs.Stacks.{All-by_standing}
+use Rattle.zp_share.specs.ZoneShares.{HasAtMost, cached_of}
+use Rattle.zp_share.proofs.Lengths.{most_refilled}
 use Rattle.zp_share.proofs.zone_share.ZoneShare.refill.Goals as goal
 
 abbrev got_after : goal.After-add → Inside
@@ -99,3 +101,10 @@ returns-in-Err-clause-only c = refill_only c.args.zone.now.plain c.self.inside.s
 
 pub returns-in-Ok-clause-fresh : goal.returns-in-Ok-clause-fresh
 returns-in-Ok-clause-fresh c = All-by_standing (IsNew c.args.self.now) c.in-Ok.pages.items (λ q e. subst (λ s. IsNew s q) c.self.view_is ((new c).each q e))
+
+pub returns-in-Ok-clause-lists : goal.returns-in-Ok-clause-lists
+returns-in-Ok-clause-lists c =
+    λ n le f.
+    let none : cached_of (share_of c.self.inside) c.args.kind ≡ [] = ap (λ s. cached_of s c.args.kind) c.self.view_is ∙ c.requires.empty in
+    subst (HasAtMost n) (sym (got c).same)
+    (most_refilled (share_of c.self.inside) c.args.kind c.args.mark n c.args.batch c.in-Ok.pages.items none (omega (arith, c.in-Ok.ensures.most, le)) (subst (HasAtMost n) (sym c.self.view_is) f))
