@@ -5,7 +5,7 @@
 use crate::constants::ORDERS;
 
 /// How many free blocks of each order a zone has, the least order first, and how many free pages.
-#[derive(Clone, Copy, PartialEq, Eq, Debug, Drop)]
+#[derive(Clone, Copy, PartialEq, Eq, Debug, Default, Drop)]
 pub struct Counts {
     pub by_order: [u32; ORDERS],
     pub free: u32,
