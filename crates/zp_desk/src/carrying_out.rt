@@ -1,10 +1,7 @@
 //! One command, carried out.
-ghost use Rattle.std.specs.Prelude.{◌≡◌, ◌<◌, List, length, All, Some};
-ghost use Rattle.zp_model.specs.declared.request.Request.TheVariants as request;
+ghost use Rattle.std.specs.Prelude.{◌≡◌, List, length, All, Some};
 ghost use Rattle.zp_zone.specs.NamedZone.{NamedZone};
-ghost use Rattle.zp_share.specs.Commands.{told_as, section, alloc_down, drain_all, done};
 ghost use Rattle.zp_share.specs.Shares.{IsDone, IsSameShare, IsShareOf, world};
-ghost use Rattle.zp_desk.specs.declared.command.Command.TheVariants as command;
 ghost use Rattle.zp_desk.specs.Desks.{HaveWorker, HasSlotBelow, IsAnswerTo, IsCommandFor, IsFreeAnswer, IsInRow, IsPostAnswer, Slots, answer_with, carried_out, counts_in, free_kept, lent_of, post_kept};
 
 use crate::command::Command;

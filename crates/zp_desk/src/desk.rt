@@ -1,8 +1,7 @@
 //! A worker's desk.
-ghost use Rattle.std.specs.Prelude.{◌≡◌, ◌<◌, ◌≤◌, [], ◌∷◌, ◌++◌, All, IfOk, IfErr, length, slice_index_or};
+ghost use Rattle.std.specs.Prelude.{◌≡◌, ◌<◌, ◌≤◌, [], ◌∷◌, ◌++◌, All, IfOk, IfErr, length};
 ghost use Rattle.zp_model.specs.declared.refused.Refused.TheVariants.{Memory};
 ghost use Rattle.zp_desk.specs.declared.desk.TheConstants.{MAX_COMMANDS};
-ghost use Rattle.zp_desk.specs.declared.command.Command.TheVariants as command;
 ghost use Rattle.zp_desk.specs.Desks.{HasSlotBelow, next_of, opening_desk};
 
 use crate::command::Command;
