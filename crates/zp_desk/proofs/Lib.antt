@@ -1,2 +1,3 @@
 pub mod Scripts
 pub mod Counting
+pub mod Slotted
