@@ -1,0 +1,50 @@
+-- The places of a row, and what stands at them.
+use Rattle.std.proofs.Common.{ℕ, zero, suc, ◌≡◌, ◌+◌, ◌<◌, List, [], ◌∷◌, ◌++◌, length, map, get_or, refl, sym, ap, ap₂, ◌∙◌, arith, append_assoc, length-append}
+use Rattle.std.specs.List.{range_with_len}
+use Rattle.std.proofs.lemmas.List.{get_or-map}
+use Rattle.std.proofs.lemmas.List.FromFn.{length-range_with_len}
+use Rattle.std.proofs.Math.Seq.{get_or-append_seam}
+use Rattle.zp_share.specs.Shares.{ZoneKey, no_key}
+use Rattle.zp_shared.specs.Rows.{key_at, IsRowOf}
+
+more : (a n : ℕ) → range_with_len a (suc n) ≡ range_with_len a n ++ (a + n) ∷ []
+more a zero = let e : a ≡ a + 0 = omega arith in ap (λ k. k ∷ []) e
+more a (suc n) =
+    let e : a + 1 + n ≡ a + suc n = omega arith in
+    ap (λ l. a ∷ l) (more (a + 1) n ∙ ap (λ k. range_with_len (a + 1) n ++ k ∷ []) e)
+
+-- one place more
+pub places_more : (n : ℕ) → range_with_len 0 n ++ n ∷ [] ≡ range_with_len 0 (n + 1)
+places_more n =
+    let e : n + 1 ≡ suc n = omega arith in
+    let z : 0 + n ≡ n = omega arith in
+    sym (ap (range_with_len 0) e ∙ more 0 n ∙ ap (λ k. range_with_len 0 n ++ k ∷ []) z)
+
+-- the places of a row are as many as its keys
+pub row_length : (keys : List ZoneKey) (places : List ℕ) → IsRowOf keys places → length places ≡ length keys
+row_length keys places row = ap length row ∙ length-range_with_len 0 (length keys)
+
+-- what comes next in a list that is mapped stands at the number of those before it
+pub next_at : {A B : Type 0} (f : A → B) (ys rest all : List A) (x : A) (bs : List B) (k : ℕ) (e : B) → ys ++ x ∷ rest ≡ all → map f all ≡ bs → k ≡ length ys → f x ≡ get_or bs k e
+next_at f ys rest all x bs k e whole named at =
+    let long : length (ys ++ x ∷ rest) ≡ length ys + length (x ∷ rest) = length-append ys (x ∷ rest) in
+    let below : k < length (ys ++ x ∷ rest) = omega arith in
+    sym (
+    ap (λ z. get_or z k e) (sym named ∙ ap (map f) (sym whole))
+    ∙ get_or-map f (ys ++ x ∷ rest) k x e below
+    ∙ ap f (ap (λ n. get_or (ys ++ x ∷ rest) n x) at ∙ get_or-append_seam ys x rest x)
+    )
+
+read_on : {X : Type 0} (d : X) (ps xs : List X) → map (λ i. get_or (ps ++ xs) i d) (range_with_len (length ps) (length xs)) ≡ xs
+read_on d ps [] = refl
+read_on d ps (x ∷ xs) =
+    let on : map (λ i. get_or ((ps ++ x ∷ []) ++ xs) i d) (range_with_len (length (ps ++ x ∷ [])) (length xs)) ≡ xs = read_on d (ps ++ x ∷ []) xs in
+    let tail : map (λ i. get_or (ps ++ x ∷ xs) i d) (range_with_len (length ps + 1) (length xs)) ≡ xs =
+    ap (λ n. map (λ i. get_or (ps ++ x ∷ xs) i d) (range_with_len n (length xs))) (sym (length-append ps (x ∷ [])))
+    ∙ ap (λ l. map (λ i. get_or l i d) (range_with_len (length (ps ++ x ∷ [])) (length xs))) (sym (append_assoc ps (x ∷ []) xs))
+    ∙ on in
+    ap₂ (λ y l. y ∷ l) (get_or-append_seam ps x xs d) tail
+
+-- at the places of the row stand its keys
+pub keys_at_places : (keys : List ZoneKey) (places : List ℕ) → IsRowOf keys places → map (key_at keys) places ≡ keys
+keys_at_places keys places row = ap (map (key_at keys)) row ∙ read_on no_key [] keys
