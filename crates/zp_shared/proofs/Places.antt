@@ -1,10 +1,11 @@
 -- The places of a row, and what stands at them.
 use Rattle.std.proofs.Common.{ℕ, zero, suc, ◌≡◌, ◌+◌, ◌<◌, List, [], ◌∷◌, ◌++◌, length, map, get_or, refl, sym, ap, ap₂, ◌∙◌, arith, append_assoc, length-append}
 use Rattle.std.specs.List.{range_with_len}
-use Rattle.std.proofs.lemmas.List.{get_or-map}
+use Rattle.std.proofs.lemmas.List.{get_or-map, length-map, nil_from_length}
 use Rattle.std.proofs.lemmas.List.FromFn.{length-range_with_len}
 use Rattle.std.proofs.Math.Seq.{get_or-append_seam}
-use Rattle.zp_share.specs.Shares.{ZoneKey, no_key}
+use Rattle.zp_share.specs.ZoneShares.{ZoneShareState}
+use Rattle.zp_share.specs.Shares.{ShareState, ZoneKey, IsShareOf, no_key}
 use Rattle.zp_shared.specs.Rows.{key_at, IsRowOf}
 
 more : (a n : ℕ) → range_with_len a (suc n) ≡ range_with_len a n ++ (a + n) ∷ []
@@ -48,3 +49,11 @@ read_on d ps (x ∷ xs) =
 -- at the places of the row stand its keys
 pub keys_at_places : (keys : List ZoneKey) (places : List ℕ) → IsRowOf keys places → map (key_at keys) places ≡ keys
 keys_at_places keys places row = ap (map (key_at keys)) row ∙ read_on no_key [] keys
+
+-- a share has something of each zone of the row
+pub share_length : (keys : List ZoneKey) (s : ShareState) → IsShareOf keys s → length s.zones ≡ length keys
+share_length keys s fits =
+    sym (length-map s.zones (λ (v : ZoneShareState). v.seat.tie)) ∙ ap length fits ∙ length-map keys (λ (k : ZoneKey). k.tie)
+
+pub none_if_no_length : {X : Type 0} (xs : List X) → length xs ≡ 0 → xs ≡ []
+none_if_no_length xs e = nil_from_length xs e

@@ -12,3 +12,6 @@ pub use locked_zones::LockedZones;
 pub use naming::Naming;
 pub use row::{close_zones, share_zones};
 pub use shared_zone::{Closed, SharedZone};
+
+#[cfg(test)]
+mod tests;
