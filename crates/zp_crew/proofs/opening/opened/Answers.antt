@@ -9,7 +9,7 @@ use Rattle.zp_crew.proofs.opening.opened.Goals as goal
 
 pub next_seats-requires : goal.next_seats-requires
 next_seats-requires c =
-    left_some c.args.header.now.workers c.loop.counter c.in_ok-zones.zones.items c.deref_mut.result.now c.loop-test.true (c.deref_mut.ensures.value ∙ c.loop.invariant.rows)
+    left_some c.args.header.now.workers c.loop.counter c.in_ok-zones.zones.items c.deref_mut.result.now (omega (arith, c.loop-test.true)) (c.deref_mut.ensures.value ∙ c.loop.invariant.rows)
 
 pub new-requires-in-loop-clause-worker : goal.new-requires-in-loop-clause-worker
 new-requires-in-loop-clause-worker c =
@@ -18,7 +18,7 @@ new-requires-in-loop-clause-worker c =
     let zs = c.in_ok-zones.zones.items in
     let own = c.in_ok-own.own.items in
     let mine : own ≡ map (seat_in w) zs =
-    fronts_are h.workers w zs c.deref_mut.result.now own c.loop-test.true (c.deref_mut.ensures.value ∙ c.loop.invariant.rows) c.in_ok-own.ensures.front in
+    fronts_are h.workers w zs c.deref_mut.result.now own (omega (arith, c.loop-test.true)) (c.deref_mut.ensures.value ∙ c.loop.invariant.rows) c.in_ok-own.ensures.front in
     all_are w zs own (omega (arith, own_count w zs own mine, zones_count h.workers h.zones zs c.in_ok-zones.ensures.zones, c.requires.some)) mine
 
 pub new-requires-in-loop-clause-unused : goal.new-requires-in-loop-clause-unused
@@ -28,8 +28,8 @@ new-requires-in-loop-clause-unused c =
     let zs = c.in_ok-zones.zones.items in
     let own = c.in_ok-own.own.items in
     let mine : own ≡ map (seat_in w) zs =
-    fronts_are h.workers w zs c.deref_mut.result.now own c.loop-test.true (c.deref_mut.ensures.value ∙ c.loop.invariant.rows) c.in_ok-own.ensures.front in
-    all_unused h.workers w zs c.in_ok-zones.seats.items own c.loop-test.true c.in_ok-zones.ensures.seats mine
+    fronts_are h.workers w zs c.deref_mut.result.now own (omega (arith, c.loop-test.true)) (c.deref_mut.ensures.value ∙ c.loop.invariant.rows) c.in_ok-own.ensures.front in
+    all_unused h.workers w zs c.in_ok-zones.seats.items own (omega (arith, c.loop-test.true)) c.in_ok-zones.ensures.seats mine
 
 pub push_reserved-requires : goal.push_reserved-requires
 push_reserved-requires c =
@@ -51,7 +51,7 @@ loop-preserved c =
     let g = c.in-Some.lists.high_len in
     let pushed = c.push_reserved.ensures in
     let rows_are : rows ≡ map (seats_left h.workers w) zs = c.deref_mut.ensures.value ∙ was.rows in
-    let mine : own ≡ map (seat_in w) zs = fronts_are h.workers w zs rows own c.loop-test.true rows_are c.in_ok-own.ensures.front in
+    let mine : own ≡ map (seat_in w) zs = fronts_are h.workers w zs rows own (omega (arith, c.loop-test.true)) rows_are c.in_ok-own.ensures.front in
     let some : 1 ≤ length own = omega (arith, own_count w zs own mine, zones_count h.workers h.zones zs declared, c.requires.some) in
     let batch : b ≡ h.batch = omega (arith, c.in-Some.ensures.some.0, c.requires.lists.most) in
     let high : g ≡ h.high = omega (arith, c.in-Some.ensures.some.1, c.requires.lists.longest) in

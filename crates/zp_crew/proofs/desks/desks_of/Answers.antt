@@ -1,0 +1,12 @@
+use Rattle.std.proofs.Common.{arith}
+use Rattle.zp_crew.proofs.OpenedDesks.{desks_more, share_over}
+use Rattle.zp_crew.proofs.desks.desks_of.Goals as goal
+
+pub loop-share-preserved : goal.loop-share-preserved
+loop-share-preserved c =
+    record {
+      whole = share_over c.loop-share.yielded _ _ _ _ c.loop-share.invariant.whole c.in-Some.ensures.steps.0;
+      desks =
+          desks_more c.args.trace.now c.loop-share.yielded c.in-Some.share c.loop-share.desks.items c.push_reserved.new.self.items c.in_ok-new.field-0 c.worker-worker.result c.in-Ok-script_of.script.items c.loop-share.invariant.desks c.push_reserved.ensures.items c.in_ok-new.ensures.desk c.in-Ok-script_of.ensures.script c.worker-worker.ensures.worker;
+      room = omega (arith, c.loop-share.invariant.room, c.push_reserved.ensures.capacity);
+    }
