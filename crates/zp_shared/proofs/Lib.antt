@@ -1,2 +1,4 @@
 pub mod Guarding
 pub mod Places
+pub mod Running
+pub mod Crewed

@@ -6,12 +6,14 @@ mod locked_zones;
 mod naming;
 mod row;
 mod shared_zone;
+mod workers;
 
 pub use guarded::Guarded;
 pub use locked_zones::LockedZones;
 pub use naming::Naming;
 pub use row::{close_zones, share_zones};
 pub use shared_zone::{Closed, SharedZone};
+pub use workers::run_workers;
 
 #[cfg(test)]
 mod tests;
