@@ -1,6 +1,6 @@
 use Rattle.std.proofs.Common.{◌≡◌, ◌∙◌, ◌++◌, ap, sym, map, [], append-nil, arith}
 use Rattle.std.proofs.lemmas.Grind.{common_steps}
-use Rattle.zp_shared.specs.Rows.{key_at, IsRowOf}
+use Rattle.zp_shared.specs.Rows.{key_at}
 use Rattle.zp_shared.proofs.Places.{keys_at_places}
 use Rattle.zp_shared.proofs.row.close_zones.Goals as goal
 

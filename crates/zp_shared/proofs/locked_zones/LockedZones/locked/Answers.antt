@@ -1,4 +1,4 @@
-use Rattle.std.proofs.Common.{◌≡◌, ◌<◌, length, arith, rules, subst, sym}
+use Rattle.std.proofs.Common.{arith, rules}
 use Rattle.zp_shared.proofs.Places.{row_length}
 use Rattle.zp_shared.proofs.locked_zones.LockedZones.locked.Goals as goal
 
