@@ -9,11 +9,11 @@ loop-zone-preserved g c =
     let i = c.loop-zone.invariant in
     let n = length c.loop-zone.yielded in
     let p = c.push_reserved.ensures in
-    let at : c.len-place.result ≡ n = grind (arith, common_steps) in
+    let at : c.new.result ≡ n = grind (arith, common_steps) in
     let one : length (c.loop-zone.yielded ++ c.in-Some.zone ∷ []) ≡ n + 1 = length-append c.loop-zone.yielded (c.in-Some.zone ∷ []) in (
       p.items
           ∙ ap (λ l. l ++ c.new.result ∷ []) i.0
-          ∙ ap (λ v. range_with_len 0 n ++ v ∷ []) (c.new.ensures ∙ at)
+          ∙ ap (λ v. range_with_len 0 n ++ v ∷ []) at
           ∙ places_more n
           ∙ ap (range_with_len 0) (sym one),
       (
