@@ -1,4 +1,3 @@
 pub mod Guarding
 pub mod Places
 pub mod Running
-pub mod Crewed
