@@ -15,8 +15,7 @@ use Rattle.zp_zone.specs.Seats.{ZoneState}
 use Rattle.zp_share.specs.PlainShares.{PlainShare}
 use Rattle.zp_share.specs.Shares.{ShareState, ZoneKey, IsShareOf, key_of, named_zone, plain}
 use Rattle.zp_share.proofs.Owners.{sum-map}
-use Rattle.zp_desk.specs.declared.command.Command.{Command}
-use Rattle.zp_desk.specs.Desks.{DeskState, PlainDesk, IsScriptFor, opening_desk, plain_desk}
+use Rattle.zp_desk.specs.Desks.{DeskState, PlainDesk, IsScriptFor, plain_desk}
 use Rattle.zp_script.specs.Scripts.{calls_of, script_of}
 use Rattle.zp_script.proofs.Declared.{names_there}
 use Rattle.zp_script.proofs.Makings.{script_count}
@@ -31,12 +30,9 @@ pub share_over : (before rest all after : List ShareState) (s : ShareState) → 
 share_over before rest all after s whole next = append_assoc before (s ∷ []) after ∙ ap (λ l. before ++ l) (sym next) ∙ whole
 
 -- the desk of one share more
-pub desks_more : (t : Trace) (ss : List ShareState) (s : ShareState) (ds new : List DeskState) (d : DeskState) (w : ℕ) (script : List Command) → ds ≡ map (desk_for t) ss →
-    new ≡ ds ++ d ∷ [] → d ≡ opening_desk s script → script ≡ script_of t w → w ≡ s.worker → new ≡ map (desk_for t) (ss ++ s ∷ [])
-desks_more t ss s ds new d w script so_far pushed made is own =
-    pushed
-    ∙ ap₂ (λ xs x. xs ++ x ∷ []) so_far (made ∙ ap (opening_desk s) (is ∙ ap (script_of t) own))
-    ∙ sym (map_push (desk_for t) ss s)
+pub desks_more : (t : Trace) (ss : List ShareState) (s : ShareState) (ds new : List DeskState) (d : DeskState) → ds ≡ map (desk_for t) ss → new ≡ ds ++ d ∷ [] →
+    d ≡ desk_for t s → new ≡ map (desk_for t) (ss ++ s ∷ [])
+desks_more t ss s ds new d so_far pushed made = pushed ∙ ap₂ (λ xs x. xs ++ x ∷ []) so_far made ∙ sym (map_push (desk_for t) ss s)
 
 -- worker w's desk with this share, before the first command
 abbrev desk_with : Trace → PlainShare → ℕ → PlainDesk

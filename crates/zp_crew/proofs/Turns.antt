@@ -68,6 +68,14 @@ desk_there : (zones : List ZoneState) (desks : List DeskState) (n : ℕ) (s d : 
     plain_desk s ≡ desk_of (office_of zones desks) n
 desk_there zones desks n s d lt e = ap plain_desk e ∙ sym (get_or-there plain_desk desks n d _ lt)
 
+-- and has a command left, where the office says so of its worker
+pub next_there : (zones : List ZoneState) (desks : List DeskState) (n w : ℕ) (s d : DeskState) (before : OfficeState) → office_of zones desks ≡ before → n ≡ w → w < length before.desks →
+    s ≡ get_or desks n d → length (desk_of before w).replies < length (desk_of before w).script → length s.replies < length s.script
+next_there zones desks n w s d before view place there is left =
+    let here : plain_desk s ≡ desk_of before w =
+    desk_there zones desks n s d (there_in zones desks n w before view place there) is ∙ ap (desk_of (office_of zones desks)) place ∙ ap (λ (o : OfficeState). desk_of o w) view in
+    subst (λ (p : PlainDesk). length p.replies < length p.script) (sym here) left
+
 -- the office after a turn is what the next command of the worker's script makes of it
 done_there : (zones new : List ZoneState) (desks : List DeskState) (n : ℕ) (s d u : DeskState) → n < length desks → s ≡ get_or desks n d →
     IsDeskLeft (after_command (desk_world (map named_zone zones) s) (next_of s)) (Some (map named_zone new)) u → office_of new (set desks n u) ≡ next_done n (office_of zones desks)

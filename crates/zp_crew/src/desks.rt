@@ -39,11 +39,19 @@ fn desks_of(alloc: Global, shares: Vec<Share>, trace: &Trace) -> Result<Vec<Desk
         return Err(Refused::Memory);
     };
     for share in shares {
-        let worker = share.worker();
-        let Ok(script) = script_of(alloc, trace, worker) else {
-            return Err(Refused::Memory);
-        };
-        desks.push_reserved(Desk::new(alloc, share, script)?);
+        desks.push_reserved(desk_for(alloc, share, trace)?);
     }
     Ok(desks)
+}
+
+/// The desk of a share, with the script of its worker. Refused 6.
+fn desk_for(alloc: Global, share: Share, trace: &Trace) -> Result<Desk, Refused>
+    requires { IsBeginning (lines_of trace.now) }
+    ensures desk { IfOk result (λ d. d ≡ desk_for trace.now share) }
+    ensures why { IfErr result (λ r. r ≡ Refused.Memory) }
+{
+    let Ok(script) = script_of(alloc, trace, share.worker()) else {
+        return Err(Refused::Memory);
+    };
+    Desk::new(alloc, share, script)
 }

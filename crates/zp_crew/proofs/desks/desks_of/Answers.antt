@@ -6,7 +6,6 @@ pub loop-share-preserved : goal.loop-share-preserved
 loop-share-preserved c =
     record {
       whole = share_over c.loop-share.yielded _ _ _ _ c.loop-share.invariant.whole c.in-Some.ensures.steps.0;
-      desks =
-          desks_more c.args.trace.now c.loop-share.yielded c.in-Some.share c.loop-share.desks.items c.push_reserved.new.self.items c.in_ok-new.field-0 c.worker-worker.result c.in-Ok-script_of.script.items c.loop-share.invariant.desks c.push_reserved.ensures.items c.in_ok-new.ensures.desk c.in-Ok-script_of.ensures.script c.worker-worker.ensures.worker;
+      desks = desks_more c.args.trace.now c.loop-share.yielded c.in-Some.share c.loop-share.desks.items c.push_reserved.new.self.items _ c.loop-share.invariant.desks c.push_reserved.ensures.items c.in_ok-desk_for.ensures.desk;
       room = omega (arith, c.loop-share.invariant.room, c.push_reserved.ensures.capacity);
     }
