@@ -1,4 +1,5 @@
-//! `zonereplay [--serial]`: reads a trace on standard input and writes its output on standard output.
+//! `zonereplay [--serial]`: reads a trace on standard input and writes its output on standard output. Each worker's commands are
+//! carried out in a thread of its own; with `--serial` all of them one after another in this one.
 //!
 //! What it says on standard error as it ends, and with which status, is what `Exit` and `exit_status` of `zp_replay` say.
 #![tactic(auto)]
@@ -11,12 +12,18 @@ use std::marker::Brand;
 use std::process::ExitCode;
 use std::rt::Env;
 use std::sync::ledger::{Blank, Ledger};
+use zp_desk::OpenGate;
 use zp_replay::device::{Sink, Source};
-use zp_replay::{Exit, Failures, FlagFault, Flags, exit_status, read_flags, replay_serial};
+use zp_replay::{Exit, Failures, FlagFault, Flags, exit_status, read_flags, replay_serial, replay_threads};
 
 fn main(rt: HostRuntime) -> ExitCode {
     let exit = match own_flags(&rt) {
-        Ok(_) => replay_own_streams::<Brand, Brand>(&rt, Blank::new(1), Blank::new(1)),
+        Ok(flags) => replay_own_streams::<Brand, Brand>(
+            &rt,
+            flags.serial,
+            Blank::new(1),
+            Blank::new(1),
+        ),
         Err(fault) => Exit::Refused(fault),
     };
     // There is nobody left to tell that standard error failed.
@@ -36,7 +43,12 @@ fn own_flags(rt: &(impl Env + AllocGlobal)) -> Result<Flags, FlagFault> {
 }
 
 /// Replays a trace from standard input onto standard output, with a ledger of the failures of each.
-fn replay_own_streams<K: Ledger, L: Ledger>(rt: &HostRuntime, reads: Blank, writes: Blank) -> Exit
+fn replay_own_streams<K: Ledger, L: Ledger>(
+    rt: &HostRuntime,
+    serial: bool,
+    reads: Blank,
+    writes: Blank,
+) -> Exit
     requires read_name { reads.name ≡ K.name }
     requires read_parts { (reads.parts ≡ K.parts) × (0 < reads.parts) }
     requires write_name { writes.name ≡ L.name }
@@ -44,7 +56,12 @@ fn replay_own_streams<K: Ledger, L: Ledger>(rt: &HostRuntime, reads: Blank, writ
 {
     let mut source = Source::new(rt.stdin(), Failures::<K>::new(reads));
     let mut sink = Sink::new(rt.stdout(), Failures::<L>::new(writes));
-    match replay_serial(rt.alloc(), &mut source, &mut sink) {
+    let ended = if serial {
+        replay_serial(rt.alloc(), &mut source, &mut sink)
+    } else {
+        replay_threads(rt, rt.alloc(), &mut source, &mut sink, &OpenGate)
+    };
+    match ended {
         Ok(ending) => Exit::Replayed(ending),
         Err(fault) => Exit::Broken(fault),
     }

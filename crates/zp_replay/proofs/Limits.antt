@@ -7,7 +7,7 @@ use Rattle.zp_trace.specs.declared.trace.Trace.{Trace}
 use Rattle.zp_trace.specs.Spelling.{line_text, text_of}
 use Rattle.zp_trace.specs.Grammar.{IsTraceText, IsBadLine, lines_of}
 use Rattle.zp_replay.specs.declared.input.TheConstants.{INPUT_LIMIT}
-use Rattle.zp_replay.specs.Replaying.{IsRead, IsInput}
+use Rattle.zp_replay.specs.Inputs.{IsRead, IsInput}
 use Rattle.zp_replay.proofs.ShortLines.{allowed_short, beginning_short}
 
 -- the text of a trace lies within the limit

@@ -5,7 +5,7 @@ use Rattle.std.proofs.Math.Seq.{take-append-add, take-append_seam}
 use Rattle.std.proofs.lemmas.List.{take-append-le}
 use borrow.Rule.Slice.PartMut.{put_mid, post_of}
 use Rattle.zp_replay.specs.declared.input.TheConstants.{INPUT_LIMIT}
-use Rattle.zp_replay.specs.Replaying.{IsFilled, IsRead}
+use Rattle.zp_replay.specs.Inputs.{IsFilled, IsRead}
 
 pub read-then : (a b c : Option (List ℕ)) (x y z : List ℕ) → Consumes a b x → Consumes b c y → z ≡ x ++ y → Consumes a c z
 read-then None b c x y z e f g = tt

@@ -1,11 +1,9 @@
-pub mod Row
-pub mod Crews
-pub mod Labels
+pub mod Inputs
 pub mod Replies
 pub mod Output
-pub mod Replaying
-pub mod Asked
 pub mod Words
 pub mod Devices
 pub mod Faults
 pub mod Exits
+pub mod Replaying
+pub mod Serving

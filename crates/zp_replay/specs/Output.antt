@@ -1,22 +1,19 @@
--- What a good trace writes: the answers to its commands, the zones' totals, and their info lines; and what a bad one writes.
-use Rattle.std.specs.Prelude.{ℕ, List, [], ◌∷◌, ◌++◌, length, map, codes}
+-- What a good trace writes: the replies to its commands, the zones' totals, and their info lines; and what a bad one writes.
+use Rattle.std.specs.Prelude.{ℕ, List, [], ◌∷◌, ◌++◌, length, take, codes, slice_get, slice_index_or, Option, None, Some}
 use Rattle.std.specs.List.{flat_map, range_with_len}
 use Rattle.std.specs.Fmt.{decimal}
 use Rattle.zp_model.specs.declared.mark.Level.{Level}
 use Rattle.zp_model.specs.declared.mark.Level.TheVariants.{High, Low, Min, Short}
-use Rattle.zp_model.specs.declared.constants.TheConstants.{LARGEST_ORDER}
 use Rattle.zp_model.specs.Mark.{level_of}
-use Rattle.zp_model.specs.Zone.{zone_opening, pages_of}
-use Rattle.zp_trace.specs.declared.line.ZoneLine.{ZoneLine}
-use Rattle.zp_trace.specs.declared.trace.Header.{Header}
+use Rattle.zp_model.specs.Zone.{pages_of}
 use Rattle.zp_trace.specs.declared.trace.Trace.{Trace}
-use Rattle.zp_zone.specs.NamedZone.{NamedZone}
 use Rattle.zp_share.specs.declared.gathering.Totals.{Totals}
-use Rattle.zp_share.specs.PlainShares.{PlainShare, opening_own}
 use Rattle.zp_share.specs.Commands.{zone_at}
 use Rattle.zp_share.specs.Gathering.{totals_of, owns_at}
-use Rattle.zp_replay.specs.Crews.{CrewState}
-use Rattle.zp_replay.specs.Replies.{ReplayState, standing, line_feed, info_of, answers}
+use Rattle.zp_desk.specs.declared.reply.Reply.{Reply}
+use Rattle.zp_crew.specs.Crews.{CrewState}
+use Rattle.zp_crew.specs.Offices.{OfficeState, crew_in, desk_of, in_order, names_in, opened_office, turns, workers_in}
+use Rattle.zp_replay.specs.Replies.{line_feed, info_of, reply_text}
 
 abbrev pub level_word : Level → List ℕ
 level_word High = codes "high"
@@ -48,26 +45,30 @@ total_of c i =
 abbrev pub total_lines : CrewState → List ℕ
 total_lines c = flat_map (total_of c) (range_with_len 0 (length c.zones))
 
--- the zone that a zone line declares, for so many workers, with nothing out
-abbrev pub declared_zone : ℕ → ZoneLine → NamedZone
-declared_zone workers z = record { name = z.name; plain = zone_opening LARGEST_ORDER z.base z.pages z.min workers }
+-- what the output says of a reply, where there is one
+abbrev pub text_of : List (List ℕ) → ℕ → Option Reply → List ℕ
+text_of names worker None = []
+text_of names worker (Some q) = reply_text names worker q
 
--- worker w's share of the zones that a header declares, before its first command
-abbrev pub opening_share : Header → ℕ → PlainShare
-opening_share h w = record { batch = h.batch; high_len = h.high; zones = map (λ (z : ZoneLine). opening_own w z.base z.pages) h.zones }
+-- the text of worker w's reply at this place among its replies
+abbrev pub reply_at : OfficeState → ℕ → ℕ → List ℕ
+reply_at o w place = text_of (names_in o) w (slice_get (desk_of o w).replies place)
 
-abbrev pub opened_crew : Header → CrewState
-opened_crew h = record { zones = map (declared_zone h.workers) h.zones; shares = map (opening_share h) (range_with_len 0 h.workers) }
+-- the text of the reply to the command of turn i: its worker has as many replies before it as it had turns
+abbrev pub turn_text : OfficeState → List ℕ → ℕ → List ℕ
+turn_text o ws i = let w = slice_index_or ws i 0 in reply_at o w (turns w (take i ws))
 
--- before the first command: those zones and shares, and no label is bound
-abbrev pub opened : Header → ReplayState
-opened h = standing (opened_crew h) []
+-- the replies to the commands of these turns, in order
+abbrev pub replies_text : OfficeState → List ℕ → List ℕ
+replies_text o ws = flat_map (turn_text o ws) (range_with_len 0 (length ws))
 
--- all that a good trace writes
+-- what is written of an office that has carried out the commands of these turns: the replies, the total lines and the info lines
+abbrev pub report : OfficeState → List ℕ → List ℕ
+report o ws = replies_text o ws ++ (total_lines (crew_in o) ++ flat_map info_of o.zones)
+
+-- all that a good trace writes, where its commands are carried out one after another
 unfoldable pub output : Trace → List ℕ
-output t =
-    let all = answers (opened t.header) t.commands in
-    all.text ++ (total_lines all.left.crew ++ flat_map info_of all.left.crew.zones)
+output t = let ws = workers_in t.commands in report (in_order (opened_office t) ws) ws
 
 -- all that a bad trace writes
 abbrev pub bad_line : ℕ → List ℕ

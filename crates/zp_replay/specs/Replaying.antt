@@ -1,46 +1,31 @@
 -- What a replay has read and written when it ends.
-use Rattle.std.specs.Prelude.{ℕ, ◌≡◌, ◌≤◌, ◌<◌, ◌⊎◌, List, length, take, Option, IfSome}
-use Rattle.std.specs.Io.KnownBytes.{Consumes, IsAtEnd}
+use Rattle.std.specs.Prelude.{ℕ, ◌≡◌, ◌<◌, All, List, length, Option}
 use Rattle.zp_trace.specs.declared.trace.Trace.{Trace}
-use Rattle.zp_trace.specs.Grammar.{IsTraceText, IsBadLine}
+use Rattle.zp_trace.specs.Grammar.{IsBeginning, IsCommandOf, IsHeader, IsTraceText, IsBadLine, lines_of}
 use Rattle.zp_zone.specs.Streams.{IsWritten, IsBegun}
+use Rattle.zp_share.specs.Commands.{zone_at}
+use Rattle.zp_share.specs.Gathering.{AddsUp, owns_at}
+use Rattle.zp_crew.specs.Offices.{OfficeState, crew_in}
 use Rattle.zp_replay.specs.declared.input.TheConstants.{INPUT_LIMIT}
-use Rattle.zp_replay.specs.Output.{output, bad_line}
+use Rattle.zp_replay.specs.declared.traces.Input.{Input}
+use Rattle.zp_replay.specs.Inputs.{IsInput, IsReadWithin}
+use Rattle.zp_replay.specs.Output.{bad_line}
 
--- the first n bytes of a buffer were read, n below its length only where the reader has none left
-pub record IsFilled (old new : Option (List ℕ)) (buffer : List ℕ) (n : ℕ) : Type 0 where
-  pub within : n ≤ length buffer
-  pub front : Consumes old new (take n buffer)
-  pub end : n < length buffer → IsAtEnd new
+-- a trace that was parsed: its lines stand in an order that the grammar allows
+pub record IsParsed (t : Trace) : Type 0 where
+  pub lines : IsBeginning (lines_of t)
+  pub header : IsHeader t.header
+  pub commands : All (IsCommandOf t.header) t.commands
 
--- these bytes were read, to the reader's end or up to the limit
-pub record IsRead (old new : Option (List ℕ)) (text : List ℕ) : Type 0 where
-  pub within : length text ≤ INPUT_LIMIT
-  pub front : Consumes old new text
-  pub end : length text < INPUT_LIMIT → IsAtEnd new
+-- each page of each zone lies in one place, and so the totals of each zone add up to its pages
+abbrev pub AddUp : OfficeState → Type 0
+AddUp o = (i : ℕ) → i < length o.zones → AddsUp (zone_at o.zones i).plain (owns_at (crew_in o).shares i)
 
--- a beginning of what the reader had was read, of n bytes at most
-pub record IsReadWithin (had left : Option (List ℕ)) (n : ℕ) : Type 0 where
-  pub text : List ℕ
-  pub within : length text ≤ n
-  pub front : Consumes had left text
-
--- this text is all that the reader had, where it tells that
-abbrev pub IsAllOf : Option (List ℕ) → List ℕ → Type 0
-IsAllOf had text = IfSome had (λ bytes. bytes ≡ text)
-
--- this text is the input: all that the reader had, of which as much as the limit allows was read
-pub record IsInput (had left : Option (List ℕ)) (text : List ℕ) : Type 0 where
-  pub all : IsAllOf had text
-  pub read : Consumes had left (take INPUT_LIMIT text)
-
--- the input was the text of a trace, and the trace's output was written
-pub record IsReplayed (had left old new : Option (List ℕ)) : Type 0 where
+-- the input was the text of this trace
+pub record IsTraceRead (had left : Option (List ℕ)) (t : Trace) : Type 0 where
   pub text : List ℕ
   pub input : IsInput had left text
-  pub trace : Trace
-  pub grammar : IsTraceText text trace
-  pub written : IsWritten old new (output trace)
+  pub grammar : IsTraceText text t
 
 -- the input was a text with this bad line, and its number was written
 pub record IsRefusedAt (had left old new : Option (List ℕ)) (n : ℕ) : Type 0 where
@@ -49,11 +34,18 @@ pub record IsRefusedAt (had left old new : Option (List ℕ)) (n : ℕ) : Type 0
   pub grammar : IsBadLine text n
   pub written : IsWritten old new (bad_line n)
 
--- of what was to be written a beginning was
-pub record IsCutShort (had left old new : Option (List ℕ)) : Type 0 where
+-- of the number of the input's bad line a beginning was written
+pub record IsBadLineCut (had left old new : Option (List ℕ)) : Type 0 where
   pub text : List ℕ
   pub input : IsInput had left text
-  pub written : ((t : Trace) × IsTraceText text t × IsBegun old new (output t)) ⊎ ((n : ℕ) × IsBadLine text n × IsBegun old new (bad_line n))
+  pub number : ℕ
+  pub grammar : IsBadLine text number
+  pub begun : IsBegun old new (bad_line number)
+
+-- a trace, with nothing written, or a text with a bad line, and its number written
+abbrev pub IsInputOf : Option (List ℕ) → Option (List ℕ) → Option (List ℕ) → Option (List ℕ) → Input → Type 0
+IsInputOf had left old new (Input.Trace t) = IsTraceRead had left t × IsParsed t × (new ≡ old)
+IsInputOf had left old new (Input.BadLine n) = IsRefusedAt had left old new n
 
 -- no more than the limit was read, and nothing was written
 pub record IsUnanswered (had left old new : Option (List ℕ)) : Type 0 where

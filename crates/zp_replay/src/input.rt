@@ -1,6 +1,6 @@
 //! Reading the input.
 ghost use Rattle.std.specs.Prelude.{◌≡◌, ◌≢◌, ◌<◌, Err, length, vec_len, IfOk, OnOk, OnErr};
-ghost use Rattle.zp_replay.specs.Replaying.{IsFilled, IsRead, IsReadWithin};
+ghost use Rattle.zp_replay.specs.Inputs.{IsFilled, IsRead, IsReadWithin};
 
 use crate::ending::ReplayFault;
 use std::alloc::{AllocError, Global};

@@ -4,13 +4,13 @@ ghost use Rattle.std.specs.Fmt.{decimal};
 ghost use Rattle.arrayvec.specs.ArrayString.{array_string_len};
 ghost use Rattle.zp_model.specs.Mark.{level_of};
 ghost use Rattle.zp_model.specs.Zone.{pages_of};
-ghost use Rattle.zp_replay.specs.Replies.{reply_line, granted_words};
+ghost use Rattle.zp_replay.specs.Replies.{reply_line, reply_words};
 ghost use Rattle.zp_replay.specs.Output.{level_word, counted, total_line, bad_line};
 
-use crate::granted::Granted;
 use arrayvec::ArrayString;
 use itoa::Buffer;
-use zp_model::{LONGEST_NAME, Level, Refused, Worker};
+use zp_desk::Reply;
+use zp_model::{LONGEST_NAME, Level, Worker};
 use zp_share::Totals;
 use zp_zone::Zone;
 
@@ -24,33 +24,32 @@ const DIGITS: usize = 10;
 pub type Line = ArrayString<LINE>;
 
 /// What a worker is answered: `W: page P`, `W: block P order K`, `W: freed`, `W: posted`, `W: drained N` or `W: refused C`.
-pub fn reply_line(worker: Worker, reply: Result<Granted, Refused>) -> Line
-    ensures { result.bytes ≡ reply_line worker reply }
+pub fn reply_line(worker: Worker, reply: &Reply) -> Line
+    ensures { result.bytes ≡ reply_line worker reply.now }
 {
     let mut line = line_of(worker);
-    match reply {
-        Ok(granted) => push_granted(&mut line, granted),
-        Err(refused) => push_counted(&mut line, "refused ", u32::from(refused.number())),
-    }
+    push_reply(&mut line, reply);
     line.push_str("\n");
     line
 }
 
-/// Appends what a worker gets, or that it was done.
-fn push_granted(line: &mut Line, granted: Granted)
+/// Appends what a worker gets, or that it was done. An info has lines of its own.
+fn push_reply(line: &mut Line, reply: &Reply)
     requires { array_string_len line.old ≤ DIGITS + 2 }
-    ensures bytes { line.new.bytes ≡ line.old.bytes ++ granted_words granted }
+    ensures bytes { line.new.bytes ≡ line.old.bytes ++ reply_words reply.now }
     ensures len { array_string_len line.new ≤ 3 * DIGITS + 15 }
 {
-    match granted {
-        Granted::Page(lent) => push_counted(line, "page ", lent.page.number()),
-        Granted::Block(lent) => {
-            push_counted(line, "block ", lent.page.number());
-            push_counted(line, " order ", u32::from(lent.order.number()));
+    match reply {
+        Reply::Page(page) => push_counted(line, "page ", page.number()),
+        Reply::Block(block) => {
+            push_counted(line, "block ", block.page.number());
+            push_counted(line, " order ", u32::from(block.order.number()));
         }
-        Granted::Freed => line.push_str("freed"),
-        Granted::Posted => line.push_str("posted"),
-        Granted::Drained(pages) => push_counted(line, "drained ", pages),
+        Reply::Freed => line.push_str("freed"),
+        Reply::Posted => line.push_str("posted"),
+        Reply::Drained(pages) => push_counted(line, "drained ", *pages),
+        Reply::Refused(refused) => push_counted(line, "refused ", u32::from(refused.number())),
+        Reply::Info(_) => {}
     }
 }
 

@@ -1,18 +1,32 @@
 //! The serial replay: one thread, the commands in the trace's order.
-ghost use Rattle.std.specs.Prelude.{◌≡◌, ◌≢◌, ◌<◌, ℕ, All, Ok, Err, OnOk};
-ghost use Rattle.zp_trace.specs.Grammar.{IsHeader, IsCommandOf};
-ghost use Rattle.zp_zone.specs.Streams.{IsWritten, IsBegun};
-ghost use Rattle.zp_replay.specs.Output.{output};
-ghost use Rattle.zp_replay.specs.Replaying.{IsReplayed, IsRefusedAt, IsUnanswered, IsCutShort};
+ghost use Rattle.std.specs.Prelude.{◌≡◌, ◌≢◌, ◌<◌, ℕ, Ok, Err, IfOk, IfErr, length};
+ghost use Rattle.zp_replay.specs.Replaying.{IsParsed, IsRefusedAt, IsUnanswered};
+ghost use Rattle.zp_replay.specs.Serving.{IsCutShort, IsReplayed, IsServedInOrder};
 
 use crate::ending::{Ending, ReplayFault};
-use crate::input::read_input;
-use crate::lines::bad_line;
-use crate::replay::Replay;
+use crate::report::write_report;
+use crate::traces::{Input, read_trace};
 use std::alloc::Global;
+use zp_crew::Office;
 use zp_model::Refused;
-use zp_trace::{Trace, TraceFault, parse_trace};
-use zp_zone::{Reader, Writer, write_all};
+use zp_trace::Trace;
+use zp_zone::{Reader, Writer};
+
+/// The zones and desks of a trace, when its commands were carried out one after another, in their order. Memory.
+fn serve_in_order(alloc: Global, trace: &Trace) -> Result<Office, ReplayFault>
+    requires { IsParsed trace.now }
+    ensures served { IfOk result (IsServedInOrder trace.now) }
+    ensures workers { IfOk result (λ o. length o.desks ≡ trace.now.header.workers) }
+    ensures why { IfErr result (λ e. e ≡ ReplayFault.Memory) }
+{
+    let mut office = match Office::open(alloc, trace) {
+        Ok(office) => office,
+        Err(Refused::Memory) => return Err(ReplayFault::Memory),
+        Err(_) => unreachable!(),
+    };
+    office.carry_out_all(trace.commands.as_slice());
+    Ok(office)
+}
 
 /// Reads a trace to its end, or as much as no good trace has, and writes its output; of a bad trace the number of its bad
 /// line.
@@ -36,37 +50,12 @@ pub fn replay_serial<R: Reader, W: Writer>(
     ensures write { result ≡ Err ReplayFault.Write → W.failures writer.old < W.failures writer.new }
     ensures write_only { result ≢ Err ReplayFault.Write → W.failures writer.new ≡ W.failures writer.old }
 {
-    let text = read_input(alloc, reader)?;
-    match parse_trace(alloc, &text) {
-        Ok(trace) => {
-            replay(alloc, &trace, writer)?;
-            Ok(Ending::Good)
-        }
-        Err(TraceFault::BadLine(number)) => {
-            write_all(writer, bad_line(number).as_bytes())?;
-            Ok(Ending::BadLine(number))
-        }
-        Err(TraceFault::Memory) => Err(ReplayFault::Memory),
-    }
-}
-
-/// Writes the output of a trace.
-fn replay<W: Writer>(alloc: Global, trace: &Trace, writer: &mut W) -> Result<(), ReplayFault>
-    requires header { IsHeader trace.now.header }
-    requires commands { All (IsCommandOf trace.now.header) trace.now.commands }
-    ensures ok { OnOk result (IsWritten (W.contents writer.old) (W.contents writer.new) (output trace.now)) }
-    ensures write { result ≡ Err ReplayFault.Write → W.failures writer.old < W.failures writer.new }
-    ensures write_only { result ≢ Err ReplayFault.Write → W.failures writer.new ≡ W.failures writer.old }
-    ensures begun { result ≡ Err ReplayFault.Write → IsBegun (W.contents writer.old) (W.contents writer.new) (output trace.now) }
-    ensures unmade { result ≡ Err ReplayFault.Memory → W.contents writer.new ≡ W.contents writer.old }
-    ensures only { (result ≡ Err ReplayFault.Read → ⊥) × (result ≡ Err ReplayFault.NoThread → ⊥) }
-{
-    let mut replay = match Replay::new(alloc, &trace.header, trace.commands.len()) {
-        Ok(replay) => replay,
-        Err(Refused::Memory) => return Err(ReplayFault::Memory),
-        Err(_) => unreachable!(),
+    let trace = match read_trace(alloc, reader, writer)? {
+        Input::Trace(trace) => trace,
+        Input::BadLine(number) => return Ok(Ending::BadLine(number)),
     };
-    replay.answer_all(writer, trace.commands.as_slice())?;
-    replay.write_totals(writer)?;
-    Ok(())
+    let room = Vec::with_capacity(alloc, trace.header.workers as usize)?;
+    let office = serve_in_order(alloc, &trace)?;
+    write_report(writer, office, trace.commands.as_slice(), room)?;
+    Ok(Ending::Good)
 }

@@ -7,15 +7,21 @@ use super::*;
 use std::alloc::Global;
 use std::marker::Brand;
 use std::process::Abort;
+use std::sync::Wait;
 use std::sync::ledger::{Blank, Ledger};
 use std::test::*;
+use std::thread::Threads;
+use threads::replayed_at_once;
+use zp_desk::OpenGate;
 
 mod bad_lines;
 mod crews;
 mod flags_and_exits;
+mod many_workers;
 mod several_workers;
 mod several_zones;
 mod stale_labels;
+mod threads;
 mod worked;
 mod workers_lists;
 
@@ -75,9 +81,33 @@ fn replayed_on<K: Ledger, L: Ledger>(
     }
 }
 
+/// What comes of a trace in one thread, and, where it has one worker, in threads: the same, since nobody comes between.
+fn outcomes(
+    rt: &(impl AllocGlobal + Threads + Wait + Sync),
+    text: &str,
+) -> (Outcome, Option<Outcome>) {
+    let serial = replayed(rt.alloc(), text.as_bytes(), sound(1000));
+    if !text.contains("\nworkers 1\n") {
+        return (serial, None);
+    }
+    let at_once = replayed_at_once(rt, text.as_bytes(), sound(1000), &OpenGate);
+    (serial, Some(at_once))
+}
+
 /// The trace is good, and this is all that it writes.
-fn expect_output(rt: &(impl Abort + AllocGlobal), text: &str, output: &str) {
-    let outcome = replayed(rt.alloc(), text.as_bytes(), sound(1000));
+fn expect_output(
+    rt: &(impl Abort + AllocGlobal + Threads + Wait + Sync),
+    text: &str,
+    output: &str,
+) {
+    let (serial, at_once) = outcomes(rt, text);
+    expect_written(rt, &serial, text, output);
+    if let Some(outcome) = at_once {
+        expect_written(rt, &outcome, text, output);
+    }
+}
+
+fn expect_written(rt: &impl Abort, outcome: &Outcome, text: &str, output: &str) {
     assert!(rt; outcome.ending == Ok(Ending::Good), "of {text}");
     assert!(rt;
         outcome.written.as_slice() == output.as_bytes(),
@@ -87,23 +117,28 @@ fn expect_output(rt: &(impl Abort + AllocGlobal), text: &str, output: &str) {
 
 /// The trace of a header and these commands is good, and these are all the replies.
 fn expect_replies(
-    rt: &(impl Abort + AllocGlobal),
+    rt: &(impl Abort + AllocGlobal + Threads + Wait + Sync),
     header: &str,
     commands: &str,
     replies: &str,
 ) -> Result<(), Fail> {
     let text = format!(in rt.alloc(); "{header}{commands}")?;
-    let outcome = replayed(rt.alloc(), text.as_bytes(), sound(1000));
-    assert!(rt; outcome.ending == Ok(Ending::Good), "of {text}");
-    assert!(rt;
-        outcome.written.as_slice().starts_with(replies.as_bytes()),
-        "of {text}"
-    );
-    assert!(rt;
-        outcome.written.as_slice()[replies.len()..].starts_with(b"total "),
-        "of {text}"
-    );
+    let (serial, at_once) = outcomes(rt, &text);
+    expect_replied(rt, &serial, &text, replies);
+    if let Some(outcome) = at_once {
+        expect_replied(rt, &outcome, &text, replies);
+    }
     Ok(())
+}
+
+fn expect_replied(rt: &impl Abort, outcome: &Outcome, text: &str, replies: &str) {
+    assert!(rt; outcome.ending == Ok(Ending::Good), "of {text}");
+    let written = outcome.written.as_slice();
+    assert!(rt; written.starts_with(replies.as_bytes()), "of {text}");
+    assert!(rt;
+        written[replies.len()..].starts_with(b"total "),
+        "of {text}"
+    );
 }
 
 const INFO_TRACE: &str = "zone DMA 0 4096 0\nworkers 1\nlists 0 0\n0 info\n";

@@ -1,9 +1,7 @@
-//! As many workers as a zone has at most, each with lists and blocks; and crews that are made or find no memory.
+//! As many workers as a zone has at most, each with lists and blocks, and a replay that finds no memory.
 use super::*;
-use crate::crew::Crew;
 use std::process::Abort;
 use std::test::*;
-use zp_share::Totals;
 
 const HEADER: &str = "zone DMA 0 4096 0\nworkers 32\nlists 4 6\n";
 
@@ -126,36 +124,6 @@ Node 0, zone      DMA      0      0      0      0      0      0      0      0   
     Ok(())
 }
 
-const TWO_ZONES: &str = "zone DMA 0 4096 0\nzone Normal 4096 1024 16\nworkers 3\nlists 4 6\n";
-
-/// Compares a crew with one of those two zones that was asked for nothing.
-fn expect_opened(rt: &impl Abort, crew: &mut Crew) {
-    let zones = crew.zones();
-    assert_eq!(rt; zones.len(), 2);
-    assert_eq!(rt; zones[0].counts().free, 4096);
-    assert_eq!(rt; zones[1].name(), "Normal");
-    let free = |pages| Totals {
-        free: pages,
-        posted: 0,
-        cached: 0,
-        lent: 0,
-    };
-    assert!(rt; crew.gather().as_slice() == [free(4096), free(1024)].as_slice());
-}
-
-/// A crew is made whole, or refused for want of memory and of nothing else: tried with each allocation failing in turn (`rt try
-/// --test --fail-alloc N`).
-#[test]
-fn a_crew_is_made_whole_or_refused_for_memory(rt: HostRuntime) {
-    match parse_trace(rt.alloc(), TWO_ZONES.as_bytes()) {
-        Ok(trace) => match Crew::new(rt.alloc(), &trace.header) {
-            Ok(mut crew) => expect_opened(&rt, &mut crew),
-            Err(refused) => assert_eq!(rt; refused.number(), 6),
-        },
-        Err(fault) => assert!(rt; fault == TraceFault::Memory),
-    }
-}
-
 /// A replay writes all, or says that there is no memory and writes nothing; a sink may have no room for what is written.
 #[test]
 fn a_replay_is_whole_or_ends_for_memory(rt: HostRuntime) {
@@ -168,18 +136,4 @@ fn a_replay_is_whole_or_ends_for_memory(rt: HostRuntime) {
         Err(ReplayFault::Memory) => assert!(rt; outcome.written.is_empty()),
         Err(fault) => assert!(rt; fault == ReplayFault::Write),
     }
-}
-
-/// With ample memory a crew is made.
-#[test]
-fn a_crew_finds_ample_memory(rt: HostRuntime) {
-    let Ok(trace) = parse_trace(rt.alloc(), TWO_ZONES.as_bytes()) else {
-        assert!(rt; false, "the trace is good");
-        return;
-    };
-    let Ok(mut crew) = Crew::new(rt.alloc(), &trace.header) else {
-        assert!(rt; false, "the crew can be made");
-        return;
-    };
-    expect_opened(&rt, &mut crew);
 }

@@ -1,0 +1,76 @@
+-- The zones and desks of an office whose scripts were carried out.
+use Rattle.std.proofs.Common.{zero, suc, ◌≡◌, ◌∙◌, refl, sym, ap, subst, arith, List, [], ◌∷◌, length, map, All}
+use Rattle.std.specs.List.{AllZip, range_with_len}
+use Rattle.std.proofs.lemmas.Simd.{map-map}
+use Rattle.zp_model.specs.Zone.{workers_of}
+use Rattle.zp_zone.specs.NamedZone.{NamedZone}
+use Rattle.zp_zone.specs.Seats.{ZoneState}
+use Rattle.zp_share.specs.Shares.{ZoneKey, IsShareOf, key_of, named_zone}
+use Rattle.zp_desk.specs.Desks.{DeskState, IsScriptFor, IsWorked, plain_desk}
+use Rattle.zp_crew.specs.Offices.{AreDesksOf, office_of}
+use Rattle.zp_crew.proofs.Turns.{keys-length, keys-workers}
+use Rattle.zp_replay.specs.Serving.{IsDeskServed, IsOfficeServed}
+
+front : {X : Type 0} (P : X → Type 0) (x : X) (xs : List X) → All P (x ∷ xs) → P x
+front P x xs all = all zero x (omega arith)
+
+back : {X : Type 0} (P : X → Type 0) (x : X) (xs : List X) → All P (x ∷ xs) → All P xs
+back P x xs all k d lt = all (suc k) d (omega (arith, lt))
+
+each : {X : Type 0} (P : X → Type 0) (x : X) (xs : List X) → P x → All P xs → All P (x ∷ xs)
+each P x xs one all zero d lt = one
+each P x xs one all (suc k) d lt = all k d (omega (arith, lt))
+
+-- what holds of each desk before its work, and of each worked desk then, holds of each after it
+worked_all : (P : DeskState → Type 0) (ds es : List DeskState) → ((d e : DeskState) → IsWorked d e → P d → P e) → AllZip IsWorked ds es → All P ds → All P es
+worked_all P [] [] step zip all = all
+worked_all P [] (e ∷ es) step zip all = absurd zip
+worked_all P (d ∷ ds) [] step zip all = absurd zip
+worked_all P (d ∷ ds) (e ∷ es) step zip all = each P e es (step d e zip.0 (front P d ds all)) (worked_all P ds es step zip.1 (back P d ds all))
+
+pub worked_length : (ds es : List DeskState) → AllZip IsWorked ds es → length es ≡ length ds
+worked_length [] [] zip = refl
+worked_length [] (e ∷ es) zip = absurd zip
+worked_length (d ∷ ds) [] zip = absurd zip
+worked_length (d ∷ ds) (e ∷ es) zip = ap suc (worked_length ds es zip.1)
+
+workers_stay : (ds es : List DeskState) → AllZip IsWorked ds es → map (λ (d : DeskState). d.share.worker) es ≡ map (λ (d : DeskState). d.share.worker) ds
+workers_stay [] [] zip = refl
+workers_stay [] (e ∷ es) zip = absurd zip
+workers_stay (d ∷ ds) [] zip = absurd zip
+workers_stay (d ∷ ds) (e ∷ es) zip =
+    ap (λ w. w ∷ map (λ (x : DeskState). x.share.worker) es) zip.0.same.worker ∙ ap (λ ws. d.share.worker ∷ ws) (workers_stay ds es zip.1)
+
+-- they are the desks of the zones that have the same keys
+pub desks_worked : (zones new : List ZoneState) (ds es : List DeskState) → AreDesksOf zones ds → map key_of new ≡ map key_of zones → AllZip IsWorked ds es → AreDesksOf new es
+desks_worked zones new ds es are keys zip =
+    let long = worked_length ds es zip in
+    record {
+      few = omega (arith, keys-length zones new keys, are.few);
+      fit =
+          subst (λ ks. All (λ (d : DeskState). IsShareOf ks d.share) es) (sym keys)
+          (worked_all (λ (d : DeskState). IsShareOf (map key_of zones) d.share) ds es (λ d e w fit. w.ties ∙ fit) zip are.fit);
+      scripts =
+          subst (λ ks. All (λ (d : DeskState). IsScriptFor ks d.script) es) (sym keys)
+          (worked_all (λ (d : DeskState). IsScriptFor (map key_of zones) d.script) ds es (λ d e w fit. subst (IsScriptFor (map key_of zones)) (sym w.script) fit) zip are.scripts);
+      workers = workers_stay ds es zip ∙ are.workers ∙ ap (λ n. range_with_len 0 n) (sym long);
+      crew = subst (λ n. All (λ (z : ZoneState). workers_of z.plain ≡ n) new) (sym long) (keys-workers zones new (length ds) keys are.crew);
+    }
+
+desks_served : (ds es : List DeskState) → AllZip IsWorked ds es → AllZip IsDeskServed ds (map plain_desk es)
+desks_served [] [] zip = zip
+desks_served [] (e ∷ es) zip = absurd zip
+desks_served (d ∷ ds) [] zip = absurd zip
+desks_served (d ∷ ds) (e ∷ es) zip = ((zip.0.script, zip.0.answers), desks_served ds es zip.1)
+
+-- zones with the same keys have the same names
+names_stay : (zones new : List ZoneState) → map key_of new ≡ map key_of zones → map (λ (z : ZoneState). z.name) new ≡ map (λ (z : ZoneState). z.name) zones
+names_stay zones new keys =
+    sym (map-map (λ (k : ZoneKey). k.name) key_of new) ∙ ap (λ ks. map (λ (k : ZoneKey). k.name) ks) keys ∙ map-map (λ (k : ZoneKey). k.name) key_of zones
+
+pub office_served : (zones new : List ZoneState) (ds es : List DeskState) → map key_of new ≡ map key_of zones → AllZip IsWorked ds es → IsOfficeServed zones ds (office_of new es)
+office_served zones new ds es keys zip =
+    record {
+      names = map-map (λ (z : NamedZone). z.name) named_zone new ∙ names_stay zones new keys;
+      desks = desks_served ds es zip;
+    }

@@ -1,0 +1,46 @@
+use Rattle.std.proofs.Common.{◌≡◌, ◌<◌, ◌∙◌, length, refl, arith, rules}
+use Rattle.std.proofs.lemmas.List.{length-set}
+use Rattle.zp_crew.specs.Offices.{workers_in}
+use Rattle.zp_zone.proofs.Written.{written-same}
+use Rattle.zp_replay.specs.Output.{turn_text}
+use Rattle.zp_replay.proofs.Beginnings.{begun-same}
+use Rattle.zp_replay.proofs.Outputs.{on_err, begun_item, written_item, number_here}
+use Rattle.zp_replay.proofs.Replying.{counted_more, none_counted, turn_is, turn-lt, turn_place, turns_end}
+use Rattle.zp_replay.proofs.report.write_replies.Goals as goal
+
+pub loop-command-init : goal.loop-command-init
+loop-command-init g c =
+    record {
+      places = refl;
+      counted = none_counted 32;
+      text = search rules;
+      calm = refl;
+    }
+
+pub returns-in_err-write_reply_at-clause-err : goal.returns-in_err-write_reply_at-clause-err
+returns-in_err-write_reply_at-clause-err g c =
+    let at : c.loop-command.command-index < length c.args.commands.now = omega arith in
+    let i = c.loop-command.invariant in
+    let same : c.from-worker.result ≡ c.command-item.result.worker = c.from-worker.ensures ∙ c.number.ensures.same in
+    let there : c.from-worker.result < length c.loop-command.written = omega (arith, same, i.places, c.number.ensures.within, c.number.ensures.same) in
+    on_err c.from_residual.result
+    (begun_item (turn_text c.args.office.now (workers_in c.args.commands.now)) _ c.loop-command.command-index c.loop-command.command-index _ _ _ (turn_place c.args.commands.now _ at) (number_here _ _ (turn-lt c.args.commands.now _ at)) i.text
+    (begun-same _ _ _ _ (turn_is c.args.office.now c.args.commands.now _ _ c.loop-command.written _ at c.command-item.is i.counted same there) c.in_err-write_reply_at.ensures.err))
+
+pub loop-command-preserved : goal.loop-command-preserved
+loop-command-preserved g c =
+    let at : c.loop-command.command-index < length c.args.commands.now = omega arith in
+    let i = c.loop-command.invariant in
+    let same : c.from-worker.result ≡ c.command-item.result.worker = c.from-worker.ensures ∙ c.number.ensures.same in
+    let there : c.from-worker.result < length c.loop-command.written = omega (arith, same, i.places, c.number.ensures.within, c.number.ensures.same) in
+    record {
+      places = length-set c.loop-command.written c.from-worker.result _ ∙ i.places;
+      counted = counted_more c.loop-command.written c.args.commands.now c.loop-command.command-index c.from-worker.result _ at c.command-item.is i.counted same there;
+      text = written_item (turn_text c.args.office.now (workers_in c.args.commands.now)) _ c.loop-command.command-index c.loop-command.command-index _ _ _ (turn_place c.args.commands.now _ at) (number_here _ _ (turn-lt c.args.commands.now _ at)) i.text
+          (written-same _ _ _ _ (turn_is c.args.office.now c.args.commands.now _ _ c.loop-command.written _ at c.command-item.is i.counted same there) c.in_ok-write_reply_at.ensures.ok);
+      calm = c.in_ok-write_reply_at.ensures.calm ∙ i.calm;
+    }
+
+pub returns-clause-ok : goal.returns-clause-ok
+returns-clause-ok g c =
+    written-same _ _ _ _ (turns_end c.args.office.now c.args.commands.now c.loop-command.command-index (omega arith)) c.loop-command.invariant.text

@@ -1,0 +1,159 @@
+//! What is written of an office whose workers have carried out a trace's commands.
+ghost use Rattle.std.specs.Prelude.{ℕ, ◌≡◌, ◌<◌, ◌≤◌, ◌++◌, [], All, length, map, vec_capacity, OnOk, OnErr};
+ghost use Rattle.std.specs.List.{flat_map};
+ghost use Rattle.zp_model.specs.declared.counts.Counts.{Counts};
+ghost use Rattle.zp_trace.specs.declared.line.Command.{Command};
+ghost use Rattle.zp_zone.specs.Seats.{ZoneState};
+ghost use Rattle.zp_zone.specs.Streams.{IsWritten, IsBegun};
+ghost use Rattle.zp_share.specs.Commands.{zone_at};
+ghost use Rattle.zp_share.specs.Gathering.{AddsUp, owns_at, totals_of};
+ghost use Rattle.zp_share.specs.Shares.{named_zone};
+ghost use Rattle.zp_crew.specs.Offices.{crew_in, workers_in};
+ghost use Rattle.zp_replay.specs.Output.{replies_text, reply_at, report, total_lines, total_of};
+ghost use Rattle.zp_replay.specs.Replies.{info_lines, info_of, reply_text};
+
+use crate::lines::{Line, reply_line, total_line_of};
+use zp_crew::{Crew, Office};
+use zp_desk::Reply;
+use zp_model::{Counts, MAX_WORKERS, Worker};
+use zp_share::{Share, Totals};
+use zp_trace::Command;
+use zp_zone::{WriteFault, Writer, Zone, write_all, write_counts};
+
+/// Writes the replies to these commands, the total lines and the info lines. The room is for the shares of all workers, so that
+/// no memory is taken.
+pub fn write_report<W: Writer>(
+    writer: &mut W,
+    office: Office,
+    commands: &[Command],
+    room: Vec<Share>,
+) -> Result<(), WriteFault>
+    requires workers { All (λ (c : Command). c.worker < length office.desks) commands.now }
+    requires empty { room.items ≡ [] }
+    requires room { length office.desks ≤ vec_capacity room }
+    ensures ok { OnOk result (IsWritten (W.contents writer.old) (W.contents writer.new) (report office (workers_in commands.now))) }
+    ensures calm { OnOk result (W.failures writer.new ≡ W.failures writer.old) }
+    ensures err { OnErr result (IsBegun (W.contents writer.old) (W.contents writer.new) (report office (workers_in commands.now))) }
+    ensures failed { OnErr result (W.failures writer.old < W.failures writer.new) }
+    ensures adds_up { OnOk result ((i : ℕ) → i < length office.zones → AddsUp (zone_at office.zones i).plain (owns_at (crew_in office).shares i)) }
+{
+    write_replies(writer, &office, commands)?;
+    let mut crew = office.into_crew(room);
+    write_total_lines(writer, &mut crew)?;
+    write_infos(writer, crew.zones())
+}
+
+/// Writes the replies to these commands, in this order.
+fn write_replies<W: Writer>(
+    writer: &mut W,
+    office: &Office,
+    commands: &[Command],
+) -> Result<(), WriteFault>
+    requires workers { All (λ (c : Command). c.worker < length office.now.desks) commands.now }
+    ensures ok { OnOk result (IsWritten (W.contents writer.old) (W.contents writer.new) (replies_text office.now (workers_in commands.now))) }
+    ensures calm { OnOk result (W.failures writer.new ≡ W.failures writer.old) }
+    ensures err { OnErr result (IsBegun (W.contents writer.old) (W.contents writer.new) (replies_text office.now (workers_in commands.now))) }
+    ensures failed { OnErr result (W.failures writer.old < W.failures writer.new) }
+{
+    // how many replies of each worker were written
+    let mut written = [0; MAX_WORKERS as usize];
+    for command in commands {
+        let worker = usize::from(command.worker.number());
+        write_reply_at(writer, office, command.worker, written[worker])?;
+        written[worker] += 1;
+    }
+    Ok(())
+}
+
+/// Writes a worker's reply at this place among its replies, where it has one there.
+fn write_reply_at<W: Writer>(
+    writer: &mut W,
+    office: &Office,
+    worker: Worker,
+    place: usize,
+) -> Result<(), WriteFault>
+    requires worker { worker < length office.now.desks }
+    ensures ok { OnOk result (IsWritten (W.contents writer.old) (W.contents writer.new) (reply_at office.now worker place)) }
+    ensures calm { OnOk result (W.failures writer.new ≡ W.failures writer.old) }
+    ensures err { OnErr result (IsBegun (W.contents writer.old) (W.contents writer.new) (reply_at office.now worker place)) }
+    ensures failed { OnErr result (W.failures writer.old < W.failures writer.new) }
+{
+    match office.replies(worker).get(place) {
+        Some(reply) => write_reply(writer, office.zones(), worker, reply),
+        None => Ok(()),
+    }
+}
+
+/// Writes a reply to a worker: its line, or of an info the line of each zone.
+fn write_reply<W: Writer>(
+    writer: &mut W,
+    zones: &[Zone],
+    worker: Worker,
+    reply: &Reply,
+) -> Result<(), WriteFault>
+    ensures ok { OnOk result (IsWritten (W.contents writer.old) (W.contents writer.new) (reply_text (map (λ (z : ZoneState). z.name) zones.now) worker reply.now)) }
+    ensures calm { OnOk result (W.failures writer.new ≡ W.failures writer.old) }
+    ensures err { OnErr result (IsBegun (W.contents writer.old) (W.contents writer.new) (reply_text (map (λ (z : ZoneState). z.name) zones.now) worker reply.now)) }
+    ensures failed { OnErr result (W.failures writer.old < W.failures writer.new) }
+{
+    match reply {
+        Reply::Info(counts) => write_info_lines(writer, zones, counts.as_slice()),
+        reply => write_all(writer, reply_line(worker, reply).as_bytes()),
+    }
+}
+
+/// Writes the info line of each zone, with these counts.
+fn write_info_lines<W: Writer>(
+    writer: &mut W,
+    zones: &[Zone],
+    counts: &[Counts],
+) -> Result<(), WriteFault>
+    ensures ok { OnOk result (IsWritten (W.contents writer.old) (W.contents writer.new) (info_lines (map (λ (z : ZoneState). z.name) zones.now) counts.now)) }
+    ensures calm { OnOk result (W.failures writer.new ≡ W.failures writer.old) }
+    ensures err { OnErr result (IsBegun (W.contents writer.old) (W.contents writer.new) (info_lines (map (λ (z : ZoneState). z.name) zones.now) counts.now)) }
+    ensures failed { OnErr result (W.failures writer.old < W.failures writer.new) }
+{
+    for at in 0..zones.len().min(counts.len()) {
+        write_counts(writer, zones[at].name(), &counts[at])?;
+    }
+    Ok(())
+}
+
+/// Writes the info line of each zone.
+fn write_infos<W: Writer>(writer: &mut W, zones: &[Zone]) -> Result<(), WriteFault>
+    ensures ok { OnOk result (IsWritten (W.contents writer.old) (W.contents writer.new) (flat_map info_of (map named_zone zones.now))) }
+    ensures calm { OnOk result (W.failures writer.new ≡ W.failures writer.old) }
+    ensures err { OnErr result (IsBegun (W.contents writer.old) (W.contents writer.new) (flat_map info_of (map named_zone zones.now))) }
+    ensures failed { OnErr result (W.failures writer.old < W.failures writer.new) }
+{
+    for zone in zones {
+        zone.write_info(writer)?;
+    }
+    Ok(())
+}
+
+/// The total line of the zone of this number, with where its pages are.
+fn total_line(crew: &Crew, number: usize, totals: Totals) -> Line
+    requires place { number < length crew.now.zones }
+    requires totals { totals ≡ totals_of (zone_at crew.now.zones number).plain (owns_at crew.now.shares number) }
+    ensures { result.bytes ≡ total_of crew.now number }
+{
+    total_line_of(&crew.zones()[number], &totals)
+}
+
+/// Writes the total line of each zone. The shares are gathered, so each page is in one place; nothing changes.
+fn write_total_lines<W: Writer>(writer: &mut W, crew: &mut Crew) -> Result<(), WriteFault>
+    ensures ok { OnOk result (IsWritten (W.contents writer.old) (W.contents writer.new) (total_lines crew.old)) }
+    ensures calm { OnOk result (W.failures writer.new ≡ W.failures writer.old) }
+    ensures err { OnErr result (IsBegun (W.contents writer.old) (W.contents writer.new) (total_lines crew.old)) }
+    ensures failed { OnErr result (W.failures writer.old < W.failures writer.new) }
+    ensures same { crew.new ≡ crew.old }
+    ensures adds_up { (i : ℕ) → i < length crew.old.zones → AddsUp (zone_at crew.old.zones i).plain (owns_at crew.old.shares i) }
+{
+    let totals = crew.gather();
+    for number in 0..totals.len() {
+        let line = total_line(crew, number, totals[number]);
+        write_all(writer, line.as_bytes())?;
+    }
+    Ok(())
+}

@@ -1,0 +1,105 @@
+//! The replay in threads: one for each worker, all at the same time.
+ghost use Rattle.std.specs.Prelude.{◌≡◌, ◌≢◌, ◌<◌, ℕ, All, Ok, Err, IfOk, map};
+ghost use Rattle.std.specs.Thread.{IsSync};
+ghost use Rattle.zp_share.specs.Shares.{key_of};
+ghost use Rattle.zp_crew.specs.Offices.{AreDesksOf};
+ghost use Rattle.zp_replay.specs.Replaying.{IsParsed, IsRefusedAt, IsUnanswered};
+ghost use Rattle.zp_replay.specs.Serving.{IsOfficeServed, IsReportCut, IsReported, IsServed, IsUnworked};
+
+use crate::ending::{Ending, ReplayFault};
+use crate::report::write_report;
+use crate::traces::{Input, read_trace};
+use std::alloc::Global;
+use std::marker::Brand;
+use std::sync::Wait;
+use std::thread::Threads;
+use zp_crew::{Office, opened_desks};
+use zp_desk::{Desk, Gate};
+use zp_model::Refused;
+use zp_shared::{Naming, close_zones, run_workers, share_zones};
+use zp_trace::Trace;
+use zp_zone::{Reader, Writer, Zone};
+
+/// The zones and desks of a trace, when all workers have carried out their commands, each in a thread of its own, with the gate
+/// called round each command. Memory, or NoThread.
+fn serve_at_once<T: Threads + Wait + Sync, G: Gate + Sync>(
+    rt: &T,
+    alloc: Global,
+    trace: &Trace,
+    gate: &G,
+) -> Result<Office, ReplayFault>
+    requires { IsParsed trace.now }
+    ensures served { IfOk result (IsServed trace.now) }
+    ensures only { (result ≡ Err ReplayFault.Read → ⊥) × (result ≡ Err ReplayFault.Write → ⊥) }
+{
+    let (zones, desks) = match opened_desks(alloc, trace) {
+        Ok(parts) => parts,
+        Err(Refused::Memory) => return Err(ReplayFault::Memory),
+        Err(_) => unreachable!(),
+    };
+    serve_as::<Brand, T, G>(rt, alloc, zones, desks, gate)
+}
+
+/// The zones behind locks, under one name, and the workers at their desks; then the zones out of their locks.
+fn serve_as<J: Naming + Send + Sync, T: Threads + Wait + Sync, G: Gate + Sync>(
+    rt: &T,
+    alloc: Global,
+    zones: Vec<Zone>,
+    desks: Vec<Desk>,
+    gate: &G,
+) -> Result<Office, ReplayFault>
+    requires named { map key_of zones.items ≡ J.zones }
+    requires desks { AreDesksOf zones.items desks.items }
+    requires unworked { All IsUnworked desks.items }
+    ensures office { IfOk result (λ o. IsOfficeServed zones.items desks.items o) }
+    ensures only { (result ≡ Err ReplayFault.Read → ⊥) × (result ≡ Err ReplayFault.Write → ⊥) }
+{
+    let room = Vec::with_capacity(alloc, zones.len())?;
+    let Ok(row) = share_zones::<J>(alloc, zones) else {
+        return Err(ReplayFault::Memory);
+    };
+    let mut desks = desks;
+    if run_workers(rt, &row, &mut desks, gate).is_err() {
+        return Err(ReplayFault::NoThread);
+    }
+    match close_zones(row, room) {
+        Some(zones) => Ok(Office::new(zones, desks)),
+        None => Err(ReplayFault::NoThread),
+    }
+}
+
+/// Reads a trace to its end, or as much as no good trace has, and has its workers carry out their commands at the same time, each
+/// in a thread of its own, with the gate called round each command. When all have ended, it writes their replies, in the trace's
+/// order, and where the pages are; of a bad trace the number of its bad line. Where a thread could not be started, nothing is
+/// written.
+pub fn replay_threads<T: Threads + Wait + Sync, R: Reader, W: Writer, G: Gate + Sync>(
+    rt: &T,
+    alloc: Global,
+    reader: &mut R,
+    writer: &mut W,
+    gate: &G,
+) -> Result<Ending, ReplayFault>
+    ensures good { result ≡ Ok Ending.Good → IsReported (R.remaining reader.old) (R.remaining reader.new) (W.contents writer.old) (W.contents writer.new) }
+    ensures bad { (n : ℕ) → result ≡ Ok (Ending.BadLine n) → IsRefusedAt (R.remaining reader.old) (R.remaining reader.new) (W.contents writer.old) (W.contents writer.new) n }
+
+    // What is left where it broke off.
+    ensures no_thread { result ≡ Err ReplayFault.NoThread → IsUnanswered (R.remaining reader.old) (R.remaining reader.new) (W.contents writer.old) (W.contents writer.new) }
+    ensures unread { result ≡ Err ReplayFault.Read → IsUnanswered (R.remaining reader.old) (R.remaining reader.new) (W.contents writer.old) (W.contents writer.new) }
+    ensures unmade { result ≡ Err ReplayFault.Memory → IsUnanswered (R.remaining reader.old) (R.remaining reader.new) (W.contents writer.old) (W.contents writer.new) }
+    ensures begun { result ≡ Err ReplayFault.Write → IsReportCut (R.remaining reader.old) (R.remaining reader.new) (W.contents writer.old) (W.contents writer.new) }
+
+    // A device has failed where its fault is answered, and nowhere else.
+    ensures read { result ≡ Err ReplayFault.Read → R.failures reader.old < R.failures reader.new }
+    ensures read_only { result ≢ Err ReplayFault.Read → R.failures reader.new ≡ R.failures reader.old }
+    ensures write { result ≡ Err ReplayFault.Write → W.failures writer.old < W.failures writer.new }
+    ensures write_only { result ≢ Err ReplayFault.Write → W.failures writer.new ≡ W.failures writer.old }
+{
+    let trace = match read_trace(alloc, reader, writer)? {
+        Input::Trace(trace) => trace,
+        Input::BadLine(number) => return Ok(Ending::BadLine(number)),
+    };
+    let room = Vec::with_capacity(alloc, trace.header.workers as usize)?;
+    let office = serve_at_once(rt, alloc, &trace, gate)?;
+    write_report(writer, office, trace.commands.as_slice(), room)?;
+    Ok(Ending::Good)
+}
