@@ -7,7 +7,7 @@ use crate::bench::NoMemory;
 use crate::random::Checksum;
 use std::alloc::Global;
 use zp_model::{Mark, MigrateType, Order};
-use zp_share::{ListConfig, PlainZones, Share, alloc, free};
+use zp_share::{ListConfig, PlainZones, Share, Zones, alloc, free};
 use zp_zone::{Zone, ZoneConfig};
 
 /// How many pages a refill asks for.
@@ -15,6 +15,29 @@ const BATCH: u8 = 31;
 
 /// How many pages a list has at most.
 const HIGH_LEN: u8 = 64;
+
+/// The longest settings of lists.
+pub fn lists() -> Result<ListConfig, NoMemory> {
+    ListConfig::new(BATCH, HIGH_LEN).ok_or(NoMemory)
+}
+
+/// Takes a Movable page of the first zone and gives it back; the page counts into the checksum.
+pub fn pair<Z: Zones>(share: &mut Share, zones: &mut Z, checksum: &mut Checksum)
+    requires fits { IsShareOf (Z.keys zones.old) share.old }
+    requires one { length share.old.zones ≡ 1 }
+    ensures keys { Z.keys zones.new ≡ Z.keys zones.old }
+    ensures fits { IsShareOf (Z.keys zones.new) share.new }
+    ensures one { length share.new.zones ≡ 1 }
+{
+    let (order, kind) = (Order::zero(), MigrateType::Movable);
+    match alloc(share, zones, order, kind, 0, Mark::Any) {
+        Ok(lent) => {
+            checksum.add(u64::from(lent.page.number()) + 1);
+            let _ = free(share, zones, lent.zone, lent.page, lent.order);
+        }
+        Err(_) => checksum.add(0),
+    }
+}
 
 /// A zone with nothing lent at first, the share of its one worker, and the checksum of the pages answered.
 #[derive(Drop)]
@@ -35,13 +58,10 @@ impl CachedBench {
             pages,
             min: 0,
         };
-        let Some(lists) = ListConfig::new(BATCH, HIGH_LEN) else {
-            return Err(NoMemory);
-        };
         let mut zones = Vec::with_capacity(alloc, 1)?;
         let (zone, seats) = Zone::new(alloc, config, 1)?;
         zones.push_reserved(zone);
-        let share = Share::new(alloc, seats, lists)?;
+        let share = Share::new(alloc, seats, lists()?)?;
         Ok(CachedBench {
             zones: PlainZones::new(zones),
             share,
@@ -53,23 +73,10 @@ impl CachedBench {
         self.checksum.value()
     }
 
-    /// Takes a Movable page and gives it back; the page counts into the checksum.
-    fn pair(&mut self) {
-        let (order, kind) = (Order::zero(), MigrateType::Movable);
-        let (share, zones) = (&mut self.share, &mut self.zones);
-        match alloc(share, zones, order, kind, 0, Mark::Any) {
-            Ok(lent) => {
-                self.checksum.add(u64::from(lent.page.number()) + 1);
-                let _ = free(share, zones, lent.zone, lent.page, lent.order);
-            }
-            Err(_) => self.checksum.add(0),
-        }
-    }
-
     /// So many pairs. Answers how many calls they were.
     pub fn pairs(&mut self, ops: u32) -> u64 {
         for _ in 0..ops {
-            self.pair();
+            pair(&mut self.share, &mut self.zones, &mut self.checksum);
         }
         2 * u64::from(ops)
     }

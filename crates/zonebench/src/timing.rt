@@ -2,14 +2,20 @@
 
 use crate::bench::Bench;
 use crate::cached::CachedBench;
+use crate::threads;
 use crate::workload::{SIZES, Workload};
 use std::alloc::Global;
 use std::rt::Clock;
+use std::sync::Wait;
+use std::thread::Threads;
 use std::time::{Duration, Instant};
 use zp_model::Order;
 
 /// The calls that are timed, about.
 const CALLS: u32 = 2_000_000;
+
+/// The pages of the zone that workers in threads share.
+const SHARED_PAGES: u32 = 4096;
 
 /// Tenths of a nanosecond that a call of a workload takes in a zone of so many pages.
 fn tenths_a_call(
@@ -92,8 +98,33 @@ fn print_cached_times(
     Ok(())
 }
 
+/// Prints nanoseconds a call of pairs of cached pages of each of so many workers, all at the same time, in one shared zone.
+fn print_shared_time<R: Print + Eprint + Clock + Threads + Wait + Sync>(
+    rt: &R,
+    alloc: Global,
+    name: &str,
+    workers: u32,
+) -> anyhow::Result<()> {
+    print_name(rt, name)?;
+    let time = threads::time(rt, alloc, SHARED_PAGES, workers, CALLS / 2)?;
+    print_tenths(rt, tenths_each(time, u64::from(CALLS)))?;
+    println!(rt;)?;
+    Ok(())
+}
+
+/// Prints the table, nanoseconds a call, by the pages of the zone, and after it those of workers in threads, in a zone of 4,096.
+pub fn print_all<R: Print + Eprint + Clock + Threads + Wait + Sync>(
+    rt: &R,
+    alloc: Global,
+) -> anyhow::Result<()> {
+    print_table(rt, alloc)?;
+    print_shared_time(rt, alloc, "cached pairs, one thread", 1)?;
+    print_shared_time(rt, alloc, "cached pairs, four threads", 4)?;
+    Ok(())
+}
+
 /// Prints the table: nanoseconds a call, by the pages of the zone.
-pub fn print_all(rt: &(impl Print + Eprint + Clock), alloc: Global) -> anyhow::Result<()> {
+fn print_table(rt: &(impl Print + Eprint + Clock), alloc: Global) -> anyhow::Result<()> {
     println!(rt;
         "{:<34}{:>12}{:>12}{:>12}",
         "nanoseconds a call", "1024 pages", "4096", "65536"
