@@ -106,14 +106,12 @@ fn time_as<J: Naming + Send + Sync, R: Threads + Wait + Clock + Sync>(
     let workers = crew::<J>(alloc, seats)?;
     let row = Row::<J>::new(alloc, zone)?;
     let start = Instant::now(rt)?;
-    let workers = map_vec(rt, workers, &|worker| worker.pairs(rt, &row, ops))?;
-    let time = start.elapsed(rt)?;
-    drop(workers);
-    Ok(time)
+    let _workers = map_vec(rt, workers, &|worker| worker.pairs(rt, &row, ops))?;
+    Ok(start.elapsed(rt)?)
 }
 
 /// The time from the first worker's start to the last one's end, of so many pairs of cached pages for each of so many workers, all
-/// at the same time, over a zone of so many pages with marks 0.
+/// at the same time, over a zone of so many pages with marks 0. Where no thread can be made, a worker waits for its turn in this one.
 pub fn time<R: Threads + Wait + Clock + Sync>(
     rt: &R,
     alloc: Global,

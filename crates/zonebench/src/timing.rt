@@ -15,7 +15,7 @@ use zp_model::Order;
 const CALLS: u32 = 2_000_000;
 
 /// The pages of the zone that workers in threads share.
-const SHARED_PAGES: u32 = 4096;
+const SHARED_PAGES: u32 = SIZES[1];
 
 /// Tenths of a nanosecond that a call of a workload takes in a zone of so many pages.
 fn tenths_a_call(
@@ -98,7 +98,8 @@ fn print_cached_times(
     Ok(())
 }
 
-/// Prints nanoseconds a call of pairs of cached pages of each of so many workers, all at the same time, in one shared zone.
+/// Prints a line under the table: the time of pairs of cached pages of each of so many workers, all at the same time, at the second
+/// size of a zone.
 fn print_shared_time<R: Print + Eprint + Clock + Threads + Wait + Sync>(
     rt: &R,
     alloc: Global,
@@ -107,12 +108,13 @@ fn print_shared_time<R: Print + Eprint + Clock + Threads + Wait + Sync>(
 ) -> anyhow::Result<()> {
     print_name(rt, name)?;
     let time = threads::time(rt, alloc, SHARED_PAGES, workers, CALLS / 2)?;
+    print!(rt; "{:>12}", "")?;
     print_tenths(rt, tenths_each(time, u64::from(CALLS)))?;
     println!(rt;)?;
     Ok(())
 }
 
-/// Prints the table, nanoseconds a call, by the pages of the zone, and after it those of workers in threads, in a zone of 4,096.
+/// Prints the table, and under it the times of one worker and of four at the same time.
 pub fn print_all<R: Print + Eprint + Clock + Threads + Wait + Sync>(
     rt: &R,
     alloc: Global,
