@@ -1,4 +1,6 @@
 //! Traces whose workers carry out their commands at the same time, each in a thread of its own.
+ghost use Rattle.std.specs.Prelude.{◌≡◌, ◌<◌};
+
 use super::*;
 use crossbeam_utils::atomic::AtomicCell;
 use std::thread;
