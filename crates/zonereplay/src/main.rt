@@ -7,23 +7,24 @@
 ghost use Rattle.std.specs.Prelude.{◌≡◌, ◌<◌};
 
 use std::env;
-use std::io::ErrorKind;
+use std::io::{ErrorKind, Read, Write};
 use std::marker::Brand;
 use std::process::ExitCode;
 use std::rt::Env;
+use std::sync::Wait;
 use std::sync::ledger::{Blank, Ledger};
+use std::thread::Threads;
 use zp_desk::OpenGate;
 use zp_replay::device::{Sink, Source};
 use zp_replay::{Exit, Failures, FlagFault, Flags, exit_status, read_flags, replay_serial, replay_threads};
 
 fn main(rt: HostRuntime) -> ExitCode {
     let exit = match own_flags(&rt) {
-        Ok(flags) => replay_own_streams::<Brand, Brand>(
-            &rt,
-            flags.serial,
-            Blank::new(1),
-            Blank::new(1),
-        ),
+        Ok(flags) => {
+            let (stdin, stdout) = (rt.stdin(), rt.stdout());
+            let (reads, writes) = (Blank::new(1), Blank::new(1));
+            replay_streams::<Brand, Brand, _, _, _>(&rt, flags.serial, stdin, stdout, reads, writes)
+        }
         Err(fault) => Exit::Refused(fault),
     };
     // There is nobody left to tell that standard error failed.
@@ -42,20 +43,21 @@ fn own_flags(rt: &(impl Env + AllocGlobal)) -> Result<Flags, FlagFault> {
     read_flags(rt.alloc(), words.as_slice())
 }
 
-/// Replays a trace from standard input onto standard output, with a ledger of the failures of each.
-fn replay_own_streams<K: Ledger, L: Ledger>(
-    rt: &HostRuntime,
-    serial: bool,
-    reads: Blank,
-    writes: Blank,
-) -> Exit
+/// Replays a trace from the one stream onto the other, with a ledger of the failures of each.
+fn replay_streams<
+    K: Ledger,
+    L: Ledger,
+    T: AllocGlobal + Threads + Wait + Sync,
+    I: Read + Drop,
+    O: Write + Drop,
+>(rt: &T, serial: bool, input: I, output: O, reads: Blank, writes: Blank) -> Exit
     requires read_name { reads.name ≡ K.name }
     requires read_parts { (reads.parts ≡ K.parts) × (0 < reads.parts) }
     requires write_name { writes.name ≡ L.name }
     requires write_parts { (writes.parts ≡ L.parts) × (0 < writes.parts) }
 {
-    let mut source = Source::new(rt.stdin(), Failures::<K>::new(reads));
-    let mut sink = Sink::new(rt.stdout(), Failures::<L>::new(writes));
+    let mut source = Source::new(input, Failures::<K>::new(reads));
+    let mut sink = Sink::new(output, Failures::<L>::new(writes));
     let ended = if serial {
         replay_serial(rt.alloc(), &mut source, &mut sink)
     } else {
