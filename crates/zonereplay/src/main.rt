@@ -16,7 +16,9 @@ use std::sync::ledger::{Blank, Ledger};
 use std::thread::Threads;
 use zp_desk::OpenGate;
 use zp_replay::device::{Sink, Source};
-use zp_replay::{Exit, Failures, FlagFault, Flags, exit_status, read_flags, replay_serial, replay_threads};
+use zp_replay::{
+    Exit, Failures, FlagFault, Flags, exit_status, read_flags, replay_serial, replay_threads,
+};
 
 fn main(rt: HostRuntime) -> ExitCode {
     let exit = match own_flags(&rt) {
