@@ -1,5 +1,5 @@
 //! Callers of the zone allocator, as a user would write them. Each is proved from the contracts of the calls that it makes:
-//! there is no proof file here, and where one were wanted, a contract below would say too little.
+//! there is no proof file here but a line that names a shared row, and where one were wanted, a contract below would say too little.
 #![tactic(auto)]
 
 mod buddyinfo;
@@ -8,6 +8,7 @@ mod handing_over;
 mod huge_page;
 mod low_block;
 mod page_pool;
+mod shared_row;
 mod two_pages;
 
 pub use buddyinfo::{Memory, show};
@@ -16,6 +17,7 @@ pub use handing_over::{receive, relay, send};
 pub use huge_page::{Run, give_run, take_huge_page};
 pub use low_block::take_below;
 pub use page_pool::PagePool;
+pub use shared_row::{SharedRun, share_a_zone};
 pub use two_pages::take_two;
 
 #[cfg(test)]

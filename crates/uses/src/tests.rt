@@ -82,6 +82,16 @@ fn a_block_below_a_limit_is_kept(rt: HostRuntime) -> Result<(), Fail> {
     Ok(())
 }
 
+#[test]
+fn two_workers_share_a_zone(rt: HostRuntime) -> Result<(), Fail> {
+    let config = ZoneConfig { min: 0, ..DMA };
+    let run = share_a_zone(&rt, rt.alloc(), config).ok_or("the zone can be shared")?;
+    assert_eq!(rt; run.free_pages, 1024);
+    assert_eq!(rt; run.requests, 4);
+    assert!(rt; run.is_legal);
+    Ok(())
+}
+
 /// Keeps the bytes that it is given.
 #[derive(Drop)]
 struct Kept {

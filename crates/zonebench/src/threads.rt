@@ -18,6 +18,9 @@ use zp_share::Share;
 use zp_shared::{LockedZones, Naming, SharedZone, share_zones};
 use zp_zone::{Seat, Zone, ZoneConfig};
 
+/// The room of the zone's journal: each worker fills its list once.
+const ENTRIES: u32 = 64;
+
 /// A row of one zone, behind its lock.
 #[derive(Drop)]
 struct Row<J: Naming> {
@@ -27,12 +30,13 @@ struct Row<J: Naming> {
 
 impl<J: Naming> Row<J> {
     fn new(alloc: Global, zone: Zone) -> Result<Row<J>, NoMemory>
-        requires { J.zones ≡ key_of zone ∷ [] }
+        requires named { J.zones ≡ key_of zone ∷ [] }
+        requires new { zone.entries ≡ [] }
     {
         let mut zones = Vec::with_capacity(alloc, 1)?;
         zones.push_reserved(zone);
         Ok(Row {
-            zones: share_zones::<J>(alloc, zones)?,
+            zones: share_zones::<J>(alloc, zones, ENTRIES)?,
         })
     }
 }
@@ -100,6 +104,7 @@ fn time_as<J: Naming + Send + Sync, R: Threads + Wait + Clock + Sync>(
     ops: u32,
 ) -> anyhow::Result<Duration>
     requires named { J.zones ≡ key_of zone ∷ [] }
+    requires new { zone.entries ≡ [] }
     requires fits { All (IsSeatOf zone) seats.items }
     requires unused { All IsUnused seats.items }
 {

@@ -1,5 +1,6 @@
-//! `zonereplay [--serial]`: reads a trace on standard input and writes its output on standard output. Each worker's commands are
-//! carried out in a thread of its own; with `--serial` all of them one after another in this one.
+//! `zonereplay [--serial] [--journal]`: reads a trace on standard input and writes its output on standard output. Each worker's commands
+//! are carried out in a thread of its own; with `--serial` all of them one after another in this one. `--journal` adds all that was
+//! asked of each zone, with the replies.
 //!
 //! What it says on standard error as it ends, and with which status, is what `Exit` and `exit_status` of `zp_replay` say.
 #![tactic(auto)]
@@ -25,7 +26,7 @@ fn main(rt: HostRuntime) -> ExitCode {
         Ok(flags) => {
             let (stdin, stdout) = (rt.stdin(), rt.stdout());
             let (reads, writes) = (Blank::new(1), Blank::new(1));
-            replay_streams::<Brand, Brand, _, _, _>(&rt, flags.serial, stdin, stdout, reads, writes)
+            replay_streams::<Brand, Brand, _, _, _>(&rt, flags, stdin, stdout, reads, writes)
         }
         Err(fault) => Exit::Refused(fault),
     };
@@ -52,7 +53,7 @@ fn replay_streams<
     T: AllocGlobal + Threads + Wait + Sync,
     I: Read + Drop,
     O: Write + Drop,
->(rt: &T, serial: bool, input: I, output: O, reads: Blank, writes: Blank) -> Exit
+>(rt: &T, flags: Flags, input: I, output: O, reads: Blank, writes: Blank) -> Exit
     requires read_name { reads.name ≡ K.name }
     requires read_parts { (reads.parts ≡ K.parts) × (0 < reads.parts) }
     requires write_name { writes.name ≡ L.name }
@@ -60,10 +61,17 @@ fn replay_streams<
 {
     let mut source = Source::new(input, Failures::<K>::new(reads));
     let mut sink = Sink::new(output, Failures::<L>::new(writes));
-    let ended = if serial {
+    let ended = if flags.serial {
         replay_serial(rt.alloc(), &mut source, &mut sink)
     } else {
-        replay_threads(rt, rt.alloc(), &mut source, &mut sink, &OpenGate)
+        replay_threads(
+            rt,
+            rt.alloc(),
+            &mut source,
+            &mut sink,
+            flags.journal,
+            &OpenGate,
+        )
     };
     match ended {
         Ok(ending) => Exit::Replayed(ending),

@@ -1,6 +1,7 @@
 //! The making of desks: a worker's share, with the script of its commands.
 ghost use Rattle.std.specs.Prelude.{◌≡◌, [], All, map, IfOk, IfErr};
 ghost use Rattle.zp_trace.specs.Grammar.{IsBeginning, lines_of};
+ghost use Rattle.zp_zone.specs.Seats.{ZoneState};
 ghost use Rattle.zp_share.specs.Shares.{named_zone};
 ghost use Rattle.zp_desk.specs.Desks.{DeskState, plain_desk};
 ghost use Rattle.zp_crew.specs.Offices.{AreDesksOf, desk_for, opened_office};
@@ -22,6 +23,7 @@ pub fn opened_desks(alloc: Global, trace: &Trace) -> Result<(Vec<Zone>, Vec<Desk
     ensures desks { IfOk result (λ c. map plain_desk c.1.items ≡ (opened_office trace.now).desks) }
     ensures office { IfOk result (λ c. AreDesksOf c.0.items c.1.items) }
     ensures unworked { IfOk result (λ c. All (λ (d : DeskState). d.replies ≡ []) c.1.items) }
+    ensures new { IfOk result (λ c. All (λ (z : ZoneState). z.entries ≡ []) c.0.items) }
     ensures why { IfErr result (λ r. r ≡ Refused.Memory) }
 {
     let (zones, shares) = opened(alloc, &trace.header)?;

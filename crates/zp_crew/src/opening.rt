@@ -2,7 +2,7 @@
 ghost use Rattle.std.specs.Prelude.{ℕ, ◌≡◌, ◌≤◌, List, [], All, drop, length, map, slice_index_or, IfOk, IfErr, OnOk};
 ghost use Rattle.zp_model.specs.Bounds.{IsCrew};
 ghost use Rattle.zp_trace.specs.Grammar.{IsHeader, IsZoneLine};
-ghost use Rattle.zp_zone.specs.Seats.{SeatState, IsUnused, books, seats_of};
+ghost use Rattle.zp_zone.specs.Seats.{ZoneState, SeatState, IsUnused, books, seats_of};
 ghost use Rattle.zp_share.specs.Shares.{named_zone, no_seat, plain};
 ghost use Rattle.zp_crew.specs.Crews.{AreSharesOf, AreSeatsOf};
 ghost use Rattle.zp_crew.specs.Opening.{declared_zone, opened_crew};
@@ -21,6 +21,7 @@ pub fn opened(alloc: Global, header: &Header) -> Result<(Vec<Zone>, Vec<Share>),
     ensures zones { IfOk result (λ c. map named_zone c.0.items ≡ (opened_crew header.now).zones) }
     ensures shares { IfOk result (λ c. map plain c.1.items ≡ (opened_crew header.now).shares) }
     ensures crew { IfOk result (λ c. AreSharesOf c.0.items c.1.items) }
+    ensures new { IfOk result (λ c. All (λ (z : ZoneState). z.entries ≡ []) c.0.items) }
     ensures why { IfErr result (λ r. r ≡ Refused.Memory) }
 {
     let (zones, mut seats) = declared(alloc, header)?;
@@ -42,6 +43,7 @@ fn declared(alloc: Global, header: &Header) -> Result<(Vec<Zone>, Vec<SeatRow>),
     requires { IsHeader header.now }
     ensures zones { IfOk result (λ c. map named_zone c.0.items ≡ (opened_crew header.now).zones) }
     ensures seats { IfOk result (λ c. AreSeatsOf header.now.workers c.0.items c.1.items) }
+    ensures new { IfOk result (λ c. All (λ (z : ZoneState). z.entries ≡ []) c.0.items) }
     ensures why { IfErr result (λ r. r ≡ Refused.Memory) }
 {
     let lines = header.zones.as_slice();

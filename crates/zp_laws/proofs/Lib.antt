@@ -21,6 +21,7 @@ pub mod Moves
 pub mod StepMoves
 pub mod TakingBack
 pub mod Replaying
+pub mod Histories
 pub mod StaysOut
 pub mod AddingUp
 pub mod BooksOut

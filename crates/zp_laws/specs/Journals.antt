@@ -1,10 +1,11 @@
 -- What workers ask of a zone one after the other, and the journal of it.
-use Rattle.std.specs.Prelude.{ℕ, ◌≡◌, List, [], ◌∷◌}
+use Rattle.std.specs.Prelude.{ℕ, ◌≡◌, List, [], ◌∷◌, ◌++◌}
 use Rattle.zp_model.specs.declared.request.Entry.{Entry}
 use Rattle.zp_model.specs.declared.request.Request.{Request}
-use Rattle.zp_model.specs.Zone.{PlainZone}
+use Rattle.zp_model.specs.Zone.{PlainZone, zone_opening}
 use Rattle.zp_model.specs.Step.{step}
-use Rattle.zp_model.specs.Run.{IsDefined, run, IsLegal}
+use Rattle.zp_model.specs.Run.{IsDefined, run, IsLegal, IsHistory}
+use Rattle.zp_model.specs.Books.{entry_of}
 
 -- a worker's request
 pub record Asked : Type 0 where
@@ -43,3 +44,13 @@ asked_in (e ∷ es) = record { worker = e.worker; request = e.request } ∷ aske
 
 abbrev pub LegalHistoriesAreJournals : Type 0
 LegalHistoriesAreJournals = (z : PlainZone) (es : List Entry) → IsLegal z es → journal z (asked_in es) ≡ es
+
+-- a zone as it was made has the empty history
+abbrev pub HistoriesBegin : Type 0
+HistoriesBegin = (m base pages min workers : ℕ) → IsHistory (zone_opening m base pages min workers) []
+
+-- and with the entry of each request that is defined, a zone's history is the history of what the request leaves
+abbrev pub HistoriesGoOn : Type 0
+HistoriesGoOn =
+    (z : PlainZone) (es : List Entry) (w : ℕ) (r : Request) → IsHistory z es → IsDefined z w r →
+    IsHistory (step z w r).zone (es ++ entry_of z w r ∷ [])

@@ -1,5 +1,5 @@
 //! Laws on journals, and on taking and giving back. Each function does nothing: its contract is the law.
-ghost use Rattle.zp_laws.specs.Journals.{JournalsReplay, LegalHistoriesAreJournals};
+ghost use Rattle.zp_laws.specs.Journals.{JournalsReplay, LegalHistoriesAreJournals, HistoriesBegin, HistoriesGoOn};
 ghost use Rattle.zp_laws.specs.TakenBack.{GivingBackRestores};
 
 /// A journal run from where it began gives the zone that made it, and is legal there.
@@ -10,6 +10,16 @@ pub fn journals_replay()
 /// A legal history is the journal of its own requests.
 pub fn legal_histories_are_journals()
     ensures { LegalHistoriesAreJournals }
+{}
+
+/// A zone as it was made has the empty history.
+pub fn histories_begin()
+    ensures { HistoriesBegin }
+{}
+
+/// A zone's history, and the entry of a request more, is the history of what the request leaves.
+pub fn histories_go_on()
+    ensures { HistoriesGoOn }
 {}
 
 /// A block that is taken and given back leaves the free pages as they were, and the types where none was claimed.

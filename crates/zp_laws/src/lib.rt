@@ -10,7 +10,10 @@ pub use book_laws::{
     parts_keep_their_places, parts_tell_what_is_out, replies_tell_their_part,
     requests_leave_others, requests_make_one_entry,
 };
-pub use journal_laws::{giving_back_restores, journals_replay, legal_histories_are_journals};
+pub use journal_laws::{
+    giving_back_restores, histories_begin, histories_go_on, journals_replay,
+    legal_histories_are_journals,
+};
 pub use page_laws::{pages_add_up, refusals_change_nothing, steps_keep_the_zone, steps_move_pages};
 pub use zone_laws::{
     alloc_keeps_lawful, choosing_finds_free, choosing_misses_none, opening_is_lawful,

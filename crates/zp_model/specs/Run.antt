@@ -6,7 +6,7 @@ use Rattle.zp_model.specs.declared.request.Entry.{Entry}
 use Rattle.zp_model.specs.declared.request.Request.{Request}
 use Rattle.zp_model.specs.declared.request.Request.TheVariants.{Alloc, AllocLow, Free, Post, Collect, Refill, Drain}
 use Rattle.zp_model.specs.Rows.{stands_in}
-use Rattle.zp_model.specs.Zone.{PlainZone, holds, workers_of}
+use Rattle.zp_model.specs.Zone.{PlainZone, holds, pages_of, workers_of, zone_opening}
 use Rattle.zp_model.specs.Step.{step}
 
 abbrev pub is_distinct : List ℕ → Bool
@@ -43,3 +43,12 @@ IsLegalEntry z e = IsDefined z e.worker e.request × ((step z e.worker e.request
 abbrev pub IsLegal : PlainZone → List Entry → Type 0
 IsLegal z [] = Unit {0}
 IsLegal z (e ∷ es) = IsLegalEntry z e × IsLegal (step z e.worker e.request).zone es
+
+-- the zone as it was made: no step changes its base, its pages, its least mark, or how many workers it has
+abbrev pub opening_of : PlainZone → PlainZone
+opening_of z = zone_opening z.area.largest z.base (pages_of z) z.min (workers_of z)
+
+-- all that was asked of the zone: a legal list from its opening, whose run the zone is
+pub record IsHistory (z : PlainZone) (es : List Entry) : Type 0 where
+  pub legal : IsLegal (opening_of z) es
+  pub run : run (opening_of z) es ≡ z

@@ -7,7 +7,7 @@ use arrayvec::ArrayVec;
 use std::marker::Model;
 
 /// Absolute pages, at most `LONGEST_LIST`, in order, in place: making one takes no memory.
-#[derive(Drop)]
+#[derive(PartialEq, Eq, Debug, Drop)]
 pub struct PageList {
     pages: ArrayVec<PageNo, LONGEST_LIST>,
 }
@@ -18,6 +18,8 @@ impl Model for PageList {
     ghost Value = { List ℕ };
 
     ghost view = { λ p. p.pages.items };
+
+    ghost inverse = { λ ps. record { pages = record { items = ps } } };
 }
 
 impl PageList {
@@ -35,6 +37,25 @@ impl PageList {
         ensures { self.new ≡ self.old ++ page ∷ [] }
     {
         self.pages.push(page);
+    }
+
+    /// These pages.
+    pub fn of(pages: &[PageNo]) -> PageList
+        requires { length pages.now ≤ LONGEST_LIST }
+        ensures { result ≡ pages.now }
+    {
+        let mut list = ArrayVec::new();
+        let Ok(()) = list.try_extend_from_slice(pages) else {
+            unreachable!()
+        };
+        PageList { pages: list }
+    }
+
+    /// The same pages once more.
+    pub fn copied(&self) -> PageList
+        ensures { result ≡ self.now }
+    {
+        PageList::of(self.as_slice())
     }
 
     pub fn as_slice(&self) -> &[PageNo]

@@ -1,9 +1,10 @@
 //! Requests of a zone, their replies, and journal entries.
+ghost use Rattle.std.specs.Prelude.{◌≡◌};
 
 use crate::{Block, Mark, MigrateType, Order, PageList, PageNo, Refused, Worker};
 
 /// What a worker asks of a zone. Pages are absolute.
-#[derive(Drop)]
+#[derive(PartialEq, Eq, Debug, Drop)]
 pub enum Request {
     /// A block of this order for this type, held to this mark.
     Alloc(Order, MigrateType, Mark),
@@ -22,7 +23,7 @@ pub enum Request {
 }
 
 /// What a zone answers. Pages are absolute.
-#[derive(Drop)]
+#[derive(PartialEq, Eq, Debug, Drop)]
 pub enum Reply {
     Page(PageNo),
     Block(Block),
@@ -34,9 +35,56 @@ pub enum Reply {
 }
 
 /// One request that a worker made of a zone, with its reply.
-#[derive(Drop)]
+#[derive(PartialEq, Eq, Debug, Drop)]
 pub struct Entry {
     pub worker: Worker,
     pub request: Request,
     pub reply: Reply,
+}
+
+impl Request {
+    /// The same request once more. It takes no memory.
+    pub fn copied(&self) -> Request
+        ensures { result ≡ self.now }
+    {
+        match self {
+            Request::Alloc(order, kind, mark) => Request::Alloc(*order, *kind, *mark),
+            Request::AllocLow(order) => Request::AllocLow(*order),
+            Request::Free(page, order) => Request::Free(*page, *order),
+            Request::Post(page, order, to) => Request::Post(*page, *order, *to),
+            Request::Collect => Request::Collect,
+            Request::Refill(kind, mark, count) => Request::Refill(*kind, *mark, *count),
+            Request::Drain(kind, pages) => Request::Drain(*kind, pages.copied()),
+        }
+    }
+}
+
+impl Reply {
+    /// The same reply once more. It takes no memory.
+    pub fn copied(&self) -> Reply
+        ensures { result ≡ self.now }
+    {
+        match self {
+            Reply::Page(page) => Reply::Page(*page),
+            Reply::Block(block) => Reply::Block(*block),
+            Reply::Freed => Reply::Freed,
+            Reply::Posted => Reply::Posted,
+            Reply::Pages(pages) => Reply::Pages(pages.copied()),
+            Reply::Drained => Reply::Drained,
+            Reply::Refused(refused) => Reply::Refused(*refused),
+        }
+    }
+}
+
+impl Entry {
+    /// The same entry once more. It takes no memory.
+    pub fn copied(&self) -> Entry
+        ensures { result ≡ self.now }
+    {
+        Entry {
+            worker: self.worker,
+            request: self.request.copied(),
+            reply: self.reply.copied(),
+        }
+    }
 }

@@ -3,8 +3,6 @@ pub mod Beginnings
 pub mod Outputs
 pub mod ShortLines
 pub mod Limits
-pub mod SerialFlag
-pub mod CommandLine
 pub mod Schedules
 pub mod Infos
 pub mod Replying
@@ -12,3 +10,4 @@ pub mod Endings
 pub mod WorkedDesks
 pub mod ServedOffices
 pub mod Outputting
+pub mod Histories

@@ -52,7 +52,7 @@ plain_served n (d ∷ ds) (e ∷ es) all zip =
     let here : length d.share.zones ≡ n = all zero d (omega arith) in
     ((zip.0.0, subst (λ m. AllZip (IsAnswerTo m) d.script e.replies) here zip.0.1), plain_served n ds es (λ k x lt. all (suc k) x (omega (arith, lt))) zip.1)
 
-zip_length : {X Y : Type 0} (R : X → Y → Type 0) (xs : List X) (ys : List Y) → AllZip R xs ys → length ys ≡ length xs
+pub zip_length : {X Y : Type 0} (R : X → Y → Type 0) (xs : List X) (ys : List Y) → AllZip R xs ys → length ys ≡ length xs
 zip_length R [] [] zip = refl
 zip_length R [] (y ∷ ys) zip = absurd zip
 zip_length R (x ∷ xs) [] zip = absurd zip

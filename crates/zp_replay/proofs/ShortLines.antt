@@ -15,10 +15,11 @@ use Rattle.zp_trace.specs.declared.line.Call.{Call}
 use Rattle.zp_trace.specs.declared.line.Call.TheVariants.{Info, Alloc, Low, Free, Post, Collect, Drain}
 use Rattle.zp_trace.specs.declared.line.Command.{Command}
 use Rattle.zp_trace.specs.declared.trace.Header.{Header}
+use Rattle.zp_trace.specs.declared.trace.Trace.{Trace}
 use Rattle.zp_trace.specs.Lines.{Line}
 use Rattle.zp_trace.specs.Lines as line
-use Rattle.zp_trace.specs.Spelling.{space, line_feed, joined, kind_word, call_words, mark_word, line_text, text_of}
-use Rattle.zp_trace.specs.Grammar.{IsZoneLine, IsHeader, IsDeclared, IsCallOf, IsCommandOf, IsAllowedAfter, IsBeginning}
+use Rattle.zp_trace.specs.Spelling.{space, line_feed, joined, kind_word, call_words, header_of, mark_word, line_text, text_of}
+use Rattle.zp_trace.specs.Grammar.{IsZoneLine, IsHeader, IsDeclared, IsCallOf, IsCommandOf, IsAllowedAfter, IsBeginning, lines_of}
 use Rattle.zp_trace.proofs.HeaderLines.{header_is, zones_are_few}
 
 -- the bytes of words with one byte more after each
@@ -154,3 +155,9 @@ pub beginning_short : (lines : List Line) → IsBeginning lines → length (text
 beginning_short lines begins =
     let s = lines_short [] lines (omega arith) begins in
     omega (arith, s.0, s.1)
+
+-- nor more commands than lines
+pub commands_few : (t : Trace) → IsBeginning (lines_of t) → length t.commands ≤ MOST_LINES
+commands_few t begins =
+    let s = lines_short [] (lines_of t) (omega arith) begins in
+    omega (arith, s.0, length-append (header_of t.header) (map line.Command t.commands), length-map t.commands line.Command)

@@ -1,10 +1,11 @@
 -- How the program ends: its exit status, and what it says on standard error.
 use Rattle.std.specs.Prelude.{ℕ, List, [], ◌∷◌, ◌++◌}
 use Rattle.zp_replay.specs.declared.ending.Ending.TheVariants.{Good, BadLine}
-use Rattle.zp_replay.specs.declared.flags.FlagFault.TheVariants as flag
+use Rattle.zp_flags.specs.declared.flags.FlagFault.TheVariants as flag
 use Rattle.zp_replay.specs.declared.exit.Exit.{Exit}
 use Rattle.zp_replay.specs.declared.exit.Exit.TheVariants.{Replayed, Broken, Refused}
-use Rattle.zp_replay.specs.Faults.{replay_message, flag_message}
+use Rattle.zp_flags.specs.Faults.{flag_message}
+use Rattle.zp_replay.specs.Faults.{replay_message}
 use Rattle.zp_replay.specs.Replies.{line_feed}
 
 -- 0 after a good trace, 2 where a word is no flag, or flags do not go together, and else 1

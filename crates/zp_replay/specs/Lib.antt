@@ -1,9 +1,9 @@
 pub mod Inputs
 pub mod Replies
 pub mod Output
-pub mod Words
 pub mod Devices
 pub mod Faults
 pub mod Exits
 pub mod Replaying
+pub mod Judging
 pub mod Serving

@@ -1,13 +1,17 @@
 -- What has become of the office of a trace when its commands were carried out, in order or by all workers at the same time.
-use Rattle.std.specs.Prelude.{ℕ, ◌≡◌, ◌<◌, ◌⊎◌, List, [], length, map, Option}
+use Rattle.std.specs.Prelude.{ℕ, ◌≡◌, ◌<◌, ◌⊎◌, ◌++◌, Bool, List, [], length, map, Option}
 use Rattle.std.specs.List.{AllZip}
 use Rattle.zp_trace.specs.declared.trace.Trace.{Trace}
 use Rattle.zp_zone.specs.Streams.{IsWritten, IsBegun}
+use Rattle.zp_model.specs.Run.{IsHistory}
+use Rattle.zp_zone.specs.NamedZone.{NamedZone}
 use Rattle.zp_zone.specs.Seats.{ZoneState}
+use Rattle.zp_journal.specs.Journals.{JournalState}
 use Rattle.zp_desk.specs.Desks.{DeskState, PlainDesk, IsAnswerTo}
 use Rattle.zp_script.specs.Scripts.{script_of}
 use Rattle.zp_crew.specs.Offices.{OfficeState, desk_of, in_order, names_in, opened_office, workers_in}
 use Rattle.zp_replay.specs.Replaying.{AddUp, IsBadLineCut, IsTraceRead}
+use Rattle.zp_replay.specs.Judging.{JudgedJournal, IsJudged, ending}
 use Rattle.zp_replay.specs.Output.{output, report}
 
 -- the office of a trace whose commands were carried out one after another
@@ -34,27 +38,48 @@ pub record IsOfficeServed (zs : List ZoneState) (ds : List DeskState) (o : Offic
   pub names : names_in o ≡ map (λ (z : ZoneState). z.name) zs
   pub desks : AllZip IsDeskServed ds o.desks
 
+-- the journal has all that was asked of the zone since its opening
+abbrev pub IsHistoryOf : NamedZone → JournalState → Type 0
+IsHistoryOf z j = IsHistory z.plain j.entries
+
+-- the same of a journal that was replayed
+abbrev pub IsJudgedHistory : NamedZone → JudgedJournal → Type 0
+IsJudgedHistory z j = IsHistory z.plain j.entries
+
 -- the input was the text of a trace, and the trace's output was written
 pub record IsReplayed (had left old new : Option (List ℕ)) : Type 0 where
   pub trace : Trace
   pub read : IsTraceRead had left trace
   pub written : IsWritten old new (output trace)
 
--- the input was the text of a trace, all its workers carried out their commands, and the report of zones and desks was written
-pub record IsReported (had left old new : Option (List ℕ)) : Type 0 where
+-- an office whose workers have each carried out their commands, the journal of each of its zones, and what its replay found
+pub record IsJudgedOffice (t : Trace) (o : OfficeState) (js : List JudgedJournal) : Type 0 where
+  pub served : IsServed t o
+  pub histories : AllZip IsJudgedHistory o.zones js
+  pub judged : AllZip (IsJudged t.header.workers) t.header.zones js
+
+-- what is written of it: the report, what was found of the journals, and their entries, where they are asked for
+abbrev pub journaled_report : Bool → Trace → OfficeState → List JudgedJournal → List ℕ
+journaled_report entries t o js = report o (workers_in t.commands) ++ ending entries js
+
+-- the input was the text of a trace, all its workers carried out their commands, and what is written of zones, desks and journals was
+-- written
+pub record IsReported (entries : Bool) (had left old new : Option (List ℕ)) : Type 0 where
   pub trace : Trace
   pub read : IsTraceRead had left trace
   pub office : OfficeState
-  pub served : IsServed trace office
+  pub journals : List JudgedJournal
+  pub served : IsJudgedOffice trace office journals
   pub sums : AddUp office
-  pub written : IsWritten old new (report office (workers_in trace.commands))
+  pub written : IsWritten old new (journaled_report entries trace office journals)
 
 -- of what was to be written a beginning was: of the trace's output, or of the number of the bad line
 abbrev pub IsCutShort : Option (List ℕ) → Option (List ℕ) → Option (List ℕ) → Option (List ℕ) → Type 0
 IsCutShort had left old new = ((t : Trace) × IsTraceRead had left t × IsBegun old new (output t)) ⊎ IsBadLineCut had left old new
 
--- and in threads: of the report of an office of the trace, or of the number of the bad line
-abbrev pub IsReportCut : Option (List ℕ) → Option (List ℕ) → Option (List ℕ) → Option (List ℕ) → Type 0
-IsReportCut had left old new =
-    ((t : Trace) × (o : OfficeState) × IsTraceRead had left t × IsServed t o × IsBegun old new (report o (workers_in t.commands)))
+-- and in threads: of what is written of an office of the trace, or of the number of the bad line
+abbrev pub IsReportCut : Bool → Option (List ℕ) → Option (List ℕ) → Option (List ℕ) → Option (List ℕ) → Type 0
+IsReportCut entries had left old new =
+    ((t : Trace) × (o : OfficeState) × (js : List JudgedJournal)
+    × IsTraceRead had left t × IsJudgedOffice t o js × IsBegun old new (journaled_report entries t o js))
     ⊎ IsBadLineCut had left old new

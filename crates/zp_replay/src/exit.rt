@@ -3,9 +3,9 @@ ghost use Rattle.std.specs.Prelude.{◌≡◌};
 ghost use Rattle.zp_replay.specs.Exits.{exit_status};
 
 use crate::ending::{Ending, ReplayFault};
-use crate::flags::FlagFault;
 use std::fmt;
 use std::fmt::{Display, Formatter};
+use zp_flags::FlagFault;
 
 /// What came of the program's run. Its text is what is said on standard error: a line, or nothing.
 #[derive(Clone, Copy, PartialEq, Eq, Debug, Drop)]

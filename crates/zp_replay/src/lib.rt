@@ -9,8 +9,8 @@ pub mod device;
 mod ending;
 mod exit;
 mod failures;
-mod flags;
 mod input;
+mod journals;
 mod lines;
 pub mod memory;
 mod report;
@@ -21,10 +21,10 @@ mod traces;
 pub use ending::{Ending, ReplayFault};
 pub use exit::{Exit, exit_status};
 pub use failures::Failures;
-pub use flags::{FlagFault, Flags, read_flags};
 pub use input::INPUT_LIMIT;
 pub use serial::replay_serial;
 pub use threads::replay_threads;
+pub use zp_flags::{FlagFault, Flags, read_flags};
 pub use zp_trace::{Trace, TraceFault, parse_trace};
 
 #[cfg(test)]

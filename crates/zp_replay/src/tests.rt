@@ -16,7 +16,8 @@ use zp_desk::OpenGate;
 
 mod bad_lines;
 mod crews;
-mod flags_and_exits;
+mod exits;
+mod journals;
 mod many_workers;
 mod several_workers;
 mod several_zones;
@@ -81,7 +82,8 @@ fn replayed_on<K: Ledger, L: Ledger>(
     }
 }
 
-/// What comes of a trace in one thread, and, where it has one worker, in threads: the same, since nobody comes between.
+/// What comes of a trace in one thread, and, where it has one worker, in threads: the same, since nobody comes between, and then what
+/// its journals say.
 fn outcomes(
     rt: &(impl AllocGlobal + Threads + Wait + Sync),
     text: &str,
@@ -90,21 +92,33 @@ fn outcomes(
     if !text.contains("\nworkers 1\n") {
         return (serial, None);
     }
-    let at_once = replayed_at_once(rt, text.as_bytes(), sound(1000), &OpenGate);
+    let at_once = replayed_at_once(rt, text.as_bytes(), sound(1000), false, &OpenGate);
     (serial, Some(at_once))
 }
 
-/// The trace is good, and this is all that it writes.
+/// The trace is good, and this is all that it writes. Where it has one worker, it writes in threads what its journals say, too.
 fn expect_output(
     rt: &(impl Abort + AllocGlobal + Threads + Wait + Sync),
     text: &str,
     output: &str,
+    journals: &str,
 ) {
     let (serial, at_once) = outcomes(rt, text);
     expect_written(rt, &serial, text, output);
     if let Some(outcome) = at_once {
-        expect_written(rt, &outcome, text, output);
+        expect_journaled(rt, &outcome, text, output.as_bytes(), journals);
     }
+}
+
+/// The trace is good, and it writes this output, and then this of its journals.
+fn expect_journaled(rt: &impl Abort, outcome: &Outcome, text: &str, output: &[u8], journals: &str) {
+    assert!(rt; outcome.ending == Ok(Ending::Good), "of {text}");
+    let written = outcome.written.as_slice();
+    assert!(rt; written.starts_with(output), "of {text}");
+    assert!(rt;
+        &written[output.len()..] == journals.as_bytes(),
+        "of {text}"
+    );
 }
 
 fn expect_written(rt: &impl Abort, outcome: &Outcome, text: &str, output: &str) {
@@ -115,18 +129,20 @@ fn expect_written(rt: &impl Abort, outcome: &Outcome, text: &str, output: &str) 
     );
 }
 
-/// The trace of a header and these commands is good, and these are all the replies.
+/// The trace of a header and these commands is good, and these are all the replies. Where it has one worker, it writes in threads
+/// what its journals say, too.
 fn expect_replies(
     rt: &(impl Abort + AllocGlobal + Threads + Wait + Sync),
     header: &str,
     commands: &str,
     replies: &str,
+    journals: &str,
 ) -> Result<(), Fail> {
     let text = format!(in rt.alloc(); "{header}{commands}")?;
     let (serial, at_once) = outcomes(rt, &text);
     expect_replied(rt, &serial, &text, replies);
     if let Some(outcome) = at_once {
-        expect_replied(rt, &outcome, &text, replies);
+        expect_journaled(rt, &outcome, &text, serial.written.as_slice(), journals);
     }
     Ok(())
 }

@@ -1,12 +1,16 @@
 //! The replay in threads: one for each worker, all at the same time.
-ghost use Rattle.std.specs.Prelude.{◌≡◌, ◌≢◌, ◌<◌, ℕ, All, Ok, Err, IfOk, map};
+ghost use Rattle.std.specs.Prelude.{◌≡◌, ◌≢◌, ◌<◌, ◌≤◌, ℕ, [], All, Ok, Err, IfOk, map};
+ghost use Rattle.std.specs.List.{AllZip};
 ghost use Rattle.std.specs.Thread.{IsSync};
+ghost use Rattle.zp_zone.specs.Seats.{ZoneState};
+ghost use Rattle.zp_journal.specs.declared.journal.TheConstants.{LONGEST_JOURNAL};
 ghost use Rattle.zp_share.specs.Shares.{key_of};
 ghost use Rattle.zp_crew.specs.Offices.{AreDesksOf};
 ghost use Rattle.zp_replay.specs.Replaying.{IsParsed, IsRefusedAt, IsUnanswered};
-ghost use Rattle.zp_replay.specs.Serving.{IsOfficeServed, IsReportCut, IsReported, IsServed, IsUnworked};
+ghost use Rattle.zp_replay.specs.Serving.{IsHistoryOf, IsOfficeServed, IsReportCut, IsReported, IsServed, IsUnworked};
 
 use crate::ending::{Ending, ReplayFault};
+use crate::journals::{judge, write_ending};
 use crate::report::write_report;
 use crate::traces::{Input, read_trace};
 use std::alloc::Global;
@@ -15,10 +19,15 @@ use std::sync::Wait;
 use std::thread::Threads;
 use zp_crew::{Office, opened_desks};
 use zp_desk::{Desk, Gate};
+use zp_journal::Journal;
 use zp_model::Refused;
 use zp_shared::{Naming, close_zones, run_workers, share_zones};
 use zp_trace::Trace;
 use zp_zone::{Reader, Writer, Zone};
+
+/// The room of a zone's journal, in entries a command: with one zone a drain makes a section for each of the worker's three lists, a
+/// free at most two, and any other command one.
+const ENTRIES_A_COMMAND: u32 = 3;
 
 /// The zones and desks of a trace, when all workers have carried out their commands, each in a thread of its own, with the gate
 /// called round each command. Memory, or NoThread.
@@ -27,9 +36,10 @@ fn serve_at_once<T: Threads + Wait + Sync, G: Gate + Sync>(
     alloc: Global,
     trace: &Trace,
     gate: &G,
-) -> Result<Office, ReplayFault>
+) -> Result<(Office, Vec<Journal>), ReplayFault>
     requires { IsParsed trace.now }
-    ensures served { IfOk result (IsServed trace.now) }
+    ensures served { IfOk result (λ s. IsServed trace.now s.0) }
+    ensures journals { IfOk result (λ s. AllZip IsHistoryOf s.0.zones s.1.items) }
     ensures only { (result ≡ Err ReplayFault.Read → ⊥) × (result ≡ Err ReplayFault.Write → ⊥) }
 {
     let (zones, desks) = match opened_desks(alloc, trace) {
@@ -37,56 +47,65 @@ fn serve_at_once<T: Threads + Wait + Sync, G: Gate + Sync>(
         Err(Refused::Memory) => return Err(ReplayFault::Memory),
         Err(_) => unreachable!(),
     };
-    serve_as::<Brand, T, G>(rt, alloc, zones, desks, gate)
+    let room = ENTRIES_A_COMMAND * trace.commands.as_slice().len() as u32;
+    serve_as::<Brand, T, G>(rt, alloc, zones, desks, room, gate)
 }
 
-/// The zones behind locks, under one name, and the workers at their desks; then the zones out of their locks.
+/// The zones behind locks, under one name, each with a journal that has room for so many entries, and the workers at their desks;
+/// then the zones out of their locks.
 fn serve_as<J: Naming + Send + Sync, T: Threads + Wait + Sync, G: Gate + Sync>(
     rt: &T,
     alloc: Global,
     zones: Vec<Zone>,
     desks: Vec<Desk>,
+    capacity: u32,
     gate: &G,
-) -> Result<Office, ReplayFault>
+) -> Result<(Office, Vec<Journal>), ReplayFault>
     requires named { map key_of zones.items ≡ J.zones }
+    requires new { All (λ (z : ZoneState). z.entries ≡ []) zones.items }
+    requires capacity { capacity ≤ LONGEST_JOURNAL }
     requires desks { AreDesksOf zones.items desks.items }
     requires unworked { All IsUnworked desks.items }
-    ensures office { IfOk result (λ o. IsOfficeServed zones.items desks.items o) }
+    ensures office { IfOk result (λ s. IsOfficeServed zones.items desks.items s.0) }
+    ensures journals { IfOk result (λ s. AllZip IsHistoryOf s.0.zones s.1.items) }
     ensures only { (result ≡ Err ReplayFault.Read → ⊥) × (result ≡ Err ReplayFault.Write → ⊥) }
 {
-    let room = Vec::with_capacity(alloc, zones.len())?;
-    let Ok(row) = share_zones::<J>(alloc, zones) else {
+    let zone_room = Vec::with_capacity(alloc, zones.len())?;
+    let journal_room = Vec::with_capacity(alloc, zones.len())?;
+    let Ok(row) = share_zones::<J>(alloc, zones, capacity) else {
         return Err(ReplayFault::Memory);
     };
     let mut desks = desks;
     if run_workers(rt, &row, &mut desks, gate).is_err() {
         return Err(ReplayFault::NoThread);
     }
-    match close_zones(row, room) {
-        Some(zones) => Ok(Office::new(zones, desks)),
+    match close_zones(row, zone_room, journal_room) {
+        Some((zones, journals)) => Ok((Office::new(zones, desks), journals)),
         None => Err(ReplayFault::NoThread),
     }
 }
 
 /// Reads a trace to its end, or as much as no good trace has, and has its workers carry out their commands at the same time, each
-/// in a thread of its own, with the gate called round each command. When all have ended, it writes their replies, in the trace's
-/// order, and where the pages are; of a bad trace the number of its bad line. Where a thread could not be started, nothing is
+/// in a thread of its own, with the gate called round each command. When all have ended, the zones' journals are replayed. Then it
+/// writes the workers' replies, in the trace's order, where the pages are, what the replays of the journals found, and all their
+/// entries, where they are asked for; of a bad trace the number of its bad line. Where a thread could not be started, nothing is
 /// written.
 pub fn replay_threads<T: Threads + Wait + Sync, R: Reader, W: Writer, G: Gate + Sync>(
     rt: &T,
     alloc: Global,
     reader: &mut R,
     writer: &mut W,
+    journal: bool,
     gate: &G,
 ) -> Result<Ending, ReplayFault>
-    ensures good { result ≡ Ok Ending.Good → IsReported (R.remaining reader.old) (R.remaining reader.new) (W.contents writer.old) (W.contents writer.new) }
+    ensures good { result ≡ Ok Ending.Good → IsReported journal (R.remaining reader.old) (R.remaining reader.new) (W.contents writer.old) (W.contents writer.new) }
     ensures bad { (n : ℕ) → result ≡ Ok (Ending.BadLine n) → IsRefusedAt (R.remaining reader.old) (R.remaining reader.new) (W.contents writer.old) (W.contents writer.new) n }
 
     // What is left where it broke off.
     ensures no_thread { result ≡ Err ReplayFault.NoThread → IsUnanswered (R.remaining reader.old) (R.remaining reader.new) (W.contents writer.old) (W.contents writer.new) }
     ensures unread { result ≡ Err ReplayFault.Read → IsUnanswered (R.remaining reader.old) (R.remaining reader.new) (W.contents writer.old) (W.contents writer.new) }
     ensures unmade { result ≡ Err ReplayFault.Memory → IsUnanswered (R.remaining reader.old) (R.remaining reader.new) (W.contents writer.old) (W.contents writer.new) }
-    ensures begun { result ≡ Err ReplayFault.Write → IsReportCut (R.remaining reader.old) (R.remaining reader.new) (W.contents writer.old) (W.contents writer.new) }
+    ensures begun { result ≡ Err ReplayFault.Write → IsReportCut journal (R.remaining reader.old) (R.remaining reader.new) (W.contents writer.old) (W.contents writer.new) }
 
     // A device has failed where its fault is answered, and nowhere else.
     ensures read { result ≡ Err ReplayFault.Read → R.failures reader.old < R.failures reader.new }
@@ -99,7 +118,9 @@ pub fn replay_threads<T: Threads + Wait + Sync, R: Reader, W: Writer, G: Gate + 
         Input::BadLine(number) => return Ok(Ending::BadLine(number)),
     };
     let room = Vec::with_capacity(alloc, trace.header.workers as usize)?;
-    let office = serve_at_once(rt, alloc, &trace, gate)?;
+    let (office, journals) = serve_at_once(rt, alloc, &trace, gate)?;
+    let journals = judge(alloc, &trace.header, journals)?;
     write_report(writer, office, trace.commands.as_slice(), room)?;
+    write_ending(writer, &journals, journal)?;
     Ok(Ending::Good)
 }

@@ -16,7 +16,7 @@ use Rattle.zp_share.specs.declared.page_use.PageUse.TheVariants.{Away, Lent, Cac
 use Rattle.zp_share.specs.declared.zone_share.ZoneShare.TheInside.{Inside}
 use Rattle.zp_share.specs.PageUses.{held, uses_after}
 use Rattle.zp_share.specs.PlainShares.{SectionsState, lists_after}
-use Rattle.zp_share.specs.ZoneShares.{ZoneShareState, IsShare, IsNew, SharesIn, IsSection, use_in, answered}
+use Rattle.zp_share.specs.ZoneShares.{ZoneShareState, IsShare, IsNew, SharesIn, last_of, IsSection, use_in, answered}
 use Rattle.zp_share.proofs.OneUse.{IsIn, in_at}
 use Rattle.zp_share.proofs.Stacks.{standing_of_all, distinct-by_test}
 use Rattle.zp_share.proofs.Answering.{AreNew, IsFit, answered_keeps, answered-blocks, length-uses_after}
@@ -51,9 +51,15 @@ answered_parts r q o m w x f es eu el en ew =
       same = same;
     }
 
--- a share that agrees with its zone has what is out in the worker's name there
+-- a share that agrees with its zone has what is out in the worker's name there, and its sections are the worker's entries
 shares_in : (z : ZoneState) (s : ZoneShareState) → IsShare s → IsSeatOf z s.seat → s.seat.worker < workers_of z.plain → Agrees z s.seat → SharesIn z s
-shares_in z s x fit known a = record { tie = fit; worker = known; blocks = sym (ap (λ p. p.blocks) a) ∙ x.blocks }
+shares_in z s x fit known a = record {
+  tie = fit;
+  worker = known;
+  blocks = sym (ap (λ p. p.blocks) a) ∙ x.blocks;
+  sections = x.sections ∙ ap (λ p. length p.entries) a;
+  last = x.last ∙ ap (λ p. last_of p.entries) a;
+}
 
 pub section_is : (r : Request) (q : Reply) (z y : ZoneState) (o m : Inside) (s : ZoneShareState) → IsWhole o → share_of o ≡ s → IsAnswered r q o m →
     q ≡ (step z.plain o.seat.worker r).reply → y ≡ asked o.seat.worker r z →

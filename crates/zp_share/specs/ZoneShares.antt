@@ -11,7 +11,7 @@ use Rattle.zp_model.specs.declared.request.Reply.{Reply}
 use Rattle.zp_model.specs.MigrateType.{types_count}
 use Rattle.zp_model.specs.Rows.{list_at, stands_in}
 use Rattle.zp_model.specs.Zone.{workers_of}
-use Rattle.zp_model.specs.Books.{own}
+use Rattle.zp_model.specs.Books.{own, made_by}
 use Rattle.zp_model.specs.Step.{step}
 use Rattle.zp_zone.specs.Seats.{ZoneState, SeatState, asked, replied}
 use Rattle.zp_share.specs.declared.page_use.PageUse.{PageUse}
@@ -73,11 +73,14 @@ pub record IsShare (s : ZoneShareState) : Type 0 where
   pub sections : s.sections.made ≡ length s.seat.part.entries
   pub last : s.sections.last ≡ last_of s.seat.part.entries
 
--- the zone's books and the share agree: what is out in the worker's name is what the share has
+-- the zone's books and the share agree: what is out in the worker's name is what the share has, and the worker's entries are the
+-- share's sections
 pub record SharesIn (z : ZoneState) (s : ZoneShareState) : Type 0 where
   pub tie : s.seat.tie ≡ z.tie
   pub worker : s.seat.worker < workers_of z.plain
   pub blocks : own s.seat.worker z.plain.out ≡ map (held s.seat.worker) s.uses
+  pub sections : s.sections.made ≡ length (made_by s.seat.worker z.entries)
+  pub last : s.sections.last ≡ last_of (made_by s.seat.worker z.entries)
 
 -- the share, when its request is answered so
 abbrev pub answered : Request → Reply → ZoneShareState → ZoneShareState

@@ -5,7 +5,7 @@ ghost use Rattle.zp_share.specs.PlainShares.{back, without_back};
 
 use arrayvec::ArrayVec;
 use std::marker::Model;
-use zp_model::{LONGEST_LIST, PageList, PageNo};
+use zp_model::{LONGEST_LIST, PageNo};
 
 /// Absolute pages, at most `LONGEST_LIST`, in place. Contracts see them with the front first; in the vector it is last, so
 /// that taking and putting at the front move no page.
@@ -80,16 +80,4 @@ impl PageStack {
     {
         self.pages.drain(..count);
     }
-}
-
-/// These pages, as a request or a reply keeps them.
-pub fn page_list(pages: &[PageNo]) -> PageList
-    requires { length pages.now ≤ LONGEST_LIST }
-    ensures { result ≡ pages.now }
-{
-    let mut list = PageList::new();
-    for page in pages {
-        list.push(*page);
-    }
-    list
 }

@@ -1,5 +1,5 @@
 -- A row of desks from its first one on, when their workers run.
-use Rattle.std.proofs.Common.{◌≡◌, zero, suc, List, [], ◌∷◌, refl, sym, subst, All, arith}
+use Rattle.std.proofs.Common.{◌≡◌, zero, suc, List, ◌∷◌, refl, sym, subst, All, arith}
 use Rattle.std.specs.Prelude.{Result, Ok, Err}
 use Rattle.zp_model.specs.declared.refused.Refused.{Refused}
 use Rattle.zp_model.specs.declared.refused.Refused.TheVariants.{NoThread}

@@ -1,26 +1,32 @@
-//! What lies under a lock: a zone, with the place in the row that it says is its own.
-ghost use Rattle.std.specs.Prelude.{◌≡◌, ◌<◌, length};
+//! What lies under a lock: a zone and its journal, with the place in the row that the zone says is its own.
+ghost use Rattle.std.specs.Prelude.{◌≡◌, ◌≢◌, ◌<◌, ◌++◌, ◌∷◌, [], length, true, false, Some};
+ghost use Rattle.zp_model.specs.declared.request.Entry.{Entry};
 ghost use Rattle.zp_model.specs.Info.{counts_of};
 ghost use Rattle.zp_model.specs.Lawful.{IsLawful};
 ghost use Rattle.zp_model.specs.Zone.{workers_of};
-ghost use Rattle.zp_share.specs.Shares.{IsShareOf, key_of, share_at};
+ghost use Rattle.zp_journal.specs.Journals.{IsJournalOf};
+ghost use Rattle.zp_share.specs.declared.sections.TheConstants.{LAST_SECTION};
+ghost use Rattle.zp_share.specs.Shares.{IsShareOf, key_of, sections_at, share_at};
 ghost use Rattle.zp_share.specs.ZoneShares.{IsShare, SharesIn};
-ghost use Rattle.zp_shared.specs.Rows.{key_at};
+ghost use Rattle.zp_shared.specs.Rows.{IsJournalFull, key_at};
 
 use crate::naming::Naming;
 use std::marker::{Model, PhantomData};
+use zp_journal::Journal;
 use zp_model::Counts;
 use zp_share::Share;
 use zp_zone::Zone;
 
 mod sections;
 
-/// A zone that says its place in the row. A lock forgets what it holds but for the type, so the type says it: what never changes
-/// of the zone is what the row's name has at that place.
+/// A zone that says its place in the row, and the journal of all that was asked of it since its opening. A lock forgets what it holds
+/// but for the type, so the type says it: what never changes of the zone is what the row's name has at that place, and the journal's
+/// entries are those that the zone and its seats agree on.
 #[derive(Drop)]
 pub struct Guarded<J: Naming> {
     place: usize,
     zone: Zone,
+    journal: Journal,
     of: PhantomData<J>,
 }
 
@@ -31,20 +37,22 @@ impl<J: Naming> Model for Guarded<J> {
 
     ghost Value = { GuardedZone };
 
-    ghost view = { λ g. record { place = g.place; zone = g.zone } };
+    ghost view = { λ g. record { place = g.place; capacity = g.journal.capacity; zone = g.zone } };
 
-    ghost invariant = { λ g. key_of g.zone ≡ key_at J.zones g.place };
+    ghost invariant = { λ g. (key_of g.zone ≡ key_at J.zones g.place) × (g.journal.entries ≡ g.zone.entries) };
 }
 
 impl<J: Naming> Guarded<J> {
-    /// The zone, which belongs to this place of the row.
-    pub fn new(place: usize, zone: Zone) -> Guarded<J>
-        requires { key_of zone ≡ key_at J.zones place }
-        ensures { result ≡ record { place = place; zone = zone } }
+    /// The zone, which belongs to this place of the row, with its journal.
+    pub fn new(place: usize, zone: Zone, journal: Journal) -> Guarded<J>
+        requires key { key_of zone ≡ key_at J.zones place }
+        requires journal { journal.entries ≡ zone.entries }
+        ensures { result ≡ record { place = place; capacity = journal.capacity; zone = zone } }
     {
         Guarded {
             place,
             zone,
+            journal,
             of: PhantomData,
         }
     }
@@ -55,6 +63,16 @@ impl<J: Naming> Guarded<J> {
         ensures key { key_of self.now.zone ≡ key_at J.zones self.now.place }
     {
         self.place
+    }
+
+    /// All that was asked of the zone since its opening, in order: one entry for each section of a worker. A zone that is made and
+    /// asked the same has the same replies, and becomes this zone.
+    pub fn journal(&self) -> &Journal
+        ensures capacity { result.now.capacity ≡ self.now.capacity }
+        ensures history { IsJournalOf self.now.zone result.now }
+    {
+        self.zone.history();
+        &self.journal
     }
 
     /// How many free blocks of each order there are, and how many free pages.
@@ -79,11 +97,44 @@ impl<J: Naming> Guarded<J> {
         share.check(&mut self.zone, self.place);
     }
 
-    /// The zone, with its place forgotten.
-    pub fn into_zone(self) -> Zone
-        ensures zone { result ≡ self.zone }
-        ensures key { key_of result ≡ key_at J.zones self.place }
+    // Whether the journal has room for an entry more, so that a section with the share can be made. Nothing changes.
+    fn has_room(&mut self, share: &mut Share) -> bool
+        requires fits { IsShareOf J.zones share.old }
+        requires place { self.old.place < length share.old.zones }
+        ensures same { self.new ≡ self.old }
+        ensures share { share.new ≡ share.old }
+        ensures key { key_of self.new.zone ≡ key_at J.zones self.new.place }
+        ensures full { result ≡ false → IsJournalFull self.old }
+        ensures room { result ≡ true → length self.old.zone.entries < self.old.capacity }
+        ensures countable { result ≡ true → sections_at share.old self.old.place ≢ LAST_SECTION }
     {
-        self.zone
+        if self.journal.is_full() {
+            return false;
+        }
+        // the share's sections are entries of the journal, so there are fewer of them than can be counted
+        self.check(share);
+        true
+    }
+
+    /// The zone and its journal, with their place forgotten.
+    pub fn into_parts(self) -> (Zone, Journal)
+        ensures zone { result.0 ≡ self.zone }
+        ensures key { key_of result.0 ≡ key_at J.zones self.place }
+        ensures journal { IsJournalOf result.0 result.1 }
+    {
+        let Guarded { zone, journal, .. } = self;
+        zone.history();
+        (zone, journal)
+    }
+}
+
+// The share's last section with the zone of a place goes into the journal.
+fn note(journal: &mut Journal, share: &Share, place: usize)
+    requires place { place < length share.now.zones }
+    requires room { length journal.old.entries < journal.old.capacity }
+    ensures { (e : Entry) → (share_at share.now place).sections.last ≡ Some e → journal.new ≡ record { capacity = journal.old.capacity; entries = journal.old.entries ++ e ∷ [] } }
+{
+    if let Some(entry) = share.last(place) {
+        journal.append(entry.copied());
     }
 }

@@ -2,7 +2,9 @@
 //! single pages from 3072 on, and its lowest block begins at its first page.
 
 mod asking;
+mod full;
 mod hand;
+mod journals;
 mod pair;
 mod sections;
 mod strayed;

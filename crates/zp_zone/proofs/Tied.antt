@@ -12,7 +12,7 @@ use Rattle.zp_model.specs.declared.request.Request.TheVariants.{Free, Post, Refi
 use Rattle.zp_model.specs.declared.request.Reply.{Reply}
 use Rattle.zp_model.specs.Zone.{PlainZone, workers_of}
 use Rattle.zp_model.specs.Step.{step}
-use Rattle.zp_model.specs.Run.{may_ask, is_out, is_distinct}
+use Rattle.zp_model.specs.Run.{IsHistory, may_ask, is_out, is_distinct}
 use Rattle.zp_model.specs.Lawful.{IsLawful}
 use Rattle.zp_model.specs.Books.{Books, Part, part, has_block, entered, noted}
 use Rattle.zp_laws.specs.KeptBooks.{IsSamePlaces}
@@ -20,6 +20,7 @@ use Rattle.zp_laws.proofs.BooksOthers.{request_others}
 use Rattle.zp_laws.proofs.BooksOwn.{request_noted}
 use Rattle.zp_laws.proofs.BooksOut.{has-is_out}
 use Rattle.zp_laws.proofs.BooksShape.{places_kept}
+use Rattle.zp_laws.proofs.Histories.{history_more}
 use Rattle.zp_laws.proofs.Sameness.{step-same}
 use Rattle.zp_tie.specs.Ties.{Kept}
 use Rattle.zp_zone.specs.NamedZone.{NamedZone, KeepsOut, KeepsOutBut, KeepsOutBeside, IsFresh, AreOut}
@@ -46,13 +47,24 @@ places_stay n b dealt s r t l lt a e =
     let P : Part → Type 0 = λ x. IsSamePlaces x (part s.worker (entered s.worker r b)) in
     subst P (sym a) (places_kept s.worker s.worker r b (lawful_books n b dealt t l) (within_books n b dealt s.worker t lt) e)
 
--- the books stay those of the zone, when the request is entered and the zone makes its step
-pub tied_after : (k j : Kept Books) (n m : NamedZone) (w v : ℕ) (r : Request) → k.whole.plain ≡ n.plain → k.dealt ≡ workers_of n.plain → v ≡ w →
-    j ≡ record k { whole = entered w r k.whole } → m ≡ record n { plain = (step n.plain v r).zone } → (j.whole.plain ≡ m.plain) × (j.dealt ≡ workers_of m.plain)
-tied_after k j n m w v r p d e f g =
-    let left : (step k.whole.plain w r).zone ≡ m.plain = (λ i. (step (p i) (sym e i) r).zone) ∙ sym (ap (λ (x : NamedZone). x.plain) g) in (
+history_entered : (n : NamedZone) (b : Books) (dealt w : ℕ) (r : Request) → IsTiedTo n b dealt → IsHistory n.plain b.entries → w < dealt → may_ask b.plain w r ≡ true →
+    IsHistory (entered w r b).plain (entered w r b).entries
+history_entered n b dealt w r t h lt e =
+    let P : PlainZone → Type 0 = λ z. IsHistory z b.entries in
+    history_more b.plain b.entries w r (subst P (sym t.plain) h) (within_books n b dealt w t lt, e)
+
+-- the books stay those of the zone, and their entries its history, when the request is entered and the zone makes its step
+pub tied_after : (k j : Kept Books) (n m : NamedZone) (w v : ℕ) (r : Request) → k.whole.plain ≡ n.plain → k.dealt ≡ workers_of n.plain → IsHistory n.plain k.whole.entries →
+    w < k.dealt → may_ask k.whole.plain w r ≡ true → v ≡ w →
+    j ≡ record k { whole = entered w r k.whole } → m ≡ record n { plain = (step n.plain v r).zone } →
+    (j.whole.plain ≡ m.plain) × (j.dealt ≡ workers_of m.plain) × IsHistory m.plain j.whole.entries
+tied_after k j n m w v r p d h lt may e f g =
+    let left : (step k.whole.plain w r).zone ≡ m.plain = (λ i. (step (p i) (sym e i) r).zone) ∙ sym (ap (λ (x : NamedZone). x.plain) g) in
+    let P : Kept Books → Type 0 = λ x. IsHistory m.plain x.whole.entries in
+    let Q : PlainZone → Type 0 = λ z. IsHistory z (entered w r k.whole).entries in (
       ap (λ (x : Kept Books). x.whole.plain) f ∙ left,
       ap (λ (x : Kept Books). x.dealt) f ∙ d ∙ sym (ap workers_of p) ∙ sym (step-same k.whole.plain w r).workers ∙ ap workers_of left,
+      subst P (sym f) (subst Q left (history_entered n k.whole k.dealt w r (record { plain = p; dealt = d }) h lt may)),
     )
 
 -- the seat, when its request is answered so

@@ -7,7 +7,7 @@ ghost use Rattle.zp_model.specs.Block.{size};
 ghost use Rattle.zp_model.specs.Zone.{zone_opening, pages_of, posted_pages, workers_of};
 ghost use Rattle.zp_model.specs.Mark.{level_of};
 ghost use Rattle.zp_model.specs.Info.{counts_of, info_line};
-ghost use Rattle.zp_model.specs.Run.{is_out};
+ghost use Rattle.zp_model.specs.Run.{IsHistory, is_out};
 ghost use Rattle.zp_model.specs.Lawful.{IsLawful};
 ghost use Rattle.zp_model.specs.Naming.{IsName};
 ghost use Rattle.zp_zone.specs.NamedZone.{IsPageOf, IsToldOf};
@@ -41,13 +41,14 @@ pub struct Zone {
 impl Model for Zone {
     ghost use Rattle.std.specs.Prelude.{◌≡◌};
     ghost use Rattle.zp_model.specs.Zone.{workers_of};
+    ghost use Rattle.zp_model.specs.Run.{IsHistory};
     ghost use Rattle.zp_zone.specs.Seats.{ZoneState};
 
     ghost Value = { ZoneState };
 
     ghost view = { λ z. record { tie = z.keeper.tie; name = z.untied.name; plain = z.untied.plain; entries = z.keeper.whole.entries } };
 
-    ghost invariant = { λ z. (z.keeper.whole.plain ≡ z.untied.plain) × (z.keeper.dealt ≡ workers_of z.untied.plain) };
+    ghost invariant = { λ z. (z.keeper.whole.plain ≡ z.untied.plain) × (z.keeper.dealt ≡ workers_of z.untied.plain) × IsHistory z.untied.plain z.keeper.whole.entries };
 }
 
 impl Zone {
@@ -127,6 +128,14 @@ impl Zone {
         ensures lawful { IsLawful self.now.plain }
     {
         self.untied.counts()
+    }
+
+    /// Does nothing: each zone is the run of its entries, which are a legal history from its opening.
+    pub fn history(&self)
+        ensures { IsHistory self.now.plain self.now.entries }
+    {
+        // the invariant is at hand where a field is
+        let _ = &self.untied;
     }
 
     /// The highest mark that the free pages are above.

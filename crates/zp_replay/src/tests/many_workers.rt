@@ -53,6 +53,19 @@ fn total_lines(
     Ok(totals)
 }
 
+/// How many journals of a good trace were found legal.
+fn legal_journals(outcome: &Outcome) -> usize {
+    let mut legal = 0usize;
+    if let Ok(text) = str::from_utf8(outcome.written.as_slice()) {
+        for line in text.lines() {
+            if line.starts_with("journal ") && line.ends_with(" legal") {
+                legal = legal.saturating_add(1);
+            }
+        }
+    }
+    legal
+}
+
 /// The pages of all four places are as many as the zone's.
 fn expect_added_up(rt: &impl Abort, total: TotalLine, pages: u32) {
     assert_eq!(rt; total.pages, pages);
@@ -98,9 +111,10 @@ fn thirty_two(rt: &impl AllocGlobal) -> Result<String, Fail> {
 fn thirty_two_workers_leave_each_page_in_one_place(rt: HostRuntime) -> Result<(), Fail> {
     let text = thirty_two(&rt)?;
     for _ in 0..50 {
-        let outcome = replayed_at_once(&rt, text.as_bytes(), sound(1000), &OpenGate);
+        let outcome = replayed_at_once(&rt, text.as_bytes(), sound(1000), false, &OpenGate);
         let totals = total_lines(&rt, &outcome, 3200)?;
         assert_eq!(rt; totals.len(), 1);
+        assert_eq!(rt; legal_journals(&outcome), 1);
         expect_added_up(&rt, totals[0], 4096);
         assert_eq!(rt; totals[0].lent, 320);
     }
@@ -129,9 +143,10 @@ fn falling(rt: &impl AllocGlobal) -> Result<String, Fail> {
 fn eight_workers_fall_through_four_zones(rt: HostRuntime) -> Result<(), Fail> {
     let text = falling(&rt)?;
     for _ in 0..10 {
-        let outcome = replayed_at_once(&rt, text.as_bytes(), sound(1000), &OpenGate);
+        let outcome = replayed_at_once(&rt, text.as_bytes(), sound(1000), false, &OpenGate);
         let totals = total_lines(&rt, &outcome, 2400)?;
         assert_eq!(rt; totals.len(), 4);
+        assert_eq!(rt; legal_journals(&outcome), 4);
         let mut lent = 0u32;
         for (total, pages) in totals.as_slice().iter().zip([1024, 256, 128, 64]) {
             expect_added_up(&rt, *total, pages);

@@ -24,7 +24,7 @@ fn workers_have_labels_and_blocks_of_their_own(rt: HostRuntime) -> Result<(), Fa
 0: freed\n1: refused 20\n",
         ),
     ] {
-        expect_replies(&rt, TWO_WORKERS, commands, replies)?;
+        expect_replies(&rt, TWO_WORKERS, commands, replies, "")?;
     }
     Ok(())
 }
@@ -49,7 +49,7 @@ fn posted_blocks_are_collected_in_their_order(rt: HostRuntime) -> Result<(), Fai
 1: block 0 order 0\n1: refused 12\n1: block 1024 order 0\n1: refused 12\n1: freed\n1: freed\n0: refused 20\n",
         ),
     ] {
-        expect_replies(&rt, header, commands, replies)?;
+        expect_replies(&rt, header, commands, replies, "")?;
     }
     Ok(())
 }
@@ -77,6 +77,6 @@ total DMA pages 8 free 8 posted 0 cached 0 lent 0 level high\n\
 Node 0, zone      DMA      0      0      0      1      0      0      0      0      0      0      0 \n",
         ),
     ] {
-        expect_output(&rt, text, output);
+        expect_output(&rt, text, output, "");
     }
 }

@@ -8,20 +8,23 @@ use std::time::{Clock, Duration};
 use zp_desk::Gate;
 use zp_model::Worker;
 
-/// What comes of a replay in threads, with this gate.
+/// What comes of a replay in threads, with this gate; with all entries of the journals, where they are asked for.
 pub fn replayed_at_once<T: AllocGlobal + Threads + Wait + Sync, G: Gate + Sync>(
     rt: &T,
     text: &[u8],
     devices: Devices,
+    journal: bool,
     gate: &G,
 ) -> Outcome {
-    at_once_on::<Brand, Brand, T, G>(rt, text, devices, gate, Blank::new(1), Blank::new(1))
+    let (reads, writes) = (Blank::new(1), Blank::new(1));
+    at_once_on::<Brand, Brand, T, G>(rt, text, devices, journal, gate, reads, writes)
 }
 
 fn at_once_on<K: Ledger, L: Ledger, T: AllocGlobal + Threads + Wait + Sync, G: Gate + Sync>(
     rt: &T,
     text: &[u8],
     devices: Devices,
+    journal: bool,
     gate: &G,
     reads: Blank,
     writes: Blank,
@@ -35,7 +38,7 @@ fn at_once_on<K: Ledger, L: Ledger, T: AllocGlobal + Threads + Wait + Sync, G: G
     let writes = Failures::<L>::new(writes);
     let mut reader = SliceReader::new(text, devices.piece, devices.reads, reads);
     let mut writer = VecWriter::new(rt.alloc(), devices.piece, devices.writes, writes);
-    let ending = replay_threads(rt, rt.alloc(), &mut reader, &mut writer, gate);
+    let ending = replay_threads(rt, rt.alloc(), &mut reader, &mut writer, journal, gate);
     Outcome {
         ending,
         unread: reader.rest().len(),
@@ -43,7 +46,7 @@ fn at_once_on<K: Ledger, L: Ledger, T: AllocGlobal + Threads + Wait + Sync, G: G
     }
 }
 
-/// Two workers that ask different zones have the same answers whoever comes first, ten times over.
+/// Two workers that ask different zones have the same answers and the same journals whoever comes first, ten times over.
 #[test]
 fn workers_of_two_zones_are_answered_as_one_after_the_other(rt: HostRuntime) {
     let text = "\
@@ -68,10 +71,20 @@ total DMA pages 4096 free 4096 posted 0 cached 0 lent 0 level high\n\
 total Normal pages 4096 free 4096 posted 0 cached 0 lent 0 level high\n\
 Node 0, zone      DMA      0      0      0      0      0      0      0      0      0      0      4 \n\
 Node 0, zone   Normal      0      0      0      0      0      0      0      0      0      0      4 \n";
-    expect_output(&rt, text, output);
+    let verdicts = "journal DMA 2 legal\njournal Normal 2 legal\n";
+    let journals = "\
+journal DMA 2 legal\n\
+journal Normal 2 legal\n\
+DMA 1 0 refill M 4 low pages 3072 3073 3074 3075\n\
+DMA 2 0 drain M 3075 3074 3073 3072 freed\n\
+Normal 1 1 refill M 4 low pages 7168 7169 7170 7171\n\
+Normal 2 1 drain M 7171 7170 7169 7168 freed\n";
+    expect_output(&rt, text, output, "");
     for _ in 0..10 {
-        let outcome = replayed_at_once(&rt, text.as_bytes(), sound(1000), &OpenGate);
-        expect_written(&rt, &outcome, text, output);
+        let outcome = replayed_at_once(&rt, text.as_bytes(), sound(1000), false, &OpenGate);
+        expect_journaled(&rt, &outcome, text, output.as_bytes(), verdicts);
+        let outcome = replayed_at_once(&rt, text.as_bytes(), sound(1000), true, &OpenGate);
+        expect_journaled(&rt, &outcome, text, output.as_bytes(), journals);
     }
 }
 
@@ -123,7 +136,7 @@ fn expect_in_turn<R: Abort + AllocGlobal + Clock + Sync + Threads + Wait>(
         ended: AtomicCell::new(0),
         gave_up: AtomicCell::new(0),
     };
-    let outcome = replayed_at_once(rt, text.as_bytes(), sound(1000), &gate);
+    let outcome = replayed_at_once(rt, text.as_bytes(), sound(1000), false, &gate);
     assert!(rt; outcome.ending == Ok(Ending::Good));
     assert_eq!(rt; gate.gave_up.load(), 0);
     let infos = format!(in rt.alloc(); "{INFO_LINE}{INFO_LINE}total ")?;
@@ -141,7 +154,13 @@ fn workers_work_at_the_same_time(rt: HostRuntime) -> Result<(), Fail> {
 /// A bad trace has its bad line in threads, too, and a failing reader or writer its fault.
 #[test]
 fn bad_lines_and_failing_devices_are_told(rt: HostRuntime) {
-    let outcome = replayed_at_once(&rt, b"zone DMA 0 4096 0\nworkers 33\n", sound(7), &OpenGate);
+    let outcome = replayed_at_once(
+        &rt,
+        b"zone DMA 0 4096 0\nworkers 33\n",
+        sound(7),
+        false,
+        &OpenGate,
+    );
     assert!(rt; outcome.ending == Ok(Ending::BadLine(2)));
     assert!(rt; outcome.written.as_slice() == "bad line 2\n".as_bytes());
     let deaf = Devices {
@@ -149,7 +168,7 @@ fn bad_lines_and_failing_devices_are_told(rt: HostRuntime) {
         reads: Schedule::after(9),
         writes: Schedule::never(),
     };
-    let outcome = replayed_at_once(&rt, INFO_TRACE.as_bytes(), deaf, &OpenGate);
+    let outcome = replayed_at_once(&rt, INFO_TRACE.as_bytes(), deaf, false, &OpenGate);
     assert!(rt; outcome.ending == Err(ReplayFault::Read));
     assert!(rt; outcome.written.is_empty());
     let mute = Devices {
@@ -157,7 +176,7 @@ fn bad_lines_and_failing_devices_are_told(rt: HostRuntime) {
         reads: Schedule::never(),
         writes: Schedule::after(100),
     };
-    let outcome = replayed_at_once(&rt, INFO_TRACE.as_bytes(), mute, &OpenGate);
+    let outcome = replayed_at_once(&rt, INFO_TRACE.as_bytes(), mute, false, &OpenGate);
     assert!(rt; outcome.ending == Err(ReplayFault::Write));
     assert!(rt; outcome.written.as_slice() == &INFO_OUTPUT.as_bytes()[..100]);
 }

@@ -66,7 +66,7 @@ Node 0, zone   Normal      1      1      1      0      0      0      0      0   
 /// With the least mark 4 the low mark is 5. A request that does not pass its mark is refused 10, with a block or without.
 #[test]
 fn marks_hold_pages_back(rt: HostRuntime) {
-    for (text, output) in [
+    for (text, output, journals) in [
         (
             "zone DMA 0 8 4\nworkers 1\nlists 0 0\n\
 0 alloc a 0 M DMA low\n0 alloc b 0 M DMA low\n0 alloc c 0 M DMA low\n0 alloc d 0 M DMA low\n\
@@ -77,6 +77,7 @@ fn marks_hold_pages_back(rt: HostRuntime) {
 0: page 4\n0: page 5\n0: page 6\n0: page 7\n0: refused 11\n\
 total DMA pages 8 free 0 posted 0 cached 0 lent 8 level short\n\
 Node 0, zone      DMA      0      0      0      0      0      0      0      0      0      0      0 \n",
+            "journal DMA 11 legal\n",
         ),
         // 1,023 pages are not above 0 + 1,023.
         (
@@ -84,21 +85,23 @@ Node 0, zone      DMA      0      0      0      0      0      0      0      0   
             "0: refused 11\n0: refused 10\n\
 total DMA pages 1023 free 1023 posted 0 cached 0 lent 0 level high\n\
 Node 0, zone      DMA      1      1      1      1      1      1      1      1      1      1      0 \n",
+            "journal DMA 2 legal\n",
         ),
     ] {
-        expect_output(&rt, text, output);
+        expect_output(&rt, text, output, journals);
     }
 }
 
 /// The block with the least head is taken, however large it is and whatever the lists have in front.
 #[test]
 fn the_lowest_block_is_taken(rt: HostRuntime) {
-    for (text, output) in [
+    for (text, output, journals) in [
         (
             "zone DMA 0 4096 0\nworkers 1\nlists 0 0\n0 low a 0 DMA\n0 alloc b 0 M DMA low\n",
             "0: page 0\n0: page 1\n\
 total DMA pages 4096 free 4094 posted 0 cached 0 lent 2 level high\n\
 Node 0, zone      DMA      0      1      1      1      1      1      1      1      1      1      3 \n",
+            "journal DMA 2 legal\n",
         ),
         (
             "zone DMA 1024 13 0\nworkers 1\nlists 0 0\n0 alloc a 0 M DMA any\n0 low b 0 DMA\n0 low c 3 DMA\n\
@@ -106,15 +109,16 @@ Node 0, zone      DMA      0      1      1      1      1      1      1      1   
             "0: page 1036\n0: page 1024\n0: refused 11\n0: page 1028\n0: freed\n0: page 1024\n\
 total DMA pages 13 free 4 posted 0 cached 0 lent 9 level high\n\
 Node 0, zone      DMA      0      0      1      0      0      0      0      0      0      0      0 \n",
+            "journal DMA 6 legal\n",
         ),
     ] {
-        expect_output(&rt, text, output);
+        expect_output(&rt, text, output, journals);
     }
 }
 
 #[test]
 fn frees_join_and_types_fall_back_on_each_other(rt: HostRuntime) {
-    for (text, output) in [
+    for (text, output, journals) in [
         (
             "zone DMA 0 4096 0\nworkers 1\nlists 0 0\n0 alloc a 0 M DMA low\n0 info\n0 free a\n",
             "0: page 3072\n\
@@ -122,12 +126,14 @@ Node 0, zone      DMA      1      1      1      1      1      1      1      1   
 0: freed\n\
 total DMA pages 4096 free 4096 posted 0 cached 0 lent 0 level high\n\
 Node 0, zone      DMA      0      0      0      0      0      0      0      0      0      0      4 \n",
+            "journal DMA 2 legal\n",
         ),
         (
             "zone DMA 0 4096 0\nworkers 1\nlists 0 0\n0 alloc a 0 U DMA low\n0 alloc b 0 M DMA low\n0 alloc c 0 U DMA low\n",
             "0: page 3072\n0: page 2048\n0: page 3073\n\
 total DMA pages 4096 free 4093 posted 0 cached 0 lent 3 level high\n\
 Node 0, zone      DMA      1      2      2      2      2      2      2      2      2      2      2 \n",
+            "journal DMA 3 legal\n",
         ),
         (
             "zone DMA 0 4096 0\nworkers 1\nlists 0 0\n\
@@ -139,6 +145,7 @@ Node 0, zone      DMA      1      2      2      2      2      2      2      2   
 Node 0, zone      DMA      1      1      1      1      1      1      1      1      1      1      3 \n\
 0: freed\ntotal DMA pages 4096 free 4096 posted 0 cached 0 lent 0 level high\n\
 Node 0, zone      DMA      0      0      0      0      0      0      0      0      0      0      4 \n",
+            "journal DMA 6 legal\n",
         ),
         (
             "zone DMA 0 8 0\nworkers 1\nlists 0 0\n0 alloc a 0 U DMA low\n0 alloc b 0 M DMA low\n0 alloc c 1 U DMA low\n\
@@ -148,6 +155,7 @@ Node 0, zone      DMA      1      1      1      0      0      0      0      0   
 0: freed\n\
 total DMA pages 8 free 8 posted 0 cached 0 lent 0 level high\n\
 Node 0, zone      DMA      0      0      0      1      0      0      0      0      0      0      0 \n",
+            "journal DMA 6 legal\n",
         ),
         // 512 free pages are enough for a claim, and 511 are not.
         (
@@ -156,6 +164,7 @@ Node 0, zone      DMA      0      0      0      1      0      0      0      0   
             "0: page 0\n0: page 512\n0: page 513\n0: freed\n0: page 0\n\
 total DMA pages 1024 free 1020 posted 0 cached 0 lent 4 level high\n\
 Node 0, zone      DMA      0      2      2      2      2      2      2      2      2      0      0 \n",
+            "journal DMA 5 legal\n",
         ),
         (
             "zone DMA 0 1024 0\nworkers 1\nlists 0 0\n0 alloc a 9 M DMA any\n0 alloc b 0 M DMA any\n0 alloc c 0 U DMA any\n\
@@ -163,9 +172,10 @@ Node 0, zone      DMA      0      2      2      2      2      2      2      2   
             "0: page 0\n0: page 512\n0: page 513\n0: page 514\n\
 total DMA pages 1024 free 509 posted 0 cached 0 lent 515 level high\n\
 Node 0, zone      DMA      1      0      1      1      1      1      1      1      1      0      0 \n",
+            "journal DMA 4 legal\n",
         ),
     ] {
-        expect_output(&rt, text, output);
+        expect_output(&rt, text, output, journals);
     }
 }
 
@@ -180,5 +190,6 @@ fn a_worker_posts_to_itself(rt: HostRuntime) {
 0: block 3072 order 0\n0: freed\n0: refused 20\n0: refused 12\n\
 total DMA pages 4096 free 4096 posted 0 cached 0 lent 0 level high\n\
 Node 0, zone      DMA      0      0      0      0      0      0      0      0      0      0      4 \n",
+        "journal DMA 5 legal\n",
     );
 }

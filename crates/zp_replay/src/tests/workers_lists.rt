@@ -78,14 +78,14 @@ Node 0, zone      DMA      0      0      0      0      0      0      0      0   
 Node 0, zone   Normal      0      0      0      0      0      0      0      0      0      0      4 \n",
         ),
     ] {
-        expect_output(&rt, text, output);
+        expect_output(&rt, text, output, "");
     }
 }
 
 /// A zone that refuses to refill a list is passed over, as one that refuses a block is. What lies on a list is held to no mark.
 #[test]
 fn pages_of_a_lower_zone_go_to_its_list(rt: HostRuntime) {
-    for (text, output) in [
+    for (text, output, journals) in [
         // B is below its mark, and A's list is refilled: its page comes back there, and is in front there.
         (
             "zone A 0 16 0\nzone B 1024 8 8\nworkers 1\nlists 4 6\n\
@@ -98,6 +98,7 @@ total A pages 16 free 12 posted 0 cached 2 lent 2 level high\n\
 total B pages 8 free 4 posted 0 cached 2 lent 2 level short\n\
 Node 0, zone        A      0      0      1      1      0      0      0      0      0      0      0 \n\
 Node 0, zone        B      0      0      1      0      0      0      0      0      0      0      0 \n",
+            "journal A 1 legal\njournal B 3 legal\n",
         ),
         // Both lists are drained, each into its zone.
         (
@@ -113,16 +114,17 @@ total A pages 16 free 14 posted 0 cached 0 lent 2 level high\n\
 total B pages 8 free 6 posted 0 cached 0 lent 2 level short\n\
 Node 0, zone        A      0      1      1      1      0      0      0      0      0      0      0 \n\
 Node 0, zone        B      0      1      1      0      0      0      0      0      0      0      0 \n",
+            "journal A 2 legal\njournal B 4 legal\n",
         ),
     ] {
-        expect_output(&rt, text, output);
+        expect_output(&rt, text, output, journals);
     }
 }
 
 /// A batch has from 1 to 31 pages.
 #[test]
 fn batches_have_their_bounds(rt: HostRuntime) {
-    for (text, output) in [
+    for (text, output, journals) in [
         // The second page on the list fills it, and the first is given back.
         (
             "zone DMA 0 4096 0\nworkers 1\nlists 1 2\n\
@@ -132,6 +134,7 @@ Node 0, zone      DMA      1      1      1      1      1      1      1      1   
 0: page 3073\n0: drained 0\n\
 total DMA pages 4096 free 4095 posted 0 cached 0 lent 1 level high\n\
 Node 0, zone      DMA      1      1      1      1      1      1      1      1      1      1      3 \n",
+            "journal DMA 3 legal\n",
         ),
         // 31 pages at once, there and back.
         (
@@ -142,6 +145,7 @@ Node 0, zone      DMA      1      0      0      0      0      1      1      1   
 0: freed\n0: drained 31\n\
 total DMA pages 4096 free 4096 posted 0 cached 0 lent 0 level high\n\
 Node 0, zone      DMA      0      0      0      0      0      0      0      0      0      0      4 \n",
+            "journal DMA 2 legal\n",
         ),
         // 30 of them stay on the list.
         (
@@ -150,16 +154,17 @@ Node 0, zone      DMA      0      0      0      0      0      0      0      0   
             "0: page 3072\n\
 total DMA pages 4096 free 4065 posted 0 cached 30 lent 1 level high\n\
 Node 0, zone      DMA      1      0      0      0      0      1      1      1      1      1      3 \n",
+            "journal DMA 1 legal\n",
         ),
     ] {
-        expect_output(&rt, text, output);
+        expect_output(&rt, text, output, journals);
     }
 }
 
 /// Each type has its list, and so has each worker; a page that was posted goes to the list of the worker that collected it.
 #[test]
 fn each_type_and_worker_has_its_list(rt: HostRuntime) {
-    for (text, output) in [
+    for (text, output, journals) in [
         // A posted page ends on the list of another worker.
         (
             "zone DMA 0 4096 0\nworkers 2\nlists 4 6\n\
@@ -167,6 +172,7 @@ fn each_type_and_worker_has_its_list(rt: HostRuntime) {
             "0: page 3072\n0: posted\n1: drained 0\n1: block 3072 order 0\n0: refused 20\n1: freed\n1: page 3072\n0: page 3073\n\
 total DMA pages 4096 free 4092 posted 0 cached 2 lent 2 level high\n\
 Node 0, zone      DMA      0      0      1      1      1      1      1      1      1      1      3 \n",
+            "",
         ),
         // The list of another type is not asked; a block that is no single page passes the lists by.
         (
@@ -175,8 +181,9 @@ Node 0, zone      DMA      0      0      1      1      1      1      1      1   
             "0: page 3072\n0: page 2048\n0: page 3076\n0: freed\n0: freed\n0: drained 7\n0: freed\n0: drained 1\n\
 total DMA pages 4096 free 4096 posted 0 cached 0 lent 0 level high\n\
 Node 0, zone      DMA      0      0      0      0      0      0      0      0      0      0      4 \n",
+            "journal DMA 7 legal\n",
         ),
     ] {
-        expect_output(&rt, text, output);
+        expect_output(&rt, text, output, journals);
     }
 }

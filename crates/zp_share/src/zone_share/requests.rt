@@ -11,11 +11,10 @@ ghost use Rattle.zp_share.specs.PlainShares.{back};
 ghost use Rattle.zp_share.specs.ZoneShares.{HasAtMost, IsNew, IsAllocRefusal, is_lent, cached_of, IsSection, IsLeft, IsSameSeat};
 
 use super::ZoneShare;
-use crate::page_stack::page_list;
 use crate::page_use::PageUse;
 use arrayvec::ArrayVec;
 use zp_model::{
-    Block, MAX_BATCH, Mark, MigrateType, Order, PageNo, Refused, Reply, Request, Worker,
+    Block, MAX_BATCH, Mark, MigrateType, Order, PageList, PageNo, Refused, Reply, Request, Worker,
 };
 use zp_zone::Zone;
 
@@ -210,7 +209,7 @@ impl ZoneShare {
             Ok(pages) => {
                 self.uses.set_all(pages.as_slice(), PageUse::Cached(kind));
                 self.cached[kind.number()].push_all_front(pages.as_slice());
-                let got = page_list(pages.as_slice());
+                let got = PageList::of(pages.as_slice());
                 self.sections.add(worker, request, Reply::Pages(got));
                 Ok(pages)
             }
@@ -237,7 +236,7 @@ impl ZoneShare {
         if self.sections.are_full() {
             return Err(Refused::JournalFull);
         }
-        let pages = page_list(self.cached[kind.number()].back(count));
+        let pages = PageList::of(self.cached[kind.number()].back(count));
         zone.drain(&mut self.seat, kind, pages.as_slice());
         self.uses.set_all(pages.as_slice(), PageUse::Away);
         self.cached[kind.number()].drop_back(count);

@@ -1,7 +1,7 @@
 //! Rows of one zone and of two that are not shared yet, with the share of their one worker.
-ghost use Rattle.std.specs.Prelude.{◌≡◌, ◌<◌, length, map, IfOk};
+ghost use Rattle.std.specs.Prelude.{◌≡◌, ◌<◌, [], All, length, map, IfOk};
 ghost use Rattle.zp_model.specs.Zone.{workers_of};
-ghost use Rattle.zp_zone.specs.Seats.{IsSeatOf, IsUnused};
+ghost use Rattle.zp_zone.specs.Seats.{IsSeatOf, IsUnused, ZoneState};
 ghost use Rattle.zp_share.specs.Shares.{HasWorkerAt, IsShareOf, key_of};
 
 use std::alloc::Global;
@@ -15,6 +15,7 @@ pub(super) struct Hand {
     pub(super) zones: Vec<Zone>,
     pub(super) share: Share,
     ghost fits: { IsShareOf (map key_of zones.items) share },
+    ghost new: { All (λ (z : ZoneState). z.entries ≡ []) zones.items },
     ghost known: { HasWorkerAt (map key_of zones.items) 0 share.worker },
 }
 
@@ -22,6 +23,7 @@ pub(super) struct Hand {
 fn zone_and_seat(alloc: Global, name: &str, base: u32) -> Result<(Zone, Seat), Refused>
     ensures fits { IfOk result (λ z. IsSeatOf z.0 z.1) }
     ensures unused { IfOk result (λ z. IsUnused z.1) }
+    ensures new { IfOk result (λ z. z.0.entries ≡ []) }
     ensures known { IfOk result (λ z. z.1.worker < workers_of z.0.plain) }
 {
     let config = ZoneConfig {

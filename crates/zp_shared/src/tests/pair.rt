@@ -1,6 +1,6 @@
 //! Two workers of one zone, each at a desk with one command: an alloc of one page. What comes of them in threads.
 ghost use Rattle.std.specs.Prelude.{◌≡◌, [], ◌∷◌, All, IfOk, map};
-ghost use Rattle.zp_zone.specs.Seats.{IsSeatOf, IsUnused};
+ghost use Rattle.zp_zone.specs.Seats.{IsSeatOf, IsUnused, ZoneState};
 ghost use Rattle.zp_share.specs.Shares.{key_of};
 ghost use Rattle.zp_desk.specs.Desks.{IsReady};
 
@@ -10,6 +10,7 @@ use std::alloc::Global;
 use std::sync::Wait;
 use std::thread::Threads;
 use zp_desk::{Command, Desk, Gate};
+use zp_journal::Journal;
 use zp_model::{Mark, MigrateType, Order, Refused};
 use zp_share::{ListConfig, Share};
 use zp_zone::{Seat, Zone, ZoneConfig};
@@ -19,6 +20,7 @@ use zp_zone::{Seat, Zone, ZoneConfig};
 pub(super) struct Pair {
     pub(super) zones: Vec<Zone>,
     pub(super) desks: [Desk; 2],
+    ghost new: { All (λ (z : ZoneState). z.entries ≡ []) zones.items },
 }
 
 /// The desk of a seat of this zone, with no lists.
@@ -76,6 +78,7 @@ pub(super) fn new_pair(alloc: Global) -> Result<Pair, Refused>
 pub(super) struct Ran {
     pub(super) answer: Result<(), Refused>,
     pub(super) zones: Vec<Zone>,
+    pub(super) journals: Vec<Journal>,
     pub(super) desks: [Desk; 2],
 }
 
@@ -91,13 +94,15 @@ pub(super) fn run_as<J: Naming + Send + Sync, R: Threads + Wait + Sync, G: Gate 
     requires ready { All (IsReady J.zones) pair.desks }
 {
     let Pair { zones, mut desks } = pair;
-    let row = share_zones::<J>(alloc, zones).ok()?;
+    let row = share_zones::<J>(alloc, zones, 2).ok()?;
     let answer = run_row(rt, stack_size, row.as_slice(), gate, &mut desks);
-    let room = Vec::with_capacity(alloc, row.len()).ok()?;
-    let zones = close_zones(row, room)?;
+    let zone_room = Vec::with_capacity(alloc, row.len()).ok()?;
+    let journal_room = Vec::with_capacity(alloc, row.len()).ok()?;
+    let (zones, journals) = close_zones(row, zone_room, journal_room)?;
     Some(Ran {
         answer,
         zones,
+        journals,
         desks,
     })
 }

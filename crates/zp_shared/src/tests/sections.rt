@@ -1,9 +1,10 @@
-//! Each section once, through the locks, with ample memory.
+//! Each section once, through the locks, with ample memory, and what the journal has of them.
 ghost use Rattle.std.specs.Prelude.{◌≡◌, ◌<◌, length, map};
 ghost use Rattle.zp_share.specs.Shares.{HasWorkerAt, IsShareOf, key_of};
 
 use super::asking::*;
 use super::hand::*;
+use super::journals::*;
 use super::*;
 use std::alloc::Global;
 use std::marker::Brand;
@@ -101,7 +102,7 @@ fn sections_as<J: Naming, R: Abort + Wait>(rt: &R, alloc: Global, hand: Hand)
 {
     let Hand { zones, mut share } = hand;
     let to = share.worker();
-    let Ok(row) = share_zones::<J>(alloc, zones) else {
+    let Ok(row) = share_zones::<J>(alloc, zones, 10) else {
         assert!(rt; false, "the row can be made");
         return;
     };
@@ -110,18 +111,16 @@ fn sections_as<J: Naming, R: Abort + Wait>(rt: &R, alloc: Global, hand: Hand)
     expect_a_posting(rt, &mut view, &mut share, to);
     expect_a_list(rt, &mut view, &mut share);
     expect_the_lowest(rt, &mut view, &mut share);
+    expect_full(rt, &mut view, &mut share);
     assert_eq!(rt; share.sections(0), 10);
-    let Ok(room) = Vec::with_capacity(alloc, row.len()) else {
-        assert!(rt; false, "there is room");
+    let Some((zone, journal)) = closed_zone(alloc, row) else {
+        assert!(rt; false, "the zone lies at its place");
         return;
     };
-    let Some(zones) = close_zones(row, room) else {
-        assert!(rt; false, "each zone lies at its place");
-        return;
-    };
-    assert_eq!(rt; zones.len(), 1);
-    assert_eq!(rt; zones[0].name(), "DMA");
-    assert_eq!(rt; zones[0].counts().free, 3072);
+    assert_eq!(rt; zone.name(), "DMA");
+    assert_eq!(rt; zone.counts().free, 3072);
+    expect_ten_entries(rt, &journal, to);
+    expect_legal(rt, alloc, &journal, 3072);
 }
 
 #[test]

@@ -85,7 +85,7 @@ fn strayed_as<J: Naming, R: Abort + Wait>(rt: &R, alloc: Global, hand: Hand)
 {
     let Hand { zones, mut share } = hand;
     let to = share.worker();
-    let Ok(row) = share_zones::<J>(alloc, zones) else {
+    let Ok(row) = share_zones::<J>(alloc, zones, 4) else {
         assert!(rt; false, "the row can be made");
         return;
     };
@@ -125,15 +125,16 @@ fn closed_after<J: Naming, R: Wait>(
     requires two { length hand.zones.items ≡ 2 }
 {
     let Hand { zones, share: _ } = hand;
-    let row = share_zones::<J>(alloc, zones).ok()?;
+    let row = share_zones::<J>(alloc, zones, 0).ok()?;
     if row.len() != 2 {
         return None;
     }
     for _ in 0..exchanges {
         exchange(rt, row.as_slice());
     }
-    let room = Vec::with_capacity(alloc, row.len()).ok()?;
-    Some(close_zones(row, room)?.len())
+    let zone_room = Vec::with_capacity(alloc, row.len()).ok()?;
+    let journal_room = Vec::with_capacity(alloc, row.len()).ok()?;
+    Some(close_zones(row, zone_room, journal_room)?.0.len())
 }
 
 fn expect_closed(rt: &(impl Abort + Wait), alloc: Global, exchanges: usize, closed: Option<usize>) {

@@ -78,6 +78,7 @@ fn expect_in_turn<R: Abort + Clock + Sync + Threads + Wait>(
     };
     assert_eq!(rt; ran.answer, Ok(()));
     assert_eq!(rt; gate.gave_up.load(), 0);
+    assert!(rt; ran.journals.iter().all(|journal| journal.len() == 2));
     for desk in &ran.desks {
         let number = if desk.worker().number() == early {
             3072
@@ -107,4 +108,5 @@ fn no_worker_runs_without_a_thread(rt: HostRuntime) {
     assert_eq!(rt; ran.answer, Err(Refused::NoThread));
     assert!(rt; ran.desks.iter().all(|desk| desk.replies().is_empty()));
     assert!(rt; ran.zones.iter().all(|zone| zone.counts().free == 4096));
+    assert!(rt; ran.journals.iter().all(|journal| journal.len() == 0));
 }

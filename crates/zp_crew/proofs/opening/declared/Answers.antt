@@ -1,6 +1,6 @@
-use Rattle.std.proofs.Common.{◌++◌, ◌∷◌, [], List, All, map, ap, sym, subst, ◌∙◌, arith}
+use Rattle.std.proofs.Common.{◌≡◌, ◌++◌, ◌∷◌, [], List, All, map, ap, sym, subst, ◌∙◌, arith}
 use Rattle.std.proofs.lemmas.List.Elements.{All-push}
-use Rattle.zp_zone.specs.Seats.{SeatState, IsUnused}
+use Rattle.zp_zone.specs.Seats.{ZoneState, SeatState, IsUnused}
 use Rattle.zp_share.specs.Shares.{named_zone}
 use Rattle.zp_crew.specs.Opening.{declared_zone}
 use Rattle.zp_crew.proofs.Seating.{made_count, zones_more, seats_in, seats_more}
@@ -28,6 +28,9 @@ loop-line-preserved c =
       unused =
           subst (λ l. All (λ (r : List SeatState). All IsUnused r) l) (sym rows_are)
           (All-push (λ (r : List SeatState). All IsUnused r) c.loop-line.seats.items row was.unused got.unused);
+      new =
+          subst (λ l. All (λ (y : ZoneState). y.entries ≡ []) l) (sym pushed.items)
+          (All-push (λ (y : ZoneState). y.entries ≡ []) zs z was.new got.entries);
       zones_room = omega (arith, was.zones_room, pushed.capacity);
       seats_room = omega (arith, was.seats_room, placed.capacity);
     }

@@ -1,9 +1,20 @@
+use Rattle.std.proofs.Common.{arith, ap, length}
 use Rattle.zp_replay.specs.Serving.{IsOfficeServed}
 use Rattle.zp_replay.proofs.ServedOffices.{if_ok, served_is}
+use Rattle.zp_replay.proofs.ShortLines.{commands_few}
 use Rattle.zp_replay.proofs.threads.serve_at_once.Goals as goal
+
+pub overflow_cast-room : goal.overflow_cast-room
+overflow_cast-room g c = omega (arith, commands_few c.args.trace.now c.requires.lines, ap length c.as_slice.ensures)
+
+pub overflow_mul-room : goal.overflow_mul-room
+overflow_mul-room g c = omega (arith, commands_few c.args.trace.now c.requires.lines, ap length c.as_slice.ensures)
+
+pub serve_as-requires-clause-capacity : goal.serve_as-requires-clause-capacity
+serve_as-requires-clause-capacity g c = omega (arith, commands_few c.args.trace.now c.requires.lines, ap length c.as_slice.ensures)
 
 pub returns-clause-served : goal.returns-clause-served
 returns-clause-served g c =
-    if_ok (IsOfficeServed c.in-Ok.parts.0.items c.in-Ok.parts.1.items) _ c.serve_as.result
-    (λ o s. served_is c.args.trace.now c.in-Ok.parts.0.items c.in-Ok.parts.1.items o c.in-Ok.ensures.zones c.in-Ok.ensures.desks c.in-Ok.ensures.office s)
+    if_ok (λ s. IsOfficeServed c.in-Ok.parts.0.items c.in-Ok.parts.1.items s.0) _ c.serve_as.result
+    (λ s i. served_is c.args.trace.now c.in-Ok.parts.0.items c.in-Ok.parts.1.items s.0 c.in-Ok.ensures.zones c.in-Ok.ensures.desks c.in-Ok.ensures.office i)
     c.serve_as.ensures.office

@@ -9,15 +9,15 @@ loop-zone-preserved g c =
     let i = c.loop-zone.invariant in
     let n = length c.loop-zone.yielded in
     let p = c.push_reserved.ensures in
-    let at : c.new.result ≡ n = grind (arith, common_steps) in
+    let at : c.new-in-loop-zone.result ≡ n = grind (arith, common_steps) in
     let one : length (c.loop-zone.yielded ++ c.in-Some.zone ∷ []) ≡ n + 1 = length-append c.loop-zone.yielded (c.in-Some.zone ∷ []) in (
       p.items
-          ∙ ap (λ l. l ++ c.new.result ∷ []) i.0
+          ∙ ap (λ l. l ++ c.new-in-loop-zone.result ∷ []) i.0
           ∙ ap (λ v. range_with_len 0 n ++ v ∷ []) at
           ∙ places_more n
           ∙ ap (range_with_len 0) (sym one),
       (
-        ap length p.items ∙ length-append c.loop-zone.row.items (c.new.result ∷ []) ∙ ap (λ k. k + 1) i.1.0 ∙ sym one,
+        ap length p.items ∙ length-append c.loop-zone.row.items (c.new-in-loop-zone.result ∷ []) ∙ ap (λ k. k + 1) i.1.0 ∙ sym one,
         (
           append_assoc c.loop-zone.yielded (c.in-Some.zone ∷ []) c.next.new.self.rest.items
               ∙ ap (λ r. c.loop-zone.yielded ++ r) (sym c.in-Some.ensures.steps.0)

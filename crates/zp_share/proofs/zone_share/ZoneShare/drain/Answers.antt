@@ -20,21 +20,21 @@ use Rattle.zp_share.proofs.zone_share.ZoneShare.drain.Goals as goal
 
 pub drain-requires-clause-has : goal.drain-requires-clause-has
 drain-requires-clause-has c =
-    let b : IsBackOf c.self.inside c.args.kind c.args.count c.page_list-pages.result =
-    back_was c.self.inside c.args.self.now c.args.kind c.number.result c.args.count c.index-self-number.result c.page_list-pages.result c.self.invariant c.self.view_is c.number.ensures.number c.requires.within (c.page_list-pages.ensures ∙ c.back.ensures.pages) in
-    subst (λ l. HasPages c.self.inside.seat l) (sym c.as_slice.ensures.same) (back_has c.self.inside c.args.kind c.page_list-pages.result c.self.invariant b.back)
+    let b : IsBackOf c.self.inside c.args.kind c.args.count c.of-pages.result =
+    back_was c.self.inside c.args.self.now c.args.kind c.number.result c.args.count c.index-self-number.result c.of-pages.result c.self.invariant c.self.view_is c.number.ensures.number c.requires.within (c.of-pages.ensures ∙ c.back.ensures.pages) in
+    subst (λ l. HasPages c.self.inside.seat l) (sym c.as_slice.ensures.same) (back_has c.self.inside c.args.kind c.of-pages.result c.self.invariant b.back)
 
 pub drain-requires-clause-distinct : goal.drain-requires-clause-distinct
 drain-requires-clause-distinct c =
-    let b : IsBackOf c.self.inside c.args.kind c.args.count c.page_list-pages.result =
-    back_was c.self.inside c.args.self.now c.args.kind c.number.result c.args.count c.index-self-number.result c.page_list-pages.result c.self.invariant c.self.view_is c.number.ensures.number c.requires.within (c.page_list-pages.ensures ∙ c.back.ensures.pages) in
-    ap is_distinct c.as_slice.ensures.same ∙ back_distinct c.self.inside c.args.kind c.page_list-pages.result c.self.invariant b.back
+    let b : IsBackOf c.self.inside c.args.kind c.args.count c.of-pages.result =
+    back_was c.self.inside c.args.self.now c.args.kind c.number.result c.args.count c.index-self-number.result c.of-pages.result c.self.invariant c.self.view_is c.number.ensures.number c.requires.within (c.of-pages.ensures ∙ c.back.ensures.pages) in
+    ap is_distinct c.as_slice.ensures.same ∙ back_distinct c.self.inside c.args.kind c.of-pages.result c.self.invariant b.back
 
 pub set_all-requires : goal.set_all-requires
 set_all-requires c =
-    let b : IsBackOf c.self.inside c.args.kind c.args.count c.page_list-pages.result =
-    back_was c.self.inside c.args.self.now c.args.kind c.number.result c.args.count c.index-self-number.result c.page_list-pages.result c.self.invariant c.self.view_is c.number.ensures.number c.requires.within (c.page_list-pages.ensures ∙ c.back.ensures.pages) in
-    subst (λ l. All (IsPlace c.self.inside.uses) l) (sym c.as_slice-2.ensures.same) (back_places c.self.inside c.args.kind c.page_list-pages.result c.self.invariant b.back)
+    let b : IsBackOf c.self.inside c.args.kind c.args.count c.of-pages.result =
+    back_was c.self.inside c.args.self.now c.args.kind c.number.result c.args.count c.index-self-number.result c.of-pages.result c.self.invariant c.self.view_is c.number.ensures.number c.requires.within (c.of-pages.ensures ∙ c.back.ensures.pages) in
+    subst (λ l. All (IsPlace c.self.inside.uses) l) (sym c.as_slice-2.ensures.same) (back_places c.self.inside c.args.kind c.of-pages.result c.self.invariant b.back)
 
 abbrev drained_after : goal.After-add → Inside
 drained_after c = record {
@@ -44,25 +44,25 @@ drained_after c = record {
   sections = c.add.new.self;
 }
 
-are_back : (c : goal.After-add) → IsBackOf c.self.inside c.args.kind c.args.count c.page_list-pages.result
+are_back : (c : goal.After-add) → IsBackOf c.self.inside c.args.kind c.args.count c.of-pages.result
 are_back c =
-    back_was c.self.inside c.args.self.now c.args.kind c.number.result c.args.count c.index-self-number.result c.page_list-pages.result c.self.invariant c.self.view_is c.number.ensures.number c.requires.within (c.page_list-pages.ensures ∙ c.back.ensures.pages)
+    back_was c.self.inside c.args.self.now c.args.kind c.number.result c.args.count c.index-self-number.result c.of-pages.result c.self.invariant c.self.view_is c.number.ensures.number c.requires.within (c.of-pages.ensures ∙ c.back.ensures.pages)
 
-uses : (c : goal.After-add) → c.set_all.new.self ≡ record { base = c.self.inside.uses.base; uses = all_as c.self.inside.uses.base Away c.page_list-pages.result c.self.inside.uses.uses }
+uses : (c : goal.After-add) → c.set_all.new.self ≡ record { base = c.self.inside.uses.base; uses = all_as c.self.inside.uses.base Away c.of-pages.result c.self.inside.uses.uses }
 uses c =
     c.set_all.ensures
     ∙ ap (λ l. let u : UsesState = record { base = c.self.inside.uses.base; uses = all_as c.self.inside.uses.base Away l c.self.inside.uses.uses } in u) c.as_slice-2.ensures.same
 
 lists : (c : goal.After-add) →
-    slice_set c.self.inside.cached c.number-2.result c.drop_back.new.self ≡ lists_after (request.Drain c.args.kind c.page_list-pages.result) reply.Drained c.self.inside.cached
+    slice_set c.self.inside.cached c.number-2.result c.drop_back.new.self ≡ lists_after (request.Drain c.args.kind c.of-pages.result) reply.Drained c.self.inside.cached
 lists c =
     list_changed c.self.inside.cached c.number-2.result c.args.kind c.index-self-number-2.result c.drop_back.new.self (without_back c.args.count)
     (number_at c.self.inside c.args.kind c.self.invariant) c.number-2.ensures.number c.drop_back.ensures
     ∙ ap (λ n. slice_set c.self.inside.cached (type_number c.args.kind) (without_back n (list_at c.self.inside.cached (type_number c.args.kind)))) (sym (are_back c).many)
 
-drained : (c : goal.After-add) → IsAnswered (request.Drain c.args.kind c.page_list-pages.result) reply.Drained c.self.inside (drained_after c)
+drained : (c : goal.After-add) → IsAnswered (request.Drain c.args.kind c.of-pages.result) reply.Drained c.self.inside (drained_after c)
 drained c =
-    answered_parts (request.Drain c.args.kind c.page_list-pages.result) reply.Drained c.self.inside (drained_after c) c.worker.result c.self.invariant (are_back c).back
+    answered_parts (request.Drain c.args.kind c.of-pages.result) reply.Drained c.self.inside (drained_after c) c.worker.result c.self.invariant (are_back c).back
     (c.drain.ensures.seat ∙ ap (λ l. replied (request.Drain c.args.kind l) reply.Drained c.self.inside.seat) c.as_slice.ensures.same)
     (uses c) (lists c) c.add.ensures (c.worker.ensures ∙ c.drain.ensures.worker)
 
@@ -75,7 +75,7 @@ returns-clause-section c =
       refl,
       subst (λ l. IsSection (request.Drain c.args.kind l) reply.Drained c.args.zone.now c.drain.new.self c.args.self.now (share_of (drained_after c)))
           ((are_back c).pages ∙ ap (λ s. back c.args.count (cached_of s c.args.kind)) c.self.view_is)
-          (section_is (request.Drain c.args.kind c.page_list-pages.result) reply.Drained c.args.zone.now c.drain.new.self c.self.inside (drained_after c) c.args.self.now
+          (section_is (request.Drain c.args.kind c.of-pages.result) reply.Drained c.args.zone.now c.drain.new.self c.self.inside (drained_after c) c.args.self.now
           c.self.invariant c.self.view_is (drained c)
           refl (c.drain.ensures.after ∙ ap (λ l. asked c.self.inside.seat.worker (request.Drain c.args.kind l) c.args.zone.now) c.as_slice.ensures.same)
           c.requires.seat c.drain.ensures.fits c.drain.ensures.known c.drain.ensures.agrees),
@@ -84,4 +84,4 @@ returns-clause-section c =
 pub returns-clause-lists : goal.returns-clause-lists
 returns-clause-lists c =
     λ n f.
-    subst (HasAtMost n) (sym (drained c).same) (most_drained (share_of c.self.inside) c.args.kind n c.page_list-pages.result (subst (HasAtMost n) (sym c.self.view_is) f))
+    subst (HasAtMost n) (sym (drained c).same) (most_drained (share_of c.self.inside) c.args.kind n c.of-pages.result (subst (HasAtMost n) (sym c.self.view_is) f))

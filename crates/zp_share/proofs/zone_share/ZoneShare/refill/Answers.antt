@@ -66,7 +66,7 @@ sections c =
       made = c.self.inside.sections.made + 1;
       last = Some (record { worker = c.worker-worker.result; request = request.Refill c.args.kind c.args.mark c.args.batch; reply = reply.Pages l });
     } in n)
-    (c.page_list-got.ensures ∙ c.as_slice-in-Ok-2.ensures.value)
+    (c.of-got.ensures ∙ c.as_slice-in-Ok-2.ensures.value)
 
 got : (c : goal.After-add) → IsAnswered (request.Refill c.args.kind c.args.mark c.args.batch) (reply.Pages c.in-Ok.pages.items) c.self.inside (got_after c)
 got c =

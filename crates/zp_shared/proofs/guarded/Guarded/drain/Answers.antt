@@ -1,50 +1,74 @@
-use Rattle.std.proofs.Common.{ap, sym, subst}
+use Rattle.std.proofs.Common.{◌≡◌, ◌≢◌, ◌∙◌, Ok, ap, subst, sym}
 use Rattle.zp_model.specs.declared.request.Request.{Request}
 use Rattle.zp_model.specs.declared.request.Request.TheVariants as request
 use Rattle.zp_model.specs.declared.request.Reply.{Reply}
 use Rattle.zp_model.specs.declared.request.Reply.TheVariants as reply
 use Rattle.zp_share.specs.PlainShares.{back}
-use Rattle.zp_share.specs.Shares.{share_at, done_reply}
-use Rattle.zp_share.specs.ZoneShares.{cached_of, IsSection}
-use Rattle.zp_share.proofs.Tried.{IsFull, IsMade, only_full}
-use Rattle.zp_shared.proofs.Guarding.{IsCall, IsAfter, seat_at, after}
+use Rattle.zp_share.specs.ZoneShares.{ZoneShareState, IsSection, cached_of}
+use Rattle.zp_share.specs.declared.sections.TheConstants.{LAST_SECTION}
+use Rattle.zp_share.specs.Shares.{IsShareOf, key_of, sections_at, share_at, noted_at, done_reply}
+use Rattle.zp_shared.specs.Rows.{GuardedZone, key_at}
+use Rattle.zp_shared.proofs.Guarding.{IsCall, IsAfter, seat_at, share_here, still_countable, after, kept_as_it_was}
 use Rattle.zp_shared.proofs.guarded.Guarded.drain.Given.{Over}
 use Rattle.zp_shared.proofs.guarded.Guarded.drain.Goals as goal
 
-pub drain-requires-clause-seat : goal.drain-requires-clause-seat
-drain-requires-clause-seat g c = seat_at g.J.Naming.zones c.self.inside.place c.self.inside.zone c.args.share.now c.self.invariant c.requires.fits
+pub drain-answer-requires-clause-seat : goal.drain-answer-requires-clause-seat
+drain-answer-requires-clause-seat g c =
+    seat_at g.J.Naming.zones c.self.inside.place c.self.inside.zone c.has_room.new.share c.self.invariant.0 (subst (IsShareOf g.J.Naming.zones) (sym c.has_room.ensures.share) c.requires.fits)
 
-abbrev asked : (g : Over) (c : goal.After-drain g) → Request
-asked g c = request.Drain c.args.kind (back c.args.count (cached_of (share_at c.args.share.now c.self.inside.place) c.args.kind))
+-- the place is that of the guarded zone, before and after
+at_place : (g : Over) (c : goal.After-note g) → c.self.inside.place ≡ c.args.self.now.place
+at_place g c = ap (λ (v : GuardedZone). v.place) (c.self.view_is ∙ c.has_room.ensures.same)
 
-abbrev answer : (g : Over) (c : goal.After-drain g) → Reply
-answer g c = done_reply reply.Drained c.drain.result
+countable : (g : Over) (c : goal.After-note g) → sections_at c.has_room.new.share c.self.inside.place ≢ LAST_SECTION
+countable g c = still_countable c.args.share.now c.has_room.new.share c.args.self.now.place c.self.inside.place c.has_room.ensures.share (at_place g c) (c.has_room.ensures.countable c.if-not-has_room.false)
 
-call : (g : Over) (c : goal.After-drain g) → IsCall g.J.Naming.zones c.args.self.now c.self.inside.place c.self.inside.zone c.drain.new.zone c.args.share.now c.drain.new.self
+-- one section was made
+made : (g : Over) (c : goal.After-note g) → (c.drain-answer.result ≡ Ok tt) × IsSection (request.Drain c.args.kind (back c.args.count (cached_of (share_at c.args.share.now c.args.self.now.place) c.args.kind))) reply.Drained c.self.inside.zone c.drain-answer.new.zone (share_at c.has_room.new.share c.self.inside.place) (share_at c.drain-answer.new.self c.self.inside.place)
+made g c =
+    let x = c.drain-answer.ensures.section (countable g c) in (
+      x.0,
+      subst
+          (λ (v : ZoneShareState). IsSection (request.Drain c.args.kind (back c.args.count (cached_of v c.args.kind))) reply.Drained c.self.inside.zone c.drain-answer.new.zone (share_at c.has_room.new.share c.self.inside.place) (share_at c.drain-answer.new.self c.self.inside.place))
+          (share_here c.args.share.now c.has_room.new.share c.args.self.now.place c.self.inside.place c.has_room.ensures.share (at_place g c)) x.1,
+    )
+
+abbrev asked : (g : Over) (c : goal.After-note g) → Request
+asked g c = request.Drain c.args.kind (back c.args.count (cached_of (share_at c.args.share.now c.args.self.now.place) c.args.kind))
+
+abbrev answer : (g : Over) (c : goal.After-note g) → Reply
+answer g c = reply.Drained
+
+call : (g : Over) (c : goal.After-note g) → IsCall g.J.Naming.zones (asked g c) (answer g c) c.args.self.now c.self.inside.place c.self.inside.journal c.note.new.journal c.self.inside.zone c.drain-answer.new.zone c.args.share.now c.has_room.new.share c.drain-answer.new.self
 call g c = record {
-  view = c.self.view_is;
-  key = c.self.invariant;
+  view = c.self.view_is ∙ c.has_room.ensures.same;
+  same = c.has_room.ensures.share;
+  key = c.self.invariant.0;
+  journal = c.self.invariant.1;
   fits = c.requires.fits;
-  others = c.drain.ensures.others;
-  seats = c.drain.ensures.seats;
-  seat = c.drain.ensures.same;
+  others = c.drain-answer.ensures.others;
+  seats = c.drain-answer.ensures.seats;
+  seat = c.drain-answer.ensures.same;
+  section = (made g c).1;
+  noted = c.note.ensures;
 }
 
-full : (g : Over) (c : goal.After-drain g) → IsFull (answer g c) c.self.inside.zone c.drain.new.zone (share_at c.args.share.now c.self.inside.place) (share_at c.drain.new.self c.self.inside.place)
-full g c = λ e. let x = c.drain.ensures.full e in (ap (done_reply reply.Drained) x.0, x.1)
-
-made : (g : Over) (c : goal.After-drain g) → IsMade (asked g c) (answer g c) c.self.inside.zone c.drain.new.zone (share_at c.args.share.now c.self.inside.place) (share_at c.drain.new.self c.self.inside.place)
-made g c = λ e. let x = c.drain.ensures.section e in subst (λ q. IsSection (asked g c) q c.self.inside.zone c.drain.new.zone (share_at c.args.share.now c.self.inside.place) (share_at c.drain.new.self c.self.inside.place)) (sym (ap (done_reply reply.Drained) x.0)) x.1
-
-left : (g : Over) (c : goal.After-drain g) → IsAfter g.J.Naming.zones (asked g c) (answer g c) c.args.self.now c.self.inside.place c.drain.new.zone c.args.share.now c.drain.new.self
-left g c = after g.J.Naming.zones (asked g c) (answer g c) c.args.self.now c.self.inside.place c.self.inside.zone c.drain.new.zone c.args.share.now c.drain.new.self (call g c) (full g c) (made g c)
+left : (g : Over) (c : goal.After-note g) → IsAfter g.J.Naming.zones (asked g c) (answer g c) c.args.self.now c.self.inside.place c.note.new.journal c.drain-answer.new.zone c.args.share.now c.drain-answer.new.self
+left g c = after g.J.Naming.zones (asked g c) (answer g c) c.args.self.now c.self.inside.place c.self.inside.journal c.note.new.journal c.self.inside.zone c.drain-answer.new.zone c.args.share.now c.has_room.new.share c.drain-answer.new.self (call g c)
 
 pub invariant_of-self : goal.invariant_of-self
-invariant_of-self g c = (left g c).key
+invariant_of-self g c = ((left g c).key, (left g c).journal)
 
 pub returns-clause-kept : goal.returns-clause-kept
 returns-clause-kept g c = (left g c).kept
 
-pub returns-clause-only : goal.returns-clause-only
-returns-clause-only g c =
-    only_full (share_at c.args.share.now c.self.inside.place).sections.made c.drain.result (λ e. (c.drain.ensures.full e).0) (λ e. (c.drain.ensures.section e).0)
+pub returns-clause-share : goal.returns-clause-share
+returns-clause-share g c = (left g c).share ∙ sym (ap (λ r. noted_at c.args.self.now.place (asked g c) (done_reply reply.Drained r) c.args.share.now) (made g c).0)
+
+pub returns-clause-section : goal.returns-clause-section
+returns-clause-section g c = λ free. ((made g c).0, (left g c).section)
+
+pub returns-then-not-has_room-clause-kept : goal.returns-then-not-has_room-clause-kept
+returns-then-not-has_room-clause-kept g c =
+    kept_as_it_was g.J.Naming.zones c.args.self.now c.has_room.new.self c.args.share.now c.has_room.new.share c.has_room.ensures.same c.has_room.ensures.share
+    (subst (λ (v : GuardedZone). key_of v.zone ≡ key_at g.J.Naming.zones v.place) c.has_room.ensures.same c.has_room.ensures.key) c.requires.fits

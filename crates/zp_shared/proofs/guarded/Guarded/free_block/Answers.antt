@@ -1,56 +1,69 @@
-use Rattle.std.proofs.Common.{◌≡◌, true, ap, sym, subst}
+use Rattle.std.proofs.Common.{◌≡◌, ◌≢◌, ◌∙◌, Ok, ap, subst, sym}
 use Rattle.zp_model.specs.declared.request.Request.{Request}
 use Rattle.zp_model.specs.declared.request.Request.TheVariants as request
 use Rattle.zp_model.specs.declared.request.Reply.{Reply}
 use Rattle.zp_model.specs.declared.request.Reply.TheVariants as reply
-use Rattle.zp_share.specs.Shares.{share_at, done_reply}
 use Rattle.zp_share.specs.ZoneShares.{IsSection, is_lent}
-use Rattle.zp_share.proofs.Tried.{IsFull, IsMade, IsNotLent, only_these}
-use Rattle.zp_shared.proofs.Guarding.{IsCall, IsAfter, seat_at, after_lent}
+use Rattle.zp_share.specs.declared.sections.TheConstants.{LAST_SECTION}
+use Rattle.zp_share.specs.Shares.{IsShareOf, key_of, sections_at, share_at, noted_at, done_reply}
+use Rattle.zp_shared.specs.Rows.{GuardedZone, key_at}
+use Rattle.zp_shared.proofs.Guarding.{IsCall, IsAfter, seat_at, share_here, still_countable, after, kept_as_it_was}
 use Rattle.zp_shared.proofs.guarded.Guarded.free_block.Given.{Over}
 use Rattle.zp_shared.proofs.guarded.Guarded.free_block.Goals as goal
 
-pub free_block-requires-clause-seat : goal.free_block-requires-clause-seat
-free_block-requires-clause-seat g c = seat_at g.J.Naming.zones c.self.inside.place c.self.inside.zone c.args.share.now c.self.invariant c.requires.fits
+pub free_block-answer-requires-clause-seat : goal.free_block-answer-requires-clause-seat
+free_block-answer-requires-clause-seat g c =
+    seat_at g.J.Naming.zones c.self-2.inside.place c.self-2.inside.zone c.has_room.new.share c.self-2.invariant.0 (subst (IsShareOf g.J.Naming.zones) (sym c.has_room.ensures.share) c.requires.fits)
 
-abbrev asked : (g : Over) (c : goal.After-free_block g) → Request
+-- the place is that of the guarded zone, before and after
+at_place : (g : Over) (c : goal.After-note g) → c.self-2.inside.place ≡ c.args.self.now.place
+at_place g c = ap (λ (v : GuardedZone). v.place) (c.self-2.view_is ∙ c.has_room.ensures.same)
+
+countable : (g : Over) (c : goal.After-note g) → sections_at c.has_room.new.share c.self-2.inside.place ≢ LAST_SECTION
+countable g c = still_countable c.args.share.now c.has_room.new.share c.args.self.now.place c.self-2.inside.place c.has_room.ensures.share (at_place g c) (c.has_room.ensures.countable c.if-not-has_room.false)
+
+-- one section was made
+made : (g : Over) (c : goal.After-note g) → (c.free_block-answer.result ≡ Ok tt) × IsSection (request.Free c.args.page c.args.order) reply.Freed c.self-2.inside.zone c.free_block-answer.new.zone (share_at c.has_room.new.share c.self-2.inside.place) (share_at c.free_block-answer.new.self c.self-2.inside.place)
+made g c =
+    let here = share_here c.args.share.now c.has_room.new.share c.self.inside.place c.self-2.inside.place c.has_room.ensures.share (at_place g c ∙ sym (ap (λ (v : GuardedZone). v.place) c.self.view_is)) in
+    c.free_block-answer.ensures.section (ap (λ v. is_lent v c.args.page c.args.order) here ∙ sym c.is_lent.ensures.lent ∙ c.if-not-is_lent.false) (countable g c)
+
+abbrev asked : (g : Over) (c : goal.After-note g) → Request
 asked g c = request.Free c.args.page c.args.order
 
-abbrev answer : (g : Over) (c : goal.After-free_block g) → Reply
-answer g c = done_reply reply.Freed c.free_block.result
+abbrev answer : (g : Over) (c : goal.After-note g) → Reply
+answer g c = reply.Freed
 
-call : (g : Over) (c : goal.After-free_block g) → IsCall g.J.Naming.zones c.args.self.now c.self.inside.place c.self.inside.zone c.free_block.new.zone c.args.share.now c.free_block.new.self
+call : (g : Over) (c : goal.After-note g) → IsCall g.J.Naming.zones (asked g c) (answer g c) c.args.self.now c.self-2.inside.place c.self-2.inside.journal c.note.new.journal c.self-2.inside.zone c.free_block-answer.new.zone c.args.share.now c.has_room.new.share c.free_block-answer.new.self
 call g c = record {
-  view = c.self.view_is;
-  key = c.self.invariant;
+  view = c.self-2.view_is ∙ c.has_room.ensures.same;
+  same = c.has_room.ensures.share;
+  key = c.self-2.invariant.0;
+  journal = c.self-2.invariant.1;
   fits = c.requires.fits;
-  others = c.free_block.ensures.others;
-  seats = c.free_block.ensures.seats;
-  seat = c.free_block.ensures.same;
+  others = c.free_block-answer.ensures.others;
+  seats = c.free_block-answer.ensures.seats;
+  seat = c.free_block-answer.ensures.same;
+  section = (made g c).1;
+  noted = c.note.ensures;
 }
 
-none : (g : Over) (c : goal.After-free_block g) → IsNotLent c.args.page c.args.order (answer g c) c.self.inside.zone c.free_block.new.zone (share_at c.args.share.now c.self.inside.place) (share_at c.free_block.new.self c.self.inside.place)
-none g c = λ n. let x = c.free_block.ensures.not_lent n in (ap (done_reply reply.Freed) x.0, x.1)
-
-full : (g : Over) (c : goal.After-free_block g) → is_lent (share_at c.args.share.now c.self.inside.place) c.args.page c.args.order ≡ true → IsFull (answer g c) c.self.inside.zone c.free_block.new.zone (share_at c.args.share.now c.self.inside.place) (share_at c.free_block.new.self c.self.inside.place)
-full g c = λ l e. let x = c.free_block.ensures.full l e in (ap (done_reply reply.Freed) x.0, x.1)
-
-made : (g : Over) (c : goal.After-free_block g) → is_lent (share_at c.args.share.now c.self.inside.place) c.args.page c.args.order ≡ true → IsMade (asked g c) (answer g c) c.self.inside.zone c.free_block.new.zone (share_at c.args.share.now c.self.inside.place) (share_at c.free_block.new.self c.self.inside.place)
-made g c = λ l e. let x = c.free_block.ensures.section l e in subst (λ q. IsSection (asked g c) q c.self.inside.zone c.free_block.new.zone (share_at c.args.share.now c.self.inside.place) (share_at c.free_block.new.self c.self.inside.place)) (sym (ap (done_reply reply.Freed) x.0)) x.1
-
-left : (g : Over) (c : goal.After-free_block g) → IsAfter g.J.Naming.zones (asked g c) (answer g c) c.args.self.now c.self.inside.place c.free_block.new.zone c.args.share.now c.free_block.new.self
-left g c = after_lent g.J.Naming.zones (asked g c) (answer g c) c.args.page c.args.order c.args.self.now c.self.inside.place c.self.inside.zone c.free_block.new.zone c.args.share.now c.free_block.new.self (call g c) (none g c) (full g c) (made g c)
+left : (g : Over) (c : goal.After-note g) → IsAfter g.J.Naming.zones (asked g c) (answer g c) c.args.self.now c.self-2.inside.place c.note.new.journal c.free_block-answer.new.zone c.args.share.now c.free_block-answer.new.self
+left g c = after g.J.Naming.zones (asked g c) (answer g c) c.args.self.now c.self-2.inside.place c.self-2.inside.journal c.note.new.journal c.self-2.inside.zone c.free_block-answer.new.zone c.args.share.now c.has_room.new.share c.free_block-answer.new.self (call g c)
 
 pub invariant_of-self : goal.invariant_of-self
-invariant_of-self g c = (left g c).key
+invariant_of-self g c = ((left g c).key, (left g c).journal)
 
 pub returns-clause-kept : goal.returns-clause-kept
 returns-clause-kept g c = (left g c).kept
 
 pub returns-clause-share : goal.returns-clause-share
-returns-clause-share g c = (left g c).share
+returns-clause-share g c = (left g c).share ∙ sym (ap (λ r. noted_at c.args.self.now.place (asked g c) (done_reply reply.Freed r) c.args.share.now) (made g c).0)
 
-pub returns-clause-only : goal.returns-clause-only
-returns-clause-only g c =
-    only_these (is_lent (share_at c.args.share.now c.self.inside.place) c.args.page c.args.order) (share_at c.args.share.now c.self.inside.place).sections.made c.free_block.result
-    (λ n. (c.free_block.ensures.not_lent n).0) (λ l e. (c.free_block.ensures.full l e).0) (λ l e. (c.free_block.ensures.section l e).0)
+pub returns-clause-section : goal.returns-clause-section
+returns-clause-section g c = λ lent free. ((made g c).0, (left g c).section)
+
+pub returns-then-not-has_room-clause-kept : goal.returns-then-not-has_room-clause-kept
+returns-then-not-has_room-clause-kept g c =
+    kept_as_it_was g.J.Naming.zones c.args.self.now c.has_room.new.self c.args.share.now c.has_room.new.share c.has_room.ensures.same c.has_room.ensures.share
+    (subst (λ (v : GuardedZone). key_of v.zone ≡ key_at g.J.Naming.zones v.place) c.has_room.ensures.same c.has_room.ensures.key) c.requires.fits

@@ -1,47 +1,66 @@
-use Rattle.std.proofs.Common.{ap}
+use Rattle.std.proofs.Common.{◌≡◌, ◌≢◌, ◌∙◌, ap, subst, sym}
 use Rattle.zp_model.specs.declared.request.Request.{Request}
 use Rattle.zp_model.specs.declared.request.Request.TheVariants as request
 use Rattle.zp_model.specs.declared.request.Reply.{Reply}
 use Rattle.zp_zone.specs.NamedZone.{pages_reply}
-use Rattle.zp_share.specs.Shares.{share_at}
-use Rattle.zp_share.proofs.Tried.{IsFull, IsMade}
-use Rattle.zp_shared.proofs.Guarding.{IsCall, IsAfter, seat_at, after}
+use Rattle.zp_share.specs.ZoneShares.{IsSection}
+use Rattle.zp_share.specs.declared.sections.TheConstants.{LAST_SECTION}
+use Rattle.zp_share.specs.Shares.{ShareState, IsShareOf, key_of, sections_at, share_at}
+use Rattle.zp_shared.specs.Rows.{GuardedZone, key_at}
+use Rattle.zp_shared.proofs.Guarding.{IsCall, IsAfter, seat_at, still_countable, after, kept_as_it_was}
 use Rattle.zp_shared.proofs.guarded.Guarded.refill.Given.{Over}
 use Rattle.zp_shared.proofs.guarded.Guarded.refill.Goals as goal
 
-pub refill-requires-clause-seat : goal.refill-requires-clause-seat
-refill-requires-clause-seat g c = seat_at g.J.Naming.zones c.self.inside.place c.self.inside.zone c.args.share.now c.self.invariant c.requires.fits
+pub refill-answer-requires-clause-seat : goal.refill-answer-requires-clause-seat
+refill-answer-requires-clause-seat g c =
+    seat_at g.J.Naming.zones c.self.inside.place c.self.inside.zone c.has_room.new.share c.self.invariant.0 (subst (IsShareOf g.J.Naming.zones) (sym c.has_room.ensures.share) c.requires.fits)
 
-abbrev asked : (g : Over) (c : goal.After-refill g) → Request
+-- the place is that of the guarded zone, before and after
+at_place : (g : Over) (c : goal.After-note g) → c.self.inside.place ≡ c.args.self.now.place
+at_place g c = ap (λ (v : GuardedZone). v.place) (c.self.view_is ∙ c.has_room.ensures.same)
+
+countable : (g : Over) (c : goal.After-note g) → sections_at c.has_room.new.share c.self.inside.place ≢ LAST_SECTION
+countable g c = still_countable c.args.share.now c.has_room.new.share c.args.self.now.place c.self.inside.place c.has_room.ensures.share (at_place g c) (c.has_room.ensures.countable c.if-not-has_room.false)
+
+abbrev asked : (g : Over) (c : goal.After-note g) → Request
 asked g c = request.Refill c.args.kind c.args.mark c.args.share.now.batch
 
-abbrev answer : (g : Over) (c : goal.After-refill g) → Reply
-answer g c = pages_reply c.refill.result
+abbrev answer : (g : Over) (c : goal.After-note g) → Reply
+answer g c = pages_reply c.refill-answer.result
 
-call : (g : Over) (c : goal.After-refill g) → IsCall g.J.Naming.zones c.args.self.now c.self.inside.place c.self.inside.zone c.refill.new.zone c.args.share.now c.refill.new.self
+call : (g : Over) (c : goal.After-note g) → IsCall g.J.Naming.zones (asked g c) (answer g c) c.args.self.now c.self.inside.place c.self.inside.journal c.note.new.journal c.self.inside.zone c.refill-answer.new.zone c.args.share.now c.has_room.new.share c.refill-answer.new.self
 call g c = record {
-  view = c.self.view_is;
-  key = c.self.invariant;
+  view = c.self.view_is ∙ c.has_room.ensures.same;
+  same = c.has_room.ensures.share;
+  key = c.self.invariant.0;
+  journal = c.self.invariant.1;
   fits = c.requires.fits;
-  others = c.refill.ensures.others;
-  seats = c.refill.ensures.seats;
-  seat = c.refill.ensures.same;
+  others = c.refill-answer.ensures.others;
+  seats = c.refill-answer.ensures.seats;
+  seat = c.refill-answer.ensures.same;
+  section =
+      subst
+      (λ (v : ShareState). IsSection (request.Refill c.args.kind c.args.mark v.batch) (answer g c) c.self.inside.zone c.refill-answer.new.zone (share_at c.has_room.new.share c.self.inside.place) (share_at c.refill-answer.new.self c.self.inside.place))
+      c.has_room.ensures.share (c.refill-answer.ensures.section (countable g c));
+  noted = c.note.ensures;
 }
 
-full : (g : Over) (c : goal.After-refill g) → IsFull (answer g c) c.self.inside.zone c.refill.new.zone (share_at c.args.share.now c.self.inside.place) (share_at c.refill.new.self c.self.inside.place)
-full g c = λ e. let x = c.refill.ensures.full e in (ap (pages_reply) x.0, x.1)
-
-made : (g : Over) (c : goal.After-refill g) → IsMade (asked g c) (answer g c) c.self.inside.zone c.refill.new.zone (share_at c.args.share.now c.self.inside.place) (share_at c.refill.new.self c.self.inside.place)
-made g c = c.refill.ensures.section
-
-left : (g : Over) (c : goal.After-refill g) → IsAfter g.J.Naming.zones (asked g c) (answer g c) c.args.self.now c.self.inside.place c.refill.new.zone c.args.share.now c.refill.new.self
-left g c = after g.J.Naming.zones (asked g c) (answer g c) c.args.self.now c.self.inside.place c.self.inside.zone c.refill.new.zone c.args.share.now c.refill.new.self (call g c) (full g c) (made g c)
+left : (g : Over) (c : goal.After-note g) → IsAfter g.J.Naming.zones (asked g c) (answer g c) c.args.self.now c.self.inside.place c.note.new.journal c.refill-answer.new.zone c.args.share.now c.refill-answer.new.self
+left g c = after g.J.Naming.zones (asked g c) (answer g c) c.args.self.now c.self.inside.place c.self.inside.journal c.note.new.journal c.self.inside.zone c.refill-answer.new.zone c.args.share.now c.has_room.new.share c.refill-answer.new.self (call g c)
 
 pub invariant_of-self : goal.invariant_of-self
-invariant_of-self g c = (left g c).key
+invariant_of-self g c = ((left g c).key, (left g c).journal)
 
 pub returns-clause-kept : goal.returns-clause-kept
 returns-clause-kept g c = (left g c).kept
 
 pub returns-clause-share : goal.returns-clause-share
 returns-clause-share g c = (left g c).share
+
+pub returns-clause-section : goal.returns-clause-section
+returns-clause-section g c = λ free. (left g c).section
+
+pub returns-then-not-has_room-clause-kept : goal.returns-then-not-has_room-clause-kept
+returns-then-not-has_room-clause-kept g c =
+    kept_as_it_was g.J.Naming.zones c.args.self.now c.has_room.new.self c.args.share.now c.has_room.new.share c.has_room.ensures.same c.has_room.ensures.share
+    (subst (λ (v : GuardedZone). key_of v.zone ≡ key_at g.J.Naming.zones v.place) c.has_room.ensures.same c.has_room.ensures.key) c.requires.fits

@@ -15,7 +15,7 @@ enter-requires-clause-places c =
 pub invariant_of-self : goal.invariant_of-self
 invariant_of-self c =
     tied_after c.self.inside.keeper c.enter.new.keeper c.self.inside.untied c.collect.new.self c.args.seat.now.worker c.worker-worker.result (request.Collect)
-    c.self.invariant.0 c.self.invariant.1 c.worker-worker.ensures c.enter.ensures.keeper c.collect.ensures.after
+    c.self.invariant.0 c.self.invariant.1 c.self.invariant.2 c.enter.ensures.agreed.0 refl c.worker-worker.ensures c.enter.ensures.keeper c.collect.ensures.after
 
 pub returns-clause-seat : goal.returns-clause-seat
 returns-clause-seat c =

@@ -15,7 +15,7 @@ enter-requires-clause-places c =
 pub invariant_of-self : goal.invariant_of-self
 invariant_of-self c =
     tied_after c.self.inside.keeper c.enter.new.keeper c.self.inside.untied c.free.new.self c.args.seat.now.worker c.worker-worker.result (request.Free c.args.page c.args.order)
-    c.self.invariant.0 c.self.invariant.1 c.worker-worker.ensures c.enter.ensures.keeper c.free.ensures.after
+    c.self.invariant.0 c.self.invariant.1 c.self.invariant.2 c.enter.ensures.agreed.0 (may_free c.args.seat.now c.self.inside.keeper.whole c.args.page c.args.order c.enter.ensures.agreed.1 c.requires.has) c.worker-worker.ensures c.enter.ensures.keeper c.free.ensures.after
 
 pub returns-clause-seat : goal.returns-clause-seat
 returns-clause-seat c =

@@ -16,7 +16,7 @@ enter-requires-clause-places c =
 pub invariant_of-self : goal.invariant_of-self
 invariant_of-self c =
     tied_after c.self.inside.keeper c.enter.new.keeper c.self.inside.untied c.post.new.self c.args.seat.now.worker c.worker-worker.result (request.Post c.args.page c.args.order c.args.to)
-    c.self.invariant.0 c.self.invariant.1 c.worker-worker.ensures c.enter.ensures.keeper c.post.ensures.after
+    c.self.invariant.0 c.self.invariant.1 c.self.invariant.2 c.enter.ensures.agreed.0 (may_post c.args.seat.now c.self.inside.keeper.whole c.args.self.now.plain c.args.page c.args.order c.args.to c.enter.ensures.agreed.1 (c.self.invariant.0 ∙ ap (λ (z : ZoneState). z.plain) c.self.view_is) c.requires.has c.requires.to) c.worker-worker.ensures c.enter.ensures.keeper c.post.ensures.after
 
 pub returns-clause-seat : goal.returns-clause-seat
 returns-clause-seat c =

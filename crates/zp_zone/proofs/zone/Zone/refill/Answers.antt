@@ -14,7 +14,7 @@ enter-requires-clause-places c =
 pub invariant_of-self : goal.invariant_of-self
 invariant_of-self c =
     tied_after c.self.inside.keeper c.enter.new.keeper c.self.inside.untied c.refill.new.self c.args.seat.now.worker c.worker-worker.result (request.Refill c.args.kind c.args.mark c.args.count)
-    c.self.invariant.0 c.self.invariant.1 c.worker-worker.ensures c.enter.ensures.keeper c.refill.ensures.after
+    c.self.invariant.0 c.self.invariant.1 c.self.invariant.2 c.enter.ensures.agreed.0 (may_refill c.self.inside.keeper.whole.plain c.args.seat.now.worker c.args.count c.args.kind c.args.mark c.requires.some c.requires.batch) c.worker-worker.ensures c.enter.ensures.keeper c.refill.ensures.after
 
 pub returns-clause-seat : goal.returns-clause-seat
 returns-clause-seat c =

@@ -1,0 +1,102 @@
+//! Two workers, each in a thread of its own, over a zone that they share; and the zone's journal, replayed.
+ghost use Rattle.std.specs.Prelude.{◌≡◌, ◌∷◌, [], All, IfOk};
+ghost use Rattle.zp_desk.specs.Desks.{IsReady};
+ghost use Rattle.zp_share.specs.Shares.{key_of};
+ghost use Rattle.zp_zone.specs.Seats.{IsSeatOf, IsUnused};
+
+use std::alloc::Global;
+use std::marker::Brand;
+use std::sync::Wait;
+use std::thread::Threads;
+use zp_desk::{Command, Desk, OpenGate};
+use zp_journal::{Journal, JournalCheck, replay_journal};
+use zp_model::{Mark, MigrateType, Order, Refused};
+use zp_share::{ListConfig, Share};
+use zp_shared::{Naming, close_zones, run_workers, share_zones};
+use zp_zone::{Seat, Zone, ZoneConfig};
+
+/// How many requests the journal has room for: two of each worker.
+const ENTRIES: u32 = 4;
+
+/// A zone that two workers shared.
+#[derive(Clone, Copy, PartialEq, Eq, Debug, Drop)]
+pub struct SharedRun {
+    /// How many pages are free when both have ended.
+    pub free_pages: u32,
+    /// How many requests were made of the zone.
+    pub requests: u32,
+    /// Whether a new zone that is asked the same, in the same order, answers the same.
+    pub is_legal: bool,
+}
+
+/// The desk of a worker of this zone, with no lists of its own. Its script: a page is taken and given back.
+fn desk(alloc: Global, zone: &Zone, seat: Seat) -> Result<Desk, Refused>
+    requires seat { IsSeatOf zone.now seat }
+    requires unused { IsUnused seat }
+    ensures { IfOk result (IsReady (key_of zone.now ∷ [])) }
+{
+    let lists = ListConfig::new(0, 0).ok_or(Refused::ListFull)?;
+    let (Ok(mut seats), Ok(mut script)) = (
+        Vec::with_capacity(alloc, 1),
+        Vec::with_capacity(alloc, 2),
+    ) else {
+        return Err(Refused::Memory);
+    };
+    seats.push_reserved(seat);
+    script.push_reserved(Command::Alloc {
+        slot: 0,
+        order: Order::zero(),
+        kind: MigrateType::Movable,
+        zone: 0,
+        mark: Mark::Low,
+    });
+    script.push_reserved(Command::Free { slot: 0 });
+    let share = Share::new(alloc, seats, lists)?;
+    Desk::new(alloc, share, script)
+}
+
+/// The workers run under the name of this zone: the zone and its journal, once both have ended.
+fn run_as<J: Naming + Send + Sync, R: Threads + Wait + Sync>(
+    rt: &R,
+    alloc: Global,
+    zone: Zone,
+    mut desks: [Desk; 2],
+) -> Option<(Zone, Journal)>
+    requires named { J.zones ≡ key_of zone ∷ [] }
+    requires new { zone.entries ≡ [] }
+    requires ready { All (IsReady J.zones) desks }
+{
+    let mut zones = Vec::with_capacity(alloc, 1).ok()?;
+    zones.push_reserved(zone);
+    let row = share_zones::<J>(alloc, zones, ENTRIES).ok()?;
+    run_workers(rt, row.as_slice(), &mut desks, &OpenGate).ok()?;
+    let zones = Vec::with_capacity(alloc, row.len()).ok()?;
+    let journals = Vec::with_capacity(alloc, row.len()).ok()?;
+    let (mut zones, mut journals) = close_zones(row, zones, journals)?;
+    Some((zones.pop()?, journals.pop()?))
+}
+
+/// Two workers take a page each and give it back, at the same time; then the zone's journal is replayed. None where there is no
+/// memory or no thread.
+pub fn share_a_zone<R: Threads + Wait + Sync>(
+    rt: &R,
+    alloc: Global,
+    config: ZoneConfig<'_>,
+) -> Option<SharedRun> {
+    let Ok((zone, mut seats)) = Zone::new(alloc, config, 2) else {
+        return None;
+    };
+    let (Some(second), Some(first)) = (seats.pop(), seats.pop()) else {
+        return None;
+    };
+    let (Ok(first), Ok(second)) = (desk(alloc, &zone, first), desk(alloc, &zone, second)) else {
+        return None;
+    };
+    let (zone, journal) = run_as::<Brand, R>(rt, alloc, zone, [first, second])?;
+    let check = replay_journal(alloc, config, 2, &journal).ok()?;
+    Some(SharedRun {
+        free_pages: zone.counts().free,
+        requests: journal.len(),
+        is_legal: matches!(check, JournalCheck::Legal(_)),
+    })
+}

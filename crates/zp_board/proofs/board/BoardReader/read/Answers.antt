@@ -1,0 +1,12 @@
+use Rattle.std.proofs.Common.{◌<◌, sym, ap, ◌∙◌, arith}
+use Rattle.zp_board.proofs.Steps.{looks}
+use Rattle.zp_board.proofs.board.BoardReader.read.Goals as goal
+
+pub load-place-requires : goal.load-place-requires
+load-place-requires g c =
+    let row = c.board.inside.row.shared in
+    let some : 0 < row.table_id.words = omega (arith, c.board.invariant.1) in (
+      ap (λ r. r.tie) c.self.view_is ∙ c.requires ∙ sym (ap (λ b. b.tie) c.board.view_is),
+      some,
+      looks g.row.W row.key row.table_id.slots c.self.inside.pin.id c.self.inside.pin.me c.self.invariant.2 c.self.invariant.3,
+    )

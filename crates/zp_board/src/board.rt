@@ -1,0 +1,183 @@
+//! The board, the publisher that writes it, and its readers.
+ghost use Rattle.std.specs.Prelude.{◌≡◌, ◌+◌, ◌*◌, ◌<◌, ◌≤◌, ◌^◌, ◌↔◌, ℕ, [], ◌∷◌, ◌++◌, true, length, IfOk, IsTrue};
+ghost use mathlib.Core.List.{IsPrefix};
+ghost use Rattle.zp_board.specs.Boards.{AreWide, entry_at, last_of, word_at};
+
+use crate::row::{Fetch, Look, Newcomer, Open, Pin, Row, Seen, Whole, Write};
+use std::alloc::{AllocError, Global};
+use std::marker::Model;
+
+/// The words that all threads share: those of the opening entry, and of as many more entries as its capacity. Contracts see the
+/// identity of its tie, and the capacity.
+#[derive(Drop)]
+pub struct Board<const W: usize> {
+    row: Row<W>,
+    capacity: u32,
+}
+
+impl<const W: usize> Model for Board<W> {
+    ghost use Rattle.std.specs.Prelude.{◌≡◌, ◌+◌, ◌*◌, ◌<◌, ◌^◌};
+    ghost use Rattle.zp_board.specs.Boards.{BoardState};
+
+    ghost Value = { BoardState };
+
+    ghost view = { λ b. record { tie = b.row.shared.table_id; capacity = b.capacity } };
+
+    ghost invariant = { λ b. (b.row.shared.key ≡ b.row.shared.table_id.words) × (b.row.shared.table_id.words ≡ W * (b.capacity + 1) + 1) × (b.capacity < 2 ^ 32) };
+}
+
+/// The right to publish. It cannot be copied. Contracts see the identity of its tie, and the entries that are published.
+#[derive(Drop)]
+pub struct Publisher<const W: usize> {
+    published: u64,
+    pin: Pin,
+}
+
+impl<const W: usize> Model for Publisher<W> {
+    ghost use Rattle.std.specs.Prelude.{◌≡◌, true, false, [], length};
+    ghost use Rattle.zp_board.specs.Boards.{PublisherState};
+
+    ghost Value = { PublisherState };
+
+    ghost view = { λ p. record { tie = p.pin.table_id; published = p.pin.me.0.entries } };
+
+    ghost invariant = { λ p. (p.pin.me.1 ≡ []) × (p.pin.me.0.stores ≡ true) × (p.pin.me.0.reads ≡ false) × (p.pin.me.0.next ≡ []) × (length p.pin.me.0.entries ≡ p.published) × (p.pin.me.0.size ≡ p.pin.table_id.words) };
+}
+
+/// The right to read. It cannot be copied. Contracts see the identity of its tie, and the entries that it has seen.
+#[derive(Drop)]
+pub struct BoardReader<const W: usize> {
+    pin: Pin,
+}
+
+impl<const W: usize> Model for BoardReader<W> {
+    ghost use Rattle.std.specs.Prelude.{◌≡◌, ◌<◌, true, false, [], length};
+    ghost use Rattle.zp_board.specs.Boards.{ReaderState};
+
+    ghost Value = { ReaderState };
+
+    ghost view = { λ r. record { tie = r.pin.table_id; seen = r.pin.me.0.seen } };
+
+    ghost invariant = { λ r. (r.pin.me.1 ≡ []) × (r.pin.me.0.stores ≡ false) × (r.pin.me.0.reads ≡ true) × (0 < length r.pin.me.0.seen) × (r.pin.me.0.size ≡ r.pin.table_id.words) };
+}
+
+impl<const W: usize> Board<W> {
+    /// A board with no entry, and its publisher. No later call takes memory.
+    pub fn new(alloc: Global, capacity: u32) -> Result<(Board<W>, Publisher<W>), AllocError>
+        requires { W * (capacity + 1) + 1 < 2 ^ 32 }
+        ensures tie { IfOk result (λ r. r.1.tie ≡ r.0.tie) }
+        ensures capacity { IfOk result (λ r. r.0.capacity ≡ capacity) }
+        ensures published { IfOk result (λ r. r.1.published ≡ []) }
+    {
+        let words = vec![in alloc; 0; W * (capacity as usize + 1) + 1]?;
+        let size = words.len() as u64;
+        let (row, pin) = Row::<W>::of_words(alloc, &words, &size)?;
+        Ok((Board { row, capacity }, Publisher { published: 0, pin }))
+    }
+
+    /// Writes the words of the next entry, one after another.
+    fn write(&self, pin: &mut Pin, at: usize, entry: &[u64; W])
+        requires tie { pin.old.table_id ≡ self.now.tie }
+        requires stores { pin.old.me.0.stores ≡ true }
+        requires next { pin.old.me.0.next ≡ [] }
+        requires at { at ≡ word_at W (length pin.old.me.0.entries) 0 }
+        requires room { length pin.old.me.0.entries ≤ self.now.capacity }
+        ensures tie { pin.new.table_id ≡ pin.old.table_id }
+        ensures me { pin.new.me ≡ (record pin.old.me.0 { next = entry.now }, pin.old.me.1) }
+    {
+        let row = &self.row.shared;
+        let _words = self.row.word_count();
+        for k in 0..W {
+            row.store::<Write>(pin, at + k, entry[k]);
+        }
+    }
+
+    /// Fetches the words of an entry that was seen.
+    fn fetch(&self, pin: &mut Pin, place: usize) -> [u64; W]
+        requires tie { pin.old.table_id ≡ self.now.tie }
+        requires reads { pin.old.me.0.reads ≡ true }
+        requires seen { place < length pin.old.me.0.seen }
+        requires wide { AreWide W pin.old.me.0.seen }
+        requires inside { W * length pin.old.me.0.seen + 1 ≤ self.now.tie.words }
+        ensures tie { pin.new.table_id ≡ pin.old.table_id }
+        ensures me { pin.new.me ≡ pin.old.me }
+        ensures entry { result ≡ entry_at pin.old.me.0.seen place }
+    {
+        let row = &self.row.shared;
+        let _words = self.row.word_count();
+        let at = W * place + 1;
+        let mut entry = [0; W];
+        for k in 0..W {
+            entry[k] = row.load::<Fetch<W>>(pin, at + k);
+        }
+        entry
+    }
+}
+
+impl<const W: usize> Publisher<W> {
+    /// Whether the board has no room for an entry more.
+    pub fn is_full(&self, board: &Board<W>) -> bool
+        ensures { IsTrue result ↔ (board.now.capacity < length self.now.published) }
+    {
+        self.published > u64::from(board.capacity)
+    }
+
+    /// Publishes an entry: its words are written, and then it is opened.
+    pub fn publish(&mut self, board: &Board<W>, entry: &[u64; W])
+        requires tie { self.old.tie ≡ board.now.tie }
+        requires room { length self.old.published ≤ board.now.capacity }
+        ensures tie { self.new.tie ≡ self.old.tie }
+        ensures published { self.new.published ≡ self.old.published ++ entry.now ∷ [] }
+    {
+        let row = &board.row.shared;
+        let _words = board.row.word_count();
+        let at = W * self.published as usize + 1;
+        board.write(&mut self.pin, at, entry);
+        row.store::<Open>(&mut self.pin, 0, self.published);
+        self.published += 1;
+    }
+
+    /// A reader that has seen all that is published.
+    pub fn reader(&mut self, board: &Board<W>) -> BoardReader<W>
+        requires tie { self.old.tie ≡ board.now.tie }
+        requires some { 0 < length self.old.published }
+        ensures same { self.new ≡ self.old }
+        ensures reader { result ≡ record { tie = self.old.tie; seen = self.old.published } }
+    {
+        let row = &board.row.shared;
+        let pin = row.split_seat::<Newcomer>(&mut self.pin);
+        BoardReader { pin }
+    }
+
+    /// The last entry that is published, which the reader has then seen with all before it.
+    pub fn read_board(&mut self, board: &Board<W>, reader: &mut BoardReader<W>) -> [u64; W]
+        requires tie { self.old.tie ≡ board.now.tie }
+        requires reader { reader.old.tie ≡ board.now.tie }
+        ensures same { self.new ≡ self.old }
+        ensures before { IsPrefix reader.old.seen self.old.published }
+        ensures reader { reader.new ≡ record { tie = reader.old.tie; seen = self.old.published } }
+        ensures last { result ≡ last_of self.old.published }
+    {
+        let row = &board.row.shared;
+        let part = row.split_seat::<Whole>(&mut reader.pin);
+        row.join_seat::<Seen>(&mut self.pin, part);
+        let place = row.load::<Look<W>>(&mut self.pin, 0);
+        reader.pin = row.split_seat::<Seen>(&mut self.pin);
+        board.fetch(&mut reader.pin, place as usize)
+    }
+}
+
+impl<const W: usize> BoardReader<W> {
+    /// The last entry of those that are then seen. They begin with all that was seen before.
+    pub fn read(&mut self, board: &Board<W>) -> [u64; W]
+        requires { self.old.tie ≡ board.now.tie }
+        ensures tie { self.new.tie ≡ self.old.tie }
+        ensures seen { IsPrefix self.old.seen self.new.seen }
+        ensures some { 0 < length self.new.seen }
+        ensures last { result ≡ last_of self.new.seen }
+    {
+        let row = &board.row.shared;
+        let place = row.load::<Look<W>>(&mut self.pin, 0);
+        board.fetch(&mut self.pin, place as usize)
+    }
+}

@@ -1,0 +1,3 @@
+pub mod SameReply
+pub mod Repeating
+pub mod Replayed

@@ -1,0 +1,31 @@
+-- A zone that is asked for what an entry says (this profile).
+use Rattle.std.specs.Prelude.{ℕ, ◌≡◌, Bool, true, false, List, All, map, Option, None, Some}
+use Rattle.std.specs.List.{range_with_len}
+use Rattle.zp_model.specs.declared.request.Entry.{Entry}
+use Rattle.zp_model.specs.declared.request.Request.{Request}
+use Rattle.zp_model.specs.declared.request.Reply.{Reply}
+use Rattle.zp_model.specs.Zone.{workers_of}
+use Rattle.zp_model.specs.Step.{step}
+use Rattle.zp_model.specs.Run.{may_ask, IsDefined, IsLegalEntry}
+use Rattle.zp_zone.specs.Seats.{ZoneState, SeatState, IsSeatOf, asked}
+
+-- the seats of the zone, one for each of its workers in order
+pub record AreSeatsOf (z : ZoneState) (seats : List SeatState) : Type 0 where
+  pub ties : All (IsSeatOf z) seats
+  pub workers : map (λ (s : SeatState). s.worker) seats ≡ range_with_len 0 (workers_of z.plain)
+
+-- the seat is the worker's still, and of the same zone
+pub record IsSeatStill (before after : SeatState) : Type 0 where
+  pub tie : after.tie ≡ before.tie
+  pub worker : after.worker ≡ before.worker
+
+-- what is answered where worker w asks for this, and the zone that it leaves: the reply of the step, where w may ask for it, and
+-- the step's zone; else nothing, and the zone as it was
+abbrev pub IsAnswered : ZoneState → ℕ → Request → Option Reply → ZoneState → Type 0
+IsAnswered z w r None y = (may_ask z.plain w r ≡ false) × (y ≡ z)
+IsAnswered z w r (Some q) y = IsDefined z.plain w r × (q ≡ (step z.plain w r).reply) × (y ≡ asked w r z)
+
+-- what is found where an entry is repeated, and the zone that it leaves
+abbrev pub IsRepeated : ZoneState → Entry → Bool → ZoneState → Type 0
+IsRepeated z e true y = IsLegalEntry z.plain e × (y ≡ asked e.worker e.request z)
+IsRepeated z e false y = IsLegalEntry z.plain e → ⊥

@@ -1,0 +1,13 @@
+//! The journal of a zone: all that was asked of it since its opening, with the replies; and the replay that tells whether a zone
+//! could have made it.
+#![tactic(auto)]
+
+mod asking;
+mod journal;
+mod replay;
+
+pub use journal::{Journal, LONGEST_JOURNAL};
+pub use replay::{JournalCheck, replay_journal};
+
+#[cfg(test)]
+mod tests;

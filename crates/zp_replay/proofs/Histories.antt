@@ -1,0 +1,74 @@
+-- Zones and their journals, before and after the journals were replayed.
+use Rattle.std.proofs.Common.{ℕ, ◌≡◌, ◌<◌, ◌∙◌, List, [], ◌∷◌, ◌++◌, length, map, take, drop, get_or, sym, ap, ap₂, subst, arith, length-append}
+use Rattle.std.specs.List.{AllZip}
+use Rattle.std.proofs.lemmas.List.{length-map, map-append, take_more}
+use Rattle.zp_model.specs.declared.request.Entry.{Entry}
+use Rattle.zp_model.specs.Run.{IsHistory}
+use Rattle.zp_trace.specs.declared.line.ZoneLine.{ZoneLine}
+use Rattle.zp_trace.specs.declared.trace.Trace.{Trace}
+use Rattle.zp_zone.specs.NamedZone.{NamedZone}
+use Rattle.zp_zone.specs.Seats.{ZoneState}
+use Rattle.zp_journal.specs.Journals.{IsJournalOf, JournalState}
+use Rattle.zp_share.specs.Shares.{named_zone}
+use Rattle.zp_shared.proofs.Places.{zip_more}
+use Rattle.zp_crew.specs.Offices.{OfficeState, opened_office}
+use Rattle.zp_crew.specs.Opening.{declared_zone}
+use Rattle.zp_replay.specs.Judging.{JudgedJournal, IsJudged}
+use Rattle.zp_replay.specs.Serving.{IsHistoryOf, IsJudgedHistory, IsJudgedOffice, IsServed}
+use Rattle.zp_replay.proofs.ServedOffices.{zip_length}
+
+-- the journals of zones that came out of their locks have all that was asked of the zones
+pub histories_of : (zs : List ZoneState) (js : List JournalState) → AllZip IsJournalOf zs js → AllZip IsHistoryOf (map named_zone zs) js
+histories_of [] [] zip = zip
+histories_of [] (j ∷ js) zip = absurd zip
+histories_of (z ∷ zs) [] zip = absurd zip
+histories_of (z ∷ zs) (j ∷ js) zip =
+    (subst (λ (es : List Entry). IsHistory z.plain es) (sym zip.0.entries) zip.0.history, histories_of zs js zip.1)
+
+abbrev pub entries_judged : List JudgedJournal → List (List Entry)
+entries_judged js = map (λ (j : JudgedJournal). j.entries) js
+
+abbrev pub entries_in : List JournalState → List (List Entry)
+entries_in js = map (λ (j : JournalState). j.entries) js
+
+-- and so have the journals with the same entries
+pub same_histories : (zs : List NamedZone) (js : List JournalState) (ks : List JudgedJournal) → entries_judged ks ≡ entries_in js → AllZip IsHistoryOf zs js → AllZip IsJudgedHistory zs ks
+same_histories [] [] [] e zip = zip
+same_histories [] (j ∷ js) ks e zip = absurd zip
+same_histories (z ∷ zs) [] ks e zip = absurd zip
+same_histories [] [] (k ∷ ks) e zip = absurd (omega (arith, ap length e))
+same_histories (z ∷ zs) (j ∷ js) [] e zip = absurd (omega (arith, ap length e))
+same_histories (z ∷ zs) (j ∷ js) (k ∷ ks) e zip =
+    let here : k.entries ≡ j.entries = ap (λ (es : List (List Entry)). get_or es 0 []) e in
+    let rest : entries_judged ks ≡ entries_in js = ap (λ (es : List (List Entry)). drop 1 es) e in
+    (subst (λ (es : List Entry). IsHistory z.plain es) (sym here) zip.0, same_histories zs js ks rest zip.1)
+
+-- the journals of the lines so far, and one more
+pub judged_more : (n : ℕ) (lines : List ZoneLine) (js : List JudgedJournal) (line : ZoneLine) (j : JudgedJournal) → length js < length lines → line ≡ get_or lines (length js) line →
+    AllZip (IsJudged n) (take (length js) lines) js → IsJudged n line j → AllZip (IsJudged n) (take (length (js ++ j ∷ [])) lines) (js ++ j ∷ [])
+judged_more n lines js line j lt is zip one =
+    let more : take (length (js ++ j ∷ [])) lines ≡ take (length js) lines ++ line ∷ [] =
+    ap (λ m. take m lines) (length-append js (j ∷ [])) ∙ take_more lines (length js) line lt ∙ ap (λ y. take (length js) lines ++ y ∷ []) (sym is) in
+    subst (λ (ls : List ZoneLine). AllZip (IsJudged n) ls (js ++ j ∷ [])) (sym more) (zip_more (IsJudged n) (take (length js) lines) js line j zip one)
+
+pub entries_more : (js : List JudgedJournal) (ks : List JournalState) (j : JudgedJournal) (k : JournalState) → entries_judged js ≡ entries_in ks → j.entries ≡ k.entries →
+    entries_judged (js ++ j ∷ []) ≡ entries_in (ks ++ k ∷ [])
+entries_more js ks j k e one =
+    map-append (λ (x : JudgedJournal). x.entries) js (j ∷ [])
+    ∙ ap₂ (λ l (es : List Entry). l ++ es ∷ []) e one
+    ∙ sym (map-append (λ (x : JournalState). x.entries) ks (k ∷ []))
+
+-- there are as many journals as zone lines
+pub journals_many : (t : Trace) (o : OfficeState) (js : List JournalState) → IsServed t o → AllZip IsHistoryOf o.zones js → length js ≡ length t.header.zones
+journals_many t o js served zip =
+    zip_length IsHistoryOf o.zones js zip
+    ∙ sym (length-map o.zones (λ (z : NamedZone). z.name))
+    ∙ ap length served.names
+    ∙ length-map (opened_office t).zones (λ (z : NamedZone). z.name)
+    ∙ length-map t.header.zones (declared_zone t.header.workers)
+
+-- the office of a trace with what was found of its journals
+pub judged_office : (t : Trace) (o : OfficeState) (js : List JournalState) (ks : List JudgedJournal) → IsServed t o → AllZip IsHistoryOf o.zones js →
+    AllZip (IsJudged t.header.workers) t.header.zones ks → entries_judged ks ≡ entries_in js → IsJudgedOffice t o ks
+judged_office t o js ks served zip judged same =
+    record { served = served; histories = same_histories o.zones js ks same zip; judged = judged }
