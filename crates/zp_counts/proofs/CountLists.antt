@@ -1,0 +1,31 @@
+-- Beginnings of mapped lists, and counts that come back from their words.
+use Rattle.std.proofs.Common.{◌≡◌, ℕ, ◌<◌, List, [], ◌∷◌, ◌++◌, ◌+◌, length, map, take, set, get_or, sym, ap, ◌∙◌, arith}
+use Rattle.std.proofs.lemmas.List.{map-append, get_or-map, length-map, length-set, length-take-le, get_or-take, ext_get_or, take_all, take_at, take_more_set, get_or_at}
+use mathlib.Core.List.{IsPrefix}
+use Rattle.zp_model.specs.declared.constants.TheConstants.{ORDERS}
+use Rattle.zp_counts.specs.CountBoards.{count_in, counts_in}
+
+-- a beginning of a list is mapped to a beginning of what the list is mapped to
+pub prefix_map : {X Y : Type 0} (f : X → Y) (xs ys : List X) → IsPrefix xs ys → IsPrefix (map f xs) (map f ys)
+prefix_map f xs ys p = (map f p.0, sym (map-append f xs p.0) ∙ ap (map f) p.1)
+
+-- a list that agrees with another up to its last place, where x is put, is the other with x after it
+pub last_put : (xs ys : List ℕ) (n x : ℕ) → length xs ≡ n → length ys ≡ n + 1 → ((k : ℕ) → k < n → get_or ys k 0 ≡ get_or xs k 0) → set ys n x ≡ xs ++ x ∷ []
+last_put xs ys n x short long same =
+    let front : take n ys ≡ xs = ext_get_or 0 _ _ (length-take-le n ys (omega arith) ∙ sym short)
+    (λ k lt. let inside : k < n = omega (arith, lt, length-take-le n ys (omega arith)) in get_or-take n ys k 0 inside ∙ same k inside) in
+    sym (take_all (n + 1) (set ys n x) (omega (arith, length-set ys n x))) ∙ take_more_set ys n x (omega arith) ∙ ap (λ l. l ++ x ∷ []) front
+
+-- numbers of 32 bits stand for themselves
+pub counts_fit : (ns : List ℕ) → ((k : ℕ) → get_or ns k 0 < 4294967296) → map count_in ns ≡ ns
+counts_fit ns fit =
+    ext_get_or 0 _ _ (length-map ns count_in)
+    (λ k lt. get_or-map count_in ns k 0 0 (omega (arith, lt, length-map ns count_in)) ∙ omega (arith, fit k))
+
+-- counts come back from their words
+pub counts_back : (ns : List ℕ) (free : ℕ) → length ns ≡ ORDERS → ((k : ℕ) → get_or ns k 0 < 4294967296) → free < 4294967296
+    → counts_in (ns ++ free ∷ []) ≡ record { by_order = ns; free = free }
+counts_back ns free long fit low =
+    let by_order : map count_in (take ORDERS (ns ++ free ∷ [])) ≡ ns = ap (map count_in) (take_at ns (free ∷ []) ORDERS long) ∙ counts_fit ns fit in
+    let last : count_in (get_or (ns ++ free ∷ []) ORDERS 0) ≡ free = ap count_in (get_or_at ns free [] 0 ORDERS long) ∙ omega arith in
+    λ j. record { by_order = by_order j; free = last j }

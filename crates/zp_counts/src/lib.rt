@@ -1,0 +1,14 @@
+//! The board of a zone's counts: how many free blocks of each order it has, and how many free pages, after each of its requests.
+//!
+//! In Linux `/proc/buddyinfo` is read order by order under the zone's lock; here a reader takes no lock, and what it reads was the
+//! zone's at one moment.
+#![tactic(auto)]
+
+mod board;
+mod words;
+
+pub use board::{Board, BoardReader, Publisher, new_board};
+pub use words::COUNT_WORDS;
+
+#[cfg(test)]
+mod tests;
