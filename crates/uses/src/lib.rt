@@ -1,5 +1,5 @@
 //! Callers of the zone allocator, as a user would write them. Each is proved from the contracts of the calls that it makes:
-//! there is no proof file here but a line that names a shared row, and where one were wanted, a contract below would say too little.
+//! there is no proof file here, and where one were wanted, a contract below would say too little.
 #![tactic(auto)]
 
 mod buddyinfo;

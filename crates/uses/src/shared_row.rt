@@ -1,18 +1,17 @@
 //! Two workers, each in a thread of its own, over a zone that they share; and the zone's journal, replayed.
-ghost use Rattle.std.specs.Prelude.{◌≡◌, ◌∷◌, [], All, IfOk};
+ghost use Rattle.std.specs.Prelude.{◌∷◌, [], IfOk};
 ghost use Rattle.zp_desk.specs.Desks.{IsReady};
 ghost use Rattle.zp_share.specs.Shares.{key_of};
 ghost use Rattle.zp_zone.specs.Seats.{IsSeatOf, IsUnused};
 
 use std::alloc::Global;
-use std::marker::Brand;
 use std::sync::Wait;
 use std::thread::Threads;
 use zp_desk::{Command, Desk, OpenGate};
-use zp_journal::{Journal, JournalCheck, replay_journal};
+use zp_journal::{JournalCheck, replay_journal};
 use zp_model::{Mark, MigrateType, Order, Refused};
 use zp_share::{ListConfig, Share};
-use zp_shared::{Naming, close_zones, run_workers, share_zones};
+use zp_shared::run_zones;
 use zp_zone::{Seat, Zone, ZoneConfig};
 
 /// How many requests the journal has room for: two of each worker.
@@ -55,27 +54,6 @@ fn desk(alloc: Global, zone: &Zone, seat: Seat) -> Result<Desk, Refused>
     Desk::new(alloc, share, script)
 }
 
-/// The workers run under the name of this zone: the zone and its journal, once both have ended.
-fn run_as<J: Naming + Send + Sync, R: Threads + Wait + Sync>(
-    rt: &R,
-    alloc: Global,
-    zone: Zone,
-    mut desks: [Desk; 2],
-) -> Option<(Zone, Journal)>
-    requires named { J.zones ≡ key_of zone ∷ [] }
-    requires new { zone.entries ≡ [] }
-    requires ready { All (IsReady J.zones) desks }
-{
-    let mut zones = Vec::with_capacity(alloc, 1).ok()?;
-    zones.push_reserved(zone);
-    let row = share_zones::<J>(alloc, zones, ENTRIES).ok()?;
-    run_workers(rt, row.as_slice(), &mut desks, &OpenGate).ok()?;
-    let zones = Vec::with_capacity(alloc, row.len()).ok()?;
-    let journals = Vec::with_capacity(alloc, row.len()).ok()?;
-    let (mut zones, mut journals) = close_zones(row, zones, journals)?;
-    Some((zones.pop()?, journals.pop()?))
-}
-
 /// Two workers take a page each and give it back, at the same time; then the zone's journal is replayed. None where there is no
 /// memory or no thread.
 pub fn share_a_zone<R: Threads + Wait + Sync>(
@@ -92,7 +70,11 @@ pub fn share_a_zone<R: Threads + Wait + Sync>(
     let (Ok(first), Ok(second)) = (desk(alloc, &zone, first), desk(alloc, &zone, second)) else {
         return None;
     };
-    let (zone, journal) = run_as::<Brand, R>(rt, alloc, zone, [first, second])?;
+    let mut desks = [first, second];
+    let mut row = Vec::with_capacity(alloc, 1).ok()?;
+    row.push_reserved(zone);
+    let (mut zones, mut journals) = run_zones(rt, alloc, row, ENTRIES, &mut desks, &OpenGate).ok()?;
+    let (zone, journal) = (zones.pop()?, journals.pop()?);
     let check = replay_journal(alloc, config, 2, &journal).ok()?;
     Some(SharedRun {
         free_pages: zone.counts().free,

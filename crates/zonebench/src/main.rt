@@ -6,6 +6,7 @@
 #![tactic(auto)]
 
 mod bench;
+mod board;
 mod cached;
 mod check;
 mod random;

@@ -1,9 +1,10 @@
 //! Workers at the same time, each with lists of its own, over one zone behind its lock.
 
 ghost use Rattle.std.specs.Prelude.{◌≡◌, ◌∷◌, [], All, length, map};
-ghost use Rattle.zp_share.specs.Shares.{IsShareOf, ZoneKey, key_of};
-ghost use Rattle.zp_shared.specs.Rows.{IsRowOf};
-ghost use Rattle.zp_zone.specs.Seats.{IsSeatOf, IsUnused, SeatState};
+ghost use Rattle.zp_share.specs.Shares.{IsShareOf, ZoneKey};
+ghost use Rattle.zp_shared.specs.Rows.{AreReaders, IsRowOf, opened_board, opened_key};
+ghost use Rattle.zp_board.specs.Boards.{BoardState};
+ghost use Rattle.zp_zone.specs.Seats.{IsSeatOf, IsUnused};
 
 use crate::bench::NoMemory;
 use crate::cached::{lists, pair};
@@ -15,7 +16,7 @@ use std::sync::Wait;
 use std::thread::{Threads, map_vec};
 use std::time::{Duration, Instant};
 use zp_share::Share;
-use zp_shared::{LockedZones, Naming, SharedZone, share_zones};
+use zp_shared::{BoardReader, LockedZones, Naming, OpenedZone, SharedZone, share_zones};
 use zp_zone::{Seat, Zone, ZoneConfig};
 
 /// The room of the zone's journal: each worker fills its list once.
@@ -29,21 +30,21 @@ struct Row<J: Naming> {
 }
 
 impl<J: Naming> Row<J> {
-    fn new(alloc: Global, zone: Zone) -> Result<Row<J>, NoMemory>
-        requires named { J.zones ≡ key_of zone ∷ [] }
-        requires new { zone.entries ≡ [] }
+    fn new(alloc: Global, opened: OpenedZone) -> Result<Row<J>, NoMemory>
+        requires named { J.zones ≡ opened_key opened ∷ [] }
+        requires boards { J.boards ≡ opened_board opened ∷ [] }
     {
         let mut zones = Vec::with_capacity(alloc, 1)?;
-        zones.push_reserved(zone);
+        zones.push_reserved(opened);
         Ok(Row {
-            zones: share_zones::<J>(alloc, zones, ENTRIES)?,
+            zones: share_zones::<J>(alloc, zones)?,
         })
     }
 }
 
-/// A worker of the row: its share, and the checksum of the pages answered.
+/// A worker's share, and the checksum of the pages answered.
 #[derive(Drop)]
-struct Worker<J: Naming> {
+struct Hand<J: Naming> {
     share: Share,
     checksum: Checksum,
     of: PhantomData<J>,
@@ -51,44 +52,70 @@ struct Worker<J: Naming> {
     ghost one: { length share.zones ≡ 1 },
 }
 
+impl<J: Naming> Hand<J> {
+    /// Takes a page and gives it back.
+    fn pair<'a, R: Wait>(&mut self, zones: &mut LockedZones<'a, J, (), R>) {
+        pair(&mut self.share, zones, &mut self.checksum);
+    }
+}
+
+/// A worker of the row, with its reader of the zone's board.
+#[derive(Drop)]
+struct Worker<J: Naming> {
+    hand: Hand<J>,
+    readers: Vec<BoardReader>,
+    ghost read: { AreReaders J.zones J.boards readers },
+}
+
 impl<J: Naming> Worker<J> {
-    /// The worker of a seat, with empty lists.
-    fn new(alloc: Global, seat: Seat) -> Result<Worker<J>, NoMemory>
+    /// The worker of a seat and of a reader, with empty lists.
+    fn new(alloc: Global, seat: Seat, reader: BoardReader) -> Result<Worker<J>, NoMemory>
         requires tie { map (λ (k : ZoneKey). k.tie) J.zones ≡ seat.tie ∷ [] }
+        requires board { map (λ (b : BoardState). b.tie) J.boards ≡ reader.tie ∷ [] }
+        requires each { length J.boards ≡ length J.zones }
         requires unused { IsUnused seat }
     {
         let mut seats = Vec::with_capacity(alloc, 1)?;
         seats.push_reserved(seat);
-        Ok(Worker {
+        let mut readers = Vec::with_capacity(alloc, 1)?;
+        readers.push_reserved(reader);
+        let hand = Hand {
             share: Share::new(alloc, seats, lists()?)?,
             checksum: Checksum::new(),
             of: PhantomData,
-        })
+        };
+        Ok(Worker { hand, readers })
     }
 
-    /// Takes a page and gives it back.
-    fn pair<'a, R: Wait>(&mut self, zones: &mut LockedZones<'a, J, R>) {
-        pair(&mut self.share, zones, &mut self.checksum);
-    }
-
-    /// So many pairs.
-    fn pairs<'a, R: Wait>(mut self, rt: &'a R, row: &'a Row<J>, ops: u32) -> Worker<J> {
-        let mut zones = LockedZones::new(rt, row.zones.as_slice());
+    /// Takes a page and gives it back, so many times.
+    fn pairs<'a, R: Wait>(self, rt: &'a R, row: &'a Row<J>, ops: u32) -> Hand<J> {
+        let Worker { mut hand, readers } = self;
+        let mut zones = LockedZones::<J, (), R>::new(rt, row.zones.as_slice(), readers);
         for _ in 0..ops {
-            self.pair(&mut zones);
+            hand.pair(&mut zones);
         }
-        self
+        hand
     }
 }
 
-/// The workers of these seats.
-fn crew<J: Naming>(alloc: Global, seats: Vec<Seat>) -> Result<Vec<Worker<J>>, NoMemory>
-    requires ties { All (λ (s : SeatState). map (λ (k : ZoneKey). k.tie) J.zones ≡ s.tie ∷ []) seats.items }
+/// The workers of these seats of the opened zone.
+fn crew<J: Naming>(
+    alloc: Global,
+    opened: &mut OpenedZone,
+    seats: Vec<Seat>,
+) -> Result<Vec<Worker<J>>, NoMemory>
+    requires named { J.zones ≡ opened_key opened.old ∷ [] }
+    requires boards { J.boards ≡ opened_board opened.old ∷ [] }
+    requires fits { All (IsSeatOf opened.old.zone) seats.items }
     requires unused { All IsUnused seats.items }
+    ensures { opened.new ≡ opened.old }
 {
     let mut workers = Vec::with_capacity(alloc, seats.len())?;
     for seat in seats {
-        if workers.push(Worker::new(alloc, seat)?).is_err() {
+        if workers
+            .push(Worker::new(alloc, seat, opened.reader())?)
+            .is_err()
+        {
             return Err(NoMemory);
         }
     }
@@ -99,17 +126,17 @@ fn crew<J: Naming>(alloc: Global, seats: Vec<Seat>) -> Result<Vec<Worker<J>>, No
 fn time_as<J: Naming + Send + Sync, R: Threads + Wait + Clock + Sync>(
     rt: &R,
     alloc: Global,
-    zone: Zone,
+    mut opened: OpenedZone,
     seats: Vec<Seat>,
     ops: u32,
 ) -> anyhow::Result<Duration>
-    requires named { J.zones ≡ key_of zone ∷ [] }
-    requires new { zone.entries ≡ [] }
-    requires fits { All (IsSeatOf zone) seats.items }
+    requires named { J.zones ≡ opened_key opened ∷ [] }
+    requires boards { J.boards ≡ opened_board opened ∷ [] }
+    requires fits { All (IsSeatOf opened.zone) seats.items }
     requires unused { All IsUnused seats.items }
 {
-    let workers = crew::<J>(alloc, seats)?;
-    let row = Row::<J>::new(alloc, zone)?;
+    let workers = crew::<J>(alloc, &mut opened, seats)?;
+    let row = Row::<J>::new(alloc, opened)?;
     let start = Instant::now(rt)?;
     let _workers = map_vec(rt, workers, &|worker| worker.pairs(rt, &row, ops))?;
     Ok(start.elapsed(rt)?)
@@ -131,7 +158,10 @@ pub fn time<R: Threads + Wait + Clock + Sync>(
         min: 0,
     };
     match Zone::new(alloc, config, workers) {
-        Ok((zone, seats)) => time_as::<Brand, R>(rt, alloc, zone, seats, ops),
+        Ok((zone, seats)) => {
+            let opened = OpenedZone::new(alloc, zone, ENTRIES).map_err(NoMemory::from)?;
+            time_as::<Brand, R>(rt, alloc, opened, seats, ops)
+        }
         Err(refused) => Err(NoMemory::from(refused).into()),
     }
 }

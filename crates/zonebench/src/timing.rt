@@ -1,6 +1,7 @@
 //! The time of each workload.
 
 use crate::bench::Bench;
+use crate::board::BoardBench;
 use crate::cached::CachedBench;
 use crate::threads;
 use crate::workload::{SIZES, Workload};
@@ -114,7 +115,31 @@ fn print_shared_time<R: Print + Eprint + Clock + Threads + Wait + Sync>(
     Ok(())
 }
 
-/// Prints the table, and under it the times of one worker and of four at the same time.
+/// Prints a line under the table: the time of each of so many steps.
+fn print_time_of(
+    rt: &(impl Print + Eprint),
+    name: &str,
+    (time, steps): (Duration, u64),
+) -> anyhow::Result<()> {
+    print_name(rt, name)?;
+    print_tenths(rt, tenths_each(time, steps))?;
+    println!(rt;)?;
+    Ok(())
+}
+
+/// Prints two lines under the table: the time of what a section publishes, and of a read.
+fn print_board_times(rt: &(impl Print + Eprint + Clock), alloc: Global) -> anyhow::Result<()> {
+    let mut bench = BoardBench::new(alloc)?;
+    print_time_of(
+        rt,
+        "counts published on a board",
+        bench.time_publishing(rt)?,
+    )?;
+    print_time_of(rt, "counts read off a board", bench.time_reads(rt, CALLS)?)?;
+    Ok(())
+}
+
+/// Prints the table, and under it the times of one worker and of four at the same time, and those of a board.
 pub fn print_all<R: Print + Eprint + Clock + Threads + Wait + Sync>(
     rt: &R,
     alloc: Global,
@@ -122,7 +147,7 @@ pub fn print_all<R: Print + Eprint + Clock + Threads + Wait + Sync>(
     print_table(rt, alloc)?;
     print_shared_time(rt, alloc, "cached pairs, one thread", 1)?;
     print_shared_time(rt, alloc, "cached pairs, four threads", 4)?;
-    Ok(())
+    print_board_times(rt, alloc)
 }
 
 /// Prints the table: nanoseconds a call, by the pages of the zone.

@@ -1,9 +1,8 @@
 -- The office of a trace, when its commands were carried out.
-use Rattle.std.proofs.Common.{ℕ, zero, suc, ◌≡◌, ◌<◌, ◌∙◌, refl, sym, ap, subst, arith, true, false, List, [], ◌∷◌, ◌++◌, length, map, take, drop, get_or, All, Result, Ok, Err, IfOk}
-use Rattle.std.specs.Prelude.{OnOk, is_err}
+use Rattle.std.proofs.Common.{ℕ, zero, suc, ◌≡◌, ◌<◌, ◌∙◌, refl, sym, ap, subst, arith, List, [], ◌∷◌, ◌++◌, length, map, take, drop, get_or, All, Result, Ok, Err, IfOk}
 use Rattle.std.specs.List.{AllZip}
 use Rattle.std.proofs.lemmas.List.{length-map, length-set, take_all, take-append-le}
-use Rattle.std.proofs.lemmas.List.FromFn.{get_or-map-range_with_len, length-map-range_with_len, length-range_with_len}
+use Rattle.std.proofs.lemmas.List.FromFn.{get_or-map-range_with_len, length-map-range_with_len}
 use Rattle.std.proofs.lemmas.Simd.{map-map}
 use Rattle.zp_trace.specs.declared.trace.Trace.{Trace}
 use Rattle.zp_zone.specs.NamedZone.{NamedZone}
@@ -11,21 +10,12 @@ use Rattle.zp_zone.specs.Seats.{ZoneState}
 use Rattle.zp_share.specs.ZoneShares.{ZoneShareState}
 use Rattle.zp_share.specs.Shares.{ZoneKey, key_of, named_zone}
 use Rattle.zp_desk.specs.Desks.{DeskState, PlainDesk, IsAnswerTo, plain_desk}
-use Rattle.zp_shared.specs.Rows.{IsRowOf}
 use Rattle.zp_crew.specs.Offices.{OfficeState, AreDesksOf, desk_of, in_order, names_in, next_done, no_desk, opened_desk, opened_office}
 use Rattle.zp_replay.specs.Serving.{IsDeskServed, IsOfficeServed, IsServed}
 
 pub if_ok : {T E : Type 0} (P Q : T → Type 0) (r : Result T E) → ((x : T) → P x → Q x) → IfOk r P → IfOk r Q
 if_ok P Q (Ok x) f p = f x p
 if_ok P Q (Err e) f p = p
-
-pub ok_holds : {T E P : Type 0} (r : Result T E) → is_err r ≡ false → OnOk r P → P
-ok_holds (Ok x) calm p = p
-ok_holds (Err e) bad p = let wrong : true ≡ false = bad in absurd (cc)
-
--- a row of locks is as long as the row of zones that were put there
-pub row_length : (keys : List ZoneKey) (zs : List ZoneState) (places : List ℕ) → IsRowOf keys places → map key_of zs ≡ keys → length places ≡ length zs
-row_length keys zs places row named = ap length row ∙ length-range_with_len 0 (length keys) ∙ ap length (sym named) ∙ length-map zs key_of
 
 -- what was lent whole is what came back
 pub written_back : (n : ℕ) (ds es : List DeskState) → length es ≡ length ds → n ≡ length ds → take n (es ++ drop (length es) ds) ≡ es

@@ -1,10 +1,9 @@
 //! The replay in threads: one for each worker, all at the same time.
-ghost use Rattle.std.specs.Prelude.{◌≡◌, ◌≢◌, ◌<◌, ◌≤◌, ℕ, [], All, Ok, Err, IfOk, map};
+ghost use Rattle.std.specs.Prelude.{◌≡◌, ◌≢◌, ◌<◌, ◌≤◌, ℕ, [], All, Ok, Err, IfOk};
 ghost use Rattle.std.specs.List.{AllZip};
 ghost use Rattle.std.specs.Thread.{IsSync};
 ghost use Rattle.zp_zone.specs.Seats.{ZoneState};
 ghost use Rattle.zp_journal.specs.declared.journal.TheConstants.{LONGEST_JOURNAL};
-ghost use Rattle.zp_share.specs.Shares.{key_of};
 ghost use Rattle.zp_crew.specs.Offices.{AreDesksOf};
 ghost use Rattle.zp_replay.specs.Replaying.{IsParsed, IsRefusedAt, IsUnanswered};
 ghost use Rattle.zp_replay.specs.Serving.{IsHistoryOf, IsOfficeServed, IsReportCut, IsReported, IsServed, IsUnworked};
@@ -14,14 +13,13 @@ use crate::journals::{judge, write_ending};
 use crate::report::write_report;
 use crate::traces::{Input, read_trace};
 use std::alloc::Global;
-use std::marker::Brand;
 use std::sync::Wait;
 use std::thread::Threads;
 use zp_crew::{Office, opened_desks};
 use zp_desk::{Desk, Gate};
 use zp_journal::Journal;
 use zp_model::Refused;
-use zp_shared::{Naming, close_zones, run_workers, share_zones};
+use zp_shared::run_zones;
 use zp_trace::Trace;
 use zp_zone::{Reader, Writer, Zone};
 
@@ -48,12 +46,11 @@ fn serve_at_once<T: Threads + Wait + Sync, G: Gate + Sync>(
         Err(_) => unreachable!(),
     };
     let room = ENTRIES_A_COMMAND * trace.commands.as_slice().len() as u32;
-    serve_as::<Brand, T, G>(rt, alloc, zones, desks, room, gate)
+    serve(rt, alloc, zones, desks, room, gate)
 }
 
-/// The zones behind locks, under one name, each with a journal that has room for so many entries, and the workers at their desks;
-/// then the zones out of their locks.
-fn serve_as<J: Naming + Send + Sync, T: Threads + Wait + Sync, G: Gate + Sync>(
+/// The zones go to the workers at their desks, each with a journal that has room for so many entries, and come back.
+fn serve<T: Threads + Wait + Sync, G: Gate + Sync>(
     rt: &T,
     alloc: Global,
     zones: Vec<Zone>,
@@ -61,7 +58,6 @@ fn serve_as<J: Naming + Send + Sync, T: Threads + Wait + Sync, G: Gate + Sync>(
     capacity: u32,
     gate: &G,
 ) -> Result<(Office, Vec<Journal>), ReplayFault>
-    requires named { map key_of zones.items ≡ J.zones }
     requires new { All (λ (z : ZoneState). z.entries ≡ []) zones.items }
     requires capacity { capacity ≤ LONGEST_JOURNAL }
     requires desks { AreDesksOf zones.items desks.items }
@@ -70,18 +66,11 @@ fn serve_as<J: Naming + Send + Sync, T: Threads + Wait + Sync, G: Gate + Sync>(
     ensures journals { IfOk result (λ s. AllZip IsHistoryOf s.0.zones s.1.items) }
     ensures only { (result ≡ Err ReplayFault.Read → ⊥) × (result ≡ Err ReplayFault.Write → ⊥) }
 {
-    let zone_room = Vec::with_capacity(alloc, zones.len())?;
-    let journal_room = Vec::with_capacity(alloc, zones.len())?;
-    let Ok(row) = share_zones::<J>(alloc, zones, capacity) else {
-        return Err(ReplayFault::Memory);
-    };
     let mut desks = desks;
-    if run_workers(rt, &row, &mut desks, gate).is_err() {
-        return Err(ReplayFault::NoThread);
-    }
-    match close_zones(row, zone_room, journal_room) {
-        Some((zones, journals)) => Ok((Office::new(zones, desks), journals)),
-        None => Err(ReplayFault::NoThread),
+    match run_zones(rt, alloc, zones, capacity, &mut desks, gate) {
+        Ok((zones, journals)) => Ok((Office::new(zones, desks), journals)),
+        Err(Refused::Memory) => Err(ReplayFault::Memory),
+        Err(_) => Err(ReplayFault::NoThread),
     }
 }
 

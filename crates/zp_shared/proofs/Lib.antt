@@ -1,3 +1,6 @@
+pub mod Desks
 pub mod Guarding
+pub mod Opening
 pub mod Places
+pub mod Readers
 pub mod Running

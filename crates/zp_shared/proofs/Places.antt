@@ -21,6 +21,15 @@ places_more n =
     let z : 0 + n ≡ n = omega arith in
     sym (ap (range_with_len 0) e ∙ more 0 n ∙ ap (λ k. range_with_len 0 n ++ k ∷ []) z)
 
+-- one more of the row, at the next place
+pub row_more : {B : Type 0} (row new : List ℕ) (place : ℕ) (ys : List B) (y : B) → row ≡ range_with_len 0 (length ys) → place ≡ length ys →
+    new ≡ row ++ place ∷ [] → new ≡ range_with_len 0 (length (ys ++ y ∷ []))
+row_more row new place ys y places at pushed =
+    pushed
+    ∙ ap₂ (λ l i. l ++ i ∷ []) places at
+    ∙ places_more (length ys)
+    ∙ ap (range_with_len 0) (sym (length-append ys (y ∷ [])))
+
 -- the places of a row are as many as its keys
 pub row_length : (keys : List ZoneKey) (places : List ℕ) → IsRowOf keys places → length places ≡ length keys
 row_length keys places row = ap length row ∙ length-range_with_len 0 (length keys)

@@ -1,11 +1,44 @@
 -- A row of zones that threads share, each behind a lock of its own, under one name: the keys of its zones (this profile).
-use Rattle.std.specs.Prelude.{ℕ, ◌≡◌, ◌≢◌, ◌≤◌, List, length, slice_index_or}
+use Rattle.std.specs.Prelude.{ℕ, ◌≡◌, ◌≢◌, ◌+◌, ◌≤◌, List, [], ◌∷◌, ◌++◌, length, map, slice_index_or}
+use mathlib.Core.List.{IsPrefix}
+use Rattle.zp_model.specs.declared.counts.Counts.{Counts}
+use Rattle.zp_model.specs.declared.request.Entry.{Entry}
+use Rattle.zp_model.specs.Info.{counts_of}
+use Rattle.zp_board.specs.Boards.{BoardState}
+use Rattle.zp_counts.specs.CountBoards.{CountsSeen, last_counts}
+use Rattle.std.specs.Global.{Vec}
 use Rattle.std.specs.List.{range_with_len}
 use Rattle.zp_model.specs.declared.request.Request.{Request}
 use Rattle.zp_model.specs.declared.request.Reply.{Reply}
 use Rattle.zp_zone.specs.Seats.{ZoneState, KeepsSeats}
 use Rattle.zp_share.specs.ZoneShares.{IsSection, IsLeft, IsSameSeat}
-use Rattle.zp_share.specs.Shares.{ShareState, ZoneKey, IsShareOf, key_of, no_key, share_at, with_zone_share}
+use Rattle.zp_share.specs.Shares.{ShareState, ZoneKey, IsShareOf, key_of, no_key, no_tie, share_at, with_zone_share}
+
+-- how many free blocks of each order the zone has, and how many free pages
+abbrev pub zone_counts : ZoneState → Counts
+zone_counts z = counts_of z.plain.area.largest z.plain.area.free
+
+-- what is published of a zone: counts at its opening and after each of its entries, the last of them its own
+pub record IsPublished (z : ZoneState) (cs : List Counts) : Type 0 where
+  pub many : length cs ≡ length z.entries + 1
+  pub last : last_counts cs ≡ zone_counts z
+
+-- a zone that is opened for threads, with its board
+pub record OpenedState : Type 0 where
+  pub zone : ZoneState
+  pub board : BoardState
+  pub published : List Counts
+
+-- its key
+abbrev pub opened_key : OpenedState → ZoneKey
+opened_key o = key_of o.zone
+
+abbrev pub opened_board : OpenedState → BoardState
+opened_board o = o.board
+
+-- a new reader of its board has seen all that is published
+abbrev pub opened_reader : OpenedState → CountsSeen
+opened_reader o = record { tie = o.board.tie; seen = o.published }
 
 -- a zone that says its place in the row; the entries of its journal are the zone's
 pub record GuardedZone : Type 0 where
@@ -13,6 +46,8 @@ pub record GuardedZone : Type 0 where
   -- how many entries its journal has room for
   pub capacity : ℕ
   pub zone : ZoneState
+  -- the counts on its board
+  pub published : List Counts
 
 -- its journal has no room for an entry more
 abbrev pub IsJournalFull : GuardedZone → Type 0
@@ -21,6 +56,31 @@ IsJournalFull g = g.capacity ≤ length g.zone.entries
 -- the key at a place of the row
 abbrev pub key_at : List ZoneKey → ℕ → ZoneKey
 key_at keys place = slice_index_or keys place no_key
+
+abbrev pub no_board : BoardState
+no_board = record { tie = no_tie; capacity = 0 }
+
+-- the board at a place of the row
+abbrev pub board_at : List BoardState → ℕ → BoardState
+board_at boards place = slice_index_or boards place no_board
+
+-- each zone of the row has its board, and these are readers of them, one each
+abbrev pub AreReadersOf : List ZoneKey → List BoardState → List CountsSeen → Type 0
+AreReadersOf keys boards rs = (length boards ≡ length keys) × (map (λ (r : CountsSeen). r.tie) rs ≡ map (λ (b : BoardState). b.tie) boards)
+
+abbrev pub AreReaders : List ZoneKey → List BoardState → Vec CountsSeen → Type 0
+AreReaders keys boards rs = AreReadersOf keys boards rs.items
+
+-- what a reader of a row has seen
+abbrev pub seen_at : List (List Counts) → ℕ → List Counts
+seen_at seen i = slice_index_or seen i []
+
+-- each reader has seen all that it had seen
+abbrev pub HaveSeen : List (List Counts) → List (List Counts) → Type 0
+HaveSeen before after = (i : ℕ) → IsPrefix (seen_at before i) (seen_at after i)
+
+abbrev pub seen_by : List CountsSeen → List (List Counts)
+seen_by rs = map (λ (r : CountsSeen). r.seen) rs
 
 -- these are the places of the row with these keys: each place once, in order
 abbrev pub IsRowOf : List ZoneKey → List ℕ → Type 0
@@ -33,6 +93,11 @@ IsElsewhere keys place z = (p : ℕ) × (p ≢ place) × (key_of z ≡ key_at ke
 -- the request is one section of the guarded zone and of what the share has at its place, and one entry of the journal
 abbrev pub IsSectionAt : Request → Reply → GuardedZone → GuardedZone → ShareState → ShareState → Type 0
 IsSectionAt r q g h s t = IsSection r q g.zone h.zone (share_at s g.place) (share_at t g.place)
+
+-- the zone's counts were published where an entry was made, once, and nothing where none was
+pub record IsPublishedOnce (g h : GuardedZone) : Type 0 where
+  pub left : h.zone.entries ≡ g.zone.entries → h.published ≡ g.published
+  pub made : (e : Entry) → h.zone.entries ≡ g.zone.entries ++ e ∷ [] → h.published ≡ g.published ++ zone_counts h.zone ∷ []
 
 -- nothing was asked of the guarded zone, and nothing changed
 abbrev pub IsLeftAt : GuardedZone → GuardedZone → ShareState → ShareState → Type 0

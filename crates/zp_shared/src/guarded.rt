@@ -1,5 +1,6 @@
-//! What lies under a lock: a zone and its journal, with the place in the row that the zone says is its own.
-ghost use Rattle.std.specs.Prelude.{◌≡◌, ◌≢◌, ◌<◌, ◌++◌, ◌∷◌, [], length, true, false, Some};
+//! What lies under a lock: a zone, its journal and the right to publish its counts, with the place in the row that the zone says is
+//! its own.
+ghost use Rattle.std.specs.Prelude.{◌≡◌, ◌≢◌, ◌<◌, ◌≤◌, ◌++◌, ◌∷◌, [], length, true, false, Some};
 ghost use Rattle.zp_model.specs.declared.request.Entry.{Entry};
 ghost use Rattle.zp_model.specs.Info.{counts_of};
 ghost use Rattle.zp_model.specs.Lawful.{IsLawful};
@@ -8,10 +9,13 @@ ghost use Rattle.zp_journal.specs.Journals.{IsJournalOf};
 ghost use Rattle.zp_share.specs.declared.sections.TheConstants.{LAST_SECTION};
 ghost use Rattle.zp_share.specs.Shares.{IsShareOf, key_of, sections_at, share_at};
 ghost use Rattle.zp_share.specs.ZoneShares.{IsShare, SharesIn};
-ghost use Rattle.zp_shared.specs.Rows.{IsJournalFull, key_at};
+ghost use mathlib.Core.List.{IsPrefix};
+ghost use Rattle.zp_shared.specs.Rows.{IsJournalFull, IsPublished, board_at, key_at, opened_key, zone_counts};
 
 use crate::naming::Naming;
+use crate::opened::OpenedZone;
 use std::marker::{Model, PhantomData};
+use zp_counts::{Board, BoardReader, Publisher};
 use zp_journal::Journal;
 use zp_model::Counts;
 use zp_share::Share;
@@ -19,42 +23,49 @@ use zp_zone::Zone;
 
 mod sections;
 
-/// A zone that says its place in the row, and the journal of all that was asked of it since its opening. A lock forgets what it holds
-/// but for the type, so the type says it: what never changes of the zone is what the row's name has at that place, and the journal's
-/// entries are those that the zone and its seats agree on.
+/// A zone that says its place in the row, the journal of all that was asked of it since its opening, and the right to publish its
+/// counts. A lock forgets what it holds but for the type, so the type says it: what never changes of the zone, and its board, are what
+/// the row's name has at that place; the journal's entries are those that the zone and its seats agree on; and what is published is
+/// one entry more, the last of which is the zone's counts.
 #[derive(Drop)]
 pub struct Guarded<J: Naming> {
     place: usize,
     zone: Zone,
     journal: Journal,
+    publisher: Publisher,
     of: PhantomData<J>,
 }
 
 impl<J: Naming> Model for Guarded<J> {
     ghost use Rattle.std.specs.Prelude.{◌≡◌};
     ghost use Rattle.zp_share.specs.Shares.{key_of};
-    ghost use Rattle.zp_shared.specs.Rows.{GuardedZone, key_at};
+    ghost use Rattle.zp_board.specs.Boards.{BoardState};
+    ghost use Rattle.zp_shared.specs.Rows.{GuardedZone, IsPublished, key_at, board_at};
 
     ghost Value = { GuardedZone };
 
-    ghost view = { λ g. record { place = g.place; capacity = g.journal.capacity; zone = g.zone } };
+    ghost view = { λ g. record { place = g.place; capacity = g.journal.capacity; zone = g.zone; published = g.publisher.published } };
 
-    ghost invariant = { λ g. (key_of g.zone ≡ key_at J.zones g.place) × (g.journal.entries ≡ g.zone.entries) };
+    ghost invariant = { λ g. (key_of g.zone ≡ key_at J.zones g.place) × (g.journal.entries ≡ g.zone.entries) × (g.publisher.tie ≡ (board_at J.boards g.place).tie) × (g.journal.capacity ≡ (board_at J.boards g.place).capacity) × IsPublished g.zone g.publisher.published };
 }
 
 impl<J: Naming> Guarded<J> {
-    /// The zone, which belongs to this place of the row, with its journal.
-    pub fn new(place: usize, zone: Zone, journal: Journal) -> Guarded<J>
-        requires key { key_of zone ≡ key_at J.zones place }
-        requires journal { journal.entries ≡ zone.entries }
-        ensures { result ≡ record { place = place; capacity = journal.capacity; zone = zone } }
+    /// The opened zone, which belongs to this place of the row, and its board.
+    pub(crate) fn opened(place: usize, opened: OpenedZone) -> (Guarded<J>, Board)
+        requires key { opened_key opened ≡ key_at J.zones place }
+        requires board { opened.board ≡ board_at J.boards place }
+        ensures guarded { result.0 ≡ record { place = place; capacity = opened.board.capacity; zone = opened.zone; published = opened.published } }
+        ensures board { result.1 ≡ opened.board }
     {
-        Guarded {
+        let (zone, journal, board, publisher) = opened.into_parts();
+        let guarded = Guarded {
             place,
             zone,
             journal,
+            publisher,
             of: PhantomData,
-        }
+        };
+        (guarded, board)
     }
 
     /// The place in the row that the zone says is its own.
@@ -69,6 +80,7 @@ impl<J: Naming> Guarded<J> {
     /// asked the same has the same replies, and becomes this zone.
     pub fn journal(&self) -> &Journal
         ensures capacity { result.now.capacity ≡ self.now.capacity }
+        ensures room { result.now.capacity ≡ (board_at J.boards self.now.place).capacity }
         ensures history { IsJournalOf self.now.zone result.now }
     {
         self.zone.history();
@@ -78,9 +90,22 @@ impl<J: Naming> Guarded<J> {
     /// How many free blocks of each order there are, and how many free pages.
     pub fn counts(&self) -> Counts
         ensures counts { result ≡ counts_of self.now.zone.plain.area.largest self.now.zone.plain.area.free }
+        ensures published { IsPublished self.now.zone self.now.published }
         ensures lawful { IsLawful self.now.zone.plain }
     {
         self.zone.counts()
+    }
+
+    /// The zone's counts, read off its board. The reader has then seen all that is published.
+    pub fn read_board(&mut self, board: &Board, reader: &mut BoardReader) -> Counts
+        requires board { board.now ≡ board_at J.boards self.old.place }
+        requires reader { reader.old.tie ≡ board.now.tie }
+        ensures same { self.new ≡ self.old }
+        ensures counts { result ≡ zone_counts self.old.zone }
+        ensures before { IsPrefix reader.old.seen self.old.published }
+        ensures reader { reader.new ≡ record { tie = reader.old.tie; seen = self.old.published } }
+    {
+        self.publisher.read_board(board, reader)
     }
 
     /// Nothing changes, and the share and the zone agree: what is out in the worker's name is what the share has.
@@ -128,13 +153,25 @@ impl<J: Naming> Guarded<J> {
     }
 }
 
-// The share's last section with the zone of a place goes into the journal.
-fn note(journal: &mut Journal, share: &Share, place: usize)
+// The share's last section with the zone of a place goes into the journal, and then the zone's counts on the board.
+fn note(
+    journal: &mut Journal,
+    publisher: &mut Publisher,
+    board: &Board,
+    zone: &Zone,
+    share: &Share,
+    place: usize,
+)
     requires place { place < length share.now.zones }
     requires room { length journal.old.entries < journal.old.capacity }
-    ensures { (e : Entry) → (share_at share.now place).sections.last ≡ Some e → journal.new ≡ record { capacity = journal.old.capacity; entries = journal.old.entries ++ e ∷ [] } }
+    requires board { publisher.old.tie ≡ board.now.tie }
+    requires board_room { length publisher.old.published ≤ board.now.capacity }
+    ensures entry { (e : Entry) → (share_at share.now place).sections.last ≡ Some e → journal.new ≡ record { capacity = journal.old.capacity; entries = journal.old.entries ++ e ∷ [] } }
+    ensures tie { publisher.new.tie ≡ publisher.old.tie }
+    ensures published { publisher.new.published ≡ publisher.old.published ++ zone_counts zone.now ∷ [] }
 {
     if let Some(entry) = share.last(place) {
         journal.append(entry.copied());
     }
+    publisher.publish(board, &zone.counts());
 }

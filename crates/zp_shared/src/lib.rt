@@ -1,19 +1,25 @@
-//! Zones that threads share: a row of zones, each behind a lock of its own, under one name that ties them to the workers' shares.
+//! Zones that threads share: a row of zones, each behind a lock of its own with a board of its counts beside it, under one name that
+//! ties them to the workers' shares and readers.
 #![tactic(auto)]
 
 mod guarded;
 mod locked_zones;
 mod naming;
+mod opened;
 mod row;
 mod shared_zone;
+mod sharing;
 mod workers;
 
 pub use guarded::Guarded;
 pub use locked_zones::LockedZones;
-pub use naming::Naming;
-pub use row::{close_zones, share_zones};
+pub use naming::{Earlier, Naming};
+pub use opened::OpenedZone;
+pub use row::{close_zones, open_zones, reader_rows, readers_of, share_zones};
 pub use shared_zone::{Closed, SharedZone};
+pub use sharing::run_zones;
 pub use workers::run_workers;
+pub use zp_counts::{Board, BoardReader};
 
 #[cfg(test)]
 mod tests;

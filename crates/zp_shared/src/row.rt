@@ -1,5 +1,5 @@
-//! A row of zones goes behind its locks, and comes out again.
-ghost use Rattle.std.specs.Prelude.{◌≡◌, ◌≤◌, [], All, length, map, IfOk, IfErr, IfSome};
+//! A row of zones is opened, goes behind its locks, and comes out again.
+ghost use Rattle.std.specs.Prelude.{◌≡◌, ◌≤◌, [], ◌∷◌, All, length, map, IfOk, IfErr, IfSome};
 ghost use Rattle.std.specs.List.{AllZip};
 ghost use Rattle.std.specs.Vec.{vec_capacity};
 ghost use Rattle.zp_model.specs.declared.refused.Refused.TheVariants.{Memory};
@@ -7,34 +7,91 @@ ghost use Rattle.zp_zone.specs.Seats.{ZoneState};
 ghost use Rattle.zp_journal.specs.declared.journal.TheConstants.{LONGEST_JOURNAL};
 ghost use Rattle.zp_journal.specs.Journals.{IsJournalOf};
 ghost use Rattle.zp_share.specs.Shares.{key_of};
-ghost use Rattle.zp_shared.specs.Rows.{IsRowOf};
+ghost use Rattle.zp_shared.specs.Rows.{OpenedState, AreReaders, AreReadersOf, IsRowOf, opened_board, opened_key, opened_reader, zone_counts};
 
 use crate::naming::Naming;
+use crate::opened::OpenedZone;
 use crate::shared_zone::SharedZone;
 use std::alloc::Global;
+use zp_counts::BoardReader;
 use zp_journal::Journal;
 use zp_model::Refused;
 use zp_zone::Zone;
 
-/// The zones, each behind a lock of its own, in their order; each with a journal that has room for so many entries. Refused 6.
-pub fn share_zones<J: Naming>(
+/// The zones, opened for threads in their order, each with a journal and a board that have room for so many entries. Refused 6.
+pub fn open_zones(
     alloc: Global,
     zones: Vec<Zone>,
     capacity: u32,
-) -> Result<Vec<SharedZone<J>>, Refused>
-    requires keys { map key_of zones.items ≡ J.zones }
+) -> Result<Vec<OpenedZone>, Refused>
     requires new { All (λ (z : ZoneState). z.entries ≡ []) zones.items }
     requires capacity { capacity ≤ LONGEST_JOURNAL }
-    ensures row { IfOk result (λ row. IsRowOf J.zones row.items) }
+    ensures zones { IfOk result (λ row. map (λ (o : OpenedState). o.zone) row.items ≡ zones.items) }
+    ensures capacity { IfOk result (λ row. All (λ (o : OpenedState). o.board.capacity ≡ capacity) row.items) }
+    ensures published { IfOk result (λ row. All (λ (o : OpenedState). o.published ≡ zone_counts o.zone ∷ []) row.items) }
     ensures why { IfErr result (λ e. e ≡ Memory) }
 {
     let Ok(mut row) = Vec::with_capacity(alloc, zones.len()) else {
         return Err(Refused::Memory);
     };
     for zone in zones {
+        row.push_reserved(OpenedZone::new(alloc, zone, capacity)?);
+    }
+    Ok(row)
+}
+
+/// A reader of each zone's board, in their order. Refused 6.
+pub fn readers_of(alloc: Global, opened: &mut [OpenedZone]) -> Result<Vec<BoardReader>, Refused>
+    ensures same { opened.new ≡ opened.old }
+    ensures readers { IfOk result (λ rs. rs.items ≡ map opened_reader opened.old) }
+    ensures fit { IfOk result (λ rs. AreReadersOf (map opened_key opened.old) (map opened_board opened.old) rs.items) }
+    ensures why { IfErr result (λ e. e ≡ Memory) }
+{
+    let Ok(mut readers) = Vec::with_capacity(alloc, opened.len()) else {
+        return Err(Refused::Memory);
+    };
+    for zone in opened.iter_mut() {
+        readers.push_reserved(zone.reader());
+    }
+    Ok(readers)
+}
+
+/// A row of readers for each of so many workers. Refused 6.
+pub fn reader_rows(
+    alloc: Global,
+    opened: &mut [OpenedZone],
+    workers: usize,
+) -> Result<Vec<Vec<BoardReader>>, Refused>
+    ensures same { opened.new ≡ opened.old }
+    ensures many { IfOk result (λ rows. length rows.items ≡ workers) }
+    ensures fit { IfOk result (λ rows. All (AreReaders (map opened_key opened.old) (map opened_board opened.old)) rows.items) }
+    ensures why { IfErr result (λ e. e ≡ Memory) }
+{
+    let Ok(mut rows) = Vec::with_capacity(alloc, workers) else {
+        return Err(Refused::Memory);
+    };
+    for _ in 0..workers {
+        rows.push_reserved(readers_of(alloc, opened)?);
+    }
+    Ok(rows)
+}
+
+/// The opened zones, each behind a lock of its own, in their order. Refused 6.
+pub fn share_zones<J: Naming>(
+    alloc: Global,
+    opened: Vec<OpenedZone>,
+) -> Result<Vec<SharedZone<J>>, Refused>
+    requires keys { map opened_key opened.items ≡ J.zones }
+    requires boards { map opened_board opened.items ≡ J.boards }
+    ensures row { IfOk result (λ row. IsRowOf J.zones row.items) }
+    ensures why { IfErr result (λ e. e ≡ Memory) }
+{
+    let Ok(mut row) = Vec::with_capacity(alloc, opened.len()) else {
+        return Err(Refused::Memory);
+    };
+    for zone in opened {
         let place = row.len();
-        let journal = Journal::new(alloc, capacity)?;
-        row.push_reserved(SharedZone::new(place, zone, journal));
+        row.push_reserved(SharedZone::new(place, zone));
     }
     Ok(row)
 }

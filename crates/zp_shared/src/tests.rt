@@ -2,6 +2,7 @@
 //! single pages from 3072 on, and its lowest block begins at its first page.
 
 mod asking;
+mod boards;
 mod full;
 mod hand;
 mod journals;
@@ -9,5 +10,6 @@ mod pair;
 mod sections;
 mod strayed;
 mod threads;
+mod two_boards;
 
 use super::*;

@@ -16,7 +16,7 @@ pub(super) const KIND: MigrateType = MigrateType::Movable;
 #[tactic(auto, using(crate::proofs::Places::share_length))]
 pub(super) fn expect_taken<J: Naming, R: Abort + Wait>(
     rt: &R,
-    zones: &mut LockedZones<'_, J, R>,
+    zones: &mut LockedZones<'_, J, (), R>,
     share: &mut Share,
     order: Order,
     answer: Result<PageNo, Refused>,
@@ -33,7 +33,7 @@ pub(super) fn expect_taken<J: Naming, R: Abort + Wait>(
 #[tactic(auto, using(crate::proofs::Places::share_length))]
 pub(super) fn expect_lowest<J: Naming, R: Abort + Wait>(
     rt: &R,
-    zones: &mut LockedZones<'_, J, R>,
+    zones: &mut LockedZones<'_, J, (), R>,
     share: &mut Share,
     order: Order,
     answer: Result<Block, Refused>,
@@ -49,7 +49,7 @@ pub(super) fn expect_lowest<J: Naming, R: Abort + Wait>(
 #[tactic(auto, using(crate::proofs::Places::share_length))]
 pub(super) fn expect_freed<J: Naming, R: Abort + Wait>(
     rt: &R,
-    zones: &mut LockedZones<'_, J, R>,
+    zones: &mut LockedZones<'_, J, (), R>,
     share: &mut Share,
     page: PageNo,
     order: Order,
@@ -67,7 +67,7 @@ pub(super) fn expect_freed<J: Naming, R: Abort + Wait>(
 #[tactic(auto, using(crate::proofs::Places::share_length))]
 pub(super) fn expect_posted<J: Naming, R: Abort + Wait>(
     rt: &R,
-    zones: &mut LockedZones<'_, J, R>,
+    zones: &mut LockedZones<'_, J, (), R>,
     share: &mut Share,
     page: PageNo,
     order: Order,
@@ -87,7 +87,7 @@ pub(super) fn expect_posted<J: Naming, R: Abort + Wait>(
 #[tactic(auto, using(crate::proofs::Places::share_length))]
 pub(super) fn expect_collected<J: Naming, R: Abort + Wait>(
     rt: &R,
-    zones: &mut LockedZones<'_, J, R>,
+    zones: &mut LockedZones<'_, J, (), R>,
     share: &mut Share,
     answer: Result<Block, Refused>,
 )
@@ -102,7 +102,7 @@ pub(super) fn expect_collected<J: Naming, R: Abort + Wait>(
 #[tactic(auto, using(crate::proofs::Places::share_length, crate::proofs::Places::none_if_no_length))]
 pub(super) fn expect_refilled<J: Naming, R: Abort + Wait>(
     rt: &R,
-    zones: &mut LockedZones<'_, J, R>,
+    zones: &mut LockedZones<'_, J, (), R>,
     share: &mut Share,
     kind: MigrateType,
     answer: Result<usize, Refused>,
@@ -121,7 +121,7 @@ pub(super) fn expect_refilled<J: Naming, R: Abort + Wait>(
 #[tactic(auto, using(crate::proofs::Places::share_length))]
 pub(super) fn expect_drained<J: Naming, R: Abort + Wait>(
     rt: &R,
-    zones: &mut LockedZones<'_, J, R>,
+    zones: &mut LockedZones<'_, J, (), R>,
     share: &mut Share,
     answer: Result<(), Refused>,
 )

@@ -1,6 +1,7 @@
 //! What a worker's commands answer where the journals of their zones are full.
 ghost use Rattle.std.specs.Prelude.{◌≡◌, ◌<◌, length, map};
-ghost use Rattle.zp_share.specs.Shares.{IsShareOf, key_of};
+ghost use Rattle.zp_share.specs.Shares.{IsShareOf};
+ghost use Rattle.zp_shared.specs.Rows.{opened_board, opened_key};
 
 use super::asking::KIND;
 use super::hand::*;
@@ -17,7 +18,7 @@ use zp_share::{Share, alloc, drain_all, free};
 #[tactic(auto, using(crate::proofs::Places::share_length))]
 fn expect_alloc<J: Naming, R: Abort + Wait>(
     rt: &R,
-    zones: &mut LockedZones<'_, J, R>,
+    zones: &mut LockedZones<'_, J, (), R>,
     share: &mut Share,
     order: Order,
     zone: usize,
@@ -35,7 +36,7 @@ fn expect_alloc<J: Naming, R: Abort + Wait>(
 #[tactic(auto, using(crate::proofs::Places::share_length))]
 fn expect_free<J: Naming, R: Abort + Wait>(
     rt: &R,
-    zones: &mut LockedZones<'_, J, R>,
+    zones: &mut LockedZones<'_, J, (), R>,
     share: &mut Share,
     page: u32,
     answer: Result<(), Refused>,
@@ -50,15 +51,20 @@ fn expect_free<J: Naming, R: Abort + Wait>(
 
 /// The zone below is not asked where the journal of the zone named is full.
 fn walk_as<J: Naming, R: Abort + Wait>(rt: &R, alloc: Global, hand: Hand)
-    requires named { map key_of hand.zones.items ≡ J.zones }
+    requires named { map opened_key hand.zones.items ≡ J.zones }
+    requires boards { map opened_board hand.zones.items ≡ J.boards }
     requires two { length hand.zones.items ≡ 2 }
 {
-    let Hand { zones, mut share } = hand;
-    let (Ok(row), Some(order)) = (share_zones::<J>(alloc, zones, 1), Order::new(3)) else {
+    let Hand {
+        zones,
+        readers,
+        mut share,
+    } = hand;
+    let (Ok(row), Some(order)) = (share_zones::<J>(alloc, zones), Order::new(3)) else {
         assert!(rt; false, "the row can be made");
         return;
     };
-    let mut view = LockedZones::new(rt, row.as_slice());
+    let mut view = LockedZones::<J, (), R>::new(rt, row.as_slice(), readers);
     expect_alloc(rt, &mut view, &mut share, order, 1, Ok(7168));
     expect_alloc(
         rt,
@@ -75,7 +81,7 @@ fn walk_as<J: Naming, R: Abort + Wait>(rt: &R, alloc: Global, hand: Hand)
 
 #[test]
 fn a_full_journal_ends_the_walk_through_the_zones(rt: HostRuntime) {
-    let Ok(hand) = two_zones(rt.alloc()) else {
+    let Ok(hand) = two_zones(rt.alloc(), 1) else {
         assert!(rt; false, "the zones can be made");
         return;
     };
@@ -84,15 +90,20 @@ fn a_full_journal_ends_the_walk_through_the_zones(rt: HostRuntime) {
 
 /// A list that the page just put on fills up stays full; one that is full before takes no page, and none is drained.
 fn full_list_as<J: Naming, R: Abort + Wait>(rt: &R, alloc: Global, hand: Hand)
-    requires named { map key_of hand.zones.items ≡ J.zones }
+    requires named { map opened_key hand.zones.items ≡ J.zones }
+    requires boards { map opened_board hand.zones.items ≡ J.boards }
     requires one { length hand.zones.items ≡ 1 }
 {
-    let Hand { zones, mut share } = hand;
-    let Ok(row) = share_zones::<J>(alloc, zones, 2) else {
+    let Hand {
+        zones,
+        readers,
+        mut share,
+    } = hand;
+    let Ok(row) = share_zones::<J>(alloc, zones) else {
         assert!(rt; false, "the row can be made");
         return;
     };
-    let mut view = LockedZones::new(rt, row.as_slice());
+    let mut view = LockedZones::<J, (), R>::new(rt, row.as_slice(), readers);
     for page in 3072..3080 {
         expect_alloc(rt, &mut view, &mut share, Order::zero(), 0, Ok(page));
     }
@@ -110,7 +121,7 @@ fn full_list_as<J: Naming, R: Abort + Wait>(rt: &R, alloc: Global, hand: Hand)
 
 #[test]
 fn a_full_list_stays_where_the_journal_is_full(rt: HostRuntime) {
-    let Ok(hand) = one_zone(rt.alloc()) else {
+    let Ok(hand) = one_zone(rt.alloc(), 2) else {
         assert!(rt; false, "the zone can be made");
         return;
     };
@@ -119,15 +130,20 @@ fn a_full_list_stays_where_the_journal_is_full(rt: HostRuntime) {
 
 /// What was drained before the refusal stays drained.
 fn drained_as<J: Naming, R: Abort + Wait>(rt: &R, alloc: Global, hand: Hand)
-    requires named { map key_of hand.zones.items ≡ J.zones }
+    requires named { map opened_key hand.zones.items ≡ J.zones }
+    requires boards { map opened_board hand.zones.items ≡ J.boards }
     requires two { length hand.zones.items ≡ 2 }
 {
-    let Hand { zones, mut share } = hand;
-    let (Ok(row), Some(order)) = (share_zones::<J>(alloc, zones, 2), Order::new(3)) else {
+    let Hand {
+        zones,
+        readers,
+        mut share,
+    } = hand;
+    let (Ok(row), Some(order)) = (share_zones::<J>(alloc, zones), Order::new(3)) else {
         assert!(rt; false, "the row can be made");
         return;
     };
-    let mut view = LockedZones::new(rt, row.as_slice());
+    let mut view = LockedZones::<J, (), R>::new(rt, row.as_slice(), readers);
     expect_alloc(rt, &mut view, &mut share, Order::zero(), 0, Ok(3072));
     expect_alloc(rt, &mut view, &mut share, Order::zero(), 1, Ok(7168));
     expect_alloc(rt, &mut view, &mut share, order, 1, Ok(7176));
@@ -140,7 +156,7 @@ fn drained_as<J: Naming, R: Abort + Wait>(rt: &R, alloc: Global, hand: Hand)
 
 #[test]
 fn what_was_drained_before_a_full_journal_stays_drained(rt: HostRuntime) {
-    let Ok(hand) = two_zones(rt.alloc()) else {
+    let Ok(hand) = two_zones(rt.alloc(), 2) else {
         assert!(rt; false, "the zones can be made");
         return;
     };

@@ -1,7 +1,7 @@
 //! What the journal of a row's one zone has, and what is refused when it is full.
 ghost use Rattle.std.specs.Prelude.{◌≡◌, ◌<◌, length, map};
-ghost use Rattle.zp_share.specs.Shares.{IsShareOf, key_of};
-ghost use Rattle.zp_shared.specs.Rows.{IsRowOf};
+ghost use Rattle.zp_share.specs.Shares.{IsShareOf};
+ghost use Rattle.zp_shared.specs.Rows.{IsRowOf, opened_board, opened_key};
 
 use super::asking::*;
 use super::hand::*;
@@ -103,7 +103,7 @@ pub(super) fn expect_legal(rt: &impl Abort, alloc: Global, journal: &Journal, fr
 /// Where the journal is full each section is refused, but that a block which is not lent is refused for that. Nothing changes.
 pub(super) fn expect_full<J: Naming, R: Abort + Wait>(
     rt: &R,
-    zones: &mut LockedZones<'_, J, R>,
+    zones: &mut LockedZones<'_, J, (), R>,
     share: &mut Share,
 )
     requires fits { IsShareOf J.zones share.old }
@@ -122,17 +122,22 @@ pub(super) fn expect_full<J: Naming, R: Abort + Wait>(
 
 /// One section fits into the journal, and the next one is refused, with zone, share and journal as they were.
 fn one_section_as<J: Naming, R: Abort + Wait>(rt: &R, alloc: Global, hand: Hand)
-    requires named { map key_of hand.zones.items ≡ J.zones }
+    requires named { map opened_key hand.zones.items ≡ J.zones }
+    requires boards { map opened_board hand.zones.items ≡ J.boards }
     requires one { length hand.zones.items ≡ 1 }
 {
-    let Hand { zones, mut share } = hand;
+    let Hand {
+        zones,
+        readers,
+        mut share,
+    } = hand;
     let worker = share.worker();
-    let Ok(row) = share_zones::<J>(alloc, zones, 1) else {
+    let Ok(row) = share_zones::<J>(alloc, zones) else {
         assert!(rt; false, "the row can be made");
         return;
     };
     let (zero, page) = (Order::zero(), PageNo::new(3072));
-    let mut view = LockedZones::new(rt, row.as_slice());
+    let mut view = LockedZones::<J, (), R>::new(rt, row.as_slice(), readers);
     expect_taken(rt, &mut view, &mut share, zero, Ok(page));
     expect_taken(rt, &mut view, &mut share, zero, Err(Refused::JournalFull));
     expect_freed(
@@ -145,6 +150,7 @@ fn one_section_as<J: Naming, R: Abort + Wait>(rt: &R, alloc: Global, hand: Hand)
     );
     assert_eq!(rt; share.sections(0), 1);
     assert!(rt; share.is_lent(0, page, zero));
+    drop(view);
     let Some((zone, journal)) = closed_zone(alloc, row) else {
         assert!(rt; false, "the zone lies at its place");
         return;
@@ -157,7 +163,7 @@ fn one_section_as<J: Naming, R: Abort + Wait>(rt: &R, alloc: Global, hand: Hand)
 
 #[test]
 fn a_full_journal_refuses_sections(rt: HostRuntime) {
-    let Ok(hand) = one_zone(rt.alloc()) else {
+    let Ok(hand) = one_zone(rt.alloc(), 1) else {
         assert!(rt; false, "the zone can be made");
         return;
     };
@@ -166,17 +172,23 @@ fn a_full_journal_refuses_sections(rt: HostRuntime) {
 
 /// No section fits into a journal with no room.
 fn no_section_as<J: Naming, R: Abort + Wait>(rt: &R, alloc: Global, hand: Hand)
-    requires named { map key_of hand.zones.items ≡ J.zones }
+    requires named { map opened_key hand.zones.items ≡ J.zones }
+    requires boards { map opened_board hand.zones.items ≡ J.boards }
     requires one { length hand.zones.items ≡ 1 }
 {
-    let Hand { zones, mut share } = hand;
-    let Ok(row) = share_zones::<J>(alloc, zones, 0) else {
+    let Hand {
+        zones,
+        readers,
+        mut share,
+    } = hand;
+    let Ok(row) = share_zones::<J>(alloc, zones) else {
         assert!(rt; false, "the row can be made");
         return;
     };
-    let mut view = LockedZones::new(rt, row.as_slice());
+    let mut view = LockedZones::<J, (), R>::new(rt, row.as_slice(), readers);
     let lowest = Err(Refused::JournalFull);
     expect_lowest(rt, &mut view, &mut share, Order::zero(), lowest);
+    drop(view);
     let Some((zone, journal)) = closed_zone(alloc, row) else {
         assert!(rt; false, "the zone lies at its place");
         return;
@@ -188,7 +200,7 @@ fn no_section_as<J: Naming, R: Abort + Wait>(rt: &R, alloc: Global, hand: Hand)
 
 #[test]
 fn a_journal_may_have_no_room(rt: HostRuntime) {
-    let Ok(hand) = one_zone(rt.alloc()) else {
+    let Ok(hand) = one_zone(rt.alloc(), 0) else {
         assert!(rt; false, "the zone can be made");
         return;
     };

@@ -1,6 +1,7 @@
 //! Each section once, through the locks, with ample memory, and what the journal has of them.
 ghost use Rattle.std.specs.Prelude.{◌≡◌, ◌<◌, length, map};
-ghost use Rattle.zp_share.specs.Shares.{HasWorkerAt, IsShareOf, key_of};
+ghost use Rattle.zp_share.specs.Shares.{HasWorkerAt, IsShareOf};
+ghost use Rattle.zp_shared.specs.Rows.{opened_board, opened_key};
 
 use super::asking::*;
 use super::hand::*;
@@ -17,7 +18,7 @@ use zp_share::{Share, Zones};
 /// A page is lent and given back; what was given back cannot be given back again.
 fn expect_a_page<J: Naming, R: Abort + Wait>(
     rt: &R,
-    zones: &mut LockedZones<'_, J, R>,
+    zones: &mut LockedZones<'_, J, (), R>,
     share: &mut Share,
 )
     requires fits { IsShareOf J.zones share.old }
@@ -35,7 +36,7 @@ fn expect_a_page<J: Naming, R: Abort + Wait>(
 /// A pair of pages is posted to its own worker and collected, once.
 fn expect_a_posting<J: Naming, R: Abort + Wait>(
     rt: &R,
-    zones: &mut LockedZones<'_, J, R>,
+    zones: &mut LockedZones<'_, J, (), R>,
     share: &mut Share,
     to: Worker,
 )
@@ -63,7 +64,7 @@ fn expect_a_posting<J: Naming, R: Abort + Wait>(
 /// A list is filled with a batch, and gives it back.
 fn expect_a_list<J: Naming, R: Abort + Wait>(
     rt: &R,
-    zones: &mut LockedZones<'_, J, R>,
+    zones: &mut LockedZones<'_, J, (), R>,
     share: &mut Share,
 )
     requires fits { IsShareOf J.zones share.old }
@@ -79,7 +80,7 @@ fn expect_a_list<J: Naming, R: Abort + Wait>(
 /// The lowest block of the largest order is the zone's first pages.
 fn expect_the_lowest<J: Naming, R: Abort + Wait>(
     rt: &R,
-    zones: &mut LockedZones<'_, J, R>,
+    zones: &mut LockedZones<'_, J, (), R>,
     share: &mut Share,
 )
     requires fits { IsShareOf J.zones share.old }
@@ -97,22 +98,28 @@ fn expect_the_lowest<J: Naming, R: Abort + Wait>(
 
 /// The sections of one worker, and the row that is closed again.
 fn sections_as<J: Naming, R: Abort + Wait>(rt: &R, alloc: Global, hand: Hand)
-    requires named { map key_of hand.zones.items ≡ J.zones }
+    requires named { map opened_key hand.zones.items ≡ J.zones }
+    requires boards { map opened_board hand.zones.items ≡ J.boards }
     requires one { length hand.zones.items ≡ 1 }
 {
-    let Hand { zones, mut share } = hand;
+    let Hand {
+        zones,
+        readers,
+        mut share,
+    } = hand;
     let to = share.worker();
-    let Ok(row) = share_zones::<J>(alloc, zones, 10) else {
+    let Ok(row) = share_zones::<J>(alloc, zones) else {
         assert!(rt; false, "the row can be made");
         return;
     };
-    let mut view = LockedZones::new(rt, row.as_slice());
+    let mut view = LockedZones::<J, (), R>::new(rt, row.as_slice(), readers);
     expect_a_page(rt, &mut view, &mut share);
     expect_a_posting(rt, &mut view, &mut share, to);
     expect_a_list(rt, &mut view, &mut share);
     expect_the_lowest(rt, &mut view, &mut share);
     expect_full(rt, &mut view, &mut share);
     assert_eq!(rt; share.sections(0), 10);
+    drop(view);
     let Some((zone, journal)) = closed_zone(alloc, row) else {
         assert!(rt; false, "the zone lies at its place");
         return;
@@ -125,7 +132,7 @@ fn sections_as<J: Naming, R: Abort + Wait>(rt: &R, alloc: Global, hand: Hand)
 
 #[test]
 fn each_section_is_answered(rt: HostRuntime) {
-    let Ok(hand) = one_zone(rt.alloc()) else {
+    let Ok(hand) = one_zone(rt.alloc(), 10) else {
         assert!(rt; false, "the zone can be made");
         return;
     };

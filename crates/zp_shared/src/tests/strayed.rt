@@ -1,6 +1,7 @@
 //! Two zones that lie under each other's locks.
 ghost use Rattle.std.specs.Prelude.{◌≡◌, ◌≤◌, ◌<◌, length, map};
-ghost use Rattle.zp_share.specs.Shares.{HasWorkerAt, IsShareOf, key_of};
+ghost use Rattle.zp_share.specs.Shares.{HasWorkerAt, IsShareOf};
+ghost use Rattle.zp_shared.specs.Rows.{opened_board, opened_key};
 
 use super::asking::*;
 use super::hand::*;
@@ -30,7 +31,7 @@ fn exchange<J: Naming>(rt: &impl Wait, row: &[SharedZone<J>])
 /// A page that is lent, and four pages on a list.
 fn take_pages<J: Naming, R: Abort + Wait>(
     rt: &R,
-    zones: &mut LockedZones<'_, J, R>,
+    zones: &mut LockedZones<'_, J, (), R>,
     share: &mut Share,
 )
     requires fits { IsShareOf J.zones share.old }
@@ -44,7 +45,7 @@ fn take_pages<J: Naming, R: Abort + Wait>(
 /// No block and no page comes from a zone that strayed.
 fn expect_none_given<J: Naming, R: Abort + Wait>(
     rt: &R,
-    zones: &mut LockedZones<'_, J, R>,
+    zones: &mut LockedZones<'_, J, (), R>,
     share: &mut Share,
 )
     requires fits { IsShareOf J.zones share.old }
@@ -61,7 +62,7 @@ fn expect_none_given<J: Naming, R: Abort + Wait>(
 /// No block and no page goes to a zone that strayed; what is not lent is refused first.
 fn expect_none_taken<J: Naming, R: Abort + Wait>(
     rt: &R,
-    zones: &mut LockedZones<'_, J, R>,
+    zones: &mut LockedZones<'_, J, (), R>,
     share: &mut Share,
     to: Worker,
 )
@@ -80,22 +81,28 @@ fn expect_none_taken<J: Naming, R: Abort + Wait>(
 
 /// The sections of one worker, before and after the zones were exchanged, and the locks that are closed one by one.
 fn strayed_as<J: Naming, R: Abort + Wait>(rt: &R, alloc: Global, hand: Hand)
-    requires named { map key_of hand.zones.items ≡ J.zones }
+    requires named { map opened_key hand.zones.items ≡ J.zones }
+    requires boards { map opened_board hand.zones.items ≡ J.boards }
     requires two { length hand.zones.items ≡ 2 }
 {
-    let Hand { zones, mut share } = hand;
+    let Hand {
+        zones,
+        readers,
+        mut share,
+    } = hand;
     let to = share.worker();
-    let Ok(row) = share_zones::<J>(alloc, zones, 4) else {
+    let Ok(row) = share_zones::<J>(alloc, zones) else {
         assert!(rt; false, "the row can be made");
         return;
     };
-    let mut view = LockedZones::new(rt, row.as_slice());
+    let mut view = LockedZones::<J, (), R>::new(rt, row.as_slice(), readers);
     take_pages(rt, &mut view, &mut share);
     assert_eq!(rt; row.len(), 2);
     exchange(rt, row.as_slice());
     expect_none_given(rt, &mut view, &mut share);
     expect_none_taken(rt, &mut view, &mut share, to);
     assert_eq!(rt; share.sections(0), 2);
+    drop(view);
     for shared in row {
         let place = shared.place();
         let closed = shared.close();
@@ -107,7 +114,7 @@ fn strayed_as<J: Naming, R: Abort + Wait>(rt: &R, alloc: Global, hand: Hand)
 
 #[test]
 fn a_zone_under_another_lock_is_asked_nothing(rt: HostRuntime) {
-    let Ok(hand) = two_zones(rt.alloc()) else {
+    let Ok(hand) = two_zones(rt.alloc(), 4) else {
         assert!(rt; false, "the zones can be made");
         return;
     };
@@ -121,11 +128,12 @@ fn closed_after<J: Naming, R: Wait>(
     hand: Hand,
     exchanges: usize,
 ) -> Option<usize>
-    requires named { map key_of hand.zones.items ≡ J.zones }
+    requires named { map opened_key hand.zones.items ≡ J.zones }
+    requires boards { map opened_board hand.zones.items ≡ J.boards }
     requires two { length hand.zones.items ≡ 2 }
 {
-    let Hand { zones, share: _ } = hand;
-    let row = share_zones::<J>(alloc, zones, 0).ok()?;
+    let Hand { zones, .. } = hand;
+    let row = share_zones::<J>(alloc, zones).ok()?;
     if row.len() != 2 {
         return None;
     }
@@ -138,7 +146,7 @@ fn closed_after<J: Naming, R: Wait>(
 }
 
 fn expect_closed(rt: &(impl Abort + Wait), alloc: Global, exchanges: usize, closed: Option<usize>) {
-    let Ok(hand) = two_zones(alloc) else {
+    let Ok(hand) = two_zones(alloc, 0) else {
         assert!(rt; false, "the zones can be made");
         return;
     };

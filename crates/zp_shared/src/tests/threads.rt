@@ -54,7 +54,7 @@ fn run<R: Threads + Wait + Sync, G: Gate + Sync>(
     gate: &G,
     stack_size: Option<usize>,
 ) -> Option<Ran> {
-    let pair = new_pair(alloc).ok()?;
+    let pair = new_pair(alloc, 1, Habit::Takes, 1).ok()?;
     run_as::<Brand, R, G>(rt, alloc, pair, gate, stack_size)
 }
 

@@ -10,11 +10,11 @@ overflow_cast-room g c = omega (arith, commands_few c.args.trace.now c.requires.
 pub overflow_mul-room : goal.overflow_mul-room
 overflow_mul-room g c = omega (arith, commands_few c.args.trace.now c.requires.lines, ap length c.as_slice.ensures)
 
-pub serve_as-requires-clause-capacity : goal.serve_as-requires-clause-capacity
-serve_as-requires-clause-capacity g c = omega (arith, commands_few c.args.trace.now c.requires.lines, ap length c.as_slice.ensures)
+pub serve-requires-clause-capacity : goal.serve-requires-clause-capacity
+serve-requires-clause-capacity g c = omega (arith, commands_few c.args.trace.now c.requires.lines, ap length c.as_slice.ensures)
 
 pub returns-clause-served : goal.returns-clause-served
 returns-clause-served g c =
-    if_ok (λ s. IsOfficeServed c.in-Ok.parts.0.items c.in-Ok.parts.1.items s.0) _ c.serve_as.result
+    if_ok (λ s. IsOfficeServed c.in-Ok.parts.0.items c.in-Ok.parts.1.items s.0) _ c.serve.result
     (λ s i. served_is c.args.trace.now c.in-Ok.parts.0.items c.in-Ok.parts.1.items s.0 c.in-Ok.ensures.zones c.in-Ok.ensures.desks c.in-Ok.ensures.office i)
-    c.serve_as.ensures.office
+    c.serve.ensures.office

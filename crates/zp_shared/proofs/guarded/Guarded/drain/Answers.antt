@@ -1,4 +1,4 @@
-use Rattle.std.proofs.Common.{◌≡◌, ◌≢◌, ◌∙◌, Ok, ap, subst, sym}
+use Rattle.std.proofs.Common.{◌≡◌, ◌≢◌, ◌∙◌, refl, Ok, ap, subst, sym}
 use Rattle.zp_model.specs.declared.request.Request.{Request}
 use Rattle.zp_model.specs.declared.request.Request.TheVariants as request
 use Rattle.zp_model.specs.declared.request.Reply.{Reply}
@@ -8,7 +8,7 @@ use Rattle.zp_share.specs.ZoneShares.{ZoneShareState, IsSection, cached_of}
 use Rattle.zp_share.specs.declared.sections.TheConstants.{LAST_SECTION}
 use Rattle.zp_share.specs.Shares.{IsShareOf, key_of, sections_at, share_at, noted_at, done_reply}
 use Rattle.zp_shared.specs.Rows.{GuardedZone, key_at}
-use Rattle.zp_shared.proofs.Guarding.{IsCall, IsAfter, seat_at, share_here, still_countable, after, kept_as_it_was}
+use Rattle.zp_shared.proofs.Guarding.{Parts, IsCall, IsAfter, seat_at, share_here, still_countable, after, kept_as_it_was, nothing_published}
 use Rattle.zp_shared.proofs.guarded.Guarded.drain.Given.{Over}
 use Rattle.zp_shared.proofs.guarded.Guarded.drain.Goals as goal
 
@@ -39,25 +39,37 @@ asked g c = request.Drain c.args.kind (back c.args.count (cached_of (share_at c.
 abbrev answer : (g : Over) (c : goal.After-note g) → Reply
 answer g c = reply.Drained
 
-call : (g : Over) (c : goal.After-note g) → IsCall g.J.Naming.zones (asked g c) (answer g c) c.args.self.now c.self.inside.place c.self.inside.journal c.note.new.journal c.self.inside.zone c.drain-answer.new.zone c.args.share.now c.has_room.new.share c.drain-answer.new.self
+-- what lies under the lock when the share turns to it, and when it has
+abbrev found : (g : Over) (c : goal.After-note g) → Parts
+found g c = record { place = c.self.inside.place; zone = c.self.inside.zone; journal = c.self.inside.journal; publisher = c.self.inside.publisher }
+
+abbrev made_of : (g : Over) (c : goal.After-note g) → Parts
+made_of g c = record { place = c.self.inside.place; zone = c.drain-answer.new.zone; journal = c.note.new.journal; publisher = c.note.new.publisher }
+
+call : (g : Over) (c : goal.After-note g) → IsCall g.J.Naming.zones g.J.Naming.boards (asked g c) (answer g c) c.args.self.now (found g c) (made_of g c) c.args.share.now c.has_room.new.share c.drain-answer.new.self
 call g c = record {
   view = c.self.view_is ∙ c.has_room.ensures.same;
   same = c.has_room.ensures.share;
-  key = c.self.invariant.0;
-  journal = c.self.invariant.1;
+  guarded = c.self.invariant;
+  place = refl;
   fits = c.requires.fits;
   others = c.drain-answer.ensures.others;
   seats = c.drain-answer.ensures.seats;
   seat = c.drain-answer.ensures.same;
   section = (made g c).1;
-  noted = c.note.ensures;
+  noted = c.note.ensures.entry;
+  tie = c.note.ensures.tie;
+  published = c.note.ensures.published;
 }
 
-left : (g : Over) (c : goal.After-note g) → IsAfter g.J.Naming.zones (asked g c) (answer g c) c.args.self.now c.self.inside.place c.note.new.journal c.drain-answer.new.zone c.args.share.now c.drain-answer.new.self
-left g c = after g.J.Naming.zones (asked g c) (answer g c) c.args.self.now c.self.inside.place c.self.inside.journal c.note.new.journal c.self.inside.zone c.drain-answer.new.zone c.args.share.now c.has_room.new.share c.drain-answer.new.self (call g c)
+left : (g : Over) (c : goal.After-note g) → IsAfter g.J.Naming.zones g.J.Naming.boards (asked g c) (answer g c) c.args.self.now (made_of g c) c.args.share.now c.drain-answer.new.self
+left g c = after g.J.Naming.zones g.J.Naming.boards (asked g c) (answer g c) c.args.self.now (found g c) (made_of g c) c.args.share.now c.has_room.new.share c.drain-answer.new.self (call g c)
 
 pub invariant_of-self : goal.invariant_of-self
-invariant_of-self g c = ((left g c).key, (left g c).journal)
+invariant_of-self g c = (left g c).guarded
+
+pub returns-clause-published : goal.returns-clause-published
+returns-clause-published g c = (left g c).published
 
 pub returns-clause-kept : goal.returns-clause-kept
 returns-clause-kept g c = (left g c).kept
@@ -72,3 +84,6 @@ pub returns-then-not-has_room-clause-kept : goal.returns-then-not-has_room-claus
 returns-then-not-has_room-clause-kept g c =
     kept_as_it_was g.J.Naming.zones c.args.self.now c.has_room.new.self c.args.share.now c.has_room.new.share c.has_room.ensures.same c.has_room.ensures.share
     (subst (λ (v : GuardedZone). key_of v.zone ≡ key_at g.J.Naming.zones v.place) c.has_room.ensures.same c.has_room.ensures.key) c.requires.fits
+
+pub returns-then-not-has_room-clause-published : goal.returns-then-not-has_room-clause-published
+returns-then-not-has_room-clause-published g c = nothing_published c.args.self.now c.has_room.new.self c.has_room.ensures.same

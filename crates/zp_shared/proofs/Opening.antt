@@ -1,0 +1,61 @@
+-- Zones that are opened for threads, and the readers of their boards.
+use Rattle.std.proofs.Common.{ℕ, ◌≡◌, List, [], ◌∷◌, ◌++◌, All, length, map, take, drop, refl, sym, ap, subst, ◌∙◌, arith, append-nil, append_assoc, length-append}
+use Rattle.std.specs.Global.{Vec}
+use Rattle.std.specs.List.{AllZip}
+use Rattle.std.proofs.lemmas.Simd.{map-map}
+use Rattle.std.proofs.lemmas.List.{drop_all, take_all}
+use Rattle.std.proofs.lemmas.List.Elements.{All-push, All-head, All-tail}
+use Rattle.zp_counts.specs.CountBoards.{CountsSeen}
+use Rattle.zp_zone.specs.Seats.{ZoneState}
+use Rattle.zp_share.specs.Shares.{key_of}
+use Rattle.zp_desk.specs.Desks.{DeskState}
+use Rattle.zp_shared.specs.Rows.{OpenedState, AreReaders, AreReadersOf, opened_board, opened_key, opened_reader}
+use Rattle.zp_shared.specs.Runs.{IsLentTo}
+
+-- one more goes over to those before it
+pub one_over : {X : Type 0} (before rest all after : List X) (x : X) → before ++ rest ≡ all → rest ≡ x ∷ after → (before ++ x ∷ []) ++ after ≡ all
+one_over before rest all after x whole next = append_assoc before (x ∷ []) after ∙ ap (λ l. before ++ l) (sym next) ∙ whole
+
+-- two lists that are as long, each with one more
+pub many_more : {A B : Type 0} (xs new : List A) (x : A) (ys : List B) (y : B) → length xs ≡ length ys → new ≡ xs ++ x ∷ [] → length new ≡ length (ys ++ y ∷ [])
+many_more xs new x ys y many pushed = omega (arith, many, ap length pushed, length-append xs (x ∷ []), length-append ys (y ∷ []))
+
+-- a list that has one more, of which the same holds
+pub all_more : {X : Type 0} (P : X → Type 0) (xs ys : List X) (x : X) → All P xs → ys ≡ xs ++ x ∷ [] → P x → All P ys
+all_more P xs ys x all pushed here = subst (All P) (sym pushed) (All-push P xs x all here)
+
+-- what holds of each of a list holds of it beside any other list that is as long
+pub zip_from_all : {A B : Type 0} (P : A → Type 0) (xs : List A) (ys : List B) → All P xs → length xs ≡ length ys → AllZip (λ a b. P a) xs ys
+zip_from_all P [] [] all many = tt
+zip_from_all P [] (y ∷ ys) all many = absurd (omega (arith, many))
+zip_from_all P (x ∷ xs) [] all many = absurd (omega (arith, many))
+zip_from_all P (x ∷ xs) (y ∷ ys) all many = (All-head P x xs all, zip_from_all P xs ys (All-tail P x xs all) (omega (arith, many)))
+
+-- the new readers of opened zones are readers of their row
+pub readers_fit : (os : List OpenedState) → AreReadersOf (map opened_key os) (map opened_board os) (map opened_reader os)
+readers_fit [] = (refl, refl)
+readers_fit (o ∷ os) = let rest = readers_fit os in (omega (arith, rest.0), ap (λ l. o.board.tie ∷ l) rest.1)
+
+-- a list whose front was lent, and came back as it was
+pub written_back : {X : Type 0} (xs ys : List X) (n : ℕ) → ys ≡ xs → n ≡ length xs → take n (ys ++ drop (length ys) xs) ≡ xs
+written_back xs ys n same many =
+    ap (λ l. take n (l ++ drop (length l) xs)) same
+    ∙ ap (λ l. take n (xs ++ l)) (drop_all (length xs) xs (omega arith))
+    ∙ ap (take n) (append-nil xs)
+    ∙ take_all n xs (omega (arith, many))
+
+-- opened zones that were lent, and came back as they were, have the keys that the zones had
+pub keys_back : (os lent : List OpenedState) (n : ℕ) (zs : List ZoneState) → lent ≡ os → n ≡ length os → map (λ (o : OpenedState). o.zone) os ≡ zs →
+    map opened_key (take n (lent ++ drop (length lent) os)) ≡ map key_of zs
+keys_back os lent n zs same many zones =
+    ap (map opened_key) (written_back os lent n same many)
+    ∙ sym (map-map key_of (λ (o : OpenedState). o.zone) os)
+    ∙ ap (map key_of) zones
+
+-- each worker has a row of readers, where there are as many rows as desks
+pub rows_lent : (os now : List OpenedState) (rows lent : List (Vec CountsSeen)) (ds : List DeskState) → now ≡ os → lent ≡ rows →
+    All (AreReaders (map opened_key os) (map opened_board os)) rows → length rows ≡ length ds → AllZip (IsLentTo (map opened_key now) (map opened_board now)) lent ds
+rows_lent os now rows lent ds same same_rows fit many =
+    subst (λ l. AllZip (IsLentTo (map opened_key l) (map opened_board l)) lent ds) (sym same)
+    (subst (λ l. AllZip (IsLentTo (map opened_key os) (map opened_board os)) l ds) (sym same_rows)
+    (zip_from_all (AreReaders (map opened_key os) (map opened_board os)) rows ds fit many))
