@@ -1,7 +1,7 @@
 //! The board of a zone's counts: how many free blocks of each order it has, and how many free pages, after each of its requests.
 //!
-//! In Linux `/proc/buddyinfo` is read order by order under the zone's lock; here a reader takes no lock, and what it reads was the
-//! zone's at one moment.
+//! In Linux `/proc/buddyinfo` is read order by order, so its line may be a state that never was; here a reader takes no lock, and what
+//! it reads was the zone's at one moment.
 #![tactic(auto)]
 
 mod board;
