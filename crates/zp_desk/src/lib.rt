@@ -15,6 +15,3 @@ pub use desk::{Desk, MAX_COMMANDS};
 pub use gate::{Gate, OpenGate};
 pub use reply::Reply;
 pub use working::{work, work_next};
-
-#[cfg(test)]
-mod tests;

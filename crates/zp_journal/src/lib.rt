@@ -8,6 +8,3 @@ mod replay;
 
 pub use journal::{Journal, LONGEST_JOURNAL};
 pub use replay::{JournalCheck, replay_journal};
-
-#[cfg(test)]
-mod tests;

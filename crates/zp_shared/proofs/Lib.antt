@@ -1,4 +1,3 @@
-pub mod Desks
 pub mod Guarding
 pub mod Opening
 pub mod Places

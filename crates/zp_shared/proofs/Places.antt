@@ -1,11 +1,9 @@
 -- The places of a row, and what stands at them.
-use Rattle.std.proofs.Common.{ℕ, zero, suc, ◌≡◌, ◌+◌, ◌<◌, Bool, true, false, not, List, [], ◌∷◌, ◌++◌, length, map, get_or, refl, sym, ap, ap₂, ◌∙◌, arith, append_assoc, length-append}
+use Rattle.std.proofs.Common.{ℕ, zero, suc, ◌≡◌, ◌+◌, Bool, true, false, not, List, [], ◌∷◌, ◌++◌, length, map, get_or, refl, sym, ap, ap₂, ◌∙◌, arith, append_assoc, length-append}
 use Rattle.std.specs.List.{AllZip, range_with_len}
-use Rattle.std.proofs.lemmas.List.{get_or-map, length-map, nil_from_length}
 use Rattle.std.proofs.lemmas.List.FromFn.{length-range_with_len}
 use Rattle.std.proofs.Math.Seq.{get_or-append_seam}
-use Rattle.zp_share.specs.ZoneShares.{ZoneShareState}
-use Rattle.zp_share.specs.Shares.{ShareState, ZoneKey, IsShareOf, no_key}
+use Rattle.zp_share.specs.Shares.{ZoneKey, no_key}
 use Rattle.zp_shared.specs.Rows.{key_at, IsRowOf}
 
 more : (a n : ℕ) → range_with_len a (suc n) ≡ range_with_len a n ++ (a + n) ∷ []
@@ -34,17 +32,6 @@ row_more row new place ys y places at pushed =
 pub row_length : (keys : List ZoneKey) (places : List ℕ) → IsRowOf keys places → length places ≡ length keys
 row_length keys places row = ap length row ∙ length-range_with_len 0 (length keys)
 
--- what comes next in a list that is mapped stands at the number of those before it
-pub next_at : {A B : Type 0} (f : A → B) (ys rest all : List A) (x : A) (bs : List B) (k : ℕ) (e : B) → ys ++ x ∷ rest ≡ all → map f all ≡ bs → k ≡ length ys → f x ≡ get_or bs k e
-next_at f ys rest all x bs k e whole named at =
-    let long : length (ys ++ x ∷ rest) ≡ length ys + length (x ∷ rest) = length-append ys (x ∷ rest) in
-    let below : k < length (ys ++ x ∷ rest) = omega arith in
-    sym (
-    ap (λ z. get_or z k e) (sym named ∙ ap (map f) (sym whole))
-    ∙ get_or-map f (ys ++ x ∷ rest) k x e below
-    ∙ ap f (ap (λ n. get_or (ys ++ x ∷ rest) n x) at ∙ get_or-append_seam ys x rest x)
-    )
-
 read_on : {X : Type 0} (d : X) (ps xs : List X) → map (λ i. get_or (ps ++ xs) i d) (range_with_len (length ps) (length xs)) ≡ xs
 read_on d ps [] = refl
 read_on d ps (x ∷ xs) =
@@ -58,14 +45,6 @@ read_on d ps (x ∷ xs) =
 -- at the places of the row stand its keys
 pub keys_at_places : (keys : List ZoneKey) (places : List ℕ) → IsRowOf keys places → map (key_at keys) places ≡ keys
 keys_at_places keys places row = ap (map (key_at keys)) row ∙ read_on no_key [] keys
-
--- a share has something of each zone of the row
-pub share_length : (keys : List ZoneKey) (s : ShareState) → IsShareOf keys s → length s.zones ≡ length keys
-share_length keys s fits =
-    sym (length-map s.zones (λ (v : ZoneShareState). v.seat.tie)) ∙ ap length fits ∙ length-map keys (λ (k : ZoneKey). k.tie)
-
-pub none_if_no_length : {X : Type 0} (xs : List X) → length xs ≡ 0 → xs ≡ []
-none_if_no_length xs e = nil_from_length xs e
 
 -- two lists that go together, with one more of each
 pub zip_more : {A B : Type 0} (R : A → B → Type 0) (xs : List A) (ys : List B) (x : A) (y : B) → AllZip R xs ys → R x y → AllZip R (xs ++ x ∷ []) (ys ++ y ∷ [])

@@ -20,6 +20,3 @@ pub use shared_zone::{Closed, SharedZone};
 pub use sharing::run_zones;
 pub use workers::run_workers;
 pub use zp_counts::{Board, BoardReader};
-
-#[cfg(test)]
-mod tests;
