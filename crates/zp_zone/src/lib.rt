@@ -16,6 +16,3 @@ pub use page::ZonePage;
 pub use seat::Seat;
 pub use streams::{ReadFault, Reader, WriteFault, Writer, write_all};
 pub use zone::Zone;
-
-#[cfg(test)]
-mod tests;

@@ -1,0 +1,158 @@
+//! Worked histories: what is asked of a new zone, what it has to answer, and what it tells at the end. They are data: one function
+//! replays them all, as a journal.
+
+use super::*;
+use std::alloc::AllocGlobal;
+use zp_journal::{Journal, JournalCheck, replay_journal};
+use zp_model::{
+    Block, Entry, LONGEST_LIST, PageList, PageNo, Refused, Reply, Request, State, Worker,
+};
+
+/// What is asked, in numbers.
+#[derive(Clone, Copy, Drop)]
+pub(super) enum Ask<'a> {
+    Alloc(u8, MigrateType, Mark),
+    Low(u8),
+    Free(u32, u8),
+    Post(u32, u8, u8),
+    Collect,
+    Refill(u8, Mark),
+    Drain(MigrateType, &'a [u32]),
+}
+
+/// What is answered, in numbers.
+#[derive(Clone, Copy, Drop)]
+pub(super) enum Said<'a> {
+    Page(u32),
+    Block(u32, u8, MigrateType),
+    Freed,
+    Posted,
+    Pages(&'a [u32]),
+    Drained,
+    Refused(Refused),
+}
+
+/// A worker's request, with its reply.
+pub(super) type Asked<'a> = (u8, Ask<'a>, Said<'a>);
+
+/// What is noted of a page, in numbers.
+#[derive(Clone, Copy, PartialEq, Eq, Debug, Drop)]
+pub(super) enum Noted {
+    Tail,
+    Free(u8),
+    Out(u8, MigrateType, u8),
+    Posted(u8, MigrateType, u8),
+}
+
+/// A page, what is noted of it, and the pages before and after it on its list.
+pub(super) type Told = (u32, Noted, Option<u32>, Option<u32>);
+
+/// What is asked of a zone of two workers, and what it tells then: its free pages, those in posted blocks, and some pages.
+#[derive(Clone, Copy, Drop)]
+pub(super) struct History<'a> {
+    pub(super) config: ZoneConfig<'a>,
+    pub(super) asked: &'a [Asked<'a>],
+    pub(super) free: u32,
+    pub(super) posted: u32,
+    pub(super) pages: &'a [Told],
+}
+
+fn list(numbers: &[u32]) -> PageList {
+    let mut pages: ArrayVec<PageNo, LONGEST_LIST> = ArrayVec::new();
+    for number in numbers {
+        let _ = pages.try_push(PageNo::new(*number));
+    }
+    PageList::of(pages.as_slice())
+}
+
+fn request(ask: Ask<'_>) -> Option<Request> {
+    let request = match ask {
+        Ask::Alloc(order, kind, mark) => Request::Alloc(Order::new(order)?, kind, mark),
+        Ask::Low(order) => Request::AllocLow(Order::new(order)?),
+        Ask::Free(page, order) => Request::Free(PageNo::new(page), Order::new(order)?),
+        Ask::Post(page, order, to) => {
+            Request::Post(PageNo::new(page), Order::new(order)?, Worker::new(to)?)
+        }
+        Ask::Collect => Request::Collect,
+        Ask::Refill(count, mark) => Request::Refill(MigrateType::Movable, mark, count),
+        Ask::Drain(kind, pages) => Request::Drain(kind, list(pages)),
+    };
+    Some(request)
+}
+
+fn reply(said: Said<'_>) -> Option<Reply> {
+    let reply = match said {
+        Said::Page(page) => Reply::Page(PageNo::new(page)),
+        Said::Block(page, order, kind) => Reply::Block(Block {
+            page: PageNo::new(page),
+            order: Order::new(order)?,
+            kind,
+        }),
+        Said::Freed => Reply::Freed,
+        Said::Posted => Reply::Posted,
+        Said::Pages(pages) => Reply::Pages(list(pages)),
+        Said::Drained => Reply::Drained,
+        Said::Refused(refused) => Reply::Refused(refused),
+    };
+    Some(reply)
+}
+
+fn entry(asked: &Asked<'_>) -> Option<Entry> {
+    let (worker, ask, said) = *asked;
+    Some(Entry {
+        worker: Worker::new(worker)?,
+        request: request(ask)?,
+        reply: reply(said)?,
+    })
+}
+
+/// The history as a journal.
+fn journal_of(rt: &impl AllocGlobal, asked: &[Asked<'_>]) -> Result<Journal, Fail> {
+    let mut journal = Journal::new(rt.alloc(), 2048)?;
+    for it in asked {
+        let entry = entry(it).ok_or("there is such a request")?;
+        if journal.is_full() {
+            return Err(Fail::from("the history is short"));
+        }
+        journal.append(entry);
+    }
+    Ok(journal)
+}
+
+fn noted_as(state: State) -> Noted {
+    match state {
+        State::Tail => Noted::Tail,
+        State::Free(order) => Noted::Free(order.number()),
+        State::Out(order, kind, worker) => Noted::Out(order.number(), kind, worker.number()),
+        State::Posted(order, kind, worker) => Noted::Posted(order.number(), kind, worker.number()),
+    }
+}
+
+/// What a zone tells of a page, where the page is its own.
+fn told_of(zone: &Zone, page: u32) -> Option<Told> {
+    let entry = zone.entry(PageNo::new(page))?;
+    let back = entry.back.map(PageNo::number);
+    let forward = entry.forward.map(PageNo::number);
+    Some((page, noted_as(entry.state), back, forward))
+}
+
+/// Compares what a zone tells with what it has to tell.
+fn compare(rt: &impl Abort, zone: &Zone, history: &History<'_>) {
+    assert_eq!(rt; zone.name(), history.config.name);
+    assert_eq!(rt; zone.pages(), history.config.pages);
+    assert_eq!(rt; zone.counts().free, history.free);
+    assert_eq!(rt; zone.posted_pages(), history.posted);
+    for page in history.pages {
+        assert!(rt; told_of(zone, page.0) == Some(*page), "page {}", page.0);
+    }
+}
+
+/// A new zone answers all of the history as it says, and tells then what it says.
+pub(super) fn expect(rt: &(impl Abort + AllocGlobal), history: &History<'_>) -> Result<(), Fail> {
+    let journal = journal_of(rt, history.asked)?;
+    match replay_journal(rt.alloc(), history.config, 2, &journal)? {
+        JournalCheck::Legal(zone) => compare(rt, &zone, history),
+        JournalCheck::Differs(number) => assert!(rt; false, "entry {number} differs"),
+    }
+    Ok(())
+}
