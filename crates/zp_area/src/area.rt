@@ -283,6 +283,3 @@ impl FreeArea {
         self.lists.front(FREE_LISTS + list)
     }
 }
-
-#[cfg(test)]
-mod tests;

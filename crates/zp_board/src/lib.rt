@@ -8,6 +8,3 @@ mod row;
 
 pub use board::{Board, BoardReader, Publisher};
 pub use row::View;
-
-#[cfg(test)]
-mod tests;

@@ -234,6 +234,3 @@ impl Buddy {
         }
     }
 }
-
-#[cfg(test)]
-mod tests;

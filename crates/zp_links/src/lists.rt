@@ -238,6 +238,3 @@ impl Lists {
         self.ends.len()
     }
 }
-
-#[cfg(test)]
-mod tests;

@@ -91,30 +91,3 @@ impl PageTable {
         self.entries[at.index()].forward = forward;
     }
 }
-
-#[cfg(test)]
-mod tests {
-    use super::*;
-    use std::test::Fail;
-    use zp_model::Order;
-
-    #[test]
-    fn each_set_changes_its_fields_alone(rt: HostRuntime) -> Result<(), Fail> {
-        let mut table = PageTable::new(rt.alloc(), 4)?;
-        assert_eq!(rt; table.len(), 4);
-        let page = PageAt::at(2);
-        table.set_state(page, State::Free(Order::zero()));
-        table.set_links(page, Link::to(PageAt::at(0)), Link::to(PageAt::at(1)));
-        table.set_back(page, Link::none());
-        table.set_forward(page, Link::to(PageAt::at(3)));
-        let entry = table.entry(page);
-        assert_eq!(rt; entry.state, State::Free(Order::zero()));
-        assert_eq!(rt; entry.back.page(), None);
-        assert_eq!(rt; entry.forward.page(), Some(PageAt::at(3)));
-        let next = table.entry(PageAt::at(3));
-        assert_eq!(rt; next.state, State::Tail);
-        assert_eq!(rt; next.back.page(), None);
-        assert_eq!(rt; next.forward.page(), None);
-        Ok(())
-    }
-}

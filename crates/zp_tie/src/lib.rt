@@ -9,6 +9,3 @@ mod row;
 
 pub use keeper::{Keeper, Token};
 pub use row::{Act, Change, Parted, View};
-
-#[cfg(test)]
-mod tests;
