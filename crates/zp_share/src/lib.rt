@@ -20,6 +20,3 @@ pub use plain_zones::PlainZones;
 pub use share::Share;
 pub use zone_share::ZoneShare;
 pub use zones::Zones;
-
-#[cfg(test)]
-mod tests;

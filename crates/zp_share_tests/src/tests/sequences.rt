@@ -1,0 +1,154 @@
+//! What a worker does with a zone and with its own lists, step by step, and what it is answered. Sequences are data: one function
+//! carries them all out.
+ghost use Rattle.std.specs.Prelude.{◌≡◌, length, map};
+ghost use Rattle.zp_share.specs.Shares.{IsShareOf, key_of};
+
+use std::alloc::{AllocGlobal, Global};
+use std::process::Abort;
+use std::test::*;
+use zp_model::{Mark, MigrateType, Order, PageNo, Refused};
+use zp_share::{ListConfig, PlainZones, Share, Zones, alloc, drain_all, free};
+use zp_zone::{Zone, ZoneConfig};
+
+/// A step, in numbers.
+#[derive(Clone, Copy, Drop)]
+pub(super) enum Step {
+    Alloc(u8, MigrateType, Mark),
+    Low(u8),
+    Free(u32, u8),
+    /// Puts a page on its list by hand.
+    Put(u32),
+    /// Takes a page from its list by hand.
+    Take(MigrateType),
+    DrainAll,
+    Look,
+}
+
+/// What is answered, in numbers.
+#[derive(Clone, Copy, PartialEq, Eq, Debug, Drop)]
+pub(super) enum Said {
+    Page(u32),
+    Done,
+    Empty,
+    Drained(usize),
+    Refused(Refused),
+    /// The free pages of the zone, those on the lists for Unmovable, Reclaimable and Movable, and the sections made.
+    Left(u32, [usize; 3], u64),
+}
+
+/// A step and its answer.
+pub(super) type Told = (Step, Said);
+
+/// A row of one zone, and the share of its one worker.
+#[derive(Drop)]
+struct Hand {
+    zones: PlainZones,
+    share: Share,
+    ghost fits: { IsShareOf (map key_of zones) share },
+    ghost one: { length share.zones ≡ 1 },
+}
+
+/// The zone `DMA` from page 0 on, and lists of these settings.
+fn hand_with(alloc: Global, pages: u32, min: u32, lists: ListConfig) -> Result<Hand, Refused> {
+    let config = ZoneConfig {
+        name: "DMA",
+        base: 0,
+        pages,
+        min,
+    };
+    let (zone, seats) = Zone::new(alloc, config, 1)?;
+    let Ok(mut zones) = Vec::with_capacity(alloc, 1) else {
+        return Err(Refused::Memory);
+    };
+    zones.push_reserved(zone);
+    let share = Share::new(alloc, seats, lists)?;
+    Ok(Hand {
+        zones: PlainZones::new(zones),
+        share,
+    })
+}
+
+fn allocated(hand: &mut Hand, order: Order, kind: MigrateType, mark: Mark) -> Said {
+    match alloc(&mut hand.share, &mut hand.zones, order, kind, 0, mark) {
+        Ok(lent) => Said::Page(lent.page.number()),
+        Err(refused) => Said::Refused(refused),
+    }
+}
+
+fn lowest(hand: &mut Hand, order: Order) -> Said {
+    match hand.zones.alloc_low(&mut hand.share, 0, order) {
+        Ok(block) => Said::Page(block.page.number()),
+        Err(refused) => Said::Refused(refused),
+    }
+}
+
+fn freed(hand: &mut Hand, page: PageNo, order: Order) -> Said {
+    match free(&mut hand.share, &mut hand.zones, 0, page, order) {
+        Ok(()) => Said::Done,
+        Err(refused) => Said::Refused(refused),
+    }
+}
+
+fn put(hand: &mut Hand, page: PageNo) -> Said {
+    match hand.share.put_cached(0, page) {
+        Ok(()) => Said::Done,
+        Err(refused) => Said::Refused(refused),
+    }
+}
+
+fn taken(hand: &mut Hand, kind: MigrateType) -> Said {
+    match hand.share.take_cached(0, kind) {
+        Some(page) => Said::Page(page.number()),
+        None => Said::Empty,
+    }
+}
+
+fn drained(hand: &mut Hand) -> Said {
+    match drain_all(&mut hand.share, &mut hand.zones) {
+        Ok(pages) => Said::Drained(pages),
+        Err(refused) => Said::Refused(refused),
+    }
+}
+
+fn left(hand: &Hand) -> Said {
+    let share = &hand.share;
+    let cached = [
+        share.cached_len(0, MigrateType::Unmovable),
+        share.cached_len(0, MigrateType::Reclaimable),
+        share.cached_len(0, MigrateType::Movable),
+    ];
+    match hand.zones.as_slice().first() {
+        Some(zone) => Said::Left(zone.counts().free, cached, share.sections(0)),
+        None => Said::Empty,
+    }
+}
+
+/// The answer to a step, where there is such an order.
+fn carry_out(hand: &mut Hand, step: Step) -> Option<Said> {
+    let said = match step {
+        Step::Alloc(order, kind, mark) => allocated(hand, Order::new(order)?, kind, mark),
+        Step::Low(order) => lowest(hand, Order::new(order)?),
+        Step::Free(page, order) => freed(hand, PageNo::new(page), Order::new(order)?),
+        Step::Put(page) => put(hand, PageNo::new(page)),
+        Step::Take(kind) => taken(hand, kind),
+        Step::DrainAll => drained(hand),
+        Step::Look => left(hand),
+    };
+    Some(said)
+}
+
+/// A new zone of so many pages and its worker's lists answer each step so.
+pub(super) fn expect(
+    rt: &(impl Abort + AllocGlobal),
+    (pages, min): (u32, u32),
+    (batch, high_len): (u8, u8),
+    steps: &[Told],
+) -> Result<(), Fail> {
+    let lists = ListConfig::new(batch, high_len).ok_or("there are such lists")?;
+    let mut hand = hand_with(rt.alloc(), pages, min, lists)?;
+    for (number, (step, said)) in steps.iter().enumerate() {
+        let answer = carry_out(&mut hand, *step);
+        assert!(rt; answer == Some(*said), "step {number}");
+    }
+    Ok(())
+}
