@@ -11,6 +11,3 @@ pub use crew::Crew;
 pub use desks::opened_desks;
 pub use office::Office;
 pub use opening::opened;
-
-#[cfg(test)]
-mod tests;

@@ -4,6 +4,3 @@
 mod flags;
 
 pub use flags::{FlagFault, Flags, read_flags};
-
-#[cfg(test)]
-mod tests;

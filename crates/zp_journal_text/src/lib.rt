@@ -7,6 +7,3 @@ mod verdict;
 
 pub use journal::write_journal;
 pub use verdict::{Verdict, write_verdict};
-
-#[cfg(test)]
-mod tests;

@@ -3,7 +3,6 @@ pub mod Beginnings
 pub mod Outputs
 pub mod ShortLines
 pub mod Limits
-pub mod Schedules
 pub mod Infos
 pub mod Replying
 pub mod Endings

@@ -1,7 +1,6 @@
 pub mod Inputs
 pub mod Replies
 pub mod Output
-pub mod Devices
 pub mod Faults
 pub mod Exits
 pub mod Replaying

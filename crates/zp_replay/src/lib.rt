@@ -12,7 +12,6 @@ mod failures;
 mod input;
 mod journals;
 mod lines;
-pub mod memory;
 mod report;
 mod serial;
 mod threads;
@@ -26,6 +25,3 @@ pub use serial::replay_serial;
 pub use threads::replay_threads;
 pub use zp_flags::{FlagFault, Flags, read_flags};
 pub use zp_trace::{Trace, TraceFault, parse_trace};
-
-#[cfg(test)]
-mod tests;

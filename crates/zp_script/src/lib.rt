@@ -5,6 +5,3 @@ mod places;
 mod script;
 
 pub use script::script_of;
-
-#[cfg(test)]
-mod tests;

@@ -23,6 +23,3 @@ pub use grammar_law::{
 pub use line::{Call, Command, ZoneLine};
 pub use parser::parse_trace;
 pub use trace::{Commands, Header, Trace, TraceFault, ZoneLines};
-
-#[cfg(test)]
-mod tests;

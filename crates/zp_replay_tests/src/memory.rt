@@ -2,12 +2,12 @@
 ghost use Rattle.std.specs.Prelude.{◌≡◌, ◌<◌, ◌+◌, ◌==◌, ℕ, [], Some, None, true, false, length, is_err, IfOk, OnOk, OnErr};
 ghost use Rattle.std.specs.Io.KnownBytes.{Keeps};
 ghost use Rattle.zp_zone.specs.Streams.{Fills, Takes};
-ghost use Rattle.zp_replay.specs.Devices.{is_due, after_call, after_calls, Gives, Stores, failed_reader, failed_writer};
+ghost use Rattle.zp_replay_tests.specs.Devices.{is_due, after_call, after_calls, Gives, Stores, failed_reader, failed_writer};
 
-use crate::failures::Failures;
 use std::alloc::Global;
 use std::marker::Model;
 use std::sync::ledger::Ledger;
+use zp_replay::Failures;
 use zp_zone::{ReadFault, Reader, WriteFault, Writer};
 
 /// When a device in memory fails: at one call, counted from 0, or never.
@@ -71,7 +71,7 @@ pub struct SliceReader<'a, L: Ledger> {
 
 impl<'a, L: Ledger> Model for SliceReader<'a, L> {
     ghost use Rattle.std.specs.Prelude.{◌<◌};
-    ghost use Rattle.zp_replay.specs.Devices.{MemoryReader};
+    ghost use Rattle.zp_replay_tests.specs.Devices.{MemoryReader};
 
     ghost Value = { MemoryReader };
 
@@ -145,7 +145,7 @@ pub struct VecWriter<L: Ledger> {
 
 impl<L: Ledger> Model for VecWriter<L> {
     ghost use Rattle.std.specs.Prelude.{◌<◌};
-    ghost use Rattle.zp_replay.specs.Devices.{MemoryWriter};
+    ghost use Rattle.zp_replay_tests.specs.Devices.{MemoryWriter};
 
     ghost Value = { MemoryWriter };
 

@@ -1,7 +1,7 @@
 -- A schedule is due at the call that it names, and at no other.
 use Rattle.std.proofs.Common.{ℕ, zero, suc, ◌≡◌, ◌==◌, ◌-◌, false, None, Some, refl, arith, ◌∙◌}
 use Rattle.std.proofs.lemmas.Bool.Decides.{nat_tests}
-use Rattle.zp_replay.specs.Devices.{is_due, after_calls}
+use Rattle.zp_replay_tests.specs.Devices.{is_due, after_calls}
 
 pub never_due : (k : ℕ) → is_due (after_calls k None) ≡ false
 never_due zero = refl

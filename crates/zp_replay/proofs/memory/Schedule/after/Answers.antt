@@ -1,5 +1,0 @@
-use Rattle.zp_replay.proofs.Schedules.{due_at}
-use Rattle.zp_replay.proofs.memory.Schedule.after.Goals as goal
-
-pub returns-clause-due : goal.returns-clause-due
-returns-clause-due c k = due_at k c.args.calls

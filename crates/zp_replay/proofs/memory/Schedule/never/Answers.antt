@@ -1,5 +1,0 @@
-use Rattle.zp_replay.proofs.Schedules.{never_due}
-use Rattle.zp_replay.proofs.memory.Schedule.never.Goals as goal
-
-pub returns-clause-due : goal.returns-clause-due
-returns-clause-due c k = never_due k

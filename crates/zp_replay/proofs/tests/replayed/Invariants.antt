@@ -1,7 +1,0 @@
-use Rattle.zp_replay.proofs.tests.replayed.Given as goal
-
-abbrev pub ghosts-replayed_on-K-Ledger : goal.ghosts-replayed_on-K-Ledger
-ghosts-replayed_on-K-Ledger a = record { name = a.reads.name; parts = a.reads.parts }
-
-abbrev pub ghosts-replayed_on-L-Ledger : goal.ghosts-replayed_on-L-Ledger
-ghosts-replayed_on-L-Ledger a = record { name = a.writes.name; parts = a.writes.parts }

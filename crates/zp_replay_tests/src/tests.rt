@@ -1,0 +1,232 @@
+//! Small traces in threads, with devices that give and take small pieces or fail, and with gates.
+ghost use Rattle.std.specs.Prelude.{◌≡◌, ◌<◌};
+
+use super::memory::{Schedule, SliceReader, VecWriter};
+use crossbeam_utils::atomic::AtomicCell;
+use std::marker::Brand;
+use std::process::Abort;
+use std::sync::Wait;
+use std::sync::ledger::{Blank, Ledger};
+use std::test::*;
+use std::thread;
+use std::thread::Threads;
+use std::time::{Clock, Duration};
+use zp_desk::{Gate, OpenGate};
+use zp_model::Worker;
+use zp_replay::{Ending, Failures, ReplayFault, replay_threads};
+use zp_zone::{Reader, Writer};
+
+/// How the devices of a replay behave.
+#[derive(Clone, Copy, Drop)]
+struct Devices {
+    /// The most bytes of a piece.
+    piece: usize,
+    reads: Schedule,
+    writes: Schedule,
+    ghost some: { 0 < piece },
+}
+
+/// What came of a replay.
+#[derive(Drop)]
+struct Outcome {
+    ending: Result<Ending, ReplayFault>,
+    written: Vec<u8>,
+}
+
+fn sound(piece: usize) -> Devices
+    requires { 0 < piece }
+{
+    Devices {
+        piece,
+        reads: Schedule::never(),
+        writes: Schedule::never(),
+    }
+}
+
+/// Devices that fail at one call, counted from 0, a byte at a time.
+fn deaf_after(calls: usize) -> Devices {
+    Devices {
+        piece: 1,
+        reads: Schedule::after(calls),
+        writes: Schedule::never(),
+    }
+}
+
+fn mute_after(calls: usize) -> Devices {
+    Devices {
+        piece: 1,
+        reads: Schedule::never(),
+        writes: Schedule::after(calls),
+    }
+}
+
+const TRACE: &str = "zone DMA 0 4096 0\nworkers 1\nlists 0 0\n0 info\n";
+
+const OUTPUT: &str = "\
+Node 0, zone      DMA      0      0      0      0      0      0      0      0      0      0      4 \n\
+total DMA pages 4096 free 4096 posted 0 cached 0 lent 0 level high\n\
+Node 0, zone      DMA      0      0      0      0      0      0      0      0      0      0      4 \n\
+journal DMA 0 legal\n";
+
+fn expect(rt: &impl Abort, outcome: &Outcome, ending: Result<Ending, ReplayFault>, written: &[u8]) {
+    assert!(rt; outcome.ending == ending);
+    assert!(rt; outcome.written.as_slice() == written);
+}
+
+/// The replay, with none of its clauses: what is expected of it is compared when it runs.
+fn ended<T: AllocGlobal + Threads + Wait + Sync, R: Reader, W: Writer, G: Gate + Sync>(
+    rt: &T,
+    reader: &mut R,
+    writer: &mut W,
+    gate: &G,
+) -> Result<Ending, ReplayFault> {
+    replay_threads(rt, rt.alloc(), reader, writer, false, gate)
+}
+
+/// What comes of a replay in threads, with this gate.
+fn replayed<T: AllocGlobal + Threads + Wait + Sync, G: Gate + Sync>(
+    rt: &T,
+    text: &[u8],
+    devices: Devices,
+    gate: &G,
+) -> Outcome {
+    let (reads, writes) = (Blank::new(1), Blank::new(1));
+    replayed_on::<Brand, Brand, T, G>(rt, text, devices, gate, reads, writes)
+}
+
+fn replayed_on<K: Ledger, L: Ledger, T: AllocGlobal + Threads + Wait + Sync, G: Gate + Sync>(
+    rt: &T,
+    text: &[u8],
+    devices: Devices,
+    gate: &G,
+    reads: Blank,
+    writes: Blank,
+) -> Outcome
+    requires read_name { reads.name ≡ K.name }
+    requires read_parts { (reads.parts ≡ K.parts) × (0 < reads.parts) }
+    requires write_name { writes.name ≡ L.name }
+    requires write_parts { (writes.parts ≡ L.parts) × (0 < writes.parts) }
+{
+    let reads = Failures::<K>::new(reads);
+    let writes = Failures::<L>::new(writes);
+    let mut reader = SliceReader::new(text, devices.piece, devices.reads, reads);
+    let mut writer = VecWriter::new(rt.alloc(), devices.piece, devices.writes, writes);
+    let ending = ended(rt, &mut reader, &mut writer, gate);
+    Outcome {
+        ending,
+        written: writer.into_bytes(),
+    }
+}
+
+#[test]
+fn a_bad_line_is_told(rt: HostRuntime) {
+    let text = b"zone DMA 0 4096 0\nworkers 33\n";
+    let outcome = replayed(&rt, text, sound(7), &OpenGate);
+    expect(&rt, &outcome, Ok(Ending::BadLine(2)), b"bad line 2\n");
+}
+
+#[test]
+fn pieces_of_each_size_make_one_text(rt: HostRuntime) {
+    for piece in [1, 7, 1000] {
+        let outcome = replayed(&rt, TRACE.as_bytes(), sound(piece), &OpenGate);
+        expect(&rt, &outcome, Ok(Ending::Good), OUTPUT.as_bytes());
+    }
+}
+
+#[test]
+fn failing_reads_write_nothing(rt: HostRuntime) {
+    for calls in 0..=TRACE.len() {
+        let outcome = replayed(&rt, TRACE.as_bytes(), deaf_after(calls), &OpenGate);
+        expect(&rt, &outcome, Err(ReplayFault::Read), &[]);
+    }
+}
+
+#[test]
+fn failing_writes_leave_a_beginning(rt: HostRuntime) {
+    for calls in 0..OUTPUT.len() {
+        let outcome = replayed(&rt, TRACE.as_bytes(), mute_after(calls), &OpenGate);
+        let begun = &OUTPUT.as_bytes()[..calls];
+        expect(&rt, &outcome, Err(ReplayFault::Write), begun);
+    }
+}
+
+/// The call that would fail comes after the last write.
+#[test]
+fn a_failure_that_is_not_met_changes_nothing(rt: HostRuntime) {
+    let outcome = replayed(&rt, TRACE.as_bytes(), mute_after(OUTPUT.len()), &OpenGate);
+    expect(&rt, &outcome, Ok(Ending::Good), OUTPUT.as_bytes());
+}
+
+/// A replay writes all, or says what it has not got and writes nothing; the writer may have no room for what is written: tried
+/// with each allocation failing in turn (`rt try --test --fail-alloc N`).
+#[test]
+fn a_replay_is_whole_or_ends_for_memory(rt: HostRuntime) {
+    let outcome = replayed(&rt, TRACE.as_bytes(), sound(1000), &OpenGate);
+    match outcome.ending {
+        Ok(_) => expect(&rt, &outcome, Ok(Ending::Good), OUTPUT.as_bytes()),
+        Err(ReplayFault::Memory | ReplayFault::NoThread) => assert!(rt; outcome.written.is_empty()),
+        Err(fault) => assert!(rt; fault == ReplayFault::Write),
+    }
+}
+
+/// The first call of the worker `late` begins only when the worker `early` has ended its first call.
+#[derive(Drop)]
+struct InTurn<'a, C> {
+    clock: &'a C,
+    early: u8,
+    late: u8,
+    ended: AtomicCell<u32>,
+    gave_up: AtomicCell<u32>,
+}
+
+impl<'a, C: Clock> Gate for InTurn<'a, C> {
+    fn before(&self, worker: Worker, call: u32) {
+        if worker.number() != self.late || call != 1 {
+            return;
+        }
+        for _ in 0..10_000 {
+            if self.ended.load() == 1 {
+                return;
+            }
+            thread::sleep(self.clock, Duration::from_millis(1));
+        }
+        self.gave_up.store(1);
+    }
+
+    fn after(&self, worker: Worker, _call: u32) {
+        if worker.number() == self.early {
+            self.ended.store(1);
+        }
+    }
+}
+
+/// Two workers with an info each: the one has its answer before the other begins.
+fn expect_in_turn<R: Abort + AllocGlobal + Clock + Sync + Threads + Wait>(
+    rt: &R,
+    early: u8,
+    late: u8,
+) {
+    let gate = InTurn {
+        clock: rt,
+        early,
+        late,
+        ended: AtomicCell::new(0),
+        gave_up: AtomicCell::new(0),
+    };
+    let text = b"zone DMA 0 4096 0\nworkers 2\nlists 0 0\n0 info\n1 info\n";
+    let outcome = replayed(rt, text, sound(1000), &gate);
+    assert_eq!(rt; gate.gave_up.load(), 0);
+    assert!(rt; outcome.ending == Ok(Ending::Good));
+    let infos = "\
+Node 0, zone      DMA      0      0      0      0      0      0      0      0      0      0      4 \n\
+Node 0, zone      DMA      0      0      0      0      0      0      0      0      0      0      4 \n\
+total ";
+    assert!(rt; outcome.written.as_slice().starts_with(infos.as_bytes()));
+}
+
+/// Neither worker waits for the other to end all its commands, whichever is first.
+#[test]
+fn workers_work_at_the_same_time(rt: HostRuntime) {
+    expect_in_turn(&rt, 0, 1);
+    expect_in_turn(&rt, 1, 0);
+}
