@@ -19,6 +19,3 @@ pub use low_block::take_below;
 pub use page_pool::PagePool;
 pub use shared_row::{SharedRun, share_a_zone};
 pub use two_pages::take_two;
-
-#[cfg(test)]
-mod tests;

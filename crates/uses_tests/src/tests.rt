@@ -2,9 +2,11 @@
 ghost use Rattle.std.specs.Prelude.{ℕ, None};
 ghost use Rattle.zp_zone.specs.Seats.{IsSeatOf};
 
-use super::*;
 use arrayvec::ArrayVec;
 use std::test::*;
+use uses::{
+    PagePool, give_run, one_page, relay, share_a_zone, show, take_below, take_huge_page, take_two,
+};
 use zp_model::{Level, Order, PageNo};
 use zp_zone::{WriteFault, Writer, Zone, ZoneConfig};
 
