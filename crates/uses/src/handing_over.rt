@@ -1,4 +1,5 @@
 //! A block that one worker takes and another gives back.
+ghost use Rattle.std.specs.Prelude.{IfSome};
 ghost use Rattle.zp_zone.specs.Seats.{IsSeatOf};
 
 use std::alloc::Global;
@@ -30,14 +31,20 @@ pub fn receive(zone: &mut Zone, receiver: &mut Seat) -> Option<Block>
     Some(block)
 }
 
+/// A zone with two workers, and their seats: the giver's and the receiver's.
+fn zone_of_two(alloc: Global, config: ZoneConfig<'_>) -> Option<(Zone, Seat, Seat)>
+    ensures { IfSome result (λ z. IsSeatOf z.0 z.1 × IsSeatOf z.0 z.2) }
+{
+    let (zone, mut seats) = Zone::new(alloc, config, 2).ok()?;
+    match (seats.pop(), seats.pop()) {
+        (Some(receiver), Some(giver)) => Some((zone, giver, receiver)),
+        _ => None,
+    }
+}
+
 /// A zone with two workers, where a block goes from the one to the other, who gives it back: how many pages are free then.
 pub fn relay(alloc: Global, config: ZoneConfig<'_>, order: Order) -> Option<u32> {
-    let Ok((mut zone, mut seats)) = Zone::new(alloc, config, 2) else {
-        return None;
-    };
-    let (Some(mut receiver), Some(mut giver)) = (seats.pop(), seats.pop()) else {
-        return None;
-    };
+    let (mut zone, mut giver, mut receiver) = zone_of_two(alloc, config)?;
     let sent = send(&mut zone, &mut giver, &mut receiver, order)?;
     let received = receive(&mut zone, &mut receiver)?;
     if received.page != sent {

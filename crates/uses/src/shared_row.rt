@@ -1,5 +1,5 @@
 //! Two workers, each in a thread of its own, over a zone that they share; and the zone's journal, replayed.
-ghost use Rattle.std.specs.Prelude.{◌∷◌, [], IfOk};
+ghost use Rattle.std.specs.Prelude.{◌≡◌, ◌∷◌, [], All, IfOk, IfSome};
 ghost use Rattle.zp_desk.specs.Desks.{IsReady};
 ghost use Rattle.zp_share.specs.Shares.{key_of};
 ghost use Rattle.zp_zone.specs.Seats.{IsSeatOf, IsUnused};
@@ -8,7 +8,7 @@ use std::alloc::Global;
 use std::sync::Wait;
 use std::thread::Threads;
 use zp_desk::{Command, Desk, OpenGate};
-use zp_journal::{JournalCheck, replay_journal};
+use zp_journal::{Journal, JournalCheck, replay_journal};
 use zp_model::{Mark, MigrateType, Order, Refused};
 use zp_share::{ListConfig, Share};
 use zp_shared::run_zones;
@@ -54,13 +54,12 @@ fn desk(alloc: Global, zone: &Zone, seat: Seat) -> Result<Desk, Refused>
     Desk::new(alloc, share, script)
 }
 
-/// Two workers take a page each and give it back, at the same time; then the zone's journal is replayed. None where there is no
-/// memory or no thread.
-pub fn share_a_zone<R: Threads + Wait + Sync>(
-    rt: &R,
-    alloc: Global,
-    config: ZoneConfig<'_>,
-) -> Option<SharedRun> {
+/// A zone, and the desks of its two workers. None where there is no memory.
+fn opened(alloc: Global, config: ZoneConfig<'_>) -> Option<(Zone, Desk, Desk)>
+    ensures new { IfSome result (λ o. o.0.entries ≡ []) }
+    ensures first { IfSome result (λ o. IsReady (key_of o.0 ∷ []) o.1) }
+    ensures second { IfSome result (λ o. IsReady (key_of o.0 ∷ []) o.2) }
+{
     let Ok((zone, mut seats)) = Zone::new(alloc, config, 2) else {
         return None;
     };
@@ -70,11 +69,35 @@ pub fn share_a_zone<R: Threads + Wait + Sync>(
     let (Ok(first), Ok(second)) = (desk(alloc, &zone, first), desk(alloc, &zone, second)) else {
         return None;
     };
-    let mut desks = [first, second];
+    Some((zone, first, second))
+}
+
+/// The workers carry out their scripts: the zone after that, and its journal. None where there is no memory or no thread.
+fn run<R: Threads + Wait + Sync>(
+    rt: &R,
+    alloc: Global,
+    zone: Zone,
+    desks: &mut [Desk],
+) -> Option<(Zone, Journal)>
+    requires new { zone.entries ≡ [] }
+    requires ready { All (IsReady (key_of zone ∷ [])) desks.old }
+{
     let mut row = Vec::with_capacity(alloc, 1).ok()?;
     row.push_reserved(zone);
-    let (mut zones, mut journals) = run_zones(rt, alloc, row, ENTRIES, &mut desks, &OpenGate).ok()?;
-    let (zone, journal) = (zones.pop()?, journals.pop()?);
+    let (mut zones, mut journals) = run_zones(rt, alloc, row, ENTRIES, desks, &OpenGate).ok()?;
+    Some((zones.pop()?, journals.pop()?))
+}
+
+/// Two workers take a page each and give it back, at the same time; then the zone's journal is replayed. None where there is no
+/// memory or no thread.
+pub fn share_a_zone<R: Threads + Wait + Sync>(
+    rt: &R,
+    alloc: Global,
+    config: ZoneConfig<'_>,
+) -> Option<SharedRun> {
+    let (zone, first, second) = opened(alloc, config)?;
+    let mut desks = [first, second];
+    let (zone, journal) = run(rt, alloc, zone, &mut desks)?;
     let check = replay_journal(alloc, config, 2, &journal).ok()?;
     Some(SharedRun {
         free_pages: zone.counts().free,

@@ -1,12 +1,15 @@
 -- What a replay has read and written: the parts that its records are of.
-use Rattle.std.proofs.Common.{ℕ, ◌≡◌, List, Option, take, arith}
+use Rattle.std.proofs.Common.{ℕ, ◌≡◌, ◌∙◌, Bool, List, Option, take, inl, arith, subst}
 use Rattle.std.proofs.lemmas.List.{length-take}
 use Rattle.zp_trace.specs.declared.trace.Trace.{Trace}
 use Rattle.zp_trace.specs.Grammar.{IsTraceText, IsBadLine}
 use Rattle.zp_zone.specs.Streams.{IsWritten, IsBegun}
 use Rattle.zp_replay.specs.Inputs.{IsRead}
-use Rattle.zp_replay.specs.Output.{bad_line}
-use Rattle.zp_replay.specs.Replaying.{IsBadLineCut, IsRefusedAt, IsTraceRead, IsUnanswered}
+use Rattle.zp_replay.specs.Output.{bad_line, output}
+use Rattle.zp_replay.specs.declared.traces.Input.{Input}
+use Rattle.zp_replay.specs.declared.traces.Input.TheVariants as Input
+use Rattle.zp_replay.specs.Replaying.{IsBadLineCut, IsInputOf, IsParsed, IsRefusedAt, IsTraceRead, IsUnanswered}
+use Rattle.zp_replay.specs.Serving.{IsCutShort, IsReplayed, IsReportCut, IsReported, IsTraceReported, IsTraceReportBegun}
 use Rattle.zp_replay.specs.declared.input.TheConstants.{INPUT_LIMIT}
 use Rattle.zp_replay.proofs.Limits.{good-input, bad-input}
 
@@ -23,7 +26,35 @@ bad-cut had left x y text n read is begun =
     let whole = bad-input had left text n read is in
     record { text = whole.text; input = whole.input; number = n; grammar = whole.grammar; begun = begun }
 
--- a trace that was read, and nothing written
-pub silent-trace : (had left x y : Option (List ℕ)) (t : Trace) → IsTraceRead had left t → y ≡ x → IsUnanswered had left x y
-silent-trace had left x y t read same =
+-- what was read and written where a trace was read, and then so much was written of it
+pub replayed : (had left x y z : Option (List ℕ)) (i : Input) (t : Trace) → i ≡ Input.Trace t → IsInputOf had left x y i → IsWritten y z (output t) → IsReplayed had left x z
+replayed had left x y z i t e is written =
+    let read : IsTraceRead had left t × IsParsed t × (y ≡ x) = subst (λ j. IsInputOf had left x y j) e is in
+    record { trace = t; read = read.0; written = subst (λ w. IsWritten w z (output t)) read.2 written }
+
+pub output_cut : (had left x y z : Option (List ℕ)) (i : Input) (t : Trace) → i ≡ Input.Trace t → IsInputOf had left x y i → IsBegun y z (output t) → IsCutShort had left x z
+output_cut had left x y z i t e is begun =
+    let read : IsTraceRead had left t × IsParsed t × (y ≡ x) = subst (λ j. IsInputOf had left x y j) e is in
+    inl (t, read.0, subst (λ w. IsBegun w z (output t)) read.2 begun)
+
+pub reported : (entries : Bool) (had left x y z : Option (List ℕ)) (i : Input) (t : Trace) → i ≡ Input.Trace t → IsInputOf had left x y i → IsTraceReported entries t y z →
+    IsReported entries had left x z
+reported entries had left x y z i t e is all =
+    let read : IsTraceRead had left t × IsParsed t × (y ≡ x) = subst (λ j. IsInputOf had left x y j) e is in
+    record { trace = t; read = read.0; report = subst (λ w. IsTraceReported entries t w z) read.2 all }
+
+pub report_cut : (entries : Bool) (had left x y z : Option (List ℕ)) (i : Input) (t : Trace) → i ≡ Input.Trace t → IsInputOf had left x y i → IsTraceReportBegun entries t y z →
+    IsReportCut entries had left x z
+report_cut entries had left x y z i t e is begun =
+    let read : IsTraceRead had left t × IsParsed t × (y ≡ x) = subst (λ j. IsInputOf had left x y j) e is in
+    inl (t, read.0, subst (λ w. IsTraceReportBegun entries t w z) read.2 begun)
+
+-- and where nothing was written of it
+silent : (had left x y : Option (List ℕ)) (t : Trace) → IsTraceRead had left t → y ≡ x → IsUnanswered had left x y
+silent had left x y t read same =
     record { read = record { text = take INPUT_LIMIT read.text; within = omega (arith, length-take INPUT_LIMIT read.text); front = read.input.read }; silent = same }
+
+pub unanswered : (had left x y z : Option (List ℕ)) (i : Input) (t : Trace) → i ≡ Input.Trace t → IsInputOf had left x y i → z ≡ y → IsUnanswered had left x z
+unanswered had left x y z i t e is same =
+    let read : IsTraceRead had left t × IsParsed t × (y ≡ x) = subst (λ j. IsInputOf had left x y j) e is in
+    silent had left x z t read.0 (same ∙ read.2)

@@ -1,6 +1,7 @@
 -- What has become of the office of a trace when its commands were carried out, in order or by all workers at the same time.
 use Rattle.std.specs.Prelude.{ℕ, ◌≡◌, ◌<◌, ◌⊎◌, ◌++◌, Bool, List, [], length, map, Option}
 use Rattle.std.specs.List.{AllZip}
+use Rattle.zp_trace.specs.declared.line.Command.{Command}
 use Rattle.zp_trace.specs.declared.trace.Trace.{Trace}
 use Rattle.zp_zone.specs.Streams.{IsWritten, IsBegun}
 use Rattle.zp_model.specs.Run.{IsHistory}
@@ -59,27 +60,34 @@ pub record IsJudgedOffice (t : Trace) (o : OfficeState) (js : List JudgedJournal
   pub judged : AllZip (IsJudged t.header.workers) t.header.zones js
 
 -- what is written of it: the report, what was found of the journals, and their entries, where they are asked for
-abbrev pub journaled_report : Bool → Trace → OfficeState → List JudgedJournal → List ℕ
-journaled_report entries t o js = report o (workers_in t.commands) ++ ending entries js
+abbrev pub journaled_report : Bool → List Command → OfficeState → List JudgedJournal → List ℕ
+journaled_report entries cs o js = report o (workers_in cs) ++ ending entries js
 
--- the input was the text of a trace, all its workers carried out their commands, and what is written of zones, desks and journals was
--- written
+-- all workers of the trace carried out their commands, and what is written of zones, desks and journals was written
+pub record IsTraceReported (entries : Bool) (t : Trace) (old new : Option (List ℕ)) : Type 0 where
+  pub office : OfficeState
+  pub journals : List JudgedJournal
+  pub served : IsJudgedOffice t office journals
+  pub sums : AddUp office
+  pub written : IsWritten old new (journaled_report entries t.commands office journals)
+
+-- of what is written of such zones, desks and journals, a beginning was
+pub record IsTraceReportBegun (entries : Bool) (t : Trace) (old new : Option (List ℕ)) : Type 0 where
+  pub office : OfficeState
+  pub journals : List JudgedJournal
+  pub served : IsJudgedOffice t office journals
+  pub begun : IsBegun old new (journaled_report entries t.commands office journals)
+
+-- the input was the text of a trace, and its report was written
 pub record IsReported (entries : Bool) (had left old new : Option (List ℕ)) : Type 0 where
   pub trace : Trace
   pub read : IsTraceRead had left trace
-  pub office : OfficeState
-  pub journals : List JudgedJournal
-  pub served : IsJudgedOffice trace office journals
-  pub sums : AddUp office
-  pub written : IsWritten old new (journaled_report entries trace office journals)
+  pub report : IsTraceReported entries trace old new
 
 -- of what was to be written a beginning was: of the trace's output, or of the number of the bad line
 abbrev pub IsCutShort : Option (List ℕ) → Option (List ℕ) → Option (List ℕ) → Option (List ℕ) → Type 0
 IsCutShort had left old new = ((t : Trace) × IsTraceRead had left t × IsBegun old new (output t)) ⊎ IsBadLineCut had left old new
 
--- and in threads: of what is written of an office of the trace, or of the number of the bad line
+-- and in threads: of the trace's report, or of the number of the bad line
 abbrev pub IsReportCut : Bool → Option (List ℕ) → Option (List ℕ) → Option (List ℕ) → Option (List ℕ) → Type 0
-IsReportCut entries had left old new =
-    ((t : Trace) × (o : OfficeState) × (js : List JudgedJournal)
-    × IsTraceRead had left t × IsJudgedOffice t o js × IsBegun old new (journaled_report entries t o js))
-    ⊎ IsBadLineCut had left old new
+IsReportCut entries had left old new = ((t : Trace) × IsTraceRead had left t × IsTraceReportBegun entries t old new) ⊎ IsBadLineCut had left old new

@@ -1,5 +1,7 @@
 //! The serial replay: one thread, the commands in the trace's order.
-ghost use Rattle.std.specs.Prelude.{◌≡◌, ◌≢◌, ◌<◌, ℕ, Ok, Err, IfOk, IfErr, length};
+ghost use Rattle.std.specs.Prelude.{◌≡◌, ◌≢◌, ◌<◌, ℕ, Ok, Err, IfOk, IfErr, OnOk, length};
+ghost use Rattle.zp_zone.specs.Streams.{IsBegun, IsWritten};
+ghost use Rattle.zp_replay.specs.Output.{output};
 ghost use Rattle.zp_replay.specs.Replaying.{IsParsed, IsRefusedAt, IsUnanswered};
 ghost use Rattle.zp_replay.specs.Serving.{IsCutShort, IsReplayed, IsServedInOrder};
 
@@ -28,6 +30,22 @@ fn serve_in_order(alloc: Global, trace: &Trace) -> Result<Office, ReplayFault>
     Ok(office)
 }
 
+/// Carries out the commands of a trace and writes its output. Memory or Write.
+fn write_output<W: Writer>(alloc: Global, trace: &Trace, writer: &mut W) -> Result<(), ReplayFault>
+    requires { IsParsed trace.now }
+    ensures ok { OnOk result (IsWritten (W.contents writer.old) (W.contents writer.new) (output trace.now)) }
+    ensures begun { result ≡ Err ReplayFault.Write → IsBegun (W.contents writer.old) (W.contents writer.new) (output trace.now) }
+    ensures unmade { result ≡ Err ReplayFault.Memory → W.contents writer.new ≡ W.contents writer.old }
+    ensures only { (result ≡ Err ReplayFault.Read → ⊥) × (result ≡ Err ReplayFault.NoThread → ⊥) }
+    ensures write { result ≡ Err ReplayFault.Write → W.failures writer.old < W.failures writer.new }
+    ensures write_only { result ≢ Err ReplayFault.Write → W.failures writer.new ≡ W.failures writer.old }
+{
+    let room = Vec::with_capacity(alloc, trace.header.workers as usize)?;
+    let office = serve_in_order(alloc, trace)?;
+    write_report(writer, office, trace.commands.as_slice(), room)?;
+    Ok(())
+}
+
 /// Reads a trace to its end, or as much as no good trace has, and writes its output; of a bad trace the number of its bad
 /// line.
 pub fn replay_serial<R: Reader, W: Writer>(
@@ -54,8 +72,6 @@ pub fn replay_serial<R: Reader, W: Writer>(
         Input::Trace(trace) => trace,
         Input::BadLine(number) => return Ok(Ending::BadLine(number)),
     };
-    let room = Vec::with_capacity(alloc, trace.header.workers as usize)?;
-    let office = serve_in_order(alloc, &trace)?;
-    write_report(writer, office, trace.commands.as_slice(), room)?;
+    write_output(alloc, &trace, writer)?;
     Ok(Ending::Good)
 }

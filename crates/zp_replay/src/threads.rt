@@ -1,15 +1,17 @@
 //! The replay in threads: one for each worker, all at the same time.
-ghost use Rattle.std.specs.Prelude.{◌≡◌, ◌≢◌, ◌<◌, ◌≤◌, ℕ, [], All, Ok, Err, IfOk};
+ghost use Rattle.std.specs.Prelude.{◌≡◌, ◌≢◌, ◌<◌, ◌≤◌, ℕ, [], length, vec_capacity, All, Ok, Err, IfOk, OnErr, OnOk};
 ghost use Rattle.std.specs.List.{AllZip};
 ghost use Rattle.std.specs.Thread.{IsSync};
 ghost use Rattle.zp_zone.specs.Seats.{ZoneState};
+ghost use Rattle.zp_zone.specs.Streams.{IsBegun, IsWritten};
+ghost use Rattle.zp_trace.specs.declared.line.Command.{Command};
 ghost use Rattle.zp_journal.specs.declared.journal.TheConstants.{LONGEST_JOURNAL};
 ghost use Rattle.zp_crew.specs.Offices.{AreDesksOf};
-ghost use Rattle.zp_replay.specs.Replaying.{IsParsed, IsRefusedAt, IsUnanswered};
-ghost use Rattle.zp_replay.specs.Serving.{IsHistoryOf, IsOfficeServed, IsReportCut, IsReported, IsServed, IsUnworked};
+ghost use Rattle.zp_replay.specs.Replaying.{AddUp, IsParsed, IsRefusedAt, IsUnanswered};
+ghost use Rattle.zp_replay.specs.Serving.{IsHistoryOf, IsJudgedOffice, IsOfficeServed, IsReportCut, IsReported, IsServed, IsTraceReported, IsTraceReportBegun, IsUnworked, journaled_report};
 
 use crate::ending::{Ending, ReplayFault};
-use crate::journals::{judge, write_ending};
+use crate::journals::{ZoneJournal, judge, write_ending};
 use crate::report::write_report;
 use crate::traces::{Input, read_trace};
 use std::alloc::Global;
@@ -19,9 +21,10 @@ use zp_crew::{Office, opened_desks};
 use zp_desk::{Desk, Gate};
 use zp_journal::Journal;
 use zp_model::Refused;
+use zp_share::Share;
 use zp_shared::run_zones;
-use zp_trace::Trace;
-use zp_zone::{Reader, Writer, Zone};
+use zp_trace::{Command, Trace};
+use zp_zone::{Reader, WriteFault, Writer, Zone};
 
 /// The room of a zone's journal, in entries a command: with one zone a drain makes a section for each of the worker's three lists, a
 /// free at most two, and any other command one.
@@ -74,6 +77,71 @@ fn serve<T: Threads + Wait + Sync, G: Gate + Sync>(
     }
 }
 
+/// The zones and desks of a trace when all workers have ended, and the zones' journals, replayed. Memory, or NoThread.
+fn serve_and_judge<T: Threads + Wait + Sync, G: Gate + Sync>(
+    rt: &T,
+    alloc: Global,
+    trace: &Trace,
+    gate: &G,
+) -> Result<(Office, Vec<ZoneJournal>), ReplayFault>
+    requires { IsParsed trace.now }
+    ensures judged { IfOk result (λ s. IsJudgedOffice trace.now s.0 s.1.items) }
+    ensures only { (result ≡ Err ReplayFault.Read → ⊥) × (result ≡ Err ReplayFault.Write → ⊥) }
+{
+    let (office, journals) = serve_at_once(rt, alloc, trace, gate)?;
+    let journals = judge(alloc, &trace.header, journals)?;
+    Ok((office, journals))
+}
+
+/// Writes the report, what the replays of the journals found, and all their entries, where they are asked for. The room is for the
+/// shares of all workers.
+fn write_journaled_report<W: Writer>(
+    writer: &mut W,
+    office: Office,
+    commands: &[Command],
+    room: Vec<Share>,
+    journals: &[ZoneJournal],
+    entries: bool,
+) -> Result<(), WriteFault>
+    requires workers { All (λ (c : Command). c.worker < length office.desks) commands.now }
+    requires empty { room.items ≡ [] }
+    requires room { length office.desks ≤ vec_capacity room }
+    ensures ok { OnOk result (IsWritten (W.contents writer.old) (W.contents writer.new) (journaled_report entries commands.now office journals.now)) }
+    ensures calm { OnOk result (W.failures writer.new ≡ W.failures writer.old) }
+    ensures err { OnErr result (IsBegun (W.contents writer.old) (W.contents writer.new) (journaled_report entries commands.now office journals.now)) }
+    ensures failed { OnErr result (W.failures writer.old < W.failures writer.new) }
+    ensures adds_up { OnOk result (AddUp office) }
+{
+    write_report(writer, office, commands, room)?;
+    write_ending(writer, journals, entries)?;
+    Ok(())
+}
+
+/// Has the workers of a trace carry out their commands, and writes what is written of them. Memory, NoThread or Write.
+fn report_trace<T: Threads + Wait + Sync, W: Writer, G: Gate + Sync>(
+    rt: &T,
+    alloc: Global,
+    trace: &Trace,
+    writer: &mut W,
+    entries: bool,
+    gate: &G,
+) -> Result<(), ReplayFault>
+    requires { IsParsed trace.now }
+    ensures ok { OnOk result (IsTraceReported entries trace.now (W.contents writer.old) (W.contents writer.new)) }
+    ensures begun { result ≡ Err ReplayFault.Write → IsTraceReportBegun entries trace.now (W.contents writer.old) (W.contents writer.new) }
+    ensures no_thread { result ≡ Err ReplayFault.NoThread → W.contents writer.new ≡ W.contents writer.old }
+    ensures unmade { result ≡ Err ReplayFault.Memory → W.contents writer.new ≡ W.contents writer.old }
+    ensures unread { result ≡ Err ReplayFault.Read → ⊥ }
+    ensures write { result ≡ Err ReplayFault.Write → W.failures writer.old < W.failures writer.new }
+    ensures write_only { result ≢ Err ReplayFault.Write → W.failures writer.new ≡ W.failures writer.old }
+{
+    let room = Vec::with_capacity(alloc, trace.header.workers as usize)?;
+    let (office, journals) = serve_and_judge(rt, alloc, trace, gate)?;
+    let commands = trace.commands.as_slice();
+    write_journaled_report(writer, office, commands, room, &journals, entries)?;
+    Ok(())
+}
+
 /// Reads a trace to its end, or as much as no good trace has, and has its workers carry out their commands at the same time, each
 /// in a thread of its own, with the gate called round each command. When all have ended, the zones' journals are replayed. Then it
 /// writes the workers' replies, in the trace's order, where the pages are, what the replays of the journals found, and all their
@@ -106,10 +174,6 @@ pub fn replay_threads<T: Threads + Wait + Sync, R: Reader, W: Writer, G: Gate + 
         Input::Trace(trace) => trace,
         Input::BadLine(number) => return Ok(Ending::BadLine(number)),
     };
-    let room = Vec::with_capacity(alloc, trace.header.workers as usize)?;
-    let (office, journals) = serve_at_once(rt, alloc, &trace, gate)?;
-    let journals = judge(alloc, &trace.header, journals)?;
-    write_report(writer, office, trace.commands.as_slice(), room)?;
-    write_ending(writer, &journals, journal)?;
+    report_trace(rt, alloc, &trace, writer, journal, gate)?;
     Ok(Ending::Good)
 }
