@@ -42,13 +42,21 @@ fn zone_of_two(alloc: Global, config: ZoneConfig<'_>) -> Option<(Zone, Seat, Sea
     }
 }
 
-/// A zone with two workers, where a block goes from the one to the other, who gives it back: how many pages are free then.
-pub fn relay(alloc: Global, config: ZoneConfig<'_>, order: Order) -> Option<u32> {
-    let (mut zone, mut giver, mut receiver) = zone_of_two(alloc, config)?;
-    let sent = send(&mut zone, &mut giver, &mut receiver, order)?;
-    let received = receive(&mut zone, &mut receiver)?;
+/// A block goes from the giver to the receiver, who gives it back: how many pages are free then.
+fn pass(zone: &mut Zone, giver: &mut Seat, receiver: &mut Seat, order: Order) -> Option<u32>
+    requires giver { IsSeatOf zone.old giver.old }
+    requires receiver { IsSeatOf zone.old receiver.old }
+{
+    let sent = send(zone, giver, receiver, order)?;
+    let received = receive(zone, receiver)?;
     if received.page != sent {
         return None;
     }
     Some(zone.counts().free)
+}
+
+/// A zone with two workers, where a block goes from the one to the other, who gives it back: how many pages are free then.
+pub fn relay(alloc: Global, config: ZoneConfig<'_>, order: Order) -> Option<u32> {
+    let (mut zone, mut giver, mut receiver) = zone_of_two(alloc, config)?;
+    pass(&mut zone, &mut giver, &mut receiver, order)
 }

@@ -88,6 +88,21 @@ fn run<R: Threads + Wait + Sync>(
     Some((zones.pop()?, journals.pop()?))
 }
 
+/// What is told of the zone that the workers shared. None where there is no memory to replay its journal.
+fn outcome(
+    alloc: Global,
+    config: ZoneConfig<'_>,
+    zone: &Zone,
+    journal: &Journal,
+) -> Option<SharedRun> {
+    let check = replay_journal(alloc, config, 2, journal).ok()?;
+    Some(SharedRun {
+        free_pages: zone.counts().free,
+        requests: journal.len(),
+        is_legal: matches!(check, JournalCheck::Legal(_)),
+    })
+}
+
 /// Two workers take a page each and give it back, at the same time; then the zone's journal is replayed. None where there is no
 /// memory or no thread.
 pub fn share_a_zone<R: Threads + Wait + Sync>(
@@ -96,12 +111,6 @@ pub fn share_a_zone<R: Threads + Wait + Sync>(
     config: ZoneConfig<'_>,
 ) -> Option<SharedRun> {
     let (zone, first, second) = opened(alloc, config)?;
-    let mut desks = [first, second];
-    let (zone, journal) = run(rt, alloc, zone, &mut desks)?;
-    let check = replay_journal(alloc, config, 2, &journal).ok()?;
-    Some(SharedRun {
-        free_pages: zone.counts().free,
-        requests: journal.len(),
-        is_legal: matches!(check, JournalCheck::Legal(_)),
-    })
+    let (zone, journal) = run(rt, alloc, zone, &mut [first, second])?;
+    outcome(alloc, config, &zone, &journal)
 }

@@ -28,8 +28,18 @@ fn tenths_a_call(
 ) -> anyhow::Result<u128> {
     let mut bench = Bench::new(alloc, pages)?;
     workload.prepare(&mut bench)?;
+    tenths_of_run(rt, &mut bench, workload, ops)
+}
+
+/// The same in a zone that is prepared.
+fn tenths_of_run(
+    rt: &impl Clock,
+    bench: &mut Bench,
+    workload: &Workload,
+    ops: u32,
+) -> anyhow::Result<u128> {
     let start = Instant::now(rt)?;
-    let calls = workload.run(&mut bench, ops)?;
+    let calls = workload.run(bench, ops)?;
     let time = start.elapsed(rt)?;
     Ok(tenths_each(time, calls))
 }
