@@ -54,7 +54,7 @@ fn desk(alloc: Global, zone: &Zone, seat: Seat) -> Result<Desk, Refused>
     Desk::new(alloc, share, script)
 }
 
-/// A zone, and the desks of its two workers. None where there is no memory.
+/// A zone, and the desks of its two workers. None where the config is refused, or there is no memory.
 fn opened(alloc: Global, config: ZoneConfig<'_>) -> Option<(Zone, Desk, Desk)>
     ensures new { IfSome result (λ o. o.0.entries ≡ []) }
     ensures first { IfSome result (λ o. IsReady (key_of o.0 ∷ []) o.1) }
@@ -103,8 +103,8 @@ fn outcome(
     })
 }
 
-/// Two workers take a page each and give it back, at the same time; then the zone's journal is replayed. None where there is no
-/// memory or no thread.
+/// Two workers take a page each and give it back, at the same time; then the zone's journal is replayed. None where the config is
+/// refused, or there is no memory or no thread.
 pub fn share_a_zone<R: Threads + Wait + Sync>(
     rt: &R,
     alloc: Global,

@@ -31,7 +31,7 @@ fn tenths_a_call(
     tenths_of_run(rt, &mut bench, workload, ops)
 }
 
-/// The same in a zone that is prepared.
+/// Tenths of a nanosecond that a call of a workload takes where the zone is prepared for it.
 fn tenths_of_run(
     rt: &impl Clock,
     bench: &mut Bench,

@@ -26,27 +26,31 @@ bad-cut had left x y text n read is begun =
     let whole = bad-input had left text n read is in
     record { text = whole.text; input = whole.input; number = n; grammar = whole.grammar; begun = begun }
 
+-- an input that is a trace was read as one, and nothing was written
+as_trace : (had left x y : Option (List ℕ)) (i : Input) (t : Trace) → i ≡ Input.Trace t → IsInputOf had left x y i → IsTraceRead had left t × IsParsed t × (y ≡ x)
+as_trace had left x y i t e is = subst (λ j. IsInputOf had left x y j) e is
+
 -- what was read and written where a trace was read, and then so much was written of it
 pub replayed : (had left x y z : Option (List ℕ)) (i : Input) (t : Trace) → i ≡ Input.Trace t → IsInputOf had left x y i → IsWritten y z (output t) → IsReplayed had left x z
 replayed had left x y z i t e is written =
-    let read : IsTraceRead had left t × IsParsed t × (y ≡ x) = subst (λ j. IsInputOf had left x y j) e is in
+    let read = as_trace had left x y i t e is in
     record { trace = t; read = read.0; written = subst (λ w. IsWritten w z (output t)) read.2 written }
 
 pub output_cut : (had left x y z : Option (List ℕ)) (i : Input) (t : Trace) → i ≡ Input.Trace t → IsInputOf had left x y i → IsBegun y z (output t) → IsCutShort had left x z
 output_cut had left x y z i t e is begun =
-    let read : IsTraceRead had left t × IsParsed t × (y ≡ x) = subst (λ j. IsInputOf had left x y j) e is in
+    let read = as_trace had left x y i t e is in
     inl (t, read.0, subst (λ w. IsBegun w z (output t)) read.2 begun)
 
 pub reported : (entries : Bool) (had left x y z : Option (List ℕ)) (i : Input) (t : Trace) → i ≡ Input.Trace t → IsInputOf had left x y i → IsTraceReported entries t y z →
     IsReported entries had left x z
 reported entries had left x y z i t e is all =
-    let read : IsTraceRead had left t × IsParsed t × (y ≡ x) = subst (λ j. IsInputOf had left x y j) e is in
+    let read = as_trace had left x y i t e is in
     record { trace = t; read = read.0; report = subst (λ w. IsTraceReported entries t w z) read.2 all }
 
 pub report_cut : (entries : Bool) (had left x y z : Option (List ℕ)) (i : Input) (t : Trace) → i ≡ Input.Trace t → IsInputOf had left x y i → IsTraceReportBegun entries t y z →
     IsReportCut entries had left x z
 report_cut entries had left x y z i t e is begun =
-    let read : IsTraceRead had left t × IsParsed t × (y ≡ x) = subst (λ j. IsInputOf had left x y j) e is in
+    let read = as_trace had left x y i t e is in
     inl (t, read.0, subst (λ w. IsTraceReportBegun entries t w z) read.2 begun)
 
 -- and where nothing was written of it
@@ -56,5 +60,5 @@ silent had left x y t read same =
 
 pub unanswered : (had left x y z : Option (List ℕ)) (i : Input) (t : Trace) → i ≡ Input.Trace t → IsInputOf had left x y i → z ≡ y → IsUnanswered had left x z
 unanswered had left x y z i t e is same =
-    let read : IsTraceRead had left t × IsParsed t × (y ≡ x) = subst (λ j. IsInputOf had left x y j) e is in
+    let read = as_trace had left x y i t e is in
     silent had left x z t read.0 (same ∙ read.2)
