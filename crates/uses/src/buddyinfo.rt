@@ -1,7 +1,8 @@
 //! Counts and the info line.
 
 use zp_model::Level;
-use zp_zone::{WriteFault, Writer, Zone};
+use zp_text::{WriteFault, Writer, write_info};
+use zp_zone::Zone;
 
 /// What a monitor wants to know of a zone.
 #[derive(Clone, Copy, PartialEq, Eq, Debug, Drop)]
@@ -14,7 +15,7 @@ pub struct Memory {
 
 /// Writes the zone's info line, and answers what it says in short.
 pub fn show<W: Writer>(zone: &Zone, writer: &mut W) -> Result<Memory, WriteFault> {
-    zone.write_info(writer)?;
+    write_info(zone, writer)?;
     let counts = zone.counts();
     Ok(Memory {
         free_pages: counts.free,

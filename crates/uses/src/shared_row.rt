@@ -1,17 +1,16 @@
 //! Two workers, each in a thread of its own, over a zone that they share; and the zone's journal, replayed.
 ghost use Rattle.std.specs.Prelude.{◌≡◌, ◌∷◌, [], All, IfOk, IfSome};
-ghost use Rattle.zp_desk.specs.Desks.{IsReady};
+ghost use Rattle.zp_office.specs.Desks.{IsReady};
 ghost use Rattle.zp_share.specs.Shares.{key_of};
 ghost use Rattle.zp_zone.specs.Seats.{IsSeatOf, IsUnused};
 
 use std::alloc::Global;
 use std::sync::Wait;
 use std::thread::Threads;
-use zp_desk::{Command, Desk, OpenGate};
 use zp_journal::{Journal, JournalCheck, replay_journal};
 use zp_model::{Mark, MigrateType, Order, Refused};
+use zp_office::{Command, Desk, OpenGate, run_zones};
 use zp_share::{ListConfig, Share};
-use zp_shared::run_zones;
 use zp_zone::{Seat, Zone, ZoneConfig};
 
 /// How many requests the journal has room for: two of each worker.

@@ -1,6 +1,5 @@
 //! The callers, run.
 ghost use Rattle.std.specs.Prelude.{ℕ, None};
-ghost use Rattle.zp_zone.specs.Seats.{IsSeatOf};
 
 use arrayvec::ArrayVec;
 use std::test::*;
@@ -8,7 +7,8 @@ use uses::{
     PagePool, give_run, one_page, relay, share_a_zone, show, take_below, take_huge_page, take_two,
 };
 use zp_model::{Level, Order, PageNo};
-use zp_zone::{WriteFault, Writer, Zone, ZoneConfig};
+use zp_text::{WriteFault, Writer};
+use zp_zone::{Zone, ZoneConfig};
 
 const DMA: ZoneConfig<'static> = ZoneConfig {
     name: "DMA",

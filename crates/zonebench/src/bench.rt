@@ -27,7 +27,7 @@ impl From<Refused> for NoMemory {
 
 /// A block that is lent.
 #[derive(Clone, Copy, Drop)]
-pub struct Lent {
+pub struct LentBlock {
     page: PageNo,
     order: Order,
 }
@@ -37,7 +37,7 @@ pub struct Lent {
 pub struct Bench {
     zone: Zone,
     seat: Seat,
-    lent: Vec<Lent>,
+    lent: Vec<LentBlock>,
     /// The pages of the lent blocks.
     lent_pages: u64,
     pub random: Random,
@@ -86,11 +86,11 @@ impl Bench {
     }
 
     /// Takes a block; its page counts into the checksum.
-    fn take(&mut self, order: Order, kind: MigrateType) -> Option<Lent> {
+    fn take(&mut self, order: Order, kind: MigrateType) -> Option<LentBlock> {
         match self.zone.alloc(&mut self.seat, order, kind, Mark::Any) {
             Ok(page) => {
                 self.checksum.add(u64::from(page.number()) + 1);
-                Some(Lent { page, order })
+                Some(LentBlock { page, order })
             }
             Err(_) => {
                 self.checksum.add(0);
@@ -100,7 +100,7 @@ impl Bench {
     }
 
     /// Gives a block back, where it is lent.
-    fn give(&mut self, lent: Lent) {
+    fn give(&mut self, lent: LentBlock) {
         if self.zone.held_by(&self.seat, lent.page, lent.order) {
             self.zone.free(&mut self.seat, lent.page, lent.order);
         }

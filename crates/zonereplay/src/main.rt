@@ -15,10 +15,10 @@ use std::rt::Env;
 use std::sync::Wait;
 use std::sync::ledger::{Blank, Ledger};
 use std::thread::Threads;
-use zp_desk::OpenGate;
-use zp_replay::device::{Sink, Source};
+use zp_office::OpenGate;
 use zp_replay::{
-    Exit, Failures, FlagFault, Flags, exit_status, read_flags, replay_serial, replay_threads,
+    Exit, Failures, FlagFault, Flags, Sink, Source, exit_status, read_flags, replay_serial,
+    replay_threads,
 };
 
 fn main(rt: HostRuntime) -> ExitCode {

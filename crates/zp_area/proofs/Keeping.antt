@@ -1,51 +1,54 @@
 -- What is kept beside a set of blocks, in other words for the same.
-use Rattle.std.proofs.Common.{ℕ, ◌/◌, ◌≡◌, ◌≢◌, ◌≤◌, ◌<◌, inl, inr, sym, ◌∙◌, ap, subst, arith, List, length, set, get_or-set_same, get_or-set_other, Option}
+use Rattle.std.proofs.Common.{ℕ, ◌+◌, ◌/◌, ◌≡◌, ◌≢◌, ◌≤◌, ◌<◌, inl, inr, sym, ◌∙◌, ap, arith, List, [], drop, length, set, get_or-set_same, get_or-set_other, Option}
 use Rattle.std.specs.List.{slice_index, slice_index_or}
 use Rattle.std.proofs.lemmas.Bool.{cases_eq}
-use Rattle.std.proofs.lemmas.List.{get_or_default, length-map}
+use Rattle.std.proofs.lemmas.List.{get_or_default, get_or-drop, length-map}
 use Rattle.std.proofs.lemmas.List.Sums.{count_by-le-length}
 use Rattle.zp_model.specs.declared.constants.TheConstants.{MAX_PAGES}
 use Rattle.zp_model.specs.declared.migrate_type.MigrateType.{MigrateType}
 use Rattle.zp_model.specs.declared.migrate_type.MigrateType.TheVariants.{Movable}
 use Rattle.zp_model.specs.declared.state.State.{State}
+use Rattle.zp_model.specs.Block.{IsBlock}
 use Rattle.zp_model.specs.BlockSet.{is_order}
-use Rattle.zp_model.specs.Area.{pageblock_pages, kind_at, list_number}
+use Rattle.zp_model.specs.Rows.{list_at}
+use Rattle.zp_model.specs.Area.{pageblock_pages, list_number, lists_count}
+use Rattle.zp_model.proofs.Heads.{number_lt}
 use Rattle.zp_area.specs.NotedBlocks.{free_order, blocks_of}
 use Rattle.zp_area.specs.Blocks.{Blocks, block_set, count_of, list_of_block}
-use Rattle.zp_area.specs.OneSet.{IsOneSet, IsKept}
-
-pub kept_by : (m : ℕ) (a b : Blocks) (t s : List (Option ℕ)) (c d f g : List ℕ) → a ≡ b → t ≡ s → c ≡ d → f ≡ g → IsKept m b s d g → IsKept m a t c f
-kept_by m a b t s c d f g ea et ec ef x =
-    let P : Blocks → Type 0 = λ q. IsKept m q s d g in
-    let Q : List (Option ℕ) → Type 0 = λ q. IsKept m a q d g in
-    let R : List ℕ → Type 0 = λ q. IsKept m a t q g in
-    let S : List ℕ → Type 0 = λ q. IsKept m a t c q in
-    subst S (sym ef) (subst R (sym ec) (subst Q (sym et) (subst P (sym ea) x)))
+use Rattle.zp_area.specs.Counted.{IsCounted}
+use Rattle.zp_area.specs.OneSet.{IsOneSet}
+use Rattle.zp_area.proofs.OneBlock.{head_below}
 
 pub blocks_length : (s : List State) → length (blocks_of s) ≡ length s
 blocks_length s = length-map s free_order
 
+-- a change of a free list leaves the further ones
+pub aside_same : (m : ℕ) (l : List (List ℕ)) (n r : ℕ) (xs : List ℕ) → n < lists_count m → list_at (drop (lists_count m) (set l n xs)) r ≡ list_at (drop (lists_count m) l) r
+aside_same m l n r xs lt =
+    get_or-drop (lists_count m) (set l n xs) r [] ∙ get_or-set_other l n (lists_count m + r) xs [] (omega arith) ∙ sym (get_or-drop (lists_count m) l r [])
+
 -- there are no more blocks of an order than pages
 pub count-le : (m : ℕ) (a : Blocks) (k : ℕ) → IsOneSet m a → count_of (block_set a) k ≤ MAX_PAGES
-count-le m a k x =
-    let n : length (blocks_of a.rows.states) ≡ length a.rows.states = blocks_length a.rows.states in
-    let z : length a.rows.states ≤ MAX_PAGES = x.pages in
-    omega (arith, count_by-le-length (is_order k) (blocks_of a.rows.states))
+count-le m a k x = omega (arith, count_by-le-length (is_order k) (blocks_of a.rows.states), blocks_length a.rows.states)
 
 -- the number of one order changes
 pub orders_set : (m : ℕ) (counts : List ℕ) (s t : List (Option ℕ)) (k n : ℕ) → k < length counts → ((j : ℕ) → j ≤ m → slice_index counts j ≡ count_of s j) →
     n ≡ count_of t k → ((j : ℕ) → j ≢ k → count_of t j ≡ count_of s j) → (j : ℕ) → j ≤ m → slice_index (set counts k n) j ≡ count_of t j
 orders_set m counts s t k n lt each here there j le =
     elim (cases_eq j k) [
-      | inl same ↦
-          let P : ℕ → Type 0 = λ q. slice_index (set counts k n) q ≡ count_of t q in
-          subst P (sym same) (get_or-set_same counts k n 0 lt ∙ here)
+      | inl same ↦ rw same (get_or-set_same counts k n 0 lt ∙ here)
       | inr ne ↦ get_or-set_other counts k j n 0 ne ∙ each j le ∙ sym (there j ne)
     ]
 
--- the list that the code finds for a block: t is what is read of the types at its pageblock
-pub list_found : (m : ℕ) (a : Blocks) (h k r b : ℕ) (t : MigrateType) → b < length a.kinds → b ≡ h / pageblock_pages m →
+-- the list that the code finds for a block: t is what is read of the types at its pageblock b
+pub list_found : (m : ℕ) (a : Blocks) (h k r b : ℕ) (t : MigrateType) → IsOneSet m a → IsBlock m (length a.rows.states) h k → b ≡ h / pageblock_pages m →
     t ≡ slice_index_or a.kinds b t → r ≡ list_number k t → r ≡ list_of_block m a h k
-list_found m a h k r b t lt eb et er =
-    let e : t ≡ kind_at m a.kinds h = et ∙ get_or_default a.kinds b t Movable lt ∙ ap (λ q. slice_index_or a.kinds q Movable) eb in
-    er ∙ ap (λ q. list_number k q) e
+list_found m a h k r b t one block eb et er =
+    let lt : b < length a.kinds = rw (one.typed, eb) (number_lt (length a.rows.states) h m (head_below m _ h k block)) in
+    er ∙ ap (λ q. list_number k q) (et ∙ get_or_default a.kinds b t Movable lt ∙ ap (λ q. slice_index_or a.kinds q Movable) eb)
+
+-- the number that the code reads at its pageblock
+pub read_at : (m : ℕ) (states : List State) (free_in : List ℕ) (h k b d : ℕ) → IsCounted m states free_in → IsBlock m (length states) h k → b ≡ h / pageblock_pages m →
+    d ≡ slice_index_or free_in b d → d ≡ slice_index free_in (h / pageblock_pages m)
+read_at m states free_in h k b d x block eb ed =
+    ed ∙ ap (λ q. slice_index_or free_in q d) eb ∙ get_or_default free_in _ d 0 (rw x.blocks (number_lt (length states) h m (head_below m _ h k block)))

@@ -1,7 +1,6 @@
 -- The largest block inside an aligned run: that one is held, and none is larger.
 use Rattle.std.proofs.Common.{ℕ, zero, suc, ◌+◌, ◌-◌, ◌*◌, ◌/◌, ◌^◌, ◌≡◌, ◌≤◌, ◌<◌, ◌⊎◌, inl, inr, refl, sym, ◌∙◌, ap, arith, max, map, List, [], ◌∷◌, get_or, Option, Some, None, IfSome}
 use Rattle.std.specs.List.{range_with_len}
-use Rattle.std.proofs.lemmas.Bool.{cases_lt}
 use Rattle.std.proofs.lemmas.Nat.{pow_pos, shr_split}
 use Rattle.std.proofs.lemmas.List.FromFn.{get_or-map-range_with_len}
 use Rattle.zp_model.specs.BlockSet.{Starts, greatest, larger, largest_in}
@@ -11,14 +10,7 @@ use Rattle.zp_tree.specs.Blocks.{IsBlockSet}
 use Rattle.zp_tree.proofs.Largest.{entry, entry-from, entries-to}
 
 larger_held : (p q : Option ℕ) (o : ℕ) → larger p q ≡ Some o → (p ≡ Some o) ⊎ (q ≡ Some o)
-larger_held None q o e = inr e
-larger_held (Some j) None o e = inl e
-larger_held (Some j) (Some k) o e =
-    let f : max j k ≡ o = cc in
-    elim (cases_lt j k) [
-      | inl lt ↦ let g : k ≡ o = omega arith in inr (ap (λ q. Some q) g)
-      | inr ge ↦ let g : j ≡ o = omega arith in inl (ap (λ q. Some q) g)
-    ]
+larger_held p q o e = grind arith
 
 larger_first : (p q : Option ℕ) (k : ℕ) → p ≡ Some k → (o : ℕ) × (larger p q ≡ Some o) × (k ≤ o)
 larger_first None q k e = cc
@@ -64,16 +56,12 @@ pub pageblock_held : (m : ℕ) (s : List (Option ℕ)) (b : ℕ) (o : Option ℕ
 pageblock_held m s b None e = tt
 pageblock_held m s b (Some k) e =
     let w = inside_held s (b * pageblock_pages m) m k (sym e) in
-    let lo : b * pageblock_pages m ≤ w.0 = w.2 in
-    let hi : w.0 + 2 ^ k ≤ b * pageblock_pages m + 2 ^ m = w.3 in
-    let pos : 0 < 2 ^ k = pow_pos k in
-    (w.0, w.1, number_within b m w.0 lo (omega arith))
+    (w.0, w.1, number_within b m w.0 w.2 (omega (arith, w.3, pow_pos k)))
 
 pub pageblock_most : (m : ℕ) (s : List (Option ℕ)) (b : ℕ) (o : Option ℕ) → IsBlockSet m s → o ≡ largest_in s (b * pageblock_pages m) m → (h k : ℕ) → Starts s h k →
     h / pageblock_pages m ≡ b → (j : ℕ) × (o ≡ Some j) × (k ≤ j)
 pageblock_most m s b o x e h k st there =
     let block = x.block h k st in
-    let room : h + 2 ^ k ≤ h / 2 ^ m * 2 ^ m + 2 ^ m = head_room h k m block.order block.aligned in
     let first : h / pageblock_pages m * pageblock_pages m ≡ b * pageblock_pages m = ap (λ n. n * pageblock_pages m) there in
-    let w = inside_most s (b * pageblock_pages m) m h k st (omega (arith, shr_split h m)) (omega arith) in
+    let w = inside_most s (b * pageblock_pages m) m h k st (omega (arith, shr_split h m)) (omega (arith, head_room h k m block.order block.aligned)) in
     (w.0, e ∙ w.1, w.2)

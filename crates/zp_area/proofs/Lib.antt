@@ -1,7 +1,5 @@
 pub mod Filters
-pub mod PageblockCounts
 pub mod NotedBlocks
-pub mod ListedHeads
 pub mod OneBlock
 pub mod Listing
 pub mod PageblockPages
@@ -14,4 +12,3 @@ pub mod RelistedBy
 pub mod Relisting
 pub mod Retyping
 pub mod LargestInside
-pub mod StillClear

@@ -6,10 +6,10 @@ use Rattle.zp_model.specs.Block.{has}
 use Rattle.zp_model.specs.BlockSet.{cover}
 use Rattle.zp_model.specs.Rows.{list_at, IsOn}
 use Rattle.zp_model.specs.Area.{lists_count, pageblocks_of}
-use Rattle.zp_model.proofs.Settles.{IsListed}
 use Rattle.zp_tree.specs.Blocks.{IsBlockSet}
 use Rattle.zp_area.specs.Counted.{IsCounted}
 use Rattle.zp_area.specs.Blocks.{Blocks, block_set, count_of}
+use Rattle.zp_model.specs.Lawful.{IsListed}
 
 -- the notes, the lists and the types are of one set of blocks
 pub record IsOneSet (m : ℕ) (a : Blocks) : Type 0 where

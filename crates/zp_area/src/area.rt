@@ -15,8 +15,8 @@ ghost use Rattle.zp_area.specs.Blocks.{block_set, count_of, free_list_of, side_l
 ghost use Rattle.zp_area.specs.Retyped.{retyped};
 ghost use Rattle.zp_area.specs.OneSet.{IsOneSet};
 
-use crate::entry::PageEntry;
 use crate::free_lists::list_of;
+use crate::linked_page::LinkedPage;
 use crate::retypes::retype;
 use std::alloc::{AllocError, Global};
 use std::marker::Model;
@@ -241,12 +241,12 @@ impl FreeArea {
     }
 
     /// What is noted of a page, and its neighbours in its list.
-    pub fn entry(&self, at: PageAt) -> PageEntry
+    pub fn entry(&self, at: PageAt) -> LinkedPage
         requires { at < length self.now.rows.states }
         ensures state { result.state ≡ state_at self.now.rows.states at }
         ensures linked { IsLinkedAt self.now.rows.lists at result.back result.forward }
     {
-        PageEntry {
+        LinkedPage {
             state: self.lists.state(at),
             back: self.lists.back(at),
             forward: self.lists.forward(at),

@@ -5,9 +5,9 @@
 #![tactic(auto)]
 
 mod area;
-mod entry;
 mod free_lists;
+mod linked_page;
 mod retypes;
 
 pub use area::FreeArea;
-pub use entry::PageEntry;
+pub use linked_page::LinkedPage;

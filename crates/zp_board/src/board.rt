@@ -3,7 +3,7 @@ ghost use Rattle.std.specs.Prelude.{◌≡◌, ◌+◌, ◌*◌, ◌<◌, ◌≤
 ghost use mathlib.Core.List.{IsPrefix};
 ghost use Rattle.zp_board.specs.Boards.{AreWide, entry_at, last_of, word_at};
 
-use crate::row::{Fetch, Look, Newcomer, Open, Pin, Row, Seen, Whole, Write};
+use crate::word_row::{CutOff, Fetch, Look, Newcomer, Open, Pin, Row, Seen, Write};
 use std::alloc::{AllocError, Global};
 use std::marker::Model;
 
@@ -28,12 +28,12 @@ impl<const W: usize> Model for Board<W> {
 
 /// The right to publish. It cannot be copied. Contracts see the identity of its tie, and the entries that are published.
 #[derive(Drop)]
-pub struct Publisher<const W: usize> {
+pub struct WordPublisher<const W: usize> {
     published: u64,
     pin: Pin,
 }
 
-impl<const W: usize> Model for Publisher<W> {
+impl<const W: usize> Model for WordPublisher<W> {
     ghost use Rattle.std.specs.Prelude.{◌≡◌, true, false, [], length};
     ghost use Rattle.zp_board.specs.Boards.{PublisherState};
 
@@ -46,11 +46,11 @@ impl<const W: usize> Model for Publisher<W> {
 
 /// The right to read. It cannot be copied. Contracts see the identity of its tie, and the entries that it has seen.
 #[derive(Drop)]
-pub struct BoardReader<const W: usize> {
+pub struct WordReader<const W: usize> {
     pin: Pin,
 }
 
-impl<const W: usize> Model for BoardReader<W> {
+impl<const W: usize> Model for WordReader<W> {
     ghost use Rattle.std.specs.Prelude.{◌≡◌, ◌<◌, true, false, [], length};
     ghost use Rattle.zp_board.specs.Boards.{ReaderState};
 
@@ -63,7 +63,7 @@ impl<const W: usize> Model for BoardReader<W> {
 
 impl<const W: usize> Board<W> {
     /// A board with no entry, and its publisher. No later call takes memory.
-    pub fn new(alloc: Global, capacity: u32) -> Result<(Board<W>, Publisher<W>), AllocError>
+    pub fn new(alloc: Global, capacity: u32) -> Result<(Board<W>, WordPublisher<W>), AllocError>
         requires { W * (capacity + 1) + 1 < 2 ^ 32 }
         ensures tie { IfOk result (λ r. r.1.tie ≡ r.0.tie) }
         ensures capacity { IfOk result (λ r. r.0.capacity ≡ capacity) }
@@ -72,7 +72,7 @@ impl<const W: usize> Board<W> {
         let words = vec![in alloc; 0; W * (capacity as usize + 1) + 1]?;
         let size = words.len() as u64;
         let (row, pin) = Row::<W>::of_words(alloc, &words, &size)?;
-        Ok((Board { row, capacity }, Publisher { published: 0, pin }))
+        Ok((Board { row, capacity }, WordPublisher { published: 0, pin }))
     }
 
     /// Writes the words of the next entry, one after another.
@@ -114,7 +114,7 @@ impl<const W: usize> Board<W> {
     }
 }
 
-impl<const W: usize> Publisher<W> {
+impl<const W: usize> WordPublisher<W> {
     /// Whether the board has no room for an entry more.
     pub fn is_full(&self, board: &Board<W>) -> bool
         ensures { IsTrue result ↔ (board.now.capacity < length self.now.published) }
@@ -138,7 +138,7 @@ impl<const W: usize> Publisher<W> {
     }
 
     /// A reader that has seen all that is published.
-    pub fn reader(&mut self, board: &Board<W>) -> BoardReader<W>
+    pub fn reader(&mut self, board: &Board<W>) -> WordReader<W>
         requires tie { self.old.tie ≡ board.now.tie }
         requires some { 0 < length self.old.published }
         ensures same { self.new ≡ self.old }
@@ -146,11 +146,11 @@ impl<const W: usize> Publisher<W> {
     {
         let row = &board.row.shared;
         let pin = row.split_seat::<Newcomer>(&mut self.pin);
-        BoardReader { pin }
+        WordReader { pin }
     }
 
     /// The last entry that is published, which the reader has then seen with all before it.
-    pub fn read_board(&mut self, board: &Board<W>, reader: &mut BoardReader<W>) -> [u64; W]
+    pub fn read_board(&mut self, board: &Board<W>, reader: &mut WordReader<W>) -> [u64; W]
         requires tie { self.old.tie ≡ board.now.tie }
         requires reader { reader.old.tie ≡ board.now.tie }
         ensures same { self.new ≡ self.old }
@@ -159,7 +159,7 @@ impl<const W: usize> Publisher<W> {
         ensures last { result ≡ last_of self.old.published }
     {
         let row = &board.row.shared;
-        let part = row.split_seat::<Whole>(&mut reader.pin);
+        let part = row.split_seat::<CutOff>(&mut reader.pin);
         row.join_seat::<Seen>(&mut self.pin, part);
         let place = row.load::<Look<W>>(&mut self.pin, 0);
         reader.pin = row.split_seat::<Seen>(&mut self.pin);
@@ -167,7 +167,7 @@ impl<const W: usize> Publisher<W> {
     }
 }
 
-impl<const W: usize> BoardReader<W> {
+impl<const W: usize> WordReader<W> {
     /// The last entry of those that are then seen. They begin with all that was seen before.
     pub fn read(&mut self, board: &Board<W>) -> [u64; W]
         requires { self.old.tie ≡ board.now.tie }

@@ -4,7 +4,7 @@
 #![tactic(auto)]
 
 mod board;
-mod row;
+mod word_row;
 
-pub use board::{Board, BoardReader, Publisher};
-pub use row::View;
+pub use board::{Board, WordPublisher, WordReader};
+pub use word_row::BoardView;

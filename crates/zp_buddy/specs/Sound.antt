@@ -9,8 +9,8 @@ use Rattle.zp_model.specs.Area.{Area, lists_count}
 use Rattle.zp_model.specs.Frames.{Frames}
 use Rattle.zp_model.proofs.Normal.{IsNormal}
 use Rattle.zp_model.proofs.Pages.{In}
-use Rattle.zp_model.proofs.Settles.{IsListed}
 use Rattle.zp_area.specs.NotedBlocks.{blocks_of}
+use Rattle.zp_model.specs.Lawful.{IsListed}
 
 -- the free area of these states, types and lists, where the largest block has order m; the lists past the free ones are further ones
 abbrev pub area_of : ℕ → List State → List MigrateType → List (List ℕ) → Area

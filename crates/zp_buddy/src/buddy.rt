@@ -7,10 +7,9 @@ ghost use Rattle.zp_model.specs.Block.{has, in_run, size};
 ghost use Rattle.zp_model.specs.Info.{counts_of};
 ghost use Rattle.zp_model.specs.Rows.{IsLoose, IsOn, after, front, list_at, rest, state_at};
 ghost use Rattle.zp_model.specs.Described.{IsLinkedAt};
-ghost use Rattle.zp_model.specs.Frames.{frames_opening, with_area, IsNote, IsFramed, IsClear};
+ghost use Rattle.zp_model.specs.Frames.{frames_opening, with_area, IsNote, IsFramed, IsClear, given};
 ghost use Rattle.zp_model.specs.Area.{list_number, free_list, kind_at};
 ghost use Rattle.zp_model.specs.Take.{take_answer, take_after, take_low_answer, take_low_after};
-ghost use Rattle.zp_model.specs.Frames.{given};
 
 use crate::choice::choose;
 use crate::clear::{is_block, is_clear_run};
@@ -20,7 +19,7 @@ use crate::split::take_block;
 use crate::takes::take_chosen;
 use std::alloc::{AllocError, Global};
 use std::marker::Model;
-use zp_area::{FreeArea, PageEntry};
+use zp_area::{FreeArea, LinkedPage};
 use zp_model::{Counts, MAX_PAGES, MigrateType, ORDERS, Order, PageAt, State};
 
 /// The free blocks of a zone, what is noted of its other pages, and further lists of those pages. Contracts see the plain
@@ -146,7 +145,7 @@ impl Buddy {
     }
 
     /// What the page table has of a page: its note, and its neighbours in its list, be it a free list or a further one.
-    pub fn entry(&self, at: PageAt) -> PageEntry
+    pub fn entry(&self, at: PageAt) -> LinkedPage
         requires { at < length self.now.states }
         ensures state { result.state ≡ state_at self.now.states at }
         ensures linked { IsLinkedAt (self.now.area.lists ++ self.now.sides) at result.back result.forward }

@@ -5,7 +5,6 @@ ghost use Rattle.std.specs.Prelude.{◌≡◌, ◌+◌, ◌^◌, length};
 ghost use Rattle.zp_model.specs.declared.constants.TheConstants.{LARGEST_ORDER};
 ghost use Rattle.zp_model.specs.Block.{size};
 ghost use Rattle.zp_model.specs.BlockSet.{cover};
-ghost use Rattle.zp_model.specs.Area.{pageblocks_of};
 ghost use Rattle.zp_model.specs.Frames.{IsClear, given};
 ghost use Rattle.zp_buddy.specs.Sound.{IsSound};
 ghost use Rattle.zp_area.specs.Blocks.{block_set};

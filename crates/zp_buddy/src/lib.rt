@@ -10,4 +10,4 @@ mod split;
 mod takes;
 
 pub use buddy::Buddy;
-pub use zp_area::PageEntry;
+pub use zp_area::LinkedPage;

@@ -2,7 +2,6 @@
 //!
 //! In Linux: `steal_suitable_fallback`, then `expand`.
 ghost use Rattle.std.specs.Prelude.{◌≡◌, length, Some};
-ghost use Rattle.zp_model.specs.Area.{pageblocks_of};
 ghost use Rattle.zp_model.specs.declared.constants.TheConstants.{LARGEST_ORDER};
 ghost use Rattle.zp_model.specs.Frames.{with_area};
 ghost use Rattle.zp_model.specs.Take.{taken};

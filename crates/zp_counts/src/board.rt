@@ -1,7 +1,6 @@
 //! A board on which counts are published, its publisher and its readers.
 ghost use Rattle.std.specs.Prelude.{◌≡◌, ◌+◌, ◌*◌, ◌^◌, ◌<◌, ◌≤◌, ◌↔◌, [], ◌∷◌, ◌++◌, length, IfOk, IsTrue};
 ghost use mathlib.Core.List.{IsPrefix};
-ghost use Rattle.zp_board.specs.Boards.{BoardState};
 ghost use Rattle.zp_counts.specs.CountBoards.{last_counts};
 ghost use Rattle.zp_counts.specs.declared.words.TheConstants.{COUNT_WORDS};
 
@@ -17,7 +16,7 @@ pub type Board = zp_board::Board<COUNT_WORDS>;
 /// The right to publish. It cannot be copied. Contracts see the identity of its tie, and the counts that are published.
 #[derive(Drop)]
 pub struct Publisher {
-    entries: zp_board::Publisher<COUNT_WORDS>,
+    entries: zp_board::WordPublisher<COUNT_WORDS>,
 }
 
 impl Model for Publisher {
@@ -34,7 +33,7 @@ impl Model for Publisher {
 /// The right to read. It cannot be copied. Contracts see the identity of its tie, and the counts that it has seen.
 #[derive(Drop)]
 pub struct BoardReader {
-    entries: zp_board::BoardReader<COUNT_WORDS>,
+    entries: zp_board::WordReader<COUNT_WORDS>,
 }
 
 impl Model for BoardReader {

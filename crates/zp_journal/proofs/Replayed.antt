@@ -1,24 +1,17 @@
 -- The entries that are repeated so far, and one more.
-use Rattle.std.proofs.Common.{ℕ, ◌≡◌, ◌<◌, ◌+◌, ◌-◌, List, [], ◌∷◌, ◌++◌, Some, length, take, drop, refl, sym, ◌∙◌, ap, subst, arith}
+use Rattle.std.proofs.Common.{ℕ, ◌≡◌, ◌<◌, ◌+◌, ◌-◌, List, [], ◌∷◌, ◌++◌, Some, length, take, sym, ◌∙◌, ap, subst, arith}
 use Rattle.std.specs.List.{slice_get}
-use Rattle.std.proofs.lemmas.List.{take_more, take_all, drop_all, append-nil}
+use Rattle.std.proofs.lemmas.List.{take_more}
 use Rattle.std.proofs.lemmas.Option.{get_or_from_slice_get}
-use Rattle.zp_model.specs.declared.request.Entry.{Entry}
+use Rattle.zp_model.specs.Entries.{Entry}
 use Rattle.zp_model.specs.Zone.{PlainZone}
 use Rattle.zp_model.specs.Step.{step}
 use Rattle.zp_model.specs.Run.{run, IsLegal, IsLegalEntry}
 use Rattle.zp_model.specs.Books.{entry_of}
+use Rattle.zp_laws.proofs.Histories.{legal_more, run_more}
 use Rattle.zp_zone.specs.Seats.{ZoneState, asked}
 use Rattle.zp_journal.specs.declared.replay.JournalCheck.TheVariants.{Legal}
 use Rattle.zp_journal.specs.Journals.{IsChecked, IsFirstIllegal}
-
-legal_more : (z : PlainZone) (es : List Entry) (e : Entry) → IsLegal z es → IsLegalEntry (run z es) e → IsLegal z (es ++ e ∷ [])
-legal_more z [] e l d = (d, tt)
-legal_more z (x ∷ es) e l d = (l.0, legal_more (step z x.worker x.request).zone es e l.1 d)
-
-run_more : (z : PlainZone) (es : List Entry) (e : Entry) → run z (es ++ e ∷ []) ≡ (step (run z es) e.worker e.request).zone
-run_more z [] e = refl
-run_more z (x ∷ es) e = run_more (step z x.worker x.request).zone es e
 
 -- a legal entry is the one that its request makes
 entry_is : (z : PlainZone) (e : Entry) → IsLegalEntry z e → entry_of z e.worker e.request ≡ e
@@ -57,9 +50,3 @@ first_illegal name o es i n j e z f g lt is was bad =
   where
     same : (x : Entry) → slice_get es (n - 1) ≡ Some e → slice_get es (n - 1) ≡ Some x → x ≡ e
     same x there found = sym (get_or_from_slice_get es (n - 1) x e found) ∙ get_or_from_slice_get es (n - 1) e e there
-
--- seats written back over as many
-pub written_back : {X : Type 0} (new old : List X) (n : ℕ) → length new ≡ length old → n ≡ length old → take n (new ++ drop (length new) old) ≡ new
-written_back new old n e f =
-    let gone : drop (length new) old ≡ [] = drop_all (length new) old (omega (arith, e)) in
-    ap (λ l. take n (new ++ l)) gone ∙ ap (take n) (append-nil new) ∙ take_all n new (omega (arith, e, f))

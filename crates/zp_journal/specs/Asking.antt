@@ -1,7 +1,7 @@
 -- A zone that is asked for what an entry says (this profile).
 use Rattle.std.specs.Prelude.{ℕ, ◌≡◌, Bool, true, false, List, All, map, Option, None, Some}
 use Rattle.std.specs.List.{range_with_len}
-use Rattle.zp_model.specs.declared.request.Entry.{Entry}
+use Rattle.zp_model.specs.Entries.{Entry}
 use Rattle.zp_model.specs.declared.request.Request.{Request}
 use Rattle.zp_model.specs.declared.request.Reply.{Reply}
 use Rattle.zp_model.specs.Zone.{workers_of}

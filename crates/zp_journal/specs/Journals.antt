@@ -1,6 +1,6 @@
 -- A zone's journal, and what a replay finds of it (this profile).
 use Rattle.std.specs.Prelude.{ℕ, ◌≡◌, ◌≤◌, ◌-◌, List, length, take, slice_get, Some}
-use Rattle.zp_model.specs.declared.request.Entry.{Entry}
+use Rattle.zp_model.specs.Entries.{Entry}
 use Rattle.zp_model.specs.Zone.{PlainZone}
 use Rattle.zp_model.specs.Run.{run, IsLegal, IsLegalEntry, IsHistory}
 use Rattle.zp_zone.specs.Seats.{ZoneState}

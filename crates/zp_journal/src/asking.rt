@@ -1,18 +1,14 @@
-//! A zone is asked for what a request says, where its worker may ask for it. Nothing is known of the request beforehand: what a
-//! call of the zone requires is tested.
-ghost use Rattle.std.specs.Prelude.{◌≡◌, IsTrue, true};
+//! A zone is asked for what a request says, where its worker may ask for it. Nothing is known of the request beforehand: what the
+//! zone requires is tested.
+ghost use Rattle.std.specs.Prelude.{◌≡◌, true};
 ghost use Rattle.std.specs.List.{list_all};
-ghost use Rattle.zp_model.specs.declared.request.Request.TheVariants as request;
 ghost use Rattle.zp_model.specs.Zone.{workers_of};
-ghost use Rattle.zp_model.specs.Run.{is_distinct, is_out};
-ghost use Rattle.zp_zone.specs.NamedZone.{block_reply, page_reply, pages_reply};
+ghost use Rattle.zp_model.specs.Run.{is_distinct, is_out, may_ask};
+ghost use Rattle.zp_zone.specs.Asking.{MaySeatAsk};
 ghost use Rattle.zp_zone.specs.Seats.{Agrees, HasPages, IsSeatOf};
 ghost use Rattle.zp_journal.specs.Asking.{IsAnswered, IsSeatStill};
 
-use arrayvec::ArrayVec;
-use zp_model::{
-    Block, MAX_BATCH, Mark, MigrateType, Order, PageList, PageNo, Refused, Reply, Request, Worker,
-};
+use zp_model::{MAX_BATCH, Order, PageNo, Reply, Request};
 use zp_zone::{Seat, Zone};
 
 /// The zone's reply, where the seat's worker may ask for this; else nothing, and the zone is as it was. It is told how many
@@ -28,118 +24,32 @@ pub(crate) fn ask(
     ensures answered { IsAnswered zone.old seat.old.worker request.now result zone.new }
     ensures seat { IsSeatStill seat.old seat.new }
 {
+    zone.check(seat);
+    if !may_ask(zone, seat, workers, request) {
+        return None;
+    }
+    Some(zone.ask(seat, request))
+}
+
+/// Whether the seat's worker may ask for this: each block named is the seat's, a worker named is one of the zone's, and the
+/// pages of a refill are some and not more than a batch.
+fn may_ask(zone: &Zone, seat: &Seat, workers: usize, request: &Request) -> bool
+    requires seat { IsSeatOf zone.now seat.now }
+    requires workers { workers ≡ workers_of zone.now.plain }
+    ensures may { result ≡ may_ask zone.now.plain seat.now.worker request.now }
+    ensures seat { Agrees zone.now seat.now → result ≡ true → MaySeatAsk (workers_of zone.now.plain) request.now seat.now }
+{
     match request {
-        Request::Alloc(order, kind, mark) => {
-            Some(page_reply(zone.alloc(seat, *order, *kind, *mark)))
+        Request::Free(page, order) => zone.held_by(seat, *page, *order),
+        Request::Post(page, order, to) => {
+            zone.held_by(seat, *page, *order) && usize::from(to.number()) < workers
         }
-        Request::AllocLow(order) => Some(block_reply(zone.alloc_low(seat, *order))),
-        Request::Free(page, order) => ask_free(zone, seat, *page, *order),
-        Request::Post(page, order, to) => ask_post(zone, seat, workers, *page, *order, *to),
-        Request::Collect => Some(block_reply(zone.collect(seat))),
-        Request::Refill(kind, mark, count) => ask_refill(zone, seat, *kind, *mark, *count),
-        Request::Drain(kind, pages) => ask_drain(zone, seat, *kind, pages.as_slice()),
+        Request::Refill(_, _, count) => *count >= 1 && usize::from(*count) <= MAX_BATCH,
+        Request::Drain(_, pages) => {
+            holds_all(zone, seat, pages.as_slice()) && has_no_page_twice(pages.as_slice())
+        }
+        Request::Alloc(_, _, _) | Request::AllocLow(_) | Request::Collect => true,
     }
-}
-
-fn page_reply(got: Result<PageNo, Refused>) -> Reply
-    ensures { result ≡ page_reply got }
-{
-    match got {
-        Ok(page) => Reply::Page(page),
-        Err(refused) => Reply::Refused(refused),
-    }
-}
-
-fn block_reply(got: Result<Block, Refused>) -> Reply
-    ensures { result ≡ block_reply got }
-{
-    match got {
-        Ok(block) => Reply::Block(block),
-        Err(refused) => Reply::Refused(refused),
-    }
-}
-
-fn pages_reply(got: Result<ArrayVec<PageNo, MAX_BATCH>, Refused>) -> Reply
-    ensures { result ≡ pages_reply got }
-{
-    match got {
-        Ok(pages) => Reply::Pages(PageList::of(pages.as_slice())),
-        Err(refused) => Reply::Refused(refused),
-    }
-}
-
-/// A block is given back, where it is the seat's.
-fn ask_free(zone: &mut Zone, seat: &mut Seat, page: PageNo, order: Order) -> Option<Reply>
-    requires { IsSeatOf zone.old seat.old }
-    ensures answered { IsAnswered zone.old seat.old.worker (request.Free page order) result zone.new }
-    ensures seat { IsSeatStill seat.old seat.new }
-{
-    zone.check(seat);
-    if !zone.held_by(seat, page, order) {
-        return None;
-    }
-    zone.free(seat, page, order);
-    Some(Reply::Freed)
-}
-
-/// A block is posted, where it is the seat's and the zone has the worker.
-fn ask_post(
-    zone: &mut Zone,
-    seat: &mut Seat,
-    workers: usize,
-    page: PageNo,
-    order: Order,
-    to: Worker,
-) -> Option<Reply>
-    requires seat { IsSeatOf zone.old seat.old }
-    requires workers { workers ≡ workers_of zone.old.plain }
-    ensures answered { IsAnswered zone.old seat.old.worker (request.Post page order to) result zone.new }
-    ensures seat { IsSeatStill seat.old seat.new }
-{
-    zone.check(seat);
-    if !zone.held_by(seat, page, order) {
-        return None;
-    }
-    if usize::from(to.number()) >= workers {
-        return None;
-    }
-    zone.post(seat, page, order, to);
-    Some(Reply::Posted)
-}
-
-/// Pages are got, where they are some and not more than a batch.
-fn ask_refill(
-    zone: &mut Zone,
-    seat: &mut Seat,
-    kind: MigrateType,
-    mark: Mark,
-    count: u8,
-) -> Option<Reply>
-    requires { IsSeatOf zone.old seat.old }
-    ensures answered { IsAnswered zone.old seat.old.worker (request.Refill kind mark count) result zone.new }
-    ensures seat { IsSeatStill seat.old seat.new }
-{
-    if count < 1 || usize::from(count) > MAX_BATCH {
-        return None;
-    }
-    Some(pages_reply(zone.refill(seat, kind, mark, count)))
-}
-
-/// Pages are given back, where each is the seat's and none is there twice.
-fn ask_drain(zone: &mut Zone, seat: &mut Seat, kind: MigrateType, pages: &[PageNo]) -> Option<Reply>
-    requires { IsSeatOf zone.old seat.old }
-    ensures answered { IsAnswered zone.old seat.old.worker (request.Drain kind pages.now) result zone.new }
-    ensures seat { IsSeatStill seat.old seat.new }
-{
-    zone.check(seat);
-    if !holds_all(zone, seat, pages) {
-        return None;
-    }
-    if !has_no_page_twice(pages) {
-        return None;
-    }
-    zone.drain(seat, kind, pages);
-    Some(Reply::Drained)
 }
 
 /// Whether each of the pages is out to the seat's worker, as a block of order 0.

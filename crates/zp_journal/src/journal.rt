@@ -9,23 +9,24 @@ use zp_model::{Entry, Refused};
 /// The most entries of a journal.
 pub const LONGEST_JOURNAL: u32 = 65_536;
 
-/// Entries, the oldest first, with room for a number of them that is settled when the journal is made.
+/// Entries, the oldest first, with room for a number of them that is settled when the journal is made. The room is blank entries,
+/// which are written over one after another.
 #[derive(Drop)]
 pub struct Journal {
-    entries: Vec<Entry>,
-    capacity: u32,
+    room: Vec<Entry>,
+    len: u32,
 }
 
 impl Model for Journal {
-    ghost use Rattle.std.specs.Prelude.{◌≤◌, length, vec_capacity};
+    ghost use Rattle.std.specs.Prelude.{◌≤◌, length, take};
     ghost use Rattle.zp_journal.specs.Journals.{JournalState};
     ghost use Rattle.zp_journal.specs.declared.journal.TheConstants.{LONGEST_JOURNAL};
 
     ghost Value = { JournalState };
 
-    ghost view = { λ j. record { capacity = j.capacity; entries = j.entries.items } };
+    ghost view = { λ j. record { capacity = length j.room.items; entries = take j.len j.room.items } };
 
-    ghost invariant = { λ j. (length j.entries.items ≤ j.capacity) × (j.capacity ≤ LONGEST_JOURNAL) × (j.capacity ≤ vec_capacity j.entries) };
+    ghost invariant = { λ j. (j.len ≤ length j.room.items) × (length j.room.items ≤ LONGEST_JOURNAL) };
 }
 
 impl Journal {
@@ -35,10 +36,13 @@ impl Journal {
         ensures journal { IfOk result (λ j. j ≡ record { capacity = capacity; entries = [] }) }
         ensures why { IfErr result (λ e. e ≡ Memory) }
     {
-        let Ok(entries) = Vec::with_capacity(alloc, capacity as usize) else {
+        let Ok(mut room) = Vec::with_capacity(alloc, capacity as usize) else {
             return Err(Refused::Memory);
         };
-        Ok(Journal { entries, capacity })
+        'blank: for _ in 0..capacity {
+            room.push_reserved(Entry::blank());
+        }
+        Ok(Journal { room, len: 0 })
     }
 
     /// How many entries there are.
@@ -46,7 +50,7 @@ impl Journal {
         ensures entries { result ≡ length self.now.entries }
         ensures within { result ≤ LONGEST_JOURNAL }
     {
-        self.entries.len() as u32
+        self.len
     }
 
     /// The entry of this number; the oldest has number 1.
@@ -55,7 +59,7 @@ impl Journal {
         requires within { number ≤ length self.now.entries }
         ensures { slice_get self.now.entries (number - 1) ≡ Some result.now }
     {
-        &self.entries[number as usize - 1]
+        &self.room[number as usize - 1]
     }
 
     /// Whether there is no room for an entry more.
@@ -64,14 +68,16 @@ impl Journal {
         ensures room { result ≡ false → length self.now.entries < self.now.capacity }
         ensures within { self.now.capacity ≤ LONGEST_JOURNAL }
     {
-        self.len() >= self.capacity
+        self.len as usize >= self.room.len()
     }
 
-    /// Puts an entry at the end. It takes no memory.
-    pub fn append(&mut self, entry: Entry)
+    /// Puts the same as an entry at the end. It takes no memory.
+    #[inline(always)]
+    pub fn append(&mut self, entry: &Entry)
         requires { length self.old.entries < self.old.capacity }
-        ensures { self.new ≡ record { capacity = self.old.capacity; entries = self.old.entries ++ entry ∷ [] } }
+        ensures { self.new ≡ record { capacity = self.old.capacity; entries = self.old.entries ++ entry.now ∷ [] } }
     {
-        self.entries.push_reserved(entry);
+        self.room[self.len as usize].copy(entry);
+        self.len += 1;
     }
 }

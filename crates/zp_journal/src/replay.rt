@@ -48,12 +48,13 @@ fn repeat(zone: &mut Zone, seats: &mut [Seat], entry: &Entry) -> bool
     ensures seats { AreSeatsOf zone.new seats.new }
 {
     let workers = seats.len();
-    let place = usize::from(entry.worker.number());
+    let place = usize::from(entry.worker().number());
     if place >= workers {
         return false;
     }
-    match ask(zone, &mut seats[place], workers, &entry.request) {
-        Some(reply) => is_same(&reply, &entry.reply),
+    let request = entry.request();
+    match ask(zone, &mut seats[place], workers, &request) {
+        Some(reply) => is_same(&reply, &entry.reply()),
         None => false,
     }
 }

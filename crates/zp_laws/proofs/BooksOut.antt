@@ -1,5 +1,5 @@
 -- A worker's part of the books tells which blocks are out in its name.
-use Rattle.std.proofs.Common.{ℕ, ◌-◌, ◌≡◌, ◌==◌, ◌&&◌, refl, sym, ◌∙◌, ap, Bool, true, false, List, cond, leb, Option, Some, None}
+use Rattle.std.proofs.Common.{ℕ, ◌-◌, ◌≡◌, sym, ◌∙◌, arith, true, List, Option, None}
 use Rattle.std.proofs.Math.ListN.{get_or-map}
 use Rattle.zp_model.specs.Zone.{Holding, holding_at, is_of}
 use Rattle.zp_model.specs.Run.{is_out}
@@ -8,23 +8,13 @@ use Rattle.zp_model.specs.Books.{Books, Part, only, own, part, has_block}
 own-at : (w h : ℕ) (out : List (Option Holding)) → holding_at (own w out) h ≡ only w (holding_at out h)
 own-at w h out = get_or-map (only w) out h None
 
-and_false : (b : Bool) → (b && false) ≡ false
-and_false true = refl
-and_false false = refl
-
 -- whether a holding is the worker's, its part tells as the zone does
 is_of-only : (w k : ℕ) (o : Option Holding) → is_of w k (only w o) ≡ is_of w k o
-is_of-only w k None = refl
-is_of-only w k (Some x) = go w k x (x.worker == w) refl
-  where
-    go : (w k : ℕ) (x : Holding) (b : Bool) → (x.worker == w) ≡ b → is_of w k (cond b (Some x) None) ≡ (x.order == k) && (x.worker == w)
-    go w k x true e = refl
-    go w k x false e = sym (ap (λ b. (x.order == k) && b) e ∙ and_false (x.order == k))
+is_of-only w k o = grind arith
 
 pub has-is_out : (w p k : ℕ) (b : Books) → has_block w (part w b) p k ≡ is_out b.plain w p k
-has-is_out w p k b =
-    ap (λ x. leb b.plain.base p && x) (ap (is_of w k) (own-at w (p - b.plain.base) b.plain.out) ∙ is_of-only w k (holding_at b.plain.out (p - b.plain.base)))
+has-is_out w p k b = rw (own-at w (p - b.plain.base) b.plain.out, is_of-only w k (holding_at b.plain.out (p - b.plain.base)))
 
 -- what is in a part that agrees with the books is out in the worker's name
 pub out_by : (w p k : ℕ) (b : Books) (s : Part) → s ≡ part w b → has_block w s p k ≡ true → is_out b.plain w p k ≡ true
-out_by w p k b s e o = sym (has-is_out w p k b) ∙ sym (ap (λ x. has_block w x p k) e) ∙ o
+out_by w p k b s e o = sym (has-is_out w p k b) ∙ rw e at o

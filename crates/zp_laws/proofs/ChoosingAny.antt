@@ -1,5 +1,5 @@
 -- A block is chosen wherever a free one is large enough.
-use Rattle.std.proofs.Common.{ℕ, suc, zero, ◌+◌, ◌-◌, ◌*◌, ◌%◌, ◌≡◌, ◌≤◌, ◌<◌, refl, sym, ◌∙◌, subst, arith, Bool, true, false, List, [], ◌∷◌, length, get_or, Option, Some, None, All}
+use Rattle.std.proofs.Common.{ℕ, suc, zero, ◌+◌, ◌-◌, ◌%◌, ◌≡◌, ◌≤◌, refl, sym, ◌∙◌, arith, Bool, true, false, List, [], ◌∷◌, length, Option, Some, None, All}
 use Rattle.std.specs.Option.{option_or}
 use Rattle.std.proofs.lemmas.Bool.{and_from, eq-eqb, false≢true}
 use Rattle.std.proofs.lemmas.Option.{none-some}
@@ -7,7 +7,6 @@ use Rattle.std.proofs.lemmas.List.FromFn.{get_or-range_with_len, length-range_wi
 use Rattle.zp_model.specs.declared.migrate_type.MigrateType.{MigrateType}
 use Rattle.zp_model.specs.declared.migrate_type.MigrateType.TheVariants.{Unmovable, Reclaimable, Movable}
 use Rattle.zp_model.specs.MigrateType.{types_count, type_number, foreign}
-use Rattle.zp_model.specs.Block.{is_max}
 use Rattle.zp_model.specs.BlockSet.{first_of, orders_from}
 use Rattle.zp_model.specs.Rows.{stands_in, front}
 use Rattle.zp_model.specs.Area.{Area, belongs, free_list, list_number, kind_at}
@@ -15,7 +14,8 @@ use Rattle.zp_model.specs.Choose.{chosen_at, own, claim, borrow, choose}
 use Rattle.zp_model.specs.Lawful.{IsListedArea}
 use Rattle.zp_model.proofs.Pages.{is_max-to}
 use Rattle.zp_laws.specs.Found.{IsFound}
-use Rattle.zp_laws.proofs.Choosing.{number_below, list_below, list_order}
+use Rattle.zp_model.proofs.TypeNumbers.{number_below, list_number_below}
+use Rattle.zp_laws.proofs.Choosing.{list_order}
 
 or_None : {Y : Type 0} (o p : Option Y) → option_or o p ≡ None → (o ≡ None) × (p ≡ None)
 or_None None p e = (refl, e)
@@ -51,24 +51,17 @@ each_type P Movable Movable p f = p
 each_order : (m : ℕ) (P : ℕ → Type 0) (k o : ℕ) → k ≤ o → o ≤ m → All P (orders_from m k) → P o
 each_order m P k o up le all =
     let n : length (orders_from m k) ≡ m + 1 - k = length-range_with_len k (m + 1 - k) in
-    let e : get_or (orders_from m k) (o - k) 0 ≡ k + (o - k) = get_or-range_with_len k (m + 1 - k) (o - k) 0 (omega arith) in
     let f : k + (o - k) ≡ o = omega arith in
-    subst P (e ∙ f) (all (o - k) 0 (omega arith))
-
-list_type : (o t : ℕ) → t < types_count → (types_count * o + t) % types_count ≡ t
-list_type o t lt = omega arith
+    rw (get_or-range_with_len k (m + 1 - k) (o - k) 0 (omega arith), f) at (all (o - k) 0 (omega arith))
 
 -- a free block stands on the list of its order and its pageblock's type
-pub found_listed : (a : Area) (k h : ℕ) → IsListedArea a → (x : IsFound a.largest a.free k h) → stands_in h (free_list a x.order (kind_at a.largest a.kinds h)) ≡ true
+found_listed : (a : Area) (k h : ℕ) → IsListedArea a → (x : IsFound a.largest a.free k h) → stands_in h (free_list a x.order (kind_at a.largest a.kinds h)) ≡ true
 unfolding belongs
 found_listed a k h l x =
     let s = kind_at a.largest a.kinds h in
-    let le : x.order ≤ a.largest = (is_max-to a.largest a.free h x.order x.maximal).order in
-    let P : ℕ → Type 0 = λ n. is_max a.largest a.free h n ≡ true in
-    let b : belongs a.largest a.free a.kinds (list_number x.order s) h ≡ true =
-    and_from _ _ (subst P (sym (list_order x.order (type_number s) (number_below s))) x.maximal)
-    (eq-eqb (type_number s) (list_number x.order s % types_count) (sym (list_type x.order (type_number s) (number_below s)))) in
-    l.held (list_number x.order s) h (list_below a.largest x.order (type_number s) le (number_below s)) ∙ b
+    let type : type_number s ≡ list_number x.order s % types_count = omega (arith, number_below s) in
+    let b : belongs a.largest a.free a.kinds (list_number x.order s) h ≡ true = and_from _ _ (rw (list_order x.order s) x.maximal) (eq-eqb (type_number s) (list_number x.order s % types_count) type) in
+    l.held (list_number x.order s) h (list_number_below a.largest x.order s (is_max-to a.largest a.free h x.order x.maximal).order) ∙ b
 
 -- where none is chosen, no free block is large enough
 pub choose_none : (a : Area) (k : ℕ) (t : MigrateType) (h : ℕ) → IsListedArea a → choose a k t ≡ None → IsFound a.largest a.free k h → ⊥

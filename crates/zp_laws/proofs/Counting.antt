@@ -1,14 +1,18 @@
--- Sums and counts over the numbers of a range.
-use Rattle.std.proofs.Common.{ℕ, suc, zero, ◌+◌, ◌-◌, ◌^◌, ◌≡◌, ◌≤◌, ◌<◌, ◌⊎◌, inl, inr, refl, ◌∙◌, ap, arith, Bool, true, false, List, [], ◌∷◌, length, map, cond, min, max}
+-- Sums and counts over lists and over the numbers of a range; the marks of a set without a run and with it.
+use Rattle.std.proofs.Common.{ℕ, suc, zero, ◌+◌, ◌-◌, ◌^◌, ◌≡◌, ◌≤◌, ◌<◌, ◌⊎◌, inl, inr, refl, sym, ◌∙◌, ap, arith, Bool, true, false, not, ◌&&◌, ◌||◌, List, [], ◌∷◌, length, map, get_or, cond, min, max, All}
 use Rattle.std.specs.List.{range_with_len, sum_by, count_by}
-use Rattle.std.proofs.lemmas.Bool.{cases_lt, cases_Bool, and_parts, and_from, leb-true, le-leb, ltb-true, lt-ltb, both_ways, false_from_ne_true}
+use Rattle.std.proofs.Math.Bool.{or-true}
+use Rattle.std.proofs.lemmas.Bool.{cases_lt, false_from_ne_true}
 use Rattle.std.proofs.lemmas.Bool.Decides.{same_from_decides}
+use Rattle.std.proofs.lemmas.List.{ext_get_or, get_or_past}
+use Rattle.std.proofs.lemmas.List.Elements.{All-head, All-tail}
 use Rattle.std.proofs.lemmas.List.Sums.{sum_by-cons}
-use Rattle.std.proofs.lemmas.List.FromFn.{fill_by_all}
+use Rattle.std.proofs.lemmas.List.FromFn.{fill_by_all, get_or-range_with_len, length-range_with_len}
 use Rattle.zp_model.specs.Block.{with_run, has, in_run, without, size}
 use Rattle.zp_model.proofs.Normal.{Filled}
-use Rattle.zp_model.proofs.Pages.{In}
-use Rattle.zp_model.proofs.Covers.{same_pages, with-decides, length-with, has_below, length-without, without-decides}
+use Rattle.zp_model.proofs.Pages.{In, in_run-to}
+use Rattle.zp_model.proofs.Covers.{has-with, has-without, length-with, length-without}
+pub use Rattle.zp_model.proofs.Pages.{in_run-from as in_run-yes}
 
 pub same_tests : (a b : Bool) → (a ≡ true → b ≡ true) → (b ≡ true → a ≡ true) → a ≡ b
 same_tests a b f g = same_from_decides {P = b ≡ true} a b (f, g) (λ e. e, λ e. e)
@@ -17,35 +21,47 @@ same_tests a b f g = same_from_decides {P = b ≡ true} a b (f, g) (λ e. e, λ 
 abbrev pub one_if : Bool → ℕ
 one_if b = cond b 1 0
 
+-- sums of terms that are equal at each item
+pub sums_within : {X : Type 0} (f g : X → ℕ) (xs : List X) → All (λ x. f x ≡ g x) xs → sum_by f xs ≡ sum_by g xs
+sums_within f g [] e = refl
+sums_within f g (x ∷ xs) e =
+    sum_by-cons f x xs ∙ rw (All-head (λ y. f y ≡ g y) x xs e, sums_within f g xs (All-tail (λ y. f y ≡ g y) x xs e)) (sym (sum_by-cons g x xs))
+
+pub sums_equal : {X : Type 0} (f g : X → ℕ) (xs : List X) → ((x : X) → f x ≡ g x) → sum_by f xs ≡ sum_by g xs
+sums_equal f g xs e = sums_within f g xs (λ i d lt. e (get_or xs i d))
+
+pub sums_together : {X : Type 0} (f g : X → ℕ) (xs : List X) → sum_by (λ x. f x + g x) xs ≡ sum_by f xs + sum_by g xs
+sums_together f g [] = refl
+sums_together f g (x ∷ xs) = omega (arith, sum_by-cons f x xs, sum_by-cons g x xs, sum_by-cons (λ y. f y + g y) x xs, sums_together f g xs)
+
+pub zeros : {X : Type 0} (xs : List X) → sum_by (λ (x : X). 0) xs ≡ 0
+zeros [] = refl
+zeros {X} (x ∷ xs) = omega (arith, sum_by-cons (λ (y : X). 0) x xs, zeros xs)
+
+-- a table's sum, by rows and by columns
+pub exchanged : {X : Type 0} {Y : Type 0} (f : X → Y → ℕ) (xs : List X) (ys : List Y) → sum_by (λ y. sum_by (λ x. f x y) xs) ys ≡ sum_by (λ x. sum_by (f x) ys) xs
+exchanged f xs [] = sym (zeros xs)
+exchanged f xs (y ∷ ys) =
+    sum_by-cons (λ v. sum_by (λ x. f x v) xs) y ys ∙ rw (exchanged f xs ys) (sym (sums_together (λ x. f x y) (λ x. sum_by (f x) ys) xs))
+    ∙ sym (sums_equal (λ x. sum_by (f x) (y ∷ ys)) (λ x. f x y + sum_by (f x) ys) xs (λ x. sum_by-cons (f x) y ys))
+
+pub sum-map : {X : Type 0} (g : X → ℕ) (f : ℕ → X) (is : List ℕ) → sum_by g (map f is) ≡ sum_by (λ i. g (f i)) is
+sum-map g f [] = refl
+sum-map g f (i ∷ is) = omega (arith, sum_by-cons g (f i) (map f is), sum_by-cons (λ j. g (f j)) i is, sum-map g f is)
+
 pub sums-same : (f g : ℕ → ℕ) (a n : ℕ) → ((i : ℕ) → a ≤ i → i < a + n → f i ≡ g i) → sum_by f (range_with_len a n) ≡ sum_by g (range_with_len a n)
-sums-same f g a zero e = refl
-sums-same f g a (suc n) e =
-    let x = sum_by-cons f a (range_with_len (a + 1) n) in
-    let y = sum_by-cons g a (range_with_len (a + 1) n) in
-    let ih : sum_by f (range_with_len (a + 1) n) ≡ sum_by g (range_with_len (a + 1) n) = sums-same f g (a + 1) n (λ i lo hi. e i (omega arith) (omega arith)) in
-    let h : f a ≡ g a = e a (omega arith) (omega arith) in
-    omega (arith, x, y)
+sums-same f g a n e = sums_within f g (range_with_len a n) (λ i d lt.
+    let under : i < n = omega (arith, length-range_with_len a n) in
+    rw (get_or-range_with_len a n i d under) (e (a + i) (omega arith) (omega arith)))
 
 -- a count over a range that is two counts together, number by number
 pub counts-add : (p q r : ℕ → Bool) (a n : ℕ) → ((i : ℕ) → a ≤ i → i < a + n → one_if (p i) ≡ one_if (q i) + one_if (r i)) →
     count_by p (range_with_len a n) ≡ count_by q (range_with_len a n) + count_by r (range_with_len a n)
-counts-add p q r a zero e = refl
-counts-add p q r a (suc n) e =
-    let x = sum_by-cons (λ i. one_if (p i)) a (range_with_len (a + 1) n) in
-    let y = sum_by-cons (λ i. one_if (q i)) a (range_with_len (a + 1) n) in
-    let z = sum_by-cons (λ i. one_if (r i)) a (range_with_len (a + 1) n) in
-    let ih : count_by p (range_with_len (a + 1) n) ≡ count_by q (range_with_len (a + 1) n) + count_by r (range_with_len (a + 1) n) =
-    counts-add p q r (a + 1) n (λ i lo hi. e i (omega arith) (omega arith)) in
-    let h : one_if (p a) ≡ one_if (q a) + one_if (r a) = e a (omega arith) (omega arith) in
-    omega (arith, x, y, z)
+counts-add p q r a n e =
+    sums-same (λ i. one_if (p i)) (λ i. one_if (q i) + one_if (r i)) a n e ∙ sums_together (λ i. one_if (q i)) (λ i. one_if (r i)) (range_with_len a n)
 
 pub count-none : (p : ℕ → Bool) (a n : ℕ) → ((i : ℕ) → a ≤ i → i < a + n → p i ≡ false) → count_by p (range_with_len a n) ≡ 0
-count-none p a zero e = refl
-count-none p a (suc n) e =
-    let x = sum_by-cons (λ i. one_if (p i)) a (range_with_len (a + 1) n) in
-    let ih : count_by p (range_with_len (a + 1) n) ≡ 0 = count-none p (a + 1) n (λ i lo hi. e i (omega arith) (omega arith)) in
-    let h : one_if (p a) ≡ 0 = ap one_if (e a (omega arith) (omega arith)) in
-    omega (arith, x)
+count-none p a n e = sums-same (λ i. one_if (p i)) (λ i. 0) a n (λ i lo hi. ap one_if (e i lo hi)) ∙ zeros (range_with_len a n)
 
 -- how many numbers of a range lie in a run of m numbers from h on
 pub count-run : (p : ℕ → Bool) (h m a n : ℕ) → ((i : ℕ) → h ≤ i → i < h + m → p i ≡ true) → ((i : ℕ) → (i < h) ⊎ (h + m ≤ i) → p i ≡ false) →
@@ -62,55 +78,44 @@ count-run p h m a (suc n) f g =
       ]
     ]
 
-pub in_run-yes : (h k i : ℕ) → h ≤ i → i < h + 2 ^ k → in_run h k i ≡ true
-in_run-yes h k i a b = and_from _ _ (le-leb h i a) (lt-ltb i (h + 2 ^ k) b)
-
 pub in_run-no : (h k i : ℕ) → (i < h) ⊎ (h + 2 ^ k ≤ i) → in_run h k i ≡ false
-in_run-no h k i w = false_from_ne_true _ (λ e.
-    let a = and_parts _ _ e in
-    let lo : h ≤ i = leb-true h i a.0 in
-    let hi : i < h + 2 ^ k = ltb-true i (h + 2 ^ k) a.1 in
-    elim w [ inl x ↦ omega arith | inr x ↦ omega arith ])
+in_run-no h k i w = false_from_ne_true _ (λ e. let r = in_run-to h k i e in elim w [ inl x ↦ omega (arith, r.0) | inr x ↦ omega (arith, r.1) ])
 
 pub count-in_run : (h k n : ℕ) → h + 2 ^ k ≤ n → count_by (in_run h k) (range_with_len 0 n) ≡ 2 ^ k
 count-in_run h k n le =
     let x = count-run (in_run h k) h (2 ^ k) 0 n (in_run-yes h k) (in_run-no h k) in
     omega (arith, x)
 
-count-map : (f : ℕ → Bool) (xs : List ℕ) → count_by (λ b. b) (map f xs) ≡ count_by f xs
-count-map f [] = refl
-count-map f (x ∷ xs) =
-    let a = sum_by-cons (λ b. one_if b) (f x) (map f xs) in
-    let b = sum_by-cons (λ i. one_if (f i)) x xs in
-    let ih : count_by (λ b. b) (map f xs) ≡ count_by f xs = count-map f xs in
-    omega (arith, a, b)
-
 -- the size of a set counts the numbers below the zone's end that are in it
 pub size-range : (u : List Bool) → size u ≡ count_by (has u) (range_with_len 0 (length u))
 unfolding size
 size-range u =
-    ap (λ v. count_by (λ b. b) v) (fill_by_all (has u) u (length u) false refl (λ i lt. refl)) ∙ count-map (has u) (range_with_len 0 (length u))
+    ap (λ v. count_by (λ b. b) v) (fill_by_all (has u) u (length u) false refl (λ i lt. refl)) ∙ sum-map one_if (has u) (range_with_len 0 (length u))
+
+-- the marks of a set, also past its end, when the pages of a run leave it or come
+pub has-without_any : (u : List Bool) (h k i : ℕ) → has (without u h k) i ≡ (has u i && not (in_run h k i))
+has-without_any u h k i =
+    elim (cases_lt i (length u)) [
+      | inl lt ↦ has-without u h k i lt
+      | inr ge ↦ get_or_past (without u h k) i false (omega (arith, length-without u h k)) ∙ sym (rw (get_or_past u i false ge))
+    ]
+
+pub has-with_any : (u : List Bool) (h k i : ℕ) → h + 2 ^ k ≤ length u → has (with_run u h k) i ≡ (has u i || in_run h k i)
+has-with_any u h k i le =
+    elim (cases_lt i (length u)) [
+      | inl lt ↦ has-with u h k i lt
+      | inr ge ↦ get_or_past (with_run u h k) i false (omega (arith, length-with u h k)) ∙ sym (rw (get_or_past u i false ge, in_run-no h k i (inr (omega arith))))
+    ]
+
+pub same_marks : (u v : List Bool) → length u ≡ length v → ((i : ℕ) → has u i ≡ has v i) → u ≡ v
+same_marks u v l e = ext_get_or false u v l (λ i lt. e i)
 
 -- whether one number is in the set, before and after the pages of a run of it leave
 pub one-without : (u : List Bool) (h k i : ℕ) → Filled (In u) h k → one_if (has u i) ≡ one_if (has (without u h k) i) + one_if (in_run h k i)
-one-without u h k i f =
-    elim (cases_Bool (in_run h k i)) [
-      | inl within ↦
-          let a = and_parts _ _ within in
-          let lo : h ≤ i = leb-true h i a.0 in
-          let hi : i < h + 2 ^ k = ltb-true i (h + 2 ^ k) a.1 in
-          let here : has u i ≡ true = f i lo hi in
-          let gone : has (without u h k) i ≡ false = false_from_ne_true _ (λ e. ((without-decides u h k i (has_below u i here)).0 e).1 lo hi) in
-          rw (here, gone, within) refl
-      | inr past ↦
-          let out : h ≤ i → i < h + 2 ^ k → ⊥ = λ x y. both_ways (in_run h k i) past (in_run-yes h k i x y) in
-          let n : length (without u h k) ≡ length u = length-without u h k in
-          let same : has (without u h k) i ≡ has u i =
-          same_tests _ _
-          (λ e. let lt : i < length (without u h k) = has_below (without u h k) i e in ((without-decides u h k i (omega arith)).0 e).0)
-          (λ e. (without-decides u h k i (has_below u i e)).1 (e, out)) in
-          rw (same, past) (omega arith)
-    ]
+one-without u h k i f = rw (has-without_any u h k i) (parts (has u i) (in_run h k i) (λ e. let r = in_run-to h k i e in f i r.0 r.1))
+  where
+    parts : (u r : Bool) → (r ≡ true → u ≡ true) → one_if u ≡ one_if (u && not r) + one_if r
+    parts u r f = grind arith
 
 -- the pages of a run of the set leave it
 pub size-without : (u : List Bool) (h k : ℕ) → h + 2 ^ k ≤ length u → Filled (In u) h k → size u ≡ size (without u h k) + 2 ^ k
@@ -127,17 +132,21 @@ size-without u h k le f =
 -- the pages of a run of others that come are in the set, and without them it is what it was
 pub without-with_run : (u : List Bool) (h k : ℕ) → h + 2 ^ k ≤ length u → ((i : ℕ) → h ≤ i → i < h + 2 ^ k → In u i → ⊥) →
     Filled (In (with_run u h k)) h k × (without (with_run u h k) h k ≡ u)
-without-with_run u h k le none =
-    let v : List Bool = with_run u h k in
-    let n : length (with_run u h k) ≡ length u = length-with u h k in
-    let m : length (without (with_run u h k) h k) ≡ length (with_run u h k) = length-without (with_run u h k) h k in (
-      λ i a b. (with-decides u h k i (omega arith)).1 (inr (a, b)),
-      same_pages (without v h k) u (m ∙ n)
-          (λ i e.
-          let lt : i < length (without (with_run u h k) h k) = has_below (without v h k) i e in
-          let x = (without-decides v h k i (omega arith)).0 e in
-          elim ((with-decides u h k i (omega arith)).0 x.0) [ inl old ↦ old | inr run ↦ absurd (x.1 run.0 run.1) ])
-          (λ i e.
-          let lt : i < length u = has_below u i e in
-          (without-decides v h k i (omega arith)).1 ((with-decides u h k i lt).1 (inl e), λ a b. none i a b e)),
-    )
+without-with_run u h k le none = (
+  λ i a b. has-with_any u h k i le ∙ rw (in_run-yes h k i a b) (or-true (has u i)),
+  same_marks (without (with_run u h k) h k) u (length-without (with_run u h k) h k ∙ length-with u h k) (λ i.
+      has-without_any (with_run u h k) h k i ∙ rw (has-with_any u h k i le) (parts (has u i) (in_run h k i) (λ e f. let r = in_run-to h k i f in none i r.0 r.1 e))),
+)
+  where
+    parts : (u r : Bool) → (u ≡ true → r ≡ true → ⊥) → ((u || r) && not r) ≡ u
+    parts u r f = grind arith
+
+-- and a run that leaves and comes back leaves the set as it was
+pub with-without_run : (u : List Bool) (h k : ℕ) → h + 2 ^ k ≤ length u → Filled (In u) h k → with_run (without u h k) h k ≡ u
+with-without_run u h k le f =
+    let n : length (without u h k) ≡ length u = length-without u h k in
+    same_marks (with_run (without u h k) h k) u (length-with (without u h k) h k ∙ n) (λ i.
+    has-with_any (without u h k) h k i (omega arith) ∙ rw (has-without_any u h k i) (parts (has u i) (in_run h k i) (λ e. let r = in_run-to h k i e in f i r.0 r.1)))
+  where
+    parts : (u r : Bool) → (r ≡ true → u ≡ true) → ((u && not r) || r) ≡ u
+    parts u r f = grind arith

@@ -1,7 +1,7 @@
 -- A zone's history goes on with the entry of each request, from the empty one of its opening.
-use Rattle.std.proofs.Common.{ℕ, ◌≡◌, refl, sym, ◌∙◌, ap, subst, true, List, [], ◌∷◌, ◌++◌, length}
+use Rattle.std.proofs.Common.{ℕ, ◌≡◌, refl, ◌∙◌, ap, true, List, [], ◌∷◌, ◌++◌, length}
 use Rattle.std.proofs.lemmas.List.{length-replicate}
-use Rattle.zp_model.specs.declared.request.Entry.{Entry}
+use Rattle.zp_model.specs.Entries.{Entry}
 use Rattle.zp_model.specs.declared.request.Request.{Request}
 use Rattle.zp_model.specs.Zone.{PlainZone, zone_opening, pages_of, workers_of}
 use Rattle.zp_model.specs.Step.{step}
@@ -21,12 +21,7 @@ run_more z [] e = refl
 run_more z (x ∷ es) e = run_more (step z x.worker x.request).zone es e
 
 pub opening-same : (x y : PlainZone) → IsSameZone x y → opening_of y ≡ opening_of x
-opening-same x y s =
-    ap (λ m. zone_opening m y.base (pages_of y) y.min (workers_of y)) s.largest
-    ∙ ap (λ b. zone_opening x.area.largest b (pages_of y) y.min (workers_of y)) s.base
-    ∙ ap (λ n. zone_opening x.area.largest x.base n y.min (workers_of y)) s.pages
-    ∙ ap (λ l. zone_opening x.area.largest x.base (pages_of x) l (workers_of y)) s.min
-    ∙ ap (λ n. zone_opening x.area.largest x.base (pages_of x) x.min n) s.workers
+opening-same x y s = λ i. zone_opening (s.largest i) (s.base i) (s.pages i) (s.min i) (s.workers i)
 
 pub opening-step : (z : PlainZone) (w : ℕ) (r : Request) → opening_of (step z w r).zone ≡ opening_of z
 opening-step z w r = opening-same z (step z w r).zone (step-same z w r)
@@ -47,8 +42,7 @@ pub history_more : (z : PlainZone) (es : List Entry) (w : ℕ) (r : Request) →
     IsHistory (step z w r).zone (es ++ entry_of z w r ∷ [])
 history_more z es w r h d =
     let e : Entry = entry_of z w r in
-    let o : opening_of (step z w r).zone ≡ opening_of z = opening-step z w r in
     record {
-      legal = subst (λ x. IsLegal x (es ++ e ∷ [])) (sym o) (legal_more (opening_of z) es e h.legal (subst (λ x. IsLegalEntry x e) (sym h.run) (d, refl)));
-      run = ap (λ x. run x (es ++ e ∷ [])) o ∙ run_more (opening_of z) es e ∙ ap (λ x. (step x w r).zone) h.run;
+      legal = rw (opening-step z w r) (legal_more (opening_of z) es e h.legal (rw h.run (d, refl)));
+      run = rw (opening-step z w r) (run_more (opening_of z) es e ∙ ap (λ x. (step x w r).zone) h.run);
     }

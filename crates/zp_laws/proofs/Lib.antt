@@ -1,3 +1,4 @@
+pub mod Outcomes
 pub mod Counting
 pub mod Settling
 pub mod Choosing
@@ -6,15 +7,8 @@ pub mod HandedOut
 pub mod Areas
 pub mod Keeping
 pub mod Opening
-pub mod Allocating
-pub mod AllocatingLow
 pub mod Held
-pub mod Freeing
-pub mod Posting
-pub mod Collecting
 pub mod Sameness
-pub mod Refilling
-pub mod Draining
 pub mod Steps
 pub mod Refusals
 pub mod Moves

@@ -1,6 +1,6 @@
 -- A journal run from where it began gives the zone that made it.
 use Rattle.std.proofs.Common.{◌≡◌, refl, ◌∙◌, ap, List, [], ◌∷◌}
-use Rattle.zp_model.specs.declared.request.Entry.{Entry}
+use Rattle.zp_model.specs.Entries.{Entry}
 use Rattle.zp_model.specs.Zone.{PlainZone}
 use Rattle.zp_model.specs.Step.{step}
 use Rattle.zp_model.specs.Run.{run, IsLegal}

@@ -1,6 +1,6 @@
 -- What workers ask of a zone one after the other, and the journal of it.
 use Rattle.std.specs.Prelude.{ℕ, ◌≡◌, List, [], ◌∷◌, ◌++◌}
-use Rattle.zp_model.specs.declared.request.Entry.{Entry}
+use Rattle.zp_model.specs.Entries.{Entry}
 use Rattle.zp_model.specs.declared.request.Request.{Request}
 use Rattle.zp_model.specs.Zone.{PlainZone, zone_opening}
 use Rattle.zp_model.specs.Step.{step}

@@ -3,7 +3,7 @@ use Rattle.std.specs.Prelude.{ℕ, ◌≡◌, ◌<◌, ◌==◌, List, None, Som
 use Rattle.std.specs.List.{IsDistinct}
 use Rattle.zp_model.specs.declared.migrate_type.MigrateType.{MigrateType}
 use Rattle.zp_model.specs.declared.mark.Mark.{Mark}
-use Rattle.zp_model.specs.declared.request.Entry.{Entry}
+use Rattle.zp_model.specs.Entries.{Entry}
 use Rattle.zp_model.specs.declared.request.Request.{Request}
 use Rattle.zp_model.specs.Area.{Area, settle, lists_count}
 use Rattle.zp_model.specs.Rows.{list_at}

@@ -1,5 +1,4 @@
 pub mod Places
-pub mod Standing
 pub mod Splice
 pub mod Writes
 pub mod Telling

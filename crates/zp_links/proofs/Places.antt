@@ -1,81 +1,13 @@
--- Lists by places: a page cut out, a page put in, and the list that links spell.
-use Rattle.std.proofs.Common.{ℕ, zero, suc, ◌+◌, ◌≡◌, ◌≤◌, ◌<◌, ◌==◌, ◌≢◌, ◌⊎◌, inl, inr, refl, sym, ◌∙◌, ap, arith, true, false, List, [], ◌∷◌, ◌++◌, length, Option, Some, None, slice_get, eq-eqb, ne_eqb, eqb}
-use Rattle.std.specs.List.{list_any, IsDistinct, AllByRecursion}
+-- Lists by places: a page put in, where a page stands, and the list that links spell.
+use Rattle.std.proofs.Common.{ℕ, zero, suc, ◌≡◌, ◌≤◌, ◌<◌, ◌==◌, ◌≢◌, ◌⊎◌, inl, inr, refl, sym, arith, true, false, List, [], ◌∷◌, ◌++◌, length, Option, Some, slice_get, eq-eqb, ne_eqb, eqb}
+use Rattle.std.specs.List.{IsDistinct, AllByRecursion}
 use Rattle.std.proofs.lemmas.Map.Steps.{length-le_from_distinct_below}
+use Rattle.std.proofs.lemmas.Bool.{cases_lt}
 use Rattle.std.proofs.lemmas.Bool.Decides.{eqb_tells}
-use Rattle.std.proofs.lemmas.Bool.{cases_lt, cases_eq}
-use Rattle.zp_model.specs.Rows.{without_page, rest}
+use Rattle.std.proofs.lemmas.Option.{slice_get_past}
+use Rattle.zp_model.specs.Rows.{list_at, stands_in, IsLoose, without_page, front, after}
 use Rattle.zp_table.specs.declared.entry.PageEntry.{PageEntry}
-use Rattle.zp_links.specs.Linked.{forward_at, end_if, walk, before}
-
--- a list without what stands at place i
-abbrev pub cut : List ℕ → ℕ → List ℕ
-cut [] i = []
-cut (x ∷ xs) zero = xs
-cut (x ∷ xs) (suc i) = x ∷ cut xs i
-
-pub cut-below : (xs : List ℕ) (i k : ℕ) → k < i → slice_get (cut xs i) k ≡ slice_get xs k
-cut-below [] i k l = refl
-cut-below (x ∷ xs) zero k l = absurd (omega arith)
-cut-below (x ∷ xs) (suc i) zero l = refl
-cut-below (x ∷ xs) (suc i) (suc k) l = cut-below xs i k (omega arith)
-
-pub cut-above : (xs : List ℕ) (i k : ℕ) → i ≤ k → slice_get (cut xs i) k ≡ slice_get xs (suc k)
-cut-above [] i k l = refl
-cut-above (x ∷ xs) zero k l = refl
-cut-above (x ∷ xs) (suc i) zero l = absurd (omega arith)
-cut-above (x ∷ xs) (suc i) (suc k) l = cut-above xs i k (omega arith)
-
-pub length-cut : (xs : List ℕ) (i : ℕ) → i < length xs → length (cut xs i) + 1 ≡ length xs
-length-cut [] i l = absurd (omega arith)
-length-cut (x ∷ xs) zero l = omega arith
-length-cut (x ∷ xs) (suc i) l = omega (arith, length-cut xs i (omega arith))
-
-pub get_within : (xs : List ℕ) (k p : ℕ) → slice_get xs k ≡ Some p → k < length xs
-get_within [] k p e = absurd cc
-get_within (x ∷ xs) zero p e = omega arith
-get_within (x ∷ xs) (suc k) p e = omega (arith, get_within xs k p e)
-
-pub get_past : (xs : List ℕ) (k : ℕ) → length xs ≤ k → slice_get xs k ≡ None
-get_past [] k l = refl
-get_past (x ∷ xs) zero l = absurd (omega arith)
-get_past (x ∷ xs) (suc k) l = get_past xs k (omega arith)
-
--- a page that isn't there isn't filtered
-without-absent : (p : ℕ) (xs : List ℕ) → ((k : ℕ) → slice_get xs k ≡ Some p → ⊥) → without_page p xs ≡ xs
-without-absent p [] h = refl
-without-absent p (x ∷ xs) h =
-    let ne : x ≢ p = λ e. h 0 (ap (λ (n : ℕ). Some n) e) in
-    let t : (x == p) ≡ false = Prim.grind (arith) in
-    rw t (ap (λ (l : List ℕ). x ∷ l) (without-absent p xs (λ k e. h (suc k) e)))
-
-pub without_page_is : (p : ℕ) (xs : List ℕ) (i : ℕ) → slice_get xs i ≡ Some p → ((k : ℕ) → slice_get xs k ≡ Some p → k ≡ i) → without_page p xs ≡ cut xs i
-without_page_is p [] i e u = absurd cc
-without_page_is p (x ∷ xs) zero e u =
-    let s : x ≡ p = cc in
-    let t : (x == p) ≡ true = eq-eqb x p s in
-    rw t (without-absent p xs (λ k e'. let bad : suc k ≡ 0 = u (suc k) e' in absurd (omega arith)))
-without_page_is p (x ∷ xs) (suc i) e u =
-    let ne : x ≢ p = λ s. let bad : 0 ≡ suc i = u 0 (ap (λ (n : ℕ). Some n) s) in omega arith in
-    let t : (x == p) ≡ false = ne_eqb x p ne in
-    rw t (ap (λ (l : List ℕ). x ∷ l) (without_page_is p xs i e (λ k e'. let same : suc k ≡ suc i = u (suc k) e' in omega arith)))
-
-pub walk_is : (xs : List ℕ) (t : List PageEntry) (o : Option ℕ) → o ≡ slice_get xs 0 → ((k p : ℕ) → slice_get xs k ≡ Some p → forward_at t p ≡ slice_get xs (suc k)) → walk (length xs) t o ≡ xs
-walk_is [] t o e h = refl
-walk_is (x ∷ xs) t o e h = rw e (ap (λ (l : List ℕ). x ∷ l) (walk_is xs t (forward_at t x) (h 0 x refl) (λ k p e'. h (suc k) p e')))
-
-pub get_some : (xs : List ℕ) (k : ℕ) → k < length xs → (p : ℕ) × (slice_get xs k ≡ Some p)
-get_some [] k l = absurd (omega arith)
-get_some (x ∷ xs) zero l = (x, refl)
-get_some (x ∷ xs) (suc k) l = get_some xs k (omega arith)
-
-pub before-cut-below : (xs : List ℕ) (i k : ℕ) → k ≤ i → before (cut xs i) k ≡ before xs k
-before-cut-below xs i zero l = refl
-before-cut-below xs i (suc k) l = cut-below xs i k (omega arith)
-
-pub before-cut-above : (xs : List ℕ) (i k : ℕ) → i < k → before (cut xs i) k ≡ before xs (suc k)
-before-cut-above xs i zero l = absurd (omega arith)
-before-cut-above xs i (suc k) l = cut-above xs i k (omega arith)
+use Rattle.zp_links.specs.Linked.{forward_at, end_if, walk, before, StandsNowhere}
 
 -- a list with a page put in at place i
 abbrev pub put : List ℕ → ℕ → ℕ → List ℕ
@@ -83,159 +15,160 @@ put xs zero p = p ∷ xs
 put [] (suc i) p = p ∷ []
 put (x ∷ xs) (suc i) p = x ∷ put xs i p
 
-pub put-below : (xs : List ℕ) (i p k : ℕ) → i ≤ length xs → k < i → slice_get (put xs i p) k ≡ slice_get xs k
-put-below xs zero p k l b = absurd (omega arith)
-put-below [] (suc i) p k l b = absurd (omega arith)
-put-below (x ∷ xs) (suc i) p zero l b = refl
-put-below (x ∷ xs) (suc i) p (suc k) l b = put-below xs i p k (omega arith) (omega arith)
+-- the place in the longer list of what stood at place j
+abbrev pub up : ℕ → ℕ → ℕ
+up zero j = suc j
+up (suc i) zero = zero
+up (suc i) (suc j) = suc (up i j)
 
-pub put-at : (xs : List ℕ) (i p : ℕ) → i ≤ length xs → slice_get (put xs i p) i ≡ Some p
-put-at xs zero p l = refl
-put-at [] (suc i) p l = absurd (omega arith)
-put-at (x ∷ xs) (suc i) p l = put-at xs i p (omega arith)
+pub up_is : (i j : ℕ) → ((j < i) × (up i j ≡ j)) ⊎ ((i ≤ j) × (up i j ≡ suc j))
+up_is zero j = inr (omega arith, refl)
+up_is (suc i) zero = inl (omega arith, refl)
+up_is (suc i) (suc j) = elim (up_is i j) [ inl w ↦ inl (omega arith, omega arith) | inr w ↦ inr (omega arith, omega arith) ]
 
-pub put-above : (xs : List ℕ) (i p k : ℕ) → i ≤ length xs → i ≤ k → slice_get (put xs i p) (suc k) ≡ slice_get xs k
-put-above xs zero p k l b = refl
-put-above [] (suc i) p k l b = absurd (omega arith)
-put-above (x ∷ xs) (suc i) p zero l b = absurd (omega arith)
-put-above (x ∷ xs) (suc i) p (suc k) l b = put-above xs i p k (omega arith) (omega arith)
+-- each place of the longer list is i or one of those
+pub places : (i k : ℕ) → (k ≡ i) ⊎ ((j : ℕ) × (k ≡ up i j))
+places zero zero = inl refl
+places zero (suc k) = inr (k, refl)
+places (suc i) zero = inr (0, refl)
+places (suc i) (suc k) = elim (places i k) [ inl w ↦ inl (omega arith) | inr w ↦ inr (suc w.0, omega arith) ]
+
+pub get_up : (xs : List ℕ) (i p j : ℕ) → i ≤ length xs → slice_get (put xs i p) (up i j) ≡ slice_get xs j
+get_up xs zero p j l = refl
+get_up [] (suc i) p j l = absurd (omega arith)
+get_up (x ∷ xs) (suc i) p zero l = refl
+get_up (x ∷ xs) (suc i) p (suc j) l = get_up xs i p j (omega arith)
+
+pub put_at : (xs : List ℕ) (i p : ℕ) → i ≤ length xs → slice_get (put xs i p) i ≡ Some p
+put_at xs zero p l = refl
+put_at [] (suc i) p l = absurd (omega arith)
+put_at (x ∷ xs) (suc i) p l = put_at xs i p (omega arith)
 
 pub length-put : (xs : List ℕ) (i p : ℕ) → length (put xs i p) ≡ suc (length xs)
 length-put xs zero p = refl
 length-put [] (suc i) p = refl
-length-put (x ∷ xs) (suc i) p = ap (λ (n : ℕ). suc n) (length-put xs i p)
+length-put (x ∷ xs) (suc i) p = omega (arith, length-put xs i p)
 
 pub put_last : (xs : List ℕ) (p : ℕ) → put xs (length xs) p ≡ xs ++ p ∷ []
 put_last [] p = refl
-put_last (x ∷ xs) p = ap (λ (l : List ℕ). x ∷ l) (put_last xs p)
+put_last (x ∷ xs) p = cc (put_last xs p)
 
-pub before-put-below : (xs : List ℕ) (i p k : ℕ) → i ≤ length xs → k ≤ i → before (put xs i p) k ≡ before xs k
-before-put-below xs i p zero l b = refl
-before-put-below xs i p (suc k) l b = put-below xs i p k l (omega arith)
+-- the neighbours of the page that is put in
+pub after_put : (xs : List ℕ) (i p : ℕ) → i ≤ length xs → slice_get (put xs i p) (suc i) ≡ slice_get xs i
+after_put xs i p l = let n : up i i ≡ suc i = omega (arith, up_is i i) in rw n at (get_up xs i p i l)
 
-pub before-put-above : (xs : List ℕ) (i p k : ℕ) → i ≤ length xs → i < k → before (put xs i p) (suc k) ≡ before xs k
-before-put-above xs i p zero l b = absurd (omega arith)
-before-put-above xs i p (suc k) l b = put-above xs i p k l (omega arith)
+pub before_put : (xs : List ℕ) (i p : ℕ) → i ≤ length xs → before (put xs i p) i ≡ before xs i
+before_put xs zero p l = refl
+before_put xs (suc i) p l = let n : up (suc i) i ≡ i = omega (arith, up_is (suc i) i) in rw n at (get_up xs (suc i) p i l)
 
--- the places of a page in a list and in the longer one: they differ from place i on
-abbrev pub Shifted : ℕ → ℕ → ℕ → Type 0
-Shifted i k j = ((k < i) × (j ≡ k)) ⊎ ((i ≤ k) × (j ≡ suc k))
+-- the neighbours of a page elsewhere: the page that is put in, or those that it had
+pub next_up : (xs : List ℕ) (i p j : ℕ) → i ≤ length xs → suc j ≢ i → slice_get (put xs i p) (suc (up i j)) ≡ slice_get xs (suc j)
+next_up xs i p j l off = let n : up i (suc j) ≡ suc (up i j) = omega (arith, up_is i j, up_is i (suc j)) in rw n at (get_up xs i p (suc j) l)
 
-pub same_short : (i k1 k2 j1 j2 : ℕ) → Shifted i k1 j1 → Shifted i k2 j2 → j1 ≡ j2 → k1 ≡ k2
-same_short i k1 k2 j1 j2 (inl a) (inl b) e = omega arith
-same_short i k1 k2 j1 j2 (inl a) (inr b) e = omega arith
-same_short i k1 k2 j1 j2 (inr a) (inl b) e = omega arith
-same_short i k1 k2 j1 j2 (inr a) (inr b) e = omega arith
+pub next_put : (xs : List ℕ) (i p j : ℕ) → i ≤ length xs → suc j ≡ i → slice_get (put xs i p) (suc (up i j)) ≡ Some p
+next_put xs i p j l e = let n : suc (up i j) ≡ i = omega (arith, up_is i j) in rw n (put_at xs i p l)
 
-pub same_long : (i k1 k2 j1 j2 : ℕ) → Shifted i k1 j1 → Shifted i k2 j2 → k1 ≡ k2 → j1 ≡ j2
-same_long i k1 k2 j1 j2 (inl a) (inl b) e = omega arith
-same_long i k1 k2 j1 j2 (inl a) (inr b) e = omega arith
-same_long i k1 k2 j1 j2 (inr a) (inl b) e = omega arith
-same_long i k1 k2 j1 j2 (inr a) (inr b) e = omega arith
+pub previous_up : (xs : List ℕ) (i p j : ℕ) → i ≤ length xs → j ≢ i → before (put xs i p) (up i j) ≡ before xs j
+previous_up xs i p zero l off = let n : up i 0 ≡ 0 = omega (arith, up_is i 0) in rw n refl
+previous_up xs i p (suc j) l off = let n : up i (suc j) ≡ suc (up i j) = omega (arith, up_is i j, up_is i (suc j)) in rw n (get_up xs i p j l)
 
-pub stood_cut : (xs : List ℕ) (i k q : ℕ) → slice_get (cut xs i) k ≡ Some q → (j : ℕ) × Shifted i k j × (slice_get xs j ≡ Some q)
-stood_cut xs i k q e = elim (cases_lt k i) [
-  | inl lt ↦ (k, inl (lt, refl), sym (cut-below xs i k lt) ∙ e)
-  | inr ge ↦ (suc k, inr (ge, refl), sym (cut-above xs i k ge) ∙ e)
+pub previous_put : (xs : List ℕ) (i p j : ℕ) → i ≤ length xs → j ≡ i → before (put xs i p) (up i j) ≡ Some p
+previous_put xs i p j l e = let n : up i j ≡ suc i = omega (arith, up_is i j) in rw n (put_at xs i p l)
+
+pub get_some : (xs : List ℕ) (k : ℕ) → k < length xs → (p : ℕ) × (slice_get xs k ≡ Some p)
+get_some [] k l = absurd (omega arith)
+get_some (x ∷ xs) zero l = (x, refl)
+get_some (x ∷ xs) (suc k) l = get_some xs k (omega arith)
+
+-- the ends of the two lists
+pub fronts : (xs : List ℕ) (i p : ℕ) → i ≤ length xs → (end_if (before xs i) (Some p) (slice_get xs 0) ≡ slice_get (put xs i p) 0) × (end_if (before xs i) (slice_get xs i) (slice_get (put xs i p) 0) ≡ slice_get xs 0)
+fronts xs zero p l = (refl, refl)
+fronts [] (suc i) p l = absurd (omega arith)
+fronts (x ∷ xs) (suc i) p l = rw (get_some (x ∷ xs) i l).1 (refl, refl)
+
+pub backs : (xs : List ℕ) (i p : ℕ) → i ≤ length xs → (end_if (slice_get xs i) (Some p) (before xs (length xs)) ≡ before (put xs i p) (length (put xs i p))) × (end_if (slice_get xs i) (before xs i) (before (put xs i p) (length (put xs i p))) ≡ before xs (length xs))
+backs xs i p l = rw length-put (elim (cases_lt i (length xs)) [
+  | inl lt ↦
+      let n : up i (length xs) ≡ suc (length xs) = omega (arith, up_is i (length xs)) in
+      let same = rw n at (previous_up xs i p (length xs) l (λ e. omega arith)) in
+      rw (get_some xs i lt).1 (sym same, same)
+  | inr ge ↦
+      let n : length xs ≡ i = omega arith in
+      rw (slice_get_past xs i ge, n) (sym (put_at xs i p l), refl)
+])
+
+-- a page that isn't there isn't filtered
+without-absent : (p : ℕ) (xs : List ℕ) → ((k : ℕ) → slice_get xs k ≡ Some p → ⊥) → without_page p xs ≡ xs
+without-absent p [] h = refl
+without-absent p (x ∷ xs) h =
+    let t : (x == p) ≡ false = ne_eqb x p (λ e. h 0 cc) in
+    rw t (cc (without-absent p xs (λ k e. h (suc k) e)))
+
+-- a list is what is left without a page, with the page put in where it stands
+pub put_back : (p : ℕ) (xs : List ℕ) (i : ℕ) → slice_get xs i ≡ Some p → ((k : ℕ) → slice_get xs k ≡ Some p → k ≡ i) → xs ≡ put (without_page p xs) i p
+put_back p [] i e u = absurd cc
+put_back p (x ∷ xs) zero e u =
+    let t : (x == p) ≡ true = eq-eqb x p cc in
+    rw t (let absent = without-absent p xs (λ k f. let bad : suc k ≡ 0 = u (suc k) f in omega arith) in cc)
+put_back p (x ∷ xs) (suc i) e u =
+    let t : (x == p) ≡ false = ne_eqb x p (λ s. let bad : 0 ≡ suc i = u 0 cc in omega arith) in
+    rw t (cc (put_back p xs i e (λ k f. let same : suc k ≡ suc i = u (suc k) f in omega arith)))
+
+pub walk_is : (xs : List ℕ) (t : List PageEntry) (o : Option ℕ) → o ≡ slice_get xs 0 → ((k p : ℕ) → slice_get xs k ≡ Some p → forward_at t p ≡ slice_get xs (suc k)) → walk (length xs) t o ≡ xs
+walk_is [] t o e h = refl
+walk_is (x ∷ xs) t o e h = rw e (cc (walk_is xs t (forward_at t x) (h 0 x refl) (λ k p f. h (suc k) p f)))
+
+-- a page stands on a list where it stands at some place
+pub stands_at : (xs : List ℕ) (k p : ℕ) → slice_get xs k ≡ Some p → stands_in p xs ≡ true
+stands_at [] k p e = absurd cc
+stands_at (x ∷ xs) zero p e = let t : eqb p x ≡ true = eq-eqb p x cc in rw t refl
+stands_at (x ∷ xs) (suc k) p e = elim (eqb_tells p x) [ inl w ↦ rw w.0 refl | inr w ↦ rw w.0 (stands_at xs k p e) ]
+
+pub any_at : (xs : List ℕ) (p : ℕ) → stands_in p xs ≡ true → (k : ℕ) × (slice_get xs k ≡ Some p)
+any_at [] p h = absurd cc
+any_at (x ∷ xs) p h = elim (eqb_tells p x) [
+  | inl w ↦ (0, cc)
+  | inr w ↦ let v = any_at xs p (rw w.0 at h) in (suc v.0, v.1)
 ]
 
-stood_above : (xs : List ℕ) (i p j q : ℕ) → i ≤ length xs → i < j → slice_get (put xs i p) j ≡ Some q → ((j ≡ i) × (q ≡ p)) ⊎ ((k : ℕ) × Shifted i k j × (slice_get xs k ≡ Some q))
-stood_above xs i p zero q l b e = absurd (omega arith)
-stood_above xs i p (suc k) q l b e = inr (k, inr (omega arith, refl), sym (put-above xs i p k l (omega arith)) ∙ e)
+pub none_at : (xs : List ℕ) (p : ℕ) → ((k : ℕ) → slice_get xs k ≡ Some p → ⊥) → stands_in p xs ≡ false
+none_at [] p none = refl
+none_at (x ∷ xs) p none = let t : eqb p x ≡ false = ne_eqb p x (λ e. none 0 cc) in rw t (none_at xs p (λ k e. none (suc k) e))
 
-pub stood_put : (xs : List ℕ) (i p j q : ℕ) → i ≤ length xs → slice_get (put xs i p) j ≡ Some q → ((j ≡ i) × (q ≡ p)) ⊎ ((k : ℕ) × Shifted i k j × (slice_get xs k ≡ Some q))
-stood_put xs i p j q l e = elim (cases_lt j i) [
-  | inl lt ↦ inr (j, inl (lt, refl), sym (put-below xs i p j l lt) ∙ e)
-  | inr ge ↦ elim (cases_eq j i) [
-    | inl same ↦
-        let a : Some p ≡ Some q = sym (put-at xs i p l) ∙ ap (λ (n : ℕ). slice_get (put xs i p) n) (sym same) ∙ e in
-        inl (same, cc)
-    | inr off ↦ stood_above xs i p j q l (omega arith) e
-  ]
-]
+pub nowhere : (ls : List (List ℕ)) (p : ℕ) → IsLoose ls p → StandsNowhere ls p
+nowhere ls p none r k e = let found = stands_at (list_at ls r) k p e in let absent = none r in absurd cc
 
-pub front-put : (xs : List ℕ) (i p : ℕ) (f : Option ℕ) → i ≤ length xs → f ≡ slice_get xs 0 → end_if (before xs i) (Some p) f ≡ slice_get (put xs i p) 0
-front-put xs zero p f l e = refl
-front-put xs (suc j) p f l e =
-    let w : (q : ℕ) × (slice_get xs j ≡ Some q) = get_some xs j (omega arith) in
-    rw w.1 (e ∙ sym (put-below xs (suc j) p 0 l (omega arith)))
+-- what the page before place i is, where the pages at the places below are that
+pub before_has : (xs : List ℕ) (i : ℕ) (P : ℕ → Type 0) → ((k q : ℕ) → suc k ≡ i → slice_get xs k ≡ Some q → P q) → (q : ℕ) → before xs i ≡ Some q → P q
+before_has xs zero P h q e = absurd cc
+before_has xs (suc i) P h q e = h i q refl e
 
-back-put_more : (xs : List ℕ) (i p : ℕ) (b : Option ℕ) → i < length xs → b ≡ before xs (length xs) → end_if (slice_get xs i) (Some p) b ≡ before (put xs i p) (suc (length xs))
-back-put_more xs i p b l e =
-    let w : (q : ℕ) × (slice_get xs i ≡ Some q) = get_some xs i l in
-    rw w.1 (e ∙ sym (before-put-above xs i p (length xs) (omega arith) l))
+-- what stands after a page that stands once
+pub after_is : (xs : List ℕ) (k p : ℕ) → slice_get xs k ≡ Some p → ((j : ℕ) → slice_get xs j ≡ Some p → j ≡ k) → after p xs ≡ slice_get xs (suc k)
+after_is [] k p e once = absurd cc
+after_is (x ∷ xs) zero p e once = let t : (x == p) ≡ true = eq-eqb x p cc in rw t (front_is xs)
+  where
+    front_is : (ys : List ℕ) → front ys ≡ slice_get ys 0
+    front_is [] = refl
+    front_is (y ∷ ys) = refl
+after_is (x ∷ xs) (suc k) p e once =
+    let t : (x == p) ≡ false = ne_eqb x p (λ s. let bad : 0 ≡ suc k = once 0 cc in omega arith) in
+    rw t (after_is xs k p e (λ j f. let same : suc j ≡ suc k = once (suc j) f in omega arith))
 
-back-put_last : (xs : List ℕ) (i p : ℕ) (b : Option ℕ) → i ≡ length xs → end_if (slice_get xs i) (Some p) b ≡ before (put xs i p) (suc (length xs))
-back-put_last xs i p b e =
-    let past : slice_get xs i ≡ None = get_past xs i (omega arith) in
-    rw past (sym (put-at xs i p (omega arith)) ∙ ap (λ (n : ℕ). slice_get (put xs i p) n) e)
+-- no page stands at two places of a list
+abbrev pub StandOnce : List ℕ → Type 0
+StandOnce xs = (j k q : ℕ) → slice_get xs j ≡ Some q → slice_get xs k ≡ Some q → j ≡ k
 
-pub back-put : (xs : List ℕ) (i p : ℕ) (b : Option ℕ) → i ≤ length xs → b ≡ before xs (length xs) → end_if (slice_get xs i) (Some p) b ≡ before (put xs i p) (length (put xs i p))
-back-put xs i p b l e =
-    let n : before (put xs i p) (length (put xs i p)) ≡ before (put xs i p) (suc (length xs)) = ap (λ (m : ℕ). before (put xs i p) m) (length-put xs i p) in
-    elim (cases_lt i (length xs)) [
-      | inl more ↦ back-put_more xs i p b more e ∙ sym n
-      | inr last ↦ back-put_last xs i p b (omega arith) ∙ sym n
-    ]
-
-pub front-cut : (xs : List ℕ) (i : ℕ) (f : Option ℕ) → i < length xs → f ≡ slice_get xs 0 → end_if (before xs i) (slice_get xs (suc i)) f ≡ slice_get (cut xs i) 0
-front-cut xs zero f l e = sym (cut-above xs 0 0 (omega arith))
-front-cut xs (suc j) f l e =
-    let w : (p : ℕ) × (slice_get xs j ≡ Some p) = get_some xs j (omega arith) in
-    rw w.1 (e ∙ sym (cut-below xs (suc j) 0 (omega arith)))
-
-back-cut_last : (xs : List ℕ) (i m : ℕ) (b : Option ℕ) → suc i ≡ length xs → m + 1 ≡ length xs → end_if (slice_get xs (suc i)) (before xs i) b ≡ before (cut xs i) m
-back-cut_last xs i m b e f =
-    let past : slice_get xs (suc i) ≡ None = get_past xs (suc i) (omega arith) in
-    let same : m ≡ i = omega arith in
-    rw (past, same) (sym (before-cut-below xs i i (omega arith)))
-
-back-cut_more : (xs : List ℕ) (i m : ℕ) (b : Option ℕ) → suc i < length xs → m + 1 ≡ length xs → b ≡ before xs (length xs) → end_if (slice_get xs (suc i)) (before xs i) b ≡ before (cut xs i) m
-back-cut_more xs i m b l f e =
-    let w : (p : ℕ) × (slice_get xs (suc i) ≡ Some p) = get_some xs (suc i) l in
-    let n : length xs ≡ suc m = omega arith in
-    rw w.1 (e ∙ ap (λ (k : ℕ). before xs k) n ∙ sym (before-cut-above xs i m (omega arith)))
-
-pub back-cut : (xs : List ℕ) (i : ℕ) (b : Option ℕ) → i < length xs → b ≡ before xs (length xs) → end_if (slice_get xs (suc i)) (before xs i) b ≡ before (cut xs i) (length (cut xs i))
-back-cut xs i b l e =
-    let n : length (cut xs i) + 1 ≡ length xs = length-cut xs i l in
-    elim (cases_lt (suc i) (length xs)) [
-      | inl more ↦ back-cut_more xs i (length (cut xs i)) b more n e
-      | inr last ↦ back-cut_last xs i (length (cut xs i)) b (omega arith) n
-    ]
-
--- where a page stands that a test finds
-pub any_at : (xs : List ℕ) (q : ℕ) → list_any (eqb q) xs ≡ true → (k : ℕ) × (slice_get xs k ≡ Some q)
-any_at [] q h = absurd cc
-any_at (x ∷ xs) q h = elim (eqb_tells q x) [
-  | inl w ↦ (0, ap (λ (n : ℕ). Some n) (sym w.1))
-  | inr w ↦
-      let h' : list_any (eqb q) xs ≡ true = rw w.0 at h in
-      let v : (k : ℕ) × (slice_get xs k ≡ Some q) = any_at xs q h' in
-      (suc v.0, v.1)
-]
-
--- a page that stands at no place isn't found
-pub none_at : (xs : List ℕ) (q : ℕ) → ((k : ℕ) → slice_get xs k ≡ Some q → ⊥) → list_any (eqb q) xs ≡ false
-none_at [] q none = refl
-none_at (x ∷ xs) q none =
-    let t : eqb q x ≡ false = ne_eqb q x (λ e. none 0 (ap (λ (n : ℕ). Some n) (sym e))) in
-    rw t (none_at xs q (λ k e. none (suc k) e))
-
-all_differ : (xs : List ℕ) (x : ℕ) → ((k : ℕ) → slice_get xs k ≡ Some x → ⊥) → AllByRecursion (λ y. eqb x y ≡ false) xs
-all_differ [] x h = tt
-all_differ (y ∷ xs) x h = (ne_eqb x y (λ e. h 0 (ap (λ (n : ℕ). Some n) (sym e))), all_differ xs x (λ k e. h (suc k) e))
-
-pub distinct : (xs : List ℕ) → ((j k q : ℕ) → slice_get xs j ≡ Some q → slice_get xs k ≡ Some q → j ≡ k) → IsDistinct eqb xs
+pub distinct : (xs : List ℕ) → StandOnce xs → IsDistinct eqb xs
 unfolding IsDistinct
 distinct [] h = tt
 distinct (x ∷ xs) h =
-    (all_differ xs x (λ k e. let bad : 0 ≡ suc k = h 0 (suc k) x refl e in omega arith), distinct xs (λ j k q a b. let s : suc j ≡ suc k = h (suc j) (suc k) q a b in omega arith))
+    (all_differ xs (λ k e. let bad : 0 ≡ suc k = h 0 (suc k) x refl e in omega arith), distinct xs (λ j k q a b. let s : suc j ≡ suc k = h (suc j) (suc k) q a b in omega arith))
+  where
+    all_differ : (ys : List ℕ) → ((k : ℕ) → slice_get ys k ≡ Some x → ⊥) → AllByRecursion (λ y. eqb x y ≡ false) ys
+    all_differ [] g = tt
+    all_differ (y ∷ ys) g = (ne_eqb x y (λ e. g 0 cc), all_differ ys (λ k e. g (suc k) e))
 
 -- pages below n that don't repeat are at most n
-pub short : (xs : List ℕ) (n : ℕ) → ((j k q : ℕ) → slice_get xs j ≡ Some q → slice_get xs k ≡ Some q → j ≡ k) → ((k q : ℕ) → slice_get xs k ≡ Some q → q < n) → length xs ≤ n
-short xs n h b = length-le_from_distinct_below xs n (distinct xs h) (λ q e. let w : (k : ℕ) × (slice_get xs k ≡ Some q) = any_at xs q e in b w.0 q w.1)
-
-pub cut_front : (xs : List ℕ) → cut xs 0 ≡ rest xs
-cut_front [] = refl
-cut_front (x ∷ xs) = refl
+pub short : (xs : List ℕ) (n : ℕ) → StandOnce xs → ((k q : ℕ) → slice_get xs k ≡ Some q → q < n) → length xs ≤ n
+short xs n h b = length-le_from_distinct_below xs n (distinct xs h) (λ q e. let w = any_at xs q e in b w.0 q w.1)

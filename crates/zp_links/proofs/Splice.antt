@@ -1,41 +1,22 @@
 -- What pushing and removing do to the lists that the links spell.
-use Rattle.std.proofs.Common.{ℕ, zero, suc, ◌+◌, ◌≡◌, ◌≤◌, ◌<◌, ◌≢◌, inl, inr, refl, sym, ◌∙◌, ap, subst, arith, List, [], length, set, get_or-set_same, get_or-set_other, length-set, Some, None, slice_get, replicate}
-use Rattle.std.proofs.lemmas.Bool.{cases_lt, cases_eq}
-use Rattle.std.proofs.lemmas.List.{length-map, ext_get_or, get_or-replicate, get_or_past, length-replicate}
+use Rattle.std.proofs.Common.{ℕ, zero, suc, ◌+◌, ◌≡◌, ◌≤◌, ◌<◌, ◌≢◌, ◌⊎◌, inl, inr, sym, ◌∙◌, ap, arith, List, [], length, set, get_or-set_same, get_or-set_other, length-set, Option, Some, None, slice_get}
+use Rattle.std.proofs.lemmas.Bool.{cases_eq, cases_lt}
+use Rattle.std.proofs.lemmas.List.{length-map, ext_get_or, get_or_past}
+use Rattle.std.proofs.lemmas.Option.{slice_get_within}
 use Rattle.std.proofs.Math.ListN.{get_or-map}
 use Rattle.zp_model.specs.declared.constants.TheConstants.{MAX_PAGES}
-use Rattle.zp_model.specs.Rows.{list_at}
+use Rattle.zp_model.specs.Rows.{list_at, without_page}
 use Rattle.zp_table.specs.declared.entry.PageEntry.{PageEntry}
-use Rattle.zp_table.specs.Entries.{entry_at, blank}
 use Rattle.zp_links.specs.declared.ends.Ends.{Ends}
 use Rattle.zp_links.specs.Linked.{back_at, forward_at, end_if, At, StandsNowhere, before, walk, spelled, ends_at, no_ends, IsLinked}
-use Rattle.zp_links.proofs.Places.{cut, cut-below, cut-above, length-cut, put, put-below, put-at, put-above, length-put, get_within, before-cut-below, before-cut-above, before-put-below, before-put-above, front-cut, back-cut, front-put, back-put, Shifted, same_short, same_long, stood_cut, stood_put, walk_is, short}
+use Rattle.zp_links.proofs.Places.{put, up, up_is, places, get_up, put_at, length-put, after_put, before_put, next_up, next_put, previous_up, previous_put, fronts, backs, walk_is, StandOnce, short, put_back}
 
 -- the lists that a linked table and its ends spell are the lists
 pub spelled_is : (t : List PageEntry) (es : List Ends) (ls : List (List ℕ)) → IsLinked t es ls → spelled t es ≡ ls
 spelled_is t es ls x =
-    let n : length (spelled t es) ≡ length es = length-map es (λ (e : Ends). walk e.len t e.first) in
-    ext_get_or [] (spelled t es) ls (n ∙ sym x.rows) (λ r below.
+    ext_get_or [] (spelled t es) ls (length-map es (λ (e : Ends). walk e.len t e.first) ∙ sym x.rows) (λ r below.
     get_or-map (λ (e : Ends). walk e.len t e.first) es r no_ends
-    ∙ ap (λ (m : ℕ). walk m t (ends_at es r).first) (x.count r)
-    ∙ walk_is (list_at ls r) t (ends_at es r).first (x.front r) (λ k p e. x.after r k p e))
-
--- so what is proved of the lists holds of those spelled
-pub linked_spelled : (t : List PageEntry) (es : List Ends) (ls : List (List ℕ)) → IsLinked t es ls → IsLinked t es (spelled t es)
-linked_spelled t es ls x = let P : List (List ℕ) → Type 0 = λ l. IsLinked t es l in subst P (sym (spelled_is t es ls x)) x
-
-row_same : (ls : List (List ℕ)) (r : ℕ) (xs : List ℕ) → r < length ls → list_at (set ls r xs) r ≡ xs
-row_same ls r xs l = get_or-set_same ls r xs [] l
-
-row_other : (ls : List (List ℕ)) (r r' : ℕ) (xs : List ℕ) → r' ≢ r → list_at (set ls r xs) r' ≡ list_at ls r'
-row_other ls r r' xs ne = get_or-set_other ls r r' xs [] ne
-
--- what stands on a row after list r is set
-at_same : (ls : List (List ℕ)) (r : ℕ) (xs : List ℕ) (k p : ℕ) → r < length ls → At (set ls r xs) r k p → slice_get xs k ≡ Some p
-at_same ls r xs k p l e = ap (λ (q : List ℕ). slice_get q k) (sym (row_same ls r xs l)) ∙ e
-
-at_other : (ls : List (List ℕ)) (r r' : ℕ) (xs : List ℕ) (k p : ℕ) → r' ≢ r → At (set ls r xs) r' k p → At ls r' k p
-at_other ls r r' xs k p ne e = ap (λ (q : List ℕ). slice_get q k) (sym (row_other ls r r' xs ne)) ∙ e
+    ∙ rw (x.count r) (walk_is (list_at ls r) t (ends_at es r).first (x.front r) (x.after r)))
 
 -- the table and the ends of one list spell it
 pub record RowLinked (t : List PageEntry) (e : Ends) (xs : List ℕ) : Type 0 where
@@ -45,8 +26,9 @@ pub record RowLinked (t : List PageEntry) (e : Ends) (xs : List ℕ) : Type 0 wh
   pub inside : (k p : ℕ) → slice_get xs k ≡ Some p → p < length t
   pub after : (k p : ℕ) → slice_get xs k ≡ Some p → forward_at t p ≡ slice_get xs (suc k)
   pub first : (k p : ℕ) → slice_get xs k ≡ Some p → back_at t p ≡ before xs k
+  pub once : StandOnce xs
 
-row_of : (t : List PageEntry) (es : List Ends) (ls : List (List ℕ)) → IsLinked t es ls → (r : ℕ) → RowLinked t (ends_at es r) (list_at ls r)
+pub row_of : (t : List PageEntry) (es : List Ends) (ls : List (List ℕ)) → IsLinked t es ls → (r : ℕ) → RowLinked t (ends_at es r) (list_at ls r)
 row_of t es ls x r = record {
   front = x.front r;
   back = x.back r;
@@ -54,11 +36,95 @@ row_of t es ls x r = record {
   inside = x.inside r;
   after = x.after r;
   first = x.first r;
+  once = λ j k q a b. (x.apart r j r k q a b).1;
 }
 
--- a row of linked lists, none of which shares a page with another
+pub at_within : (ls : List (List ℕ)) (r k p : ℕ) → At ls r k p → r < length ls
+at_within ls r k p e = elim (cases_lt r (length ls)) [ inl lt ↦ lt | inr past ↦ let n = rw (get_or_past ls r [] past) at e in absurd cc ]
+
+-- no list is longer than the table
+pub count_small : (t : List PageEntry) (es : List Ends) (ls : List (List ℕ)) → IsLinked t es ls → (r : ℕ) → (ends_at es r).len ≤ MAX_PAGES
+count_small t es ls x r = omega (arith, x.pages, x.count r, short (list_at ls r) (length t) (row_of t es ls x r).once (x.inside r))
+
+-- page p between b and f, or no longer: its new links, the forward link of b and the back link of f, each of which stands for an end of the list where it is missing
+pub record IsSpliced (p : ℕ) (b f back forward forward_b back_f : Option ℕ) (t t' : List PageEntry) (e e' : Ends) : Type 0 where
+  pub table : length t' ≡ length t
+  pub here : p < length t
+  pub links : (back_at t' p ≡ back) × (forward_at t' p ≡ forward)
+  pub next : (q : ℕ) → q ≢ p → f ≡ Some q → back_at t' q ≡ back_f
+  pub backs : (q : ℕ) → q ≢ p → (f ≡ Some q → ⊥) → back_at t' q ≡ back_at t q
+  pub previous : (q : ℕ) → q ≢ p → b ≡ Some q → forward_at t' q ≡ forward_b
+  pub forwards : (q : ℕ) → q ≢ p → (b ≡ Some q → ⊥) → forward_at t' q ≡ forward_at t q
+  pub ends : (e'.first ≡ end_if b forward_b e.first) × (e'.last ≡ end_if f back_f e.last)
+
+-- the page before place i stands at no other place
+before_once : (xs : List ℕ) → StandOnce xs → (i q k : ℕ) → slice_get xs k ≡ Some q → before xs i ≡ Some q → suc k ≡ i
+before_once xs once zero q k a b = absurd cc
+before_once xs once (suc j) q k a b = let same : k ≡ j = once k j q a b in omega arith
+
+-- where a page of the longer list stood
+found : (xs : List ℕ) (i p k q : ℕ) → i ≤ length xs → slice_get (put xs i p) k ≡ Some q → ((k ≡ i) × (q ≡ p)) ⊎ ((j : ℕ) × (k ≡ up i j) × (slice_get xs j ≡ Some q))
+found xs i p k q l a = elim (places i k) [
+  | inl w ↦ let here = put_at xs i p l in inl (w, cc)
+  | inr w ↦ let there = get_up xs i p w.0 l in inr (w.0, w.1, cc)
+]
+
+module _ (xs : List ℕ) (i p : ℕ) (t t' : List PageEntry) (e e' : Ends) (l : i ≤ length xs) where
+  -- a page put in
+  pub inserted : RowLinked t e xs → IsSpliced p (before xs i) (slice_get xs i) (before xs i) (slice_get xs i) (Some p) (Some p) t t' e e' → e'.len ≡ e.len + 1 →
+      ((k : ℕ) → slice_get xs k ≡ Some p → ⊥) → RowLinked t' e' (put xs i p)
+  inserted x y n none =
+      let other : (j q : ℕ) → slice_get xs j ≡ Some q → q ≢ p = λ j q a same. none j (rw same at a) in
+      record {
+        front = y.ends.0 ∙ rw x.front (fronts xs i p l).0;
+        back = y.ends.1 ∙ rw x.back (backs xs i p l).0;
+        count = omega (arith, n, x.count, length-put xs i p);
+        inside = λ k q a. elim (found xs i p k q l a) [ inl w ↦ omega (arith, y.here, y.table) | inr w ↦ omega (arith, x.inside w.0 q w.2, y.table) ];
+        after = λ k q a. elim (found xs i p k q l a) [
+          | inl w ↦ rw (w.1, w.0) (y.links.1 ∙ sym (after_put xs i p l))
+          | inr w ↦ rw w.1 (elim (cases_eq (suc w.0) i) [
+            | inl at ↦ y.previous q (other w.0 q w.2) (rw (← at) w.2) ∙ sym (next_put xs i p w.0 l at)
+            | inr off ↦ y.forwards q (other w.0 q w.2) (λ b. off (before_once xs x.once i q w.0 w.2 b)) ∙ x.after w.0 q w.2 ∙ sym (next_up xs i p w.0 l off)
+          ])
+        ];
+        first = λ k q a. elim (found xs i p k q l a) [
+          | inl w ↦ rw (w.1, w.0) (y.links.0 ∙ sym (before_put xs i p l))
+          | inr w ↦ rw w.1 (elim (cases_eq w.0 i) [
+            | inl at ↦ y.next q (other w.0 q w.2) (rw (← at) w.2) ∙ sym (previous_put xs i p w.0 l at)
+            | inr off ↦ y.backs q (other w.0 q w.2) (λ b. off (x.once w.0 i q w.2 b)) ∙ x.first w.0 q w.2 ∙ sym (previous_up xs i p w.0 l off)
+          ])
+        ];
+        once = λ j k q a b. elim (found xs i p j q l a) [
+          | inl v ↦ elim (found xs i p k q l b) [ inl w ↦ omega arith | inr w ↦ absurd (other w.0 q w.2 v.1) ]
+          | inr v ↦ elim (found xs i p k q l b) [ inl w ↦ absurd (other v.0 q v.2 w.1) | inr w ↦ let same = x.once v.0 w.0 q v.2 w.2 in cc ]
+        ];
+      }
+
+  -- the page at place i taken out
+  pub removed : RowLinked t e (put xs i p) → IsSpliced p (before xs i) (slice_get xs i) None None (slice_get xs i) (before xs i) t t' e e' → e'.len + 1 ≡ e.len → RowLinked t' e' xs
+  removed x y n =
+      let there : (j q : ℕ) → slice_get xs j ≡ Some q → slice_get (put xs i p) (up i j) ≡ Some q = λ j q a. get_up xs i p j l ∙ a in
+      let once : StandOnce xs = λ j k q a b. let same = x.once (up i j) (up i k) q (there j q a) (there k q b) in omega (arith, up_is i j, up_is i k) in
+      let other : (j q : ℕ) → slice_get xs j ≡ Some q → q ≢ p = λ j q a same. let at = x.once (up i j) i p (rw same at (there j q a)) (put_at xs i p l) in omega (arith, up_is i j) in
+      record {
+        front = y.ends.0 ∙ rw x.front (fronts xs i p l).1;
+        back = y.ends.1 ∙ rw x.back (backs xs i p l).1;
+        count = omega (arith, n, x.count, length-put xs i p);
+        inside = λ k q a. omega (arith, x.inside (up i k) q (there k q a), y.table);
+        after = λ k q a. elim (cases_eq (suc k) i) [
+          | inl at ↦ rw at (y.previous q (other k q a) (rw (← at) a))
+          | inr off ↦ y.forwards q (other k q a) (λ b. off (before_once xs once i q k a b)) ∙ x.after (up i k) q (there k q a) ∙ next_up xs i p k l off
+        ];
+        first = λ k q a. elim (cases_eq k i) [
+          | inl at ↦ rw at (y.next q (other k q a) (rw (← at) a))
+          | inr off ↦ y.backs q (other k q a) (λ b. off (once k i q a b)) ∙ x.first (up i k) q (there k q a) ∙ previous_up xs i p k l off
+        ];
+        once = once;
+      }
+
+-- a row of lists is linked where each list is, and none shares a page with another
 linked : (t : List PageEntry) (es : List Ends) (ls : List (List ℕ)) → length ls ≡ length es → length t ≤ MAX_PAGES → ((r : ℕ) → RowLinked t (ends_at es r) (list_at ls r)) →
-    ((r k r' k' p : ℕ) → At ls r k p → At ls r' k' p → (r ≡ r') × (k ≡ k')) → ((p : ℕ) → StandsNowhere ls p → (back_at t p ≡ None) × (forward_at t p ≡ None)) → IsLinked t es ls
+    ((r k r' k' p : ℕ) → At ls r k p → At ls r' k' p → r ≡ r') → ((p : ℕ) → StandsNowhere ls p → (back_at t p ≡ None) × (forward_at t p ≡ None)) → IsLinked t es ls
 linked t es ls n m x a l = record {
   rows = n;
   pages = m;
@@ -68,406 +134,112 @@ linked t es ls n m x a l = record {
   inside = λ r. (x r).inside;
   after = λ r. (x r).after;
   first = λ r. (x r).first;
-  apart = a;
+  apart = λ r k r' k' p e f. let same : r' ≡ r = sym (a r k r' k' p e f) in (sym same, (x r).once k k' p e (rw same at f));
   loose = l;
 }
 
--- another list at place r, whose pages and links are new, and all other lists with theirs
-pub record IsRespliced (r : ℕ) (ys : List ℕ) (t t' : List PageEntry) (es es' : List Ends) (ls : List (List ℕ)) : Type 0 where
+-- what changes list r by page p alone: the pages of the new list stood on the old one, and those of the old one stay, all but p
+pub record IsChanged (r p : ℕ) (ys : List ℕ) (t t' : List PageEntry) (e' : Ends) (ls : List (List ℕ)) : Type 0 where
   pub table : length t' ≡ length t
-  pub rows : length es' ≡ length es
   pub list : r < length ls
-  pub here : RowLinked t' (ends_at es' r) ys
-  pub others : (r' : ℕ) → r' ≢ r → ends_at es' r' ≡ ends_at es r'
-  pub backs : (r' k q : ℕ) → r' ≢ r → At ls r' k q → back_at t' q ≡ back_at t q
-  pub forwards : (r' k q : ℕ) → r' ≢ r → At ls r' k q → forward_at t' q ≡ forward_at t q
-  pub once : (j k q : ℕ) → slice_get ys j ≡ Some q → slice_get ys k ≡ Some q → j ≡ k
-  pub apart : (k q r' k' : ℕ) → slice_get ys k ≡ Some q → r' ≢ r → At ls r' k' q → ⊥
-  pub loose : (q : ℕ) → ((k : ℕ) → slice_get ys k ≡ Some q → ⊥) → ((r' k : ℕ) → r' ≢ r → At ls r' k q → ⊥) → (back_at t' q ≡ None) × (forward_at t' q ≡ None)
+  pub here : RowLinked t' e' ys
+  pub lone : (r' k : ℕ) → At ls r' k p → r' ≡ r
+  pub same : (q : ℕ) → q ≢ p → ((k : ℕ) → At ls r k q → ⊥) → (back_at t' q ≡ back_at t q) × (forward_at t' q ≡ forward_at t q)
+  pub was : (k q : ℕ) → slice_get ys k ≡ Some q → (q ≡ p) ⊎ ((j : ℕ) × At ls r j q)
+  pub stays : (k q : ℕ) → q ≢ p → At ls r k q → (j : ℕ) × (slice_get ys j ≡ Some q)
+  pub off : ((k : ℕ) → slice_get ys k ≡ Some p → ⊥) → (back_at t' p ≡ None) × (forward_at t' p ≡ None)
 
-respliced_row : (r : ℕ) (ys : List ℕ) (t t' : List PageEntry) (es es' : List Ends) (ls : List (List ℕ)) → IsLinked t es ls → IsRespliced r ys t t' es es' ls →
-    (r' : ℕ) → RowLinked t' (ends_at es' r') (list_at (set ls r ys) r')
-respliced_row r ys t t' es es' ls x y r' = elim (cases_eq r' r) [
-  | inl same ↦
-      let P : ℕ → Type 0 = λ n. RowLinked t' (ends_at es' n) (list_at (set ls r ys) n) in
-      let Q : List ℕ → Type 0 = λ zs. RowLinked t' (ends_at es' r) zs in
-      subst P (sym same) (subst Q (sym (row_same ls r ys y.list)) y.here)
-  | inr ne ↦
-      let P : Ends → Type 0 = λ e. RowLinked t' e (list_at (set ls r ys) r') in
-      let Q : List ℕ → Type 0 = λ zs. RowLinked t' (ends_at es r') zs in
-      subst P (sym (y.others r' ne)) (subst Q (sym (row_other ls r r' ys ne)) (record {
-        front = x.front r';
-        back = x.back r';
-        count = x.count r';
-        inside = λ k q e. omega (arith, x.inside r' k q e, y.table);
-        after = λ k q e. y.forwards r' k q ne e ∙ x.after r' k q e;
-        first = λ k q e. y.backs r' k q ne e ∙ x.first r' k q e;
-      }))
-]
+module _ (r p : ℕ) (ys : List ℕ) (t t' : List PageEntry) (es : List Ends) (d : Ends) (ls : List (List ℕ)) (x : IsLinked t es ls) (y : IsChanged r p ys t t' d ls) where
+  row_other : (r' : ℕ) → r' ≢ r → list_at (set ls r ys) r' ≡ list_at ls r'
+  row_other r' ne = get_or-set_other ls r r' ys [] ne
 
-respliced_apart : (r : ℕ) (ys : List ℕ) (t t' : List PageEntry) (es es' : List Ends) (ls : List (List ℕ)) → IsLinked t es ls → IsRespliced r ys t t' es es' ls →
-    (r1 k1 r2 k2 q : ℕ) → At (set ls r ys) r1 k1 q → At (set ls r ys) r2 k2 q → (r1 ≡ r2) × (k1 ≡ k2)
-respliced_apart r ys t t' es es' ls x y r1 k1 r2 k2 q e1 e2 =
-    let here : (n k : ℕ) → n ≡ r → At (set ls r ys) n k q → slice_get ys k ≡ Some q = λ n k same e.
-    let P : ℕ → Type 0 = λ m. At (set ls r ys) m k q in
-    at_same ls r ys k q y.list (subst P same e) in
-    elim (cases_eq r1 r) [
-      | inl s1 ↦ elim (cases_eq r2 r) [
-        | inl s2 ↦ (s1 ∙ sym s2, y.once k1 k2 q (here r1 k1 s1 e1) (here r2 k2 s2 e2))
-        | inr n2 ↦ absurd (y.apart k1 q r2 k2 (here r1 k1 s1 e1) n2 (at_other ls r r2 ys k2 q n2 e2))
-      ]
-      | inr n1 ↦ elim (cases_eq r2 r) [
-        | inl s2 ↦ absurd (y.apart k2 q r1 k1 (here r2 k2 s2 e2) n1 (at_other ls r r1 ys k1 q n1 e1))
-        | inr n2 ↦ x.apart r1 k1 r2 k2 q (at_other ls r r1 ys k1 q n1 e1) (at_other ls r r2 ys k2 q n2 e2)
-      ]
-    ]
+  -- what stands on a list after the change
+  stood : (r' k q : ℕ) → At (set ls r ys) r' k q → ((r' ≡ r) × (slice_get ys k ≡ Some q)) ⊎ ((r' ≢ r) × At ls r' k q)
+  stood r' k q e = elim (cases_eq r' r) [
+    | inl s ↦ inl (s, rw (s, get_or-set_same ls r ys [] y.list) at e)
+    | inr ne ↦ inr (ne, rw (row_other r' ne) at e)
+  ]
 
--- so a list at a time is enough
-pub respliced : (r : ℕ) (ys : List ℕ) (t t' : List PageEntry) (es es' : List Ends) (ls : List (List ℕ)) → IsLinked t es ls → IsRespliced r ys t t' es es' ls →
-    IsLinked t' es' (set ls r ys)
-respliced r ys t t' es es' ls x y =
-    linked t' es' (set ls r ys)
-    (length-set ls r ys ∙ x.rows ∙ sym y.rows)
-    (omega (arith, x.pages, y.table))
-    (respliced_row r ys t t' es es' ls x y)
-    (respliced_apart r ys t t' es es' ls x y)
-    (λ q none. y.loose q
-    (λ k e. none r k (ap (λ (zs : List ℕ). slice_get zs k) (row_same ls r ys y.list) ∙ e))
-    (λ r' k ne e. none r' k (ap (λ (zs : List ℕ). slice_get zs k) (row_other ls r r' ys ne) ∙ e)))
+  far : (r' k q k' : ℕ) → r' ≢ r → At ls r' k q → slice_get ys k' ≡ Some q → ⊥
+  far r' k q k' ne e f = elim (y.was k' q f) [ inl s ↦ ne (y.lone r' k (rw s at e)) | inr w ↦ ne (x.apart r' k r w.0 q e w.1).0 ]
 
--- a page at another place is another page
-pub other_page : (t : List PageEntry) (es : List Ends) (ls : List (List ℕ)) → IsLinked t es ls → (r i p k q : ℕ) → At ls r i p → At ls r k q → k ≢ i → q ≢ p
-other_page t es ls x r i p k q e1 e2 ne same = ne (x.apart r k r i p (e2 ∙ ap (λ (n : ℕ). Some n) same) e1).1
+  kept : (r' k q : ℕ) → r' ≢ r → At ls r' k q → (back_at t' q ≡ back_at t q) × (forward_at t' q ≡ forward_at t q)
+  kept r' k q ne e = y.same q (λ s. ne (y.lone r' k (rw s at e))) (λ j f. ne (x.apart r' k r j q e f).0)
 
--- the page before place i stands at no other place
-no_previous : (r i p : ℕ) (t : List PageEntry) (es : List Ends) (ls : List (List ℕ)) → IsLinked t es ls → (q k : ℕ) → At ls r k q → suc k ≢ i → before (list_at ls r) i ≡ Some q → ⊥
-no_previous r zero p t es ls x q k a off b = absurd cc
-no_previous r (suc j) p t es ls x q k a off b = let same : k ≡ j = (x.apart r k r j q a b).1 in off (omega arith)
+  rows : (r' : ℕ) → RowLinked t' (ends_at (set es r d) r') (list_at (set ls r ys) r')
+  rows r' = elim (cases_eq r' r) [
+    | inl s ↦ rw (s, get_or-set_same ls r ys [] y.list, get_or-set_same es r d no_ends (omega (arith, y.list, x.rows))) y.here
+    | inr ne ↦ rw (row_other r' ne, get_or-set_other es r r' d no_ends ne) (record {
+      front = x.front r';
+      back = x.back r';
+      count = x.count r';
+      once = (row_of t es ls x r').once;
+      inside = λ k q e. omega (arith, x.inside r' k q e, y.table);
+      after = λ k q e. (kept r' k q ne e).1 ∙ x.after r' k q e;
+      first = λ k q e. (kept r' k q ne e).0 ∙ x.first r' k q e;
+    })
+  ]
 
-pub place_before : (ls : List (List ℕ)) (r i q : ℕ) → before (list_at ls r) i ≡ Some q → (k : ℕ) × (i ≡ suc k) × At ls r k q
-place_before ls r zero q e = absurd cc
-place_before ls r (suc k) q e = (k, refl, e)
+  apart : (r1 k1 r2 k2 q : ℕ) → At (set ls r ys) r1 k1 q → At (set ls r ys) r2 k2 q → r1 ≡ r2
+  apart r1 k1 r2 k2 q e f = elim (stood r1 k1 q e) [
+    | inl a ↦ elim (stood r2 k2 q f) [ inl b ↦ a.0 ∙ sym b.0 | inr b ↦ absurd (far r2 k2 q k1 b.0 b.1 a.1) ]
+    | inr a ↦ elim (stood r2 k2 q f) [ inl b ↦ absurd (far r1 k1 q k2 a.0 a.1 b.1) | inr b ↦ (x.apart r1 k1 r2 k2 q a.1 b.1).0 ]
+  ]
 
-before_at : (t : List PageEntry) (es : List Ends) (ls : List (List ℕ)) → IsLinked t es ls → (r i r' k q : ℕ) → before (list_at ls r) i ≡ Some q → At ls r' k q → r' ≡ r
-before_at t es ls x r zero r' k q b e = absurd cc
-before_at t es ls x r (suc j) r' k q b e = (x.apart r' k r j q e b).0
+  -- then the links and the ends spell the new row
+  pub changed : IsLinked t' (set es r d) (set ls r ys)
+  changed = linked t' (set es r d) (set ls r ys) (length-set ls r ys ∙ x.rows ∙ sym (length-set es r d)) (omega (arith, x.pages, y.table)) rows apart (λ q none.
+      let none_here : (k : ℕ) → slice_get ys k ≡ Some q → ⊥ = λ k e. none r k (rw (get_or-set_same ls r ys [] y.list) e) in
+      elim (cases_eq q p) [
+        | inl s ↦ rw s (y.off (rw s at none_here))
+        | inr ne ↦
+            let old : StandsNowhere ls q = λ r' k e. elim (cases_eq r' r) [
+              | inl s ↦ let v = y.stays k q ne (rw s at e) in none_here v.0 v.1
+              | inr off ↦ none r' k (rw (row_other r' off) e)
+            ] in
+            let same = y.same q ne (old r) in
+            (same.0 ∙ (x.loose q old).0, same.1 ∙ (x.loose q old).1)
+      ])
 
-pub before_loose : (ls : List (List ℕ)) (r i q : ℕ) → before (list_at ls r) i ≡ Some q → StandsNowhere ls q → ⊥
-before_loose ls r zero q b none = absurd cc
-before_loose ls r (suc j) q b none = none r j b
+-- the neighbours at place i stand on the list
+near : (xs : List ℕ) (i q : ℕ) → ((k : ℕ) → slice_get xs k ≡ Some q → ⊥) → (before xs i ≡ Some q → ⊥) × (slice_get xs i ≡ Some q → ⊥)
+near xs zero q none = (λ b. absurd cc, none 0)
+near xs (suc i) q none = (none i, none (suc i))
 
--- what putting p in at place i of list r leaves
-pub record IsInserted (r i p : ℕ) (t t' : List PageEntry) (es es' : List Ends) (ls : List (List ℕ)) : Type 0 where
-  pub table : length t' ≡ length t
-  pub here : p < length t
-  pub loose : StandsNowhere ls p
-  pub place : i ≤ length (list_at ls r)
-  pub forward : forward_at t' p ≡ slice_get (list_at ls r) i
-  pub back : back_at t' p ≡ before (list_at ls r) i
-  pub next : (q : ℕ) → At ls r i q → back_at t' q ≡ Some p
-  pub backs : (q : ℕ) → q ≢ p → (At ls r i q → ⊥) → back_at t' q ≡ back_at t q
-  pub previous : (q : ℕ) → before (list_at ls r) i ≡ Some q → forward_at t' q ≡ Some p
-  pub forwards : (q : ℕ) → q ≢ p → (before (list_at ls r) i ≡ Some q → ⊥) → forward_at t' q ≡ forward_at t q
-  pub rows : length es' ≡ length es
-  pub list : r < length ls
-  pub front : (ends_at es' r).first ≡ end_if (before (list_at ls r) i) (Some p) (ends_at es r).first
-  pub last : (ends_at es' r).last ≡ end_if (slice_get (list_at ls r) i) (Some p) (ends_at es r).last
-  pub count : (ends_at es' r).len ≡ (ends_at es r).len + 1
-  pub others : (r' : ℕ) → r' ≢ r → ends_at es' r' ≡ ends_at es r'
-
--- a page that stands on a list is not p
-inserted_other : (r i p : ℕ) (t t' : List PageEntry) (es es' : List Ends) (ls : List (List ℕ)) → IsInserted r i p t t' es es' ls → (r' k q : ℕ) → At ls r' k q → q ≢ p
-inserted_other r i p t t' es es' ls y r' k q e same = y.loose r' k (e ∙ ap (λ (n : ℕ). Some n) same)
-
--- the links of a page that stood at place j, and now stands at place k
-inserted_forward : (r i p : ℕ) (t t' : List PageEntry) (es es' : List Ends) (ls : List (List ℕ)) → IsLinked t es ls → IsInserted r i p t t' es es' ls →
-    (j k q : ℕ) → Shifted i j k → At ls r j q → forward_at t' q ≡ slice_get (put (list_at ls r) i p) (suc k)
-inserted_forward r i p t t' es es' ls x y j k q (inl s) e =
-    let xs : List ℕ = list_at ls r in
-    elim (cases_eq (suc j) i) [
-      | inl at ↦
-          let b : before xs i ≡ Some q = ap (λ (n : ℕ). before xs n) (sym at) ∙ e in
-          let n : i ≡ suc k = omega arith in
-          y.previous q b ∙ sym (put-at xs i p y.place) ∙ ap (λ (m : ℕ). slice_get (put xs i p) m) n
-      | inr off ↦
-          y.forwards q (inserted_other r i p t t' es es' ls y r j q e) (no_previous r i p t es ls x q j e off)
-          ∙ x.after r j q e ∙ sym (put-below xs i p (suc j) y.place (omega arith)) ∙ ap (λ (m : ℕ). slice_get (put xs i p) (suc m)) (sym s.1)
-    ]
-inserted_forward r i p t t' es es' ls x y j k q (inr s) e =
-    let xs : List ℕ = list_at ls r in
-    y.forwards q (inserted_other r i p t t' es es' ls y r j q e) (no_previous r i p t es ls x q j e (λ at. let bad : ⊥ = omega arith in bad))
-    ∙ x.after r j q e ∙ sym (put-above xs i p (suc j) y.place (omega arith)) ∙ ap (λ (m : ℕ). slice_get (put xs i p) (suc m)) (sym s.1)
-
-inserted_back : (r i p : ℕ) (t t' : List PageEntry) (es es' : List Ends) (ls : List (List ℕ)) → IsLinked t es ls → IsInserted r i p t t' es es' ls →
-    (j k q : ℕ) → Shifted i j k → At ls r j q → back_at t' q ≡ before (put (list_at ls r) i p) k
-inserted_back r i p t t' es es' ls x y j k q (inl s) e =
-    let xs : List ℕ = list_at ls r in
-    y.backs q (inserted_other r i p t t' es es' ls y r j q e) (λ e2. let same : j ≡ i = (x.apart r j r i q e e2).1 in omega arith)
-    ∙ x.first r j q e ∙ sym (before-put-below xs i p j y.place (omega arith)) ∙ ap (λ (m : ℕ). before (put xs i p) m) (sym s.1)
-inserted_back r i p t t' es es' ls x y j k q (inr s) e =
-    let xs : List ℕ = list_at ls r in
-    elim (cases_eq i j) [
-      | inl at ↦
-          let here : At ls r i q = ap (λ (n : ℕ). slice_get xs n) at ∙ e in
-          y.next q here ∙ sym (put-at xs i p y.place) ∙ ap (λ (m : ℕ). slice_get (put xs i p) m) at ∙ ap (λ (m : ℕ). before (put xs i p) m) (sym s.1)
-      | inr off ↦
-          y.backs q (inserted_other r i p t t' es es' ls y r j q e) (λ e2. let same : j ≡ i = (x.apart r j r i q e e2).1 in off (sym same))
-          ∙ x.first r j q e ∙ sym (before-put-above xs i p j y.place (omega arith)) ∙ ap (λ (m : ℕ). before (put xs i p) m) (sym s.1)
-    ]
-
-inserted_here : (r i p : ℕ) (t t' : List PageEntry) (es es' : List Ends) (ls : List (List ℕ)) → IsLinked t es ls → IsInserted r i p t t' es es' ls →
-    RowLinked t' (ends_at es' r) (put (list_at ls r) i p)
-inserted_here r i p t t' es es' ls x y =
-    let xs : List ℕ = list_at ls r in
-    let ys : List ℕ = put (list_at ls r) i p in
-    record {
-      front = y.front ∙ front-put xs i p (ends_at es r).first y.place (x.front r);
-      back = y.last ∙ back-put xs i p (ends_at es r).last y.place (x.back r);
-      count = omega (arith, y.count, x.count r, length-put xs i p);
-      inside = λ k q e. elim (stood_put xs i p k q y.place e) [
-        | inl w ↦ omega (arith, y.here, y.table)
-        | inr w ↦ omega (arith, x.inside r w.0 q w.2, y.table)
-      ];
-      after = λ k q e. elim (stood_put xs i p k q y.place e) [
-        | inl w ↦
-            ap (λ (n : ℕ). forward_at t' n) w.1 ∙ y.forward ∙ sym (put-above xs i p i y.place (omega arith)) ∙ ap (λ (n : ℕ). slice_get ys (suc n)) (sym w.0)
-        | inr w ↦ inserted_forward r i p t t' es es' ls x y w.0 k q w.1 w.2
-      ];
-      first = λ k q e. elim (stood_put xs i p k q y.place e) [
-        | inl w ↦
-            ap (λ (n : ℕ). back_at t' n) w.1 ∙ y.back ∙ sym (before-put-below xs i p i y.place (omega arith)) ∙ ap (λ (n : ℕ). before ys n) (sym w.0)
-        | inr w ↦ inserted_back r i p t t' es es' ls x y w.0 k q w.1 w.2
-      ];
-    }
-
-inserted_once : (r i p : ℕ) (t t' : List PageEntry) (es es' : List Ends) (ls : List (List ℕ)) → IsLinked t es ls → IsInserted r i p t t' es es' ls →
-    (j k q : ℕ) → slice_get (put (list_at ls r) i p) j ≡ Some q → slice_get (put (list_at ls r) i p) k ≡ Some q → j ≡ k
-inserted_once r i p t t' es es' ls x y j k q e f =
-    let xs : List ℕ = list_at ls r in
-    elim (stood_put xs i p j q y.place e) [
-      | inl a ↦ elim (stood_put xs i p k q y.place f) [
-        | inl b ↦ a.0 ∙ sym b.0
-        | inr b ↦ absurd (inserted_other r i p t t' es es' ls y r b.0 q b.2 a.1)
-      ]
-      | inr a ↦ elim (stood_put xs i p k q y.place f) [
-        | inl b ↦ absurd (inserted_other r i p t t' es es' ls y r a.0 q a.2 b.1)
-        | inr b ↦ same_long i a.0 b.0 j k a.1 b.1 (x.apart r a.0 r b.0 q a.2 b.2).1
-      ]
-    ]
-
--- a page that still stands nowhere stood nowhere
-inserted_loose : (r i p : ℕ) (ls : List (List ℕ)) → i ≤ length (list_at ls r) → (q : ℕ) → ((k : ℕ) → slice_get (put (list_at ls r) i p) k ≡ Some q → ⊥) →
-    ((r' k : ℕ) → r' ≢ r → At ls r' k q → ⊥) → StandsNowhere ls q
-inserted_loose r i p ls l q none others r' k e = elim (cases_eq r' r) [
-  | inl same ↦
-      let P : ℕ → Type 0 = λ n. At ls n k q in
-      let e' : At ls r k q = subst P same e in
-      elim (cases_lt k i) [
-        | inl lt ↦ none k (put-below (list_at ls r) i p k l lt ∙ e')
-        | inr ge ↦ none (suc k) (put-above (list_at ls r) i p k l ge ∙ e')
-      ]
-  | inr ne ↦ others r' k ne e
-]
-
-pub inserted : (r i p : ℕ) (t t' : List PageEntry) (es es' : List Ends) (ls : List (List ℕ)) → IsLinked t es ls → IsInserted r i p t t' es es' ls →
-    IsLinked t' es' (set ls r (put (list_at ls r) i p))
-inserted r i p t t' es es' ls x y = respliced r (put (list_at ls r) i p) t t' es es' ls x (record {
-  table = y.table;
-  rows = y.rows;
-  list = y.list;
-  here = inserted_here r i p t t' es es' ls x y;
-  others = y.others;
-  backs = λ r' k q ne e. y.backs q (inserted_other r i p t t' es es' ls y r' k q e) (λ f. ne (x.apart r' k r i q e f).0);
-  forwards = λ r' k q ne e. y.forwards q (inserted_other r i p t t' es es' ls y r' k q e) (λ b. ne (before_at t es ls x r i r' k q b e));
-  once = inserted_once r i p t t' es es' ls x y;
-  apart = λ k q r' k' e ne f. elim (stood_put (list_at ls r) i p k q y.place e) [
-    | inl w ↦ inserted_other r i p t t' es es' ls y r' k' q f w.1
-    | inr w ↦ ne (x.apart r' k' r w.0 q f w.2).0
-  ];
-  loose = λ q none others.
-      let old : StandsNowhere ls q = inserted_loose r i p ls y.place q none others in
-      let ne : q ≢ p = λ same. none i (put-at (list_at ls r) i p y.place ∙ ap (λ (n : ℕ). Some n) (sym same)) in
-      (y.backs q ne (λ e. old r i e) ∙ (x.loose q old).0, y.forwards q ne (λ b. before_loose ls r i q b old) ∙ (x.loose q old).1);
-})
-
--- what taking out the page at place i of list r leaves
-pub record IsRemoved (r i p : ℕ) (t t' : List PageEntry) (es es' : List Ends) (ls : List (List ℕ)) : Type 0 where
-  pub table : length t' ≡ length t
-  pub here : At ls r i p
-  pub forward : forward_at t' p ≡ None
-  pub back : back_at t' p ≡ None
-  pub next : (q : ℕ) → At ls r (suc i) q → back_at t' q ≡ before (list_at ls r) i
-  pub backs : (q : ℕ) → q ≢ p → (At ls r (suc i) q → ⊥) → back_at t' q ≡ back_at t q
-  pub previous : (q : ℕ) → before (list_at ls r) i ≡ Some q → forward_at t' q ≡ slice_get (list_at ls r) (suc i)
-  pub forwards : (q : ℕ) → q ≢ p → (before (list_at ls r) i ≡ Some q → ⊥) → forward_at t' q ≡ forward_at t q
-  pub rows : length es' ≡ length es
-  pub list : r < length ls
-  pub front : (ends_at es' r).first ≡ end_if (before (list_at ls r) i) (slice_get (list_at ls r) (suc i)) (ends_at es r).first
-  pub last : (ends_at es' r).last ≡ end_if (slice_get (list_at ls r) (suc i)) (before (list_at ls r) i) (ends_at es r).last
-  pub count : (ends_at es' r).len + 1 ≡ (ends_at es r).len
-  pub others : (r' : ℕ) → r' ≢ r → ends_at es' r' ≡ ends_at es r'
-
-removed_after : (r i p : ℕ) (t t' : List PageEntry) (es es' : List Ends) (ls : List (List ℕ)) → IsLinked t es ls → IsRemoved r i p t t' es es' ls →
-    (k q : ℕ) → slice_get (cut (list_at ls r) i) k ≡ Some q → forward_at t' q ≡ slice_get (cut (list_at ls r) i) (suc k)
-removed_after r i p t t' es es' ls x y k q e =
-    let xs : List ℕ = list_at ls r in
-    elim (cases_lt k i) [
-      | inl lt ↦
-          let a : At ls r k q = sym (cut-below xs i k lt) ∙ e in
-          let ne : k ≢ i = λ s. omega arith in
-          elim (cases_eq (suc k) i) [
-            | inl at ↦
-                let b : before (list_at ls r) i ≡ Some q = ap (λ (n : ℕ). before xs n) (sym at) ∙ a in
-                y.previous q b ∙ ap (λ (n : ℕ). slice_get xs (suc n)) (sym at) ∙ sym (cut-above xs i (suc k) (omega arith))
-            | inr off ↦
-                y.forwards q (other_page t es ls x r i p k q y.here a ne) (no_previous r i p t es ls x q k a off)
-                ∙ x.after r k q a ∙ sym (cut-below xs i (suc k) (omega arith))
-          ]
-      | inr ge ↦
-          let a : At ls r (suc k) q = sym (cut-above xs i k ge) ∙ e in
-          let ne : suc k ≢ i = λ s. omega arith in
-          y.forwards q (other_page t es ls x r i p (suc k) q y.here a ne) (no_previous r i p t es ls x q (suc k) a (λ s. let bad : ⊥ = omega arith in bad))
-          ∙ x.after r (suc k) q a ∙ sym (cut-above xs i (suc k) (omega arith))
-    ]
-
-removed_first : (r i p : ℕ) (t t' : List PageEntry) (es es' : List Ends) (ls : List (List ℕ)) → IsLinked t es ls → IsRemoved r i p t t' es es' ls →
-    (k q : ℕ) → slice_get (cut (list_at ls r) i) k ≡ Some q → back_at t' q ≡ before (cut (list_at ls r) i) k
-removed_first r i p t t' es es' ls x y k q e =
-    let xs : List ℕ = list_at ls r in
-    elim (cases_lt k i) [
-      | inl lt ↦
-          let a : At ls r k q = sym (cut-below xs i k lt) ∙ e in
-          let ne : k ≢ i = λ s. omega arith in
-          y.backs q (other_page t es ls x r i p k q y.here a ne) (λ e2. let bad : k ≡ suc i = (x.apart r k r (suc i) q a e2).1 in omega arith)
-          ∙ x.first r k q a ∙ sym (before-cut-below xs i k (omega arith))
-      | inr ge ↦
-          let a : At ls r (suc k) q = sym (cut-above xs i k ge) ∙ e in
-          elim (cases_eq k i) [
-            | inl at ↦
-                let b : At ls r (suc i) q = ap (λ (n : ℕ). slice_get xs (suc n)) (sym at) ∙ a in
-                y.next q b ∙ sym (before-cut-below xs i i (omega arith)) ∙ ap (λ (n : ℕ). before (cut xs i) n) (sym at)
-            | inr off ↦
-                let ne : suc k ≢ i = λ s. omega arith in
-                y.backs q (other_page t es ls x r i p (suc k) q y.here a ne) (λ e2. let bad : suc k ≡ suc i = (x.apart r (suc k) r (suc i) q a e2).1 in off (omega arith))
-                ∙ x.first r (suc k) q a ∙ sym (before-cut-above xs i k (omega arith))
-          ]
-    ]
-
-removed_here : (r i p : ℕ) (t t' : List PageEntry) (es es' : List Ends) (ls : List (List ℕ)) → IsLinked t es ls → IsRemoved r i p t t' es es' ls →
-    RowLinked t' (ends_at es' r) (cut (list_at ls r) i)
-removed_here r i p t t' es es' ls x y =
-    let xs : List ℕ = list_at ls r in
-    let l : i < length xs = get_within xs i p y.here in
-    record {
-      front = y.front ∙ front-cut xs i (ends_at es r).first l (x.front r);
-      back = y.last ∙ back-cut xs i (ends_at es r).last l (x.back r);
-      count = omega (arith, y.count, x.count r, length-cut xs i l);
-      inside = λ k q e. elim (cases_lt k i) [
-        | inl lt ↦ omega (arith, x.inside r k q (sym (cut-below xs i k lt) ∙ e), y.table)
-        | inr ge ↦ omega (arith, x.inside r (suc k) q (sym (cut-above xs i k ge) ∙ e), y.table)
-      ];
-      after = removed_after r i p t t' es es' ls x y;
-      first = removed_first r i p t t' es es' ls x y;
-    }
-
-removed_above : (xs : List ℕ) (i p q k : ℕ) → slice_get xs i ≡ Some p → q ≢ p → i ≤ k → slice_get xs k ≡ Some q → ((j : ℕ) → slice_get (cut xs i) j ≡ Some q → ⊥) → ⊥
-removed_above xs zero p q zero here ne ge e none = ne cc
-removed_above xs (suc i) p q zero here ne ge e none = let bad : ⊥ = omega arith in bad
-removed_above xs i p q (suc j) here ne ge e none = elim (cases_eq i (suc j)) [
-  | inl same ↦ let e' : slice_get xs i ≡ Some q = ap (λ (n : ℕ). slice_get xs n) same ∙ e in ne cc
-  | inr off ↦ none j (cut-above xs i j (omega arith) ∙ e)
-]
-
-removed_loose : (r i p : ℕ) (ls : List (List ℕ)) → At ls r i p → (q : ℕ) → q ≢ p → ((k : ℕ) → slice_get (cut (list_at ls r) i) k ≡ Some q → ⊥) →
-    ((r' k : ℕ) → r' ≢ r → At ls r' k q → ⊥) → StandsNowhere ls q
-removed_loose r i p ls here q off none others r' k e = elim (cases_eq r' r) [
-  | inl same ↦
-      let P : ℕ → Type 0 = λ n. At ls n k q in
-      let e' : At ls r k q = subst P same e in
-      elim (cases_lt k i) [
-        | inl lt ↦ none k (cut-below (list_at ls r) i k lt ∙ e')
-        | inr ge ↦ removed_above (list_at ls r) i p q k here off ge e' none
-      ]
-  | inr ne ↦ others r' k ne e
-]
-
-pub removed : (r i p : ℕ) (t t' : List PageEntry) (es es' : List Ends) (ls : List (List ℕ)) → IsLinked t es ls → IsRemoved r i p t t' es es' ls →
-    IsLinked t' es' (set ls r (cut (list_at ls r) i))
-removed r i p t t' es es' ls x y =
-    let far : (r' k q : ℕ) → r' ≢ r → At ls r' k q → q ≢ p = λ r' k q ne e same. ne (x.apart r' k r i p (e ∙ ap (λ (n : ℕ). Some n) same) y.here).0 in
-    respliced r (cut (list_at ls r) i) t t' es es' ls x (record {
+pub put_in : (r i p : ℕ) (t t' : List PageEntry) (es : List Ends) (d : Ends) (ls : List (List ℕ)) → IsLinked t es ls → r < length ls → i ≤ length (list_at ls r) → StandsNowhere ls p →
+    IsSpliced p (before (list_at ls r) i) (slice_get (list_at ls r) i) (before (list_at ls r) i) (slice_get (list_at ls r) i) (Some p) (Some p) t t' (ends_at es r) d → d.len ≡ (ends_at es r).len + 1 →
+    IsLinked t' (set es r d) (set ls r (put (list_at ls r) i p))
+put_in r i p t t' es d ls x list l none y n =
+    let xs = list_at ls r in
+    changed r p (put xs i p) t t' es d ls x (record {
       table = y.table;
-      rows = y.rows;
-      list = y.list;
-      here = removed_here r i p t t' es es' ls x y;
-      others = y.others;
-      backs = λ r' k q ne e. y.backs q (far r' k q ne e) (λ f. ne (x.apart r' k r (suc i) q e f).0);
-      forwards = λ r' k q ne e. y.forwards q (far r' k q ne e) (λ b. ne (before_at t es ls x r i r' k q b e));
-      once = λ j k q e f.
-          let a : (m : ℕ) × Shifted i j m × At ls r m q = stood_cut (list_at ls r) i j q e in
-          let b : (m : ℕ) × Shifted i k m × At ls r m q = stood_cut (list_at ls r) i k q f in
-          same_short i j k a.0 b.0 a.1 b.1 (x.apart r a.0 r b.0 q a.2 b.2).1;
-      apart = λ k q r' k' e ne f.
-          let a : (m : ℕ) × Shifted i k m × At ls r m q = stood_cut (list_at ls r) i k q e in
-          ne (x.apart r' k' r a.0 q f a.2).0;
-      loose = λ q none others. elim (cases_eq q p) [
-        | inl same ↦ (ap (λ (n : ℕ). back_at t' n) same ∙ y.back, ap (λ (n : ℕ). forward_at t' n) same ∙ y.forward)
-        | inr off ↦
-            let old : StandsNowhere ls q = removed_loose r i p ls y.here q off none others in
-            (y.backs q off (λ e. old r (suc i) e) ∙ (x.loose q old).0, y.forwards q off (λ b. before_loose ls r i q b old) ∙ (x.loose q old).1)
-      ];
+      list = list;
+      here = inserted xs i p t t' (ends_at es r) d l (row_of t es ls x r) y n (none r);
+      lone = λ r' k e. absurd (none r' k e);
+      same = λ q ne off. (y.backs q ne (near xs i q off).1, y.forwards q ne (near xs i q off).0);
+      was = λ k q a. elim (found xs i p k q l a) [ inl w ↦ inl w.1 | inr w ↦ inr (w.0, w.2) ];
+      stays = λ k q ne e. (up i k, get_up xs i p k l ∙ e);
+      off = λ off. absurd (off i (put_at xs i p l));
     })
 
--- no list is longer than the table
-pub count_small : (t : List PageEntry) (es : List Ends) (ls : List (List ℕ)) → IsLinked t es ls → (r : ℕ) → (ends_at es r).len ≤ MAX_PAGES
-count_small t es ls x r =
-    let n : length (list_at ls r) ≤ length t = short (list_at ls r) (length t) (λ j k q a b. (x.apart r j r k q a b).1) (λ k q e. x.inside r k q e) in
-    omega (arith, x.pages, x.count r)
-
--- the table with other states
-pub restated : (t t' : List PageEntry) (es : List Ends) (ls : List (List ℕ)) → IsLinked t es ls → length t' ≡ length t → ((q : ℕ) → back_at t' q ≡ back_at t q) → ((q : ℕ) → forward_at t' q ≡ forward_at t q) →
-    IsLinked t' es ls
-restated t t' es ls x n b f = record {
-  rows = x.rows;
-  pages = omega (arith, x.pages, n);
-  front = x.front;
-  back = x.back;
-  count = x.count;
-  inside = λ r k p e. omega (arith, x.inside r k p e, n);
-  after = λ r k p e. f p ∙ x.after r k p e;
-  first = λ r k p e. b p ∙ x.first r k p e;
-  apart = x.apart;
-  loose = λ p none. (b p ∙ (x.loose p none).0, f p ∙ (x.loose p none).1);
-}
-
--- empty lists
-pub empty : (t : List PageEntry) (n : ℕ) → length t ≤ MAX_PAGES → ((p : ℕ) → p < length t → (back_at t p ≡ None) × (forward_at t p ≡ None)) → IsLinked t (replicate n no_ends) (replicate n [])
-empty t n m b =
-    let none : (r : ℕ) → list_at (replicate n []) r ≡ [] = λ r. elim (cases_lt r n) [
-      | inl lt ↦ get_or-replicate n r [] [] lt
-      | inr ge ↦ get_or_past (replicate n []) r [] (omega (arith, length-replicate {A = List ℕ} n []))
-    ] in
-    let ends : (r : ℕ) → ends_at (replicate n no_ends) r ≡ no_ends = λ r. elim (cases_lt r n) [
-      | inl lt ↦ get_or-replicate n r no_ends no_ends lt
-      | inr ge ↦ get_or_past (replicate n no_ends) r no_ends (omega (arith, length-replicate n no_ends))
-    ] in
-    let no : (r k p : ℕ) → At (replicate n []) r k p → ⊥ = λ r k p e.
-    let bad : slice_get {X = ℕ} [] k ≡ Some p = ap (λ (xs : List ℕ). slice_get xs k) (sym (none r)) ∙ e in
-    cc in
-    record {
-      rows = length-replicate n [] ∙ sym (length-replicate n no_ends);
-      pages = m;
-      front = λ r. ap (λ (e : Ends). e.first) (ends r) ∙ ap (λ (xs : List ℕ). slice_get xs 0) (sym (none r));
-      back = λ r. ap (λ (e : Ends). e.last) (ends r) ∙ ap (λ (xs : List ℕ). before xs (length xs)) (sym (none r));
-      count = λ r. ap (λ (e : Ends). e.len) (ends r) ∙ ap (λ (xs : List ℕ). length xs) (sym (none r));
-      inside = λ r k p e. absurd (no r k p e);
-      after = λ r k p e. absurd (no r k p e);
-      first = λ r k p e. absurd (no r k p e);
-      apart = λ r k r' k' p e f. absurd (no r k p e);
-      loose = λ p _. elim (cases_lt p (length t)) [
-        | inl lt ↦ b p lt
-        | inr ge ↦
-            let s : entry_at t p ≡ blank = get_or_past t p blank ge in
-            (ap (λ (e : PageEntry). e.back) s, ap (λ (e : PageEntry). e.forward) s)
-      ];
-    }
+pub taken_out : (r i p : ℕ) (t t' : List PageEntry) (es : List Ends) (d : Ends) (ls : List (List ℕ)) → IsLinked t es ls → At ls r i p →
+    IsSpliced p (back_at t p) (forward_at t p) None None (forward_at t p) (back_at t p) t t' (ends_at es r) d → d.len + 1 ≡ (ends_at es r).len →
+    IsLinked t' (set es r d) (set ls r (without_page p (list_at ls r)))
+taken_out r i p t t' es d ls x at y n =
+    let xs = without_page p (list_at ls r) in
+    let e : list_at ls r ≡ put xs i p = put_back p (list_at ls r) i at (λ k f. (x.apart r k r i p f at).1) in
+    let l : i ≤ length xs = omega (arith, slice_get_within (list_at ls r) i p at, length-put xs i p, ap (λ (zs : List ℕ). length zs) e) in
+    let o : RowLinked t (ends_at es r) (put xs i p) = rw e at (row_of t es ls x r) in
+    let here : slice_get (put xs i p) i ≡ Some p = put_at xs i p l in
+    let z = rw (o.first i p here ∙ before_put xs i p l, o.after i p here ∙ after_put xs i p l) at y in
+    let there : (k q : ℕ) → slice_get xs k ≡ Some q → At ls r (up i k) q = λ k q a. rw e (get_up xs i p k l ∙ a) in
+    changed r p xs t t' es d ls x (record {
+      table = y.table;
+      list = at_within ls r i p at;
+      here = removed xs i p t t' (ends_at es r) d l o z n;
+      lone = λ r' k f. (x.apart r' k r i p f at).0;
+      same = λ q ne off. let v = near xs i q (λ k a. off (up i k) (there k q a)) in (z.backs q ne v.1, z.forwards q ne v.0);
+      was = λ k q a. inr (up i k, there k q a);
+      stays = λ k q ne f. elim (found xs i p k q l (rw e at f)) [ inl w ↦ absurd (ne w.1) | inr w ↦ (w.0, w.2) ];
+      off = λ off. y.links;
+    })

@@ -1,5 +1,5 @@
 -- Buddies: from the one half of a double to the other, the bit of the halves' order is turned.
-use Rattle.std.proofs.Common.{ℕ, ◌+◌, ◌-◌, ◌*◌, ◌/◌, ◌%◌, ◌^◌, ◌≡◌, ◌<◌, inl, inr, sym, ◌∙◌, ap, subst, arith, min}
+use Rattle.std.proofs.Common.{ℕ, ◌+◌, ◌-◌, ◌*◌, ◌/◌, ◌%◌, ◌^◌, ◌≡◌, ◌<◌, inl, inr, sym, ◌∙◌, ap, arith, min}
 use Rattle.std.specs.Int.Bits.{bit_and, bit_xor, xor_add_and}
 use Rattle.std.proofs.Math.Nat.{mod-eq-sub-div-mul}
 use Rattle.std.proofs.lemmas.Nat.{pow_pos, pow-add, mod-pow-add}
@@ -23,12 +23,8 @@ pub turned_buddy : (b j c : ℕ) → c ≡ bit_xor b (2 ^ j) → b % 2 ^ j ≡ 0
 turned_buddy b j c e al =
     let w : c ≡ b + 2 ^ j - 2 * (b - head b (j + 1)) = e ∙ turned b j al in
     let pos : 0 < 2 ^ j = pow_pos j in
-    let P : ℕ → Type 0 = λ q. q % 2 ^ (j + 1) ≡ 0 in
-    elim (half b j al) [
-      | inl low ↦
-          let d : head b (j + 1) ≡ min b c = omega arith in
-          record { double = subst P d (head_aligned b (j + 1)); halves = inl (omega arith, omega arith) }
-      | inr high ↦
-          let d : head b (j + 1) ≡ min b c = omega arith in
-          record { double = subst P d (head_aligned b (j + 1)); halves = inr (omega arith, omega arith) }
-    ]
+    let lesser : head b (j + 1) ≡ min b c = elim (half b j al) [ inl low ↦ omega arith | inr high ↦ omega arith ] in
+    record {
+      double = rw (← lesser) (head_aligned b (j + 1));
+      halves = elim (half b j al) [ inl low ↦ inl (omega arith, omega arith) | inr high ↦ inr (omega arith, omega arith) ];
+    }

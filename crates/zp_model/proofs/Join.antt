@@ -1,5 +1,5 @@
 -- What a block set becomes when a run comes back and is joined as far as it goes.
-use Rattle.std.proofs.Common.{ℕ, ◌+◌, ◌%◌, ◌^◌, ◌≡◌, ◌≤◌, ◌<◌, ◌⊎◌, inl, inr, refl, sym, ◌∙◌, ap, subst, arith}
+use Rattle.std.proofs.Common.{ℕ, ◌+◌, ◌%◌, ◌^◌, ◌≡◌, ◌≤◌, ◌<◌, ◌⊎◌, inl, inr, refl, sym, ◌∙◌, ap, arith}
 use Rattle.std.proofs.lemmas.Nat.{pow_pos}
 use Rattle.std.proofs.lemmas.Bool.{cases_lt}
 use Rattle.zp_model.specs.Block.{head}
@@ -24,119 +24,77 @@ pub record IsGrown (m : ℕ) (S : ℕ → ℕ → Type 0) (U : ℕ → Type 0) (
   pub low : j < m → b % 2 ^ (j + 1) ≡ 0 → S (b + 2 ^ j) j → ⊥
   pub high : (g : ℕ) → j < m → g % 2 ^ (j + 1) ≡ 0 → b ≡ g + 2 ^ j → S g j → ⊥
 
--- a block of S that begins inside (b, j) lies in it
-smaller : (m : ℕ) (S : ℕ → ℕ → Type 0) (U : ℕ → Type 0) → IsNormal m S U → (h k b j : ℕ) → IsGrown m S U h k b j →
-    (g i : ℕ) → S g i → (p : ℕ) → g ≤ p → p < g + 2 ^ i → b ≤ p → p < b + 2 ^ j → i ≤ j
-smaller m S U z h k b j x g i s p a c d e =
-    elim (cases_lt j i) [
-      | inr le ↦ le
-      | inl lt ↦
-          let at : b ≡ head h j = x.at in
-          let bal : b % 2 ^ j ≡ 0 = let P : ℕ → Type 0 = λ n. n % 2 ^ j ≡ 0 in subst P (sym x.at) (head_aligned h j) in
-          let pb : head p j ≡ b = head_of b p j bal d e in
-          let pg : head p i ≡ g = head_of g p i (z.aligned g i s) a c in
-          let bi : head b i ≡ g = ap (λ n. head n i) (sym pb) ∙ head_head p j i (omega arith) ∙ pg in
-          let lo : head b i ≤ b = head_le b i in
-          let room : b + 2 ^ j ≤ head b i + 2 ^ i = head_room b j i (omega arith) bal in
-          let h1 : head h j ≤ h = head_le h j in
-          let h2 : h < head h j + 2 ^ j = lt_head h j in
-          absurd (x.clear (z.inside g i s h (omega arith) (omega arith)))
-    ]
+module _ (m : ℕ) (S : ℕ → ℕ → Type 0) (U : ℕ → Type 0) (z : IsNormal m S U) (h k b j : ℕ) (x : IsGrown m S U h k b j) where
+  grown_aligned : b % 2 ^ j ≡ 0
+  grown_aligned = rw x.at (head_aligned h j)
 
-within : (m : ℕ) (S : ℕ → ℕ → Type 0) (U : ℕ → Type 0) → IsNormal m S U → (h k b j : ℕ) → IsGrown m S U h k b j →
-    (g i : ℕ) → S g i → (p : ℕ) → g ≤ p → p < g + 2 ^ i → b ≤ p → p < b + 2 ^ j → (b ≤ g) × (g < b + 2 ^ j)
-within m S U z h k b j x g i s p a c d e =
-    let le : i ≤ j = smaller m S U z h k b j x g i s p a c d e in
-    let bal : b % 2 ^ j ≡ 0 = let P : ℕ → Type 0 = λ n. n % 2 ^ j ≡ 0 in subst P (sym x.at) (head_aligned h j) in
-    let pb : head p j ≡ b = head_of b p j bal d e in
-    let pg : head p j ≡ head g j = head_same g p i j le (z.aligned g i s) a c in
-    let lo : head g j ≤ g = head_le g j in
-    let hi : g < head g j + 2 ^ j = lt_head g j in
-    (omega arith, omega arith)
+  -- a block of S that begins inside (b, j) lies in it
+  smaller : (g i : ℕ) → S g i → (p : ℕ) → g ≤ p → p < g + 2 ^ i → b ≤ p → p < b + 2 ^ j → i ≤ j
+  smaller g i s p a c d e =
+      elim (cases_lt j i) [
+        | inr le ↦ le
+        | inl lt ↦
+            let bi : head b i ≡ g = ap (λ n. head n i) (sym (head_of b p j grown_aligned d e)) ∙ head_head p j i (omega arith) ∙ head_of g p i (z.aligned g i s) a c in
+            let room : b + 2 ^ j ≤ head b i + 2 ^ i = head_room b j i (omega arith) grown_aligned in
+            absurd (x.clear (z.inside g i s h (omega (arith, x.at, head_le b i, head_le h j)) (omega (arith, x.at, lt_head h j))))
+      ]
 
-pub join-normal : (m : ℕ) (S : ℕ → ℕ → Type 0) (U : ℕ → Type 0) → IsNormal m S U → (h k b j : ℕ) → IsGrown m S U h k b j →
-    IsNormal m (AfterJoin S b j) (Joined U h k)
-join-normal m S U z h k b j x = record {
-  order = λ g i y. elim y [ inl s ↦ z.order g i s.0 | inr n ↦ let e : i ≡ j = n.1 in let o : j ≤ m = x.order in omega arith ];
-  aligned = λ g i y. aligned_join m S U z h k b j x g i y;
-  apart = λ g i f n p y w a c d e. apart_join m S U z h k b j x g i f n p y w a c d e;
-  unjoined = λ g i lt al y w. unjoined_join m S U z h k b j x g i lt al y w;
-  covers = λ p y. covers_join m S U z h k b j x p y;
-  inside = λ g i y p a c. inside_join m S U z h k b j x g i y p a c;
-}
-  where
-    aligned_join : (m : ℕ) (S : ℕ → ℕ → Type 0) (U : ℕ → Type 0) → IsNormal m S U → (h k b j : ℕ) → IsGrown m S U h k b j →
-        (g i : ℕ) → AfterJoin S b j g i → g % 2 ^ i ≡ 0
-    aligned_join m S U z h k b j x g i (inl s) = z.aligned g i s.0
-    aligned_join m S U z h k b j x g i (inr n) =
-        let P : ℕ → Type 0 = λ q. q % 2 ^ i ≡ 0 in
-        let Q : ℕ → Type 0 = λ q. head h q % 2 ^ i ≡ 0 in
-        subst P (sym (n.0 ∙ x.at)) (subst Q n.1 (head_aligned h i))
+  within : (g i : ℕ) → S g i → (p : ℕ) → g ≤ p → p < g + 2 ^ i → b ≤ p → p < b + 2 ^ j → (b ≤ g) × (g < b + 2 ^ j)
+  within g i s p a c d e =
+      let same : head p j ≡ head g j = head_same g p i j (smaller g i s p a c d e) (z.aligned g i s) a c in
+      omega (arith, head_of b p j grown_aligned d e, head_le g j, lt_head g j)
 
-    apart_join : (m : ℕ) (S : ℕ → ℕ → Type 0) (U : ℕ → Type 0) → IsNormal m S U → (h k b j : ℕ) → IsGrown m S U h k b j →
-        (g i f n p : ℕ) → AfterJoin S b j g i → AfterJoin S b j f n → g ≤ p → p < g + 2 ^ i → f ≤ p → p < f + 2 ^ n → (g ≡ f) × (i ≡ n)
-    apart_join m S U z h k b j x g i f n p (inl s) (inl t) a c d e = z.apart g i f n p s.0 t.0 a c d e
-    apart_join m S U z h k b j x g i f n p (inr s) (inr t) a c d e = (s.0 ∙ sym t.0, s.1 ∙ sym t.1)
-    apart_join m S U z h k b j x g i f n p (inl s) (inr t) a c d e =
-        let q : 2 ^ n ≡ 2 ^ j = ap (λ r. 2 ^ r) t.1 in
-        let r : f ≡ b = t.0 in
-        let w = within m S U z h k b j x g i s.0 p a c (omega arith) (omega arith) in
-        absurd (s.1 w.0 w.1)
-    apart_join m S U z h k b j x g i f n p (inr s) (inl t) a c d e =
-        let q : 2 ^ i ≡ 2 ^ j = ap (λ r. 2 ^ r) s.1 in
-        let r : g ≡ b = s.0 in
-        let w = within m S U z h k b j x f n t.0 p d e (omega arith) (omega arith) in
-        absurd (t.1 w.0 w.1)
+  aligned_join : (g i : ℕ) → AfterJoin S b j g i → g % 2 ^ i ≡ 0
+  aligned_join g i (inl s) = z.aligned g i s.0
+  aligned_join g i (inr n) = rw (n.0, n.1) grown_aligned
 
-    unjoined_join : (m : ℕ) (S : ℕ → ℕ → Type 0) (U : ℕ → Type 0) → IsNormal m S U → (h k b j : ℕ) → IsGrown m S U h k b j →
-        (g i : ℕ) → i < m → g % 2 ^ (i + 1) ≡ 0 → AfterJoin S b j g i → AfterJoin S b j (g + 2 ^ i) i → ⊥
-    unjoined_join m S U z h k b j x g i lt al (inl s) (inl t) = z.unjoined g i lt al s.0 t.0
-    unjoined_join m S U z h k b j x g i lt al (inr s) (inr t) =
-        let p : 0 < 2 ^ i = pow_pos i in
-        let e : g ≡ b = s.0 in
-        let f : g + 2 ^ i ≡ b = t.0 in
-        omega arith
-    unjoined_join m S U z h k b j x g i lt al (inr s) (inl t) =
-        let P : ℕ → Type 0 = λ q. g % 2 ^ (q + 1) ≡ 0 in
-        let Q : ℕ → Type 0 = λ q. q % 2 ^ (j + 1) ≡ 0 in
-        let R : ℕ → Type 0 = λ q. S (g + 2 ^ q) q in
-        let T : ℕ → Type 0 = λ q. S (q + 2 ^ j) j in
-        let e : i ≡ j = s.1 in
-        x.low (omega arith) (subst Q s.0 (subst P e al)) (subst T s.0 (subst R e t.0))
-    unjoined_join m S U z h k b j x g i lt al (inl s) (inr t) =
-        let P : ℕ → Type 0 = λ q. g % 2 ^ (q + 1) ≡ 0 in
-        let R : ℕ → Type 0 = λ q. S g q in
-        let T : ℕ → Type 0 = λ q. b ≡ g + 2 ^ q in
-        let e : i ≡ j = t.1 in
-        x.high g (omega arith) (subst P e al) (subst T e (sym t.0)) (subst R e s.0)
+  apart_join : (g i f n p : ℕ) → AfterJoin S b j g i → AfterJoin S b j f n → g ≤ p → p < g + 2 ^ i → f ≤ p → p < f + 2 ^ n → (g ≡ f) × (i ≡ n)
+  apart_join g i f n p (inl s) (inl t) a c d e = z.apart g i f n p s.0 t.0 a c d e
+  apart_join g i f n p (inr s) (inr t) a c d e = (s.0 ∙ sym t.0, s.1 ∙ sym t.1)
+  apart_join g i f n p (inl s) (inr t) a c d e =
+      let q : 2 ^ n ≡ 2 ^ j = ap (λ r. 2 ^ r) t.1 in
+      let w = within g i s.0 p a c (omega arith) (omega arith) in
+      absurd (s.1 w.0 w.1)
+  apart_join g i f n p (inr s) (inl t) a c d e =
+      let q : 2 ^ i ≡ 2 ^ j = ap (λ r. 2 ^ r) s.1 in
+      let w = within f n t.0 p d e (omega arith) (omega arith) in
+      absurd (t.1 w.0 w.1)
 
-    covers_join : (m : ℕ) (S : ℕ → ℕ → Type 0) (U : ℕ → Type 0) → IsNormal m S U → (h k b j : ℕ) → IsGrown m S U h k b j →
-        (p : ℕ) → Joined U h k p → (i : ℕ) × AfterJoin S b j (head p i) i
-    covers_join m S U z h k b j x p (inr r) =
-        let e : head p j ≡ head h j = head_same h p k j x.up x.aligned r.0 r.1 in
-        (j, inr (e ∙ sym x.at, refl))
-    covers_join m S U z h k b j x p (inl u) =
-        let c : (i : ℕ) × S (head p i) i = z.covers p u in
-        let bal : b % 2 ^ j ≡ 0 = let P : ℕ → Type 0 = λ n. n % 2 ^ j ≡ 0 in subst P (sym x.at) (head_aligned h j) in
-        let g = head p c.0 in
-        let q : 0 < 2 ^ c.0 = pow_pos c.0 in
-        let past : ((b ≤ g) × (g < b + 2 ^ j)) → (i : ℕ) × AfterJoin S b j (head p i) i = λ w.
-        let le : c.0 ≤ j = smaller m S U z h k b j x g c.0 c.1 g (omega arith) (omega arith) w.0 w.1 in
-        let e : head g j ≡ head p j = head_head p c.0 j le in
-        let f : head g j ≡ b = head_of b g j bal w.0 w.1 in
-        (j, inr (sym e ∙ f, refl)) in
-        elim (cases_lt g b) [
-          | inl lt ↦ (c.0, inl (c.1, λ lo hi. let bad : ⊥ = omega arith in bad))
-          | inr ge ↦ elim (cases_lt g (b + 2 ^ j)) [
-            | inl lt ↦ past (ge, lt)
-            | inr out ↦ (c.0, inl (c.1, λ lo hi. let bad : ⊥ = omega arith in bad))
-          ]
-        ]
+  unjoined_join : (g i : ℕ) → i < m → g % 2 ^ (i + 1) ≡ 0 → AfterJoin S b j g i → AfterJoin S b j (g + 2 ^ i) i → ⊥
+  unjoined_join g i lt al (inl s) (inl t) = z.unjoined g i lt al s.0 t.0
+  unjoined_join g i lt al (inr s) (inr t) = omega (arith, pow_pos i, s.0, t.0)
+  unjoined_join g i lt al (inr s) (inl t) = x.low (omega (arith, s.1)) (rw (← s.0, ← s.1) al) (rw (← s.0, ← s.1) t.0)
+  unjoined_join g i lt al (inl s) (inr t) = x.high g (omega (arith, t.1)) (rw (← t.1) al) (rw (← t.1) (sym t.0)) (rw (← t.1) s.0)
 
-    inside_join : (m : ℕ) (S : ℕ → ℕ → Type 0) (U : ℕ → Type 0) → IsNormal m S U → (h k b j : ℕ) → IsGrown m S U h k b j →
-        (g i : ℕ) → AfterJoin S b j g i → (p : ℕ) → g ≤ p → p < g + 2 ^ i → Joined U h k p
-    inside_join m S U z h k b j x g i (inl s) p a c = inl (z.inside g i s.0 p a c)
-    inside_join m S U z h k b j x g i (inr s) p a c =
-        let q : 2 ^ i ≡ 2 ^ j = ap (λ r. 2 ^ r) s.1 in
-        let r : g ≡ b = s.0 in
-        x.filled p (omega arith) (omega arith)
+  covers_join : (p : ℕ) → Joined U h k p → (i : ℕ) × AfterJoin S b j (head p i) i
+  covers_join p (inr r) = (j, inr (head_same h p k j x.up x.aligned r.0 r.1 ∙ sym x.at, refl))
+  covers_join p (inl u) =
+      let c : (i : ℕ) × S (head p i) i = z.covers p u in
+      let g = head p c.0 in
+      let q : 0 < 2 ^ c.0 = pow_pos c.0 in
+      elim (cases_lt g b) [
+        | inl lt ↦ (c.0, inl (c.1, λ lo hi. absurd (omega arith)))
+        | inr ge ↦
+            elim (cases_lt g (b + 2 ^ j)) [
+              | inl lt ↦
+                  let le : c.0 ≤ j = smaller g c.0 c.1 g (omega arith) (omega arith) ge lt in
+                  (j, inr (sym (head_head p c.0 j le) ∙ head_of b g j grown_aligned ge lt, refl))
+              | inr out ↦ (c.0, inl (c.1, λ lo hi. absurd (omega arith)))
+            ]
+      ]
+
+  inside_join : (g i : ℕ) → AfterJoin S b j g i → (p : ℕ) → g ≤ p → p < g + 2 ^ i → Joined U h k p
+  inside_join g i (inl s) p a c = inl (z.inside g i s.0 p a c)
+  inside_join g i (inr s) p a c =
+      let q : 2 ^ i ≡ 2 ^ j = ap (λ r. 2 ^ r) s.1 in
+      x.filled p (omega arith) (omega arith)
+
+  pub join-normal : IsNormal m (AfterJoin S b j) (Joined U h k)
+  join-normal = record {
+    order = λ g i y. elim y [ inl s ↦ z.order g i s.0 | inr n ↦ omega (arith, n.1, x.order) ];
+    aligned = aligned_join;
+    apart = apart_join;
+    unjoined = unjoined_join;
+    covers = covers_join;
+    inside = inside_join;
+  }

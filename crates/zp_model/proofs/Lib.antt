@@ -7,4 +7,7 @@ pub mod Split
 pub mod Join
 pub mod Covers
 pub mod Settles
+pub mod RowLists
+pub mod TypeNumbers
+pub mod FirstFound
 pub mod MaximalBlocks

@@ -1,5 +1,5 @@
 -- A set of disjoint blocks in which no two buddies stand is the set of the maximal blocks of its pages.
-use Rattle.std.proofs.Common.{ℕ, suc, zero, ◌+◌, ◌%◌, ◌^◌, ◌≡◌, ◌≤◌, ◌<◌, inl, inr, ◌∙◌, subst, arith}
+use Rattle.std.proofs.Common.{ℕ, suc, zero, ◌+◌, ◌%◌, ◌^◌, ◌≡◌, ◌≤◌, ◌<◌, inl, inr, ◌∙◌, arith}
 use Rattle.std.proofs.lemmas.Nat.{pow_pos}
 use Rattle.std.proofs.Math.Nat.{add-mod_right}
 use Rattle.std.proofs.lemmas.Bool.{cases_lt}
@@ -30,79 +30,59 @@ pub record IsMaximal (m : ℕ) (U : ℕ → Type 0) (h k : ℕ) : Type 0 where
 abbrev pub Around : (ℕ → ℕ → Type 0) → ℕ → ℕ → Type 0
 Around S b j = (k : ℕ) × (j ≤ k) × S (head b k) k
 
-around_more : (m : ℕ) (S : ℕ → ℕ → Type 0) (U : ℕ → Type 0) → IsNormal m S U → (j : ℕ) → j < m →
-    ((b : ℕ) → b % 2 ^ j ≡ 0 → Filled U b j → Around S b j) →
-    (b : ℕ) → b % 2 ^ (j + 1) ≡ 0 → Filled U b (j + 1) → Around S b (j + 1)
-around_more m S U n j lt each b al f =
-    let t : 2 ^ (j + 1) ≡ 2 ^ j + 2 ^ j = two j in
-    let bal : b % 2 ^ j ≡ 0 = aligned_down j (j + 1) b (omega arith) al in
-    let hal : (b + 2 ^ j) % 2 ^ j ≡ 0 = add-mod_right b (2 ^ j) ∙ bal in
-    let lo : Around S b j = each b bal (λ i p q. f i p (omega arith)) in
-    let hi : Around S (b + 2 ^ j) j = each (b + 2 ^ j) hal (λ i p q. f i (omega arith) (omega arith)) in
-    elim (cases_lt j lo.0) [
-      | inl above ↦ (lo.0, omega arith, lo.2)
-      | inr low ↦
-          elim (cases_lt j hi.0) [
-            | inl above ↦
-                let e : head (b + 2 ^ j) hi.0 ≡ head b hi.0 =
-                head_same b (b + 2 ^ j) (j + 1) hi.0 (omega arith) al (omega arith) (omega (arith, pow_pos j)) in
-                let P : ℕ → Type 0 = λ h. S h hi.0 in
-                (hi.0, omega arith, subst P e hi.2)
-            | inr high ↦
-                let e : lo.0 ≡ j = omega arith in
-                let g : hi.0 ≡ j = omega arith in
-                let P : ℕ → Type 0 = λ k. S (head b k) k in
-                let Q : ℕ → Type 0 = λ k. S (head (b + 2 ^ j) k) k in
-                let R : ℕ → Type 0 = λ h. S h j in
-                absurd (n.unjoined b j lt al (subst R (head_self b j bal) (subst P e lo.2)) (subst R (head_self (b + 2 ^ j) j hal) (subst Q g hi.2)))
-          ]
-    ]
+module _ (m : ℕ) (S : ℕ → ℕ → Type 0) (U : ℕ → Type 0) (n : IsNormal m S U) where
+  around_more : (j : ℕ) → j < m → ((b : ℕ) → b % 2 ^ j ≡ 0 → Filled U b j → Around S b j) →
+      (b : ℕ) → b % 2 ^ (j + 1) ≡ 0 → Filled U b (j + 1) → Around S b (j + 1)
+  around_more j lt each b al f =
+      let t : 2 ^ (j + 1) ≡ 2 ^ j + 2 ^ j = two j in
+      let bal : b % 2 ^ j ≡ 0 = aligned_down j (j + 1) b (omega arith) al in
+      let hal : (b + 2 ^ j) % 2 ^ j ≡ 0 = add-mod_right b (2 ^ j) ∙ bal in
+      let lo : Around S b j = each b bal (λ i p q. f i p (omega arith)) in
+      let hi : Around S (b + 2 ^ j) j = each (b + 2 ^ j) hal (λ i p q. f i (omega arith) (omega arith)) in
+      elim (cases_lt j lo.0) [
+        | inl above ↦ (lo.0, omega arith, lo.2)
+        | inr low ↦
+            elim (cases_lt j hi.0) [
+              | inl above ↦
+                  (hi.0, omega arith, rw (head_same b (b + 2 ^ j) (j + 1) hi.0 (omega arith) al (omega arith) (omega (arith, pow_pos j))) at hi.2)
+              | inr high ↦
+                  let e : lo.0 ≡ j = omega arith in
+                  let g : hi.0 ≡ j = omega arith in
+                  absurd (n.unjoined b j lt al (rw (e, head_self b j bal) at lo.2) (rw (g, head_self (b + 2 ^ j) j hal) at hi.2))
+            ]
+      ]
 
--- each aligned run of order at most m that lies in U lies in one block of S
-pub run_in_block : (m : ℕ) (S : ℕ → ℕ → Type 0) (U : ℕ → Type 0) → IsNormal m S U → (j : ℕ) → j ≤ m →
-    (b : ℕ) → b % 2 ^ j ≡ 0 → Filled U b j → Around S b j
-run_in_block m S U n zero le b al f =
-    let c : (k : ℕ) × S (head b k) k = n.covers b (f b (omega arith) (omega (arith, pow_pos 0))) in
-    (c.0, omega arith, c.1)
-run_in_block m S U n (suc j) le b al f =
-    let P : ℕ → Type 0 = λ q. b % 2 ^ q ≡ 0 → Filled U b q → Around S b q in
-    let e : j + 1 ≡ suc j = omega arith in
-    subst P e (around_more m S U n j (omega arith) (run_in_block m S U n j (omega arith)) b) al f
+  -- each aligned run of order at most m that lies in U lies in one block of S
+  pub run_in_block : (j : ℕ) → j ≤ m → (b : ℕ) → b % 2 ^ j ≡ 0 → Filled U b j → Around S b j
+  run_in_block zero le b al f = let c = n.covers b (f b (omega arith) (omega (arith, pow_pos 0))) in (c.0, omega arith, c.1)
+  run_in_block (suc j) le b al f =
+      let e : suc j ≡ j + 1 = omega arith in
+      rw e (around_more j (omega arith) (run_in_block j (omega arith)) b (rw e at al) (rw e at f))
 
--- a block of S is maximal
-pub maximal_from : (m : ℕ) (S : ℕ → ℕ → Type 0) (U : ℕ → Type 0) → IsNormal m S U → (h k : ℕ) → S h k → IsMaximal m U h k
-maximal_from m S U n h k s = record {
-  order = n.order h k s;
-  aligned = n.aligned h k s;
-  inside = n.inside h k s;
-  alone = λ lt f. alone_from m S U n h k s lt f;
-}
-  where
-    alone_from : (m : ℕ) (S : ℕ → ℕ → Type 0) (U : ℕ → Type 0) → IsNormal m S U → (h k : ℕ) → S h k → k < m → Filled U (head h (k + 1)) (k + 1) → ⊥
-    alone_from m S U n h k s lt f =
-        let a : Around S (head h (k + 1)) (k + 1) = run_in_block m S U n (k + 1) (omega arith) (head h (k + 1)) (head_aligned h (k + 1)) f in
-        let e : head (head h (k + 1)) a.0 ≡ head h a.0 = head_head h (k + 1) a.0 a.1 in
-        let P : ℕ → Type 0 = λ g. S g a.0 in
-        let b : S (head h a.0) a.0 = subst P e a.2 in
-        let p : (h ≡ head h a.0) × (k ≡ a.0) =
-        n.apart h k (head h a.0) a.0 h s b (omega arith) (omega (arith, pow_pos k)) (head_le h a.0) (lt_head h a.0) in
-        omega arith
+  -- a block of S is maximal
+  pub maximal_from : (h k : ℕ) → S h k → IsMaximal m U h k
+  maximal_from h k s = record {
+    order = n.order h k s;
+    aligned = n.aligned h k s;
+    inside = n.inside h k s;
+    alone = λ lt f.
+        let a : Around S (head h (k + 1)) (k + 1) = run_in_block (k + 1) (omega arith) (head h (k + 1)) (head_aligned h (k + 1)) f in
+        let b : S (head h a.0) a.0 = rw (head_head h (k + 1) a.0 a.1) at a.2 in
+        let p = n.apart h k (head h a.0) a.0 h s b (omega arith) (omega (arith, pow_pos k)) (head_le h a.0) (lt_head h a.0) in
+        omega (arith, a.1, p.1);
+  }
 
--- a maximal block is one of S
-pub maximal_to : (m : ℕ) (S : ℕ → ℕ → Type 0) (U : ℕ → Type 0) → IsNormal m S U → (h k : ℕ) → IsMaximal m U h k → S h k
-maximal_to m S U n h k x =
-    let a : Around S h k = run_in_block m S U n k x.order h x.aligned x.inside in
-    elim (cases_lt k a.0) [
-      | inl lt ↦
-          let below : a.0 ≤ m = n.order (head h a.0) a.0 a.2 in
-          let e : head (head h (k + 1)) a.0 ≡ head h a.0 = head_head h (k + 1) a.0 (omega arith) in
-          let room : head h (k + 1) + 2 ^ (k + 1) ≤ head (head h (k + 1)) a.0 + 2 ^ a.0 =
-          head_room (head h (k + 1)) (k + 1) a.0 (omega arith) (head_aligned h (k + 1)) in
-          let low : head (head h (k + 1)) a.0 ≤ head h (k + 1) = head_le (head h (k + 1)) a.0 in
-          absurd (x.alone (omega arith) (λ i p q. n.inside (head h a.0) a.0 a.2 i (omega arith) (omega arith)))
-      | inr ge ↦
-          let e : a.0 ≡ k = omega arith in
-          let P : ℕ → Type 0 = λ q. S (head h q) q in
-          let Q : ℕ → Type 0 = λ g. S g k in
-          subst Q (head_self h k x.aligned) (subst P e a.2)
-    ]
+  -- a maximal block is one of S
+  pub maximal_to : (h k : ℕ) → IsMaximal m U h k → S h k
+  maximal_to h k x =
+      let a : Around S h k = run_in_block k x.order h x.aligned x.inside in
+      elim (cases_lt k a.0) [
+        | inl lt ↦
+            let d = head h (k + 1) in
+            let e : head d a.0 ≡ head h a.0 = head_head h (k + 1) a.0 (omega arith) in
+            let below : a.0 ≤ m = n.order (head h a.0) a.0 a.2 in
+            let low : head d a.0 ≤ d = head_le d a.0 in
+            let room : d + 2 ^ (k + 1) ≤ head d a.0 + 2 ^ a.0 = head_room d (k + 1) a.0 (omega arith) (head_aligned h (k + 1)) in
+            absurd (x.alone (omega arith) (λ i p q. n.inside (head h a.0) a.0 a.2 i (omega arith) (omega arith)))
+        | inr ge ↦ let e : a.0 ≡ k = omega arith in rw (e, head_self h k x.aligned) at a.2
+      ]

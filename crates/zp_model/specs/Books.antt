@@ -2,7 +2,7 @@
 -- profile). Pages in requests and replies are absolute.
 use Rattle.std.specs.Prelude.{ℕ, ◌-◌, ◌==◌, ◌&&◌, Bool, List, [], ◌∷◌, ◌++◌, map, cond, leb, slice_set, Option, None, Some}
 use Rattle.std.specs.List.{filter}
-use Rattle.zp_model.specs.declared.request.Entry.{Entry}
+use Rattle.zp_model.specs.Entries.{Entry}
 use Rattle.zp_model.specs.declared.request.Request.{Request}
 use Rattle.zp_model.specs.declared.request.Reply.{Reply}
 use Rattle.zp_model.specs.Zone.{PlainZone, Holding, zone_opening, holding_at, is_of}

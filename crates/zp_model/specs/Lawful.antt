@@ -1,9 +1,12 @@
 -- When a plain zone is lawful: each page lies in exactly one place, and each free list holds what belongs there, each once.
-use Rattle.std.specs.Prelude.{ℕ, ◌+◌, ◌≡◌, ◌<◌, ◌==◌, Bool, false, List, length, cond, Option, None, Some, All}
+use Rattle.std.specs.Prelude.{ℕ, ◌+◌, ◌/◌, ◌%◌, ◌≡◌, ◌<◌, ◌==◌, Bool, true, false, List, length, cond, Option, None, Some, All}
+use Rattle.zp_model.specs.declared.migrate_type.MigrateType.{MigrateType}
+use Rattle.zp_model.specs.MigrateType.{type_number, types_count}
 use Rattle.std.specs.List.{range_with_len, count_by, sum_by, IsDistinct}
 use Rattle.zp_model.specs.Block.{has, in_run, IsBlock}
 use Rattle.zp_model.specs.Rows.{list_at, stands_in}
-use Rattle.zp_model.specs.Area.{Area, lists_count, belongs, pageblocks_of}
+use Rattle.zp_model.specs.BlockSet.{Starts}
+use Rattle.zp_model.specs.Area.{Area, kind_at, lists_count, belongs, pageblocks_of}
 use Rattle.zp_model.specs.Zone.{PlainZone, Holding, PostedBlock, holding_at, posted_to, pages_of, workers_of}
 
 -- whether the block out at h, if there is one, has page i
@@ -27,6 +30,16 @@ pub record IsListedArea (a : Area) : Type 0 where
   pub table : length a.lists ≡ lists_count a.largest
   pub distinct : (r : ℕ) → r < lists_count a.largest → IsDistinct (λ x y. x == y) (list_at a.lists r)
   pub held : (r h : ℕ) → r < lists_count a.largest → stands_in h (list_at a.lists r) ≡ belongs a.largest a.free a.kinds r h
+
+-- the block of the row's order starts at h, in a pageblock of the row's type
+abbrev pub Here : ℕ → List (Option ℕ) → List MigrateType → ℕ → ℕ → Type 0
+Here m s kinds r h = Starts s h (r / types_count) × (type_number (kind_at m kinds h) ≡ r % types_count)
+
+-- the list holds, each once, what belongs in row r
+pub record IsListed (m : ℕ) (s : List (Option ℕ)) (kinds : List MigrateType) (r : ℕ) (xs : List ℕ) : Type 0 where
+  pub distinct : IsDistinct (λ x y. x == y) xs
+  pub to : (h : ℕ) → stands_in h xs ≡ true → Here m s kinds r h
+  pub from : (h : ℕ) → Here m s kinds r h → stands_in h xs ≡ true
 
 pub record IsLawful (z : PlainZone) : Type 0 where
   -- there is a place for a holding at each page, and a type for each pageblock

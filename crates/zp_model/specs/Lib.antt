@@ -12,6 +12,7 @@ pub mod Info
 pub mod Naming
 pub mod Bounds
 pub mod Refused
+pub mod Entries
 pub mod Step
 pub mod Run
 pub mod Books

@@ -2,7 +2,7 @@
 use Rattle.std.specs.Prelude.{ℕ, ◌-◌, ◌≡◌, ◌<◌, ◌&&◌, Bool, true, List, [], ◌∷◌, leb, ltb, not}
 use Rattle.std.specs.List.{list_all}
 use Rattle.zp_model.specs.declared.constants.TheConstants.{MAX_BATCH}
-use Rattle.zp_model.specs.declared.request.Entry.{Entry}
+use Rattle.zp_model.specs.Entries.{Entry}
 use Rattle.zp_model.specs.declared.request.Request.{Request}
 use Rattle.zp_model.specs.declared.request.Request.TheVariants.{Alloc, AllocLow, Free, Post, Collect, Refill, Drain}
 use Rattle.zp_model.specs.Rows.{stands_in}

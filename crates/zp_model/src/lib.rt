@@ -9,6 +9,7 @@ mod block;
 mod blocks_law;
 mod constants;
 mod counts;
+mod entry;
 mod mark;
 mod migrate_type;
 mod name;
@@ -28,6 +29,7 @@ pub use constants::{
     PAGEBLOCK_PAGES, TYPES,
 };
 pub use counts::Counts;
+pub use entry::Entry;
 pub use mark::{Level, Mark};
 pub use migrate_type::MigrateType;
 pub use name::Name;
@@ -35,6 +37,6 @@ pub use order::Order;
 pub use page::{PageAt, PageNo};
 pub use page_list::PageList;
 pub use refused::Refused;
-pub use request::{Entry, Reply, Request};
+pub use request::{Reply, Request};
 pub use state::State;
 pub use worker::Worker;

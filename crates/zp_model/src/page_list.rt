@@ -51,6 +51,17 @@ impl PageList {
         PageList { pages: list }
     }
 
+    /// These pages, in the place of those that it had.
+    pub fn set(&mut self, pages: &[PageNo])
+        requires { length pages.now ≤ LONGEST_LIST }
+        ensures { self.new ≡ pages.now }
+    {
+        self.pages.clear();
+        let Ok(()) = self.pages.try_extend_from_slice(pages) else {
+            unreachable!()
+        };
+    }
+
     /// The same pages once more.
     pub fn copied(&self) -> PageList
         ensures { result ≡ self.now }

@@ -1,4 +1,4 @@
-//! Requests of a zone, their replies, and journal entries.
+//! Requests of a zone, and their replies.
 ghost use Rattle.std.specs.Prelude.{◌≡◌};
 
 use crate::{Block, Mark, MigrateType, Order, PageList, PageNo, Refused, Worker};
@@ -34,14 +34,6 @@ pub enum Reply {
     Refused(Refused),
 }
 
-/// One request that a worker made of a zone, with its reply.
-#[derive(PartialEq, Eq, Debug, Drop)]
-pub struct Entry {
-    pub worker: Worker,
-    pub request: Request,
-    pub reply: Reply,
-}
-
 impl Request {
     /// The same request once more. It takes no memory.
     pub fn copied(&self) -> Request
@@ -72,19 +64,6 @@ impl Reply {
             Reply::Pages(pages) => Reply::Pages(pages.copied()),
             Reply::Drained => Reply::Drained,
             Reply::Refused(refused) => Reply::Refused(*refused),
-        }
-    }
-}
-
-impl Entry {
-    /// The same entry once more. It takes no memory.
-    pub fn copied(&self) -> Entry
-        ensures { result ≡ self.now }
-    {
-        Entry {
-            worker: self.worker,
-            request: self.request.copied(),
-            reply: self.reply.copied(),
         }
     }
 }

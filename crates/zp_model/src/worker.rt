@@ -36,6 +36,13 @@ impl Worker {
         }
     }
 
+    /// The first worker, which each zone has.
+    pub const fn first() -> Worker
+        ensures { result ≡ 0 }
+    {
+        Worker { number: 0 }
+    }
+
     pub const fn number(self) -> u8
         ensures same { result ≡ self }
         ensures within { result < MAX_WORKERS }

@@ -1,11 +1,4 @@
 pub mod Settled
-pub mod Orders
-pub mod Noted
-pub mod Kept
-pub mod Areas
-pub mod Choosing
-pub mod Clearing
-pub mod Counting
-pub mod Walking
-pub mod Opened
-pub mod Lowest
+pub mod Looking
+pub mod Framed
+pub mod SoundAreas

@@ -1,8 +1,8 @@
 -- Zones and their journals, before and after the journals were replayed.
-use Rattle.std.proofs.Common.{ℕ, ◌≡◌, ◌<◌, ◌∙◌, List, [], ◌∷◌, ◌++◌, length, map, take, drop, get_or, sym, ap, ap₂, subst, arith, length-append}
+use Rattle.std.proofs.Common.{ℕ, ◌≡◌, ◌<◌, ◌∙◌, List, [], ◌∷◌, ◌++◌, length, map, take, get_or, sym, ap, ap₂, subst, arith, length-append}
 use Rattle.std.specs.List.{AllZip}
 use Rattle.std.proofs.lemmas.List.{length-map, map-append, take_more}
-use Rattle.zp_model.specs.declared.request.Entry.{Entry}
+use Rattle.zp_model.specs.Entries.{Entry}
 use Rattle.zp_model.specs.Run.{IsHistory}
 use Rattle.zp_trace.specs.declared.line.ZoneLine.{ZoneLine}
 use Rattle.zp_trace.specs.declared.trace.Trace.{Trace}
@@ -11,37 +11,19 @@ use Rattle.zp_zone.specs.Seats.{ZoneState}
 use Rattle.zp_journal.specs.Journals.{IsJournalOf, JournalState}
 use Rattle.zp_share.specs.Shares.{named_zone}
 use Rattle.zp_shared.proofs.Places.{zip_more}
-use Rattle.zp_crew.specs.Offices.{OfficeState, opened_office}
-use Rattle.zp_crew.specs.Opening.{declared_zone}
+use Rattle.zp_office.specs.Offices.{OfficeState, opened_office}
+use Rattle.zp_office.specs.Opening.{declared_zone}
 use Rattle.zp_replay.specs.Judging.{JudgedJournal, IsJudged}
-use Rattle.zp_replay.specs.Serving.{IsHistoryOf, IsJudgedHistory, IsJudgedOffice, IsServed}
+use Rattle.zp_replay.specs.Serving.{IsHistoryOf, IsJudgedOffice, IsServed, entries_in, entries_judged}
 use Rattle.zp_replay.proofs.ServedOffices.{zip_length}
 
 -- the journals of zones that came out of their locks have all that was asked of the zones
-pub histories_of : (zs : List ZoneState) (js : List JournalState) → AllZip IsJournalOf zs js → AllZip IsHistoryOf (map named_zone zs) js
+pub histories_of : (zs : List ZoneState) (js : List JournalState) → AllZip IsJournalOf zs js → AllZip IsHistoryOf (map named_zone zs) (entries_in js)
 histories_of [] [] zip = zip
 histories_of [] (j ∷ js) zip = absurd zip
 histories_of (z ∷ zs) [] zip = absurd zip
 histories_of (z ∷ zs) (j ∷ js) zip =
     (subst (λ (es : List Entry). IsHistory z.plain es) (sym zip.0.entries) zip.0.history, histories_of zs js zip.1)
-
-abbrev pub entries_judged : List JudgedJournal → List (List Entry)
-entries_judged js = map (λ (j : JudgedJournal). j.entries) js
-
-abbrev pub entries_in : List JournalState → List (List Entry)
-entries_in js = map (λ (j : JournalState). j.entries) js
-
--- and so have the journals with the same entries
-pub same_histories : (zs : List NamedZone) (js : List JournalState) (ks : List JudgedJournal) → entries_judged ks ≡ entries_in js → AllZip IsHistoryOf zs js → AllZip IsJudgedHistory zs ks
-same_histories [] [] [] e zip = zip
-same_histories [] (j ∷ js) ks e zip = absurd zip
-same_histories (z ∷ zs) [] ks e zip = absurd zip
-same_histories [] [] (k ∷ ks) e zip = absurd (omega (arith, ap length e))
-same_histories (z ∷ zs) (j ∷ js) [] e zip = absurd (omega (arith, ap length e))
-same_histories (z ∷ zs) (j ∷ js) (k ∷ ks) e zip =
-    let here : k.entries ≡ j.entries = ap (λ (es : List (List Entry)). get_or es 0 []) e in
-    let rest : entries_judged ks ≡ entries_in js = ap (λ (es : List (List Entry)). drop 1 es) e in
-    (subst (λ (es : List Entry). IsHistory z.plain es) (sym here) zip.0, same_histories zs js ks rest zip.1)
 
 -- the journals of the lines so far, and one more
 pub judged_more : (n : ℕ) (lines : List ZoneLine) (js : List JudgedJournal) (line : ZoneLine) (j : JudgedJournal) → length js < length lines → line ≡ get_or lines (length js) line →
@@ -59,16 +41,17 @@ entries_more js ks j k e one =
     ∙ sym (map-append (λ (x : JournalState). x.entries) ks (k ∷ []))
 
 -- there are as many journals as zone lines
-pub journals_many : (t : Trace) (o : OfficeState) (js : List JournalState) → IsServed t o → AllZip IsHistoryOf o.zones js → length js ≡ length t.header.zones
+pub journals_many : (t : Trace) (o : OfficeState) (js : List JournalState) → IsServed t o → AllZip IsHistoryOf o.zones (entries_in js) → length js ≡ length t.header.zones
 journals_many t o js served zip =
-    zip_length IsHistoryOf o.zones js zip
+    sym (length-map js (λ (j : JournalState). j.entries))
+    ∙ zip_length IsHistoryOf o.zones (entries_in js) zip
     ∙ sym (length-map o.zones (λ (z : NamedZone). z.name))
     ∙ ap length served.names
     ∙ length-map (opened_office t).zones (λ (z : NamedZone). z.name)
     ∙ length-map t.header.zones (declared_zone t.header.workers)
 
 -- the office of a trace with what was found of its journals
-pub judged_office : (t : Trace) (o : OfficeState) (js : List JournalState) (ks : List JudgedJournal) → IsServed t o → AllZip IsHistoryOf o.zones js →
+pub judged_office : (t : Trace) (o : OfficeState) (js : List JournalState) (ks : List JudgedJournal) → IsServed t o → AllZip IsHistoryOf o.zones (entries_in js) →
     AllZip (IsJudged t.header.workers) t.header.zones ks → entries_judged ks ≡ entries_in js → IsJudgedOffice t o ks
 judged_office t o js ks served zip judged same =
-    record { served = served; histories = same_histories o.zones js ks same zip; judged = judged }
+    record { served = served; histories = subst (AllZip IsHistoryOf o.zones) (sym same) zip; judged = judged }

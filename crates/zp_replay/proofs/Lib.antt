@@ -1,5 +1,4 @@
 pub mod Reading
-pub mod Beginnings
 pub mod Outputs
 pub mod ShortLines
 pub mod Limits
@@ -8,5 +7,4 @@ pub mod Replying
 pub mod Endings
 pub mod WorkedDesks
 pub mod ServedOffices
-pub mod Outputting
 pub mod Histories

@@ -1,37 +1,16 @@
--- The parts of the output one after another.
-use Rattle.std.proofs.Common.{ℕ, ◌+◌, ◌≡◌, ◌<◌, List, [], ◌∷◌, ◌++◌, length, take, drop, get_or, Option, Result, Ok, Err, OnErr, sym, ap, ◌∙◌, arith}
-use Rattle.std.specs.List.{flat_map, range_with_len}
-use Rattle.std.proofs.lemmas.List.{append-nil, take_more, take-append-drop}
-use Rattle.std.proofs.lemmas.List.Concat.{flat_map-append}
+-- The parts of the output one after another: the report of the office that has carried out its commands in order.
+use Rattle.std.proofs.Common.{ℕ, ◌+◌, ◌≡◌, ◌<◌, List, [], ◌∷◌, ◌++◌, length, get_or, sym, ap, ◌∙◌, arith}
+use Rattle.std.specs.List.{range_with_len}
 use Rattle.std.proofs.lemmas.List.FromFn.{get_or-range_with_len, get_or-map-range_with_len, length-map-range_with_len}
-use Rattle.zp_zone.specs.Streams.{IsWritten, IsBegun}
-use Rattle.zp_zone.proofs.Written.{written-same, written-then, begun-then}
 use Rattle.zp_share.specs.declared.gathering.Totals.{Totals}
 use Rattle.zp_share.specs.Commands.{zone_at}
 use Rattle.zp_share.specs.Gathering.{gathered, totals_of, owns_at}
-use Rattle.zp_crew.specs.Crews.{CrewState}
-use Rattle.zp_replay.proofs.Beginnings.{begun-longer, begun-same}
-
-pub on_err : {T E P : Type 0} (r : Result T E) → P → OnErr r P
-on_err (Ok x) p = tt
-on_err (Err e) p = p
-
--- one item more
-item_more : {X : Type 0} (f : X → List ℕ) (xs : List X) (i : ℕ) (x : X) → i < length xs → x ≡ get_or xs i x → flat_map f (take i xs) ++ f x ≡ flat_map f (take (i + 1) xs)
-item_more f xs i x lt is =
-    sym (ap (λ ys. flat_map f ys) (take_more xs i x lt ∙ ap (λ y. take i xs ++ y ∷ []) (sym is)) ∙ flat_map-append f (take i xs) (x ∷ []) ∙ ap (λ q. flat_map f (take i xs) ++ q) (append-nil (f x)))
-
--- what is written for one item more
-pub written_item : {X : Type 0} (f : X → List ℕ) (xs : List X) (i : ℕ) (x : X) (a b c : Option (List ℕ)) → i < length xs → x ≡ get_or xs i x →
-    IsWritten a b (flat_map f (take i xs)) → IsWritten b c (f x) → IsWritten a c (flat_map f (take (i + 1) xs))
-written_item f xs i x a b c lt is e g = written-same a c _ _ (item_more f xs i x lt is) (written-then a b c (flat_map f (take i xs)) (f x) e g)
-
-pub begun_item : {X : Type 0} (f : X → List ℕ) (xs : List X) (i : ℕ) (x : X) (a b c : Option (List ℕ)) → i < length xs → x ≡ get_or xs i x →
-    IsWritten a b (flat_map f (take i xs)) → IsBegun b c (f x) → IsBegun a c (flat_map f xs)
-begun_item f xs i x a b c lt is e g =
-    begun-same a c _ _ (sym (flat_map-append f (take (i + 1) xs) (drop (i + 1) xs)) ∙ ap (λ ys. flat_map f ys) (take-append-drop (i + 1) xs))
-    (begun-longer a c _ (flat_map f (drop (i + 1) xs))
-    (begun-same a c _ _ (item_more f xs i x lt is) (begun-then a b c (flat_map f (take i xs)) (f x) e g)))
+use Rattle.zp_office.specs.Crews.{CrewState}
+use Rattle.zp_trace.specs.declared.trace.Trace.{Trace}
+use Rattle.zp_trace.specs.declared.line.CommandLine.{CommandLine}
+use Rattle.zp_office.specs.Offices.{OfficeState, workers_in}
+use Rattle.zp_replay.specs.Output.{output, report}
+use Rattle.zp_replay.specs.Serving.{IsServedInOrder}
 
 -- the totals of each zone, read at its number
 pub gathered_here : (c : CrewState) (ts : List Totals) (i : ℕ) (d : Totals) → ts ≡ gathered c.zones c.shares → i < length c.zones →
@@ -48,3 +27,7 @@ pub number_here : (n i : ℕ) → i < n → i ≡ get_or (range_with_len 0 n) i 
 number_here n i lt =
     let zero : 0 + i ≡ i = omega arith in
     sym (get_or-range_with_len 0 n i i lt ∙ zero)
+
+pub output_is : (t : Trace) (o : OfficeState) (cs : List CommandLine) → cs ≡ t.commands → IsServedInOrder t o → report o (workers_in cs) ≡ output t
+unfolding output
+output_is t o cs same served = ap (λ (ds : List CommandLine). report o (workers_in ds)) same ∙ ap (λ (x : OfficeState). report x (workers_in t.commands)) served

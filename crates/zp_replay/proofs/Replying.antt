@@ -10,13 +10,13 @@ use Rattle.std.proofs.lemmas.Bool.{cases_eq, eq-eqb, ne_eqb}
 use Rattle.std.proofs.lemmas.List.{get_or-set_same, get_or-set_other, length-set, length-map, take_all}
 use Rattle.std.proofs.lemmas.List.Sums.{sum_by-cons}
 use Rattle.zp_laws.proofs.Counting.{one_if}
-use Rattle.zp_trace.specs.declared.line.Command.{Command}
-use Rattle.zp_crew.specs.Offices.{OfficeState, desk_of, names_in, turns, workers_in}
-use Rattle.zp_desk.specs.declared.reply.Reply.{Reply}
+use Rattle.zp_trace.specs.declared.line.CommandLine.{CommandLine}
+use Rattle.zp_office.specs.Offices.{OfficeState, desk_of, names_in, turns, workers_in}
+use Rattle.zp_office.specs.declared.reply.CommandReply.{CommandReply}
 use Rattle.zp_zone.specs.NamedZone.{NamedZone}
 use Rattle.zp_zone.specs.Seats.{ZoneState}
 use Rattle.zp_share.specs.Shares.{named_zone}
-use Rattle.zp_crew.proofs.Commands.{turn-last}
+use Rattle.zp_office.proofs.Commands.{turn-last}
 use Rattle.zp_replay.specs.Output.{replies_text, reply_at, text_of, turn_text}
 use Rattle.zp_replay.specs.Replies.{reply_text}
 use Rattle.zp_replay.proofs.Infos.{get_or-any, names}
@@ -56,20 +56,20 @@ counted-push ns ws x n are there is w lt =
           omega (arith, other, turns-push w x ws)
     ]
 
-pub counted_more : (ns : List ℕ) (cs : List Command) (i j : ℕ) (c : Command) → i < length cs → c ≡ get_or cs i c → AreCounted ns (take i (workers_in cs)) → j ≡ c.worker → j < length ns →
+pub counted_more : (ns : List ℕ) (cs : List CommandLine) (i j : ℕ) (c : CommandLine) → i < length cs → c ≡ get_or cs i c → AreCounted ns (take i (workers_in cs)) → j ≡ c.worker → j < length ns →
     AreCounted (set ns j (get_or ns j 0 + 1)) (take (i + 1) (workers_in cs))
 counted_more ns cs i j c lt is are same there =
     subst (λ ws. AreCounted (set ns j (get_or ns j 0 + 1)) ws) (ap (λ w. take i (workers_in cs) ++ w ∷ []) same ∙ sym (turn-last cs i c lt is))
     (counted-push ns (take i (workers_in cs)) j (get_or ns j 0 + 1) are there refl)
 
 -- the text of the turn is that of its worker's reply at the place that was counted
-pub turn_is : (o : OfficeState) (cs : List Command) (i j : ℕ) (ns : List ℕ) (c : Command) → i < length cs → c ≡ get_or cs i c → AreCounted ns (take i (workers_in cs)) → j ≡ c.worker → j < length ns →
+pub turn_is : (o : OfficeState) (cs : List CommandLine) (i j : ℕ) (ns : List ℕ) (c : CommandLine) → i < length cs → c ≡ get_or cs i c → AreCounted ns (take i (workers_in cs)) → j ≡ c.worker → j < length ns →
     reply_at o c.worker (get_or ns j 0) ≡ turn_text o (workers_in cs) i
 turn_is o cs i j ns c lt is are same there =
     let whose : get_or (workers_in cs) i 0 ≡ c.worker =
-    get_or-any (workers_in cs) i 0 c.worker (omega (arith, lt, length-map cs (λ (b : Command). b.worker)))
-    ∙ get_or-map (λ (b : Command). b.worker) cs i c
-    ∙ ap (λ (b : Command). b.worker) (sym is) in
+    get_or-any (workers_in cs) i 0 c.worker (omega (arith, lt, length-map cs (λ (b : CommandLine). b.worker)))
+    ∙ get_or-map (λ (b : CommandLine). b.worker) cs i c
+    ∙ ap (λ (b : CommandLine). b.worker) (sym is) in
     ap (reply_at o c.worker) (are j there ∙ ap (λ w. turns w (take i (workers_in cs))) same)
     ∙ ap (λ w. reply_at o w (turns w (take i (workers_in cs)))) (sym whose)
 
@@ -83,32 +83,32 @@ none_counted n w lt = zeros n w
     zeros (suc n) (suc w) = zeros n w
 
 -- the place of a turn
-pub turn-lt : (cs : List Command) (i : ℕ) → i < length cs → i < length (workers_in cs)
-turn-lt cs i lt = omega (arith, lt, length-map cs (λ (b : Command). b.worker))
+pub turn-lt : (cs : List CommandLine) (i : ℕ) → i < length cs → i < length (workers_in cs)
+turn-lt cs i lt = omega (arith, lt, length-map cs (λ (b : CommandLine). b.worker))
 
-pub turn_place : (cs : List Command) (i : ℕ) → i < length cs → i < length (range_with_len 0 (length (workers_in cs)))
-turn_place cs i lt = omega (arith, lt, length-range_with_len 0 (length (workers_in cs)), length-map cs (λ (b : Command). b.worker))
+pub turn_place : (cs : List CommandLine) (i : ℕ) → i < length cs → i < length (range_with_len 0 (length (workers_in cs)))
+turn_place cs i lt = omega (arith, lt, length-range_with_len 0 (length (workers_in cs)), length-map cs (λ (b : CommandLine). b.worker))
 
 -- after the last turn
-pub turns_end : (o : OfficeState) (cs : List Command) (i : ℕ) → length cs ≤ i →
+pub turns_end : (o : OfficeState) (cs : List CommandLine) (i : ℕ) → length cs ≤ i →
     flat_map (turn_text o (workers_in cs)) (take i (range_with_len 0 (length (workers_in cs)))) ≡ replies_text o (workers_in cs)
 turns_end o cs i le =
     ap (λ ns. flat_map (turn_text o (workers_in cs)) ns)
-    (take_all i (range_with_len 0 (length (workers_in cs))) (omega (arith, le, length-range_with_len 0 (length (workers_in cs)), length-map cs (λ (b : Command). b.worker))))
+    (take_all i (range_with_len 0 (length (workers_in cs))) (omega (arith, le, length-range_with_len 0 (length (workers_in cs)), length-map cs (λ (b : CommandLine). b.worker))))
 
 -- the text of a reply that is there, and of none
-pub told_is : (o : OfficeState) (w place : ℕ) (qs : List Reply) (q : Reply) (names : List (List ℕ)) → qs ≡ (desk_of o w).replies → place < length qs → q ≡ get_or qs place q → names ≡ names_in o →
+pub told_is : (o : OfficeState) (w place : ℕ) (qs : List CommandReply) (q : CommandReply) (names : List (List ℕ)) → qs ≡ (desk_of o w).replies → place < length qs → q ≡ get_or qs place q → names ≡ names_in o →
     reply_text names w q ≡ reply_at o w place
 told_is o w place qs q names e lt is same =
     ap (λ ns. reply_text ns w q) same
     ∙ ap (text_of (names_in o) w) (sym (slice_get_read qs (length qs) place q refl lt is))
     ∙ ap (λ rs. text_of (names_in o) w (slice_get rs place)) e
 
-pub none_is : (o : OfficeState) (w place : ℕ) (qs : List Reply) → qs ≡ (desk_of o w).replies → length qs ≤ place → [] ≡ reply_at o w place
+pub none_is : (o : OfficeState) (w place : ℕ) (qs : List CommandReply) → qs ≡ (desk_of o w).replies → length qs ≤ place → [] ≡ reply_at o w place
 none_is o w place qs e le =
     ap (text_of (names_in o) w) (sym (none qs place le)) ∙ ap (λ rs. text_of (names_in o) w (slice_get rs place)) e
   where
-    none : (rs : List Reply) (i : ℕ) → length rs ≤ i → slice_get rs i ≡ None
+    none : (rs : List CommandReply) (i : ℕ) → length rs ≤ i → slice_get rs i ≡ None
     none [] i le = refl
     none (r ∷ rs) zero le = absurd (omega (arith, le))
     none (r ∷ rs) (suc i) le = none rs i (omega (arith, le))

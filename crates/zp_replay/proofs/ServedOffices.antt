@@ -1,7 +1,7 @@
 -- The office of a trace, when its commands were carried out.
-use Rattle.std.proofs.Common.{ℕ, zero, suc, ◌≡◌, ◌<◌, ◌∙◌, refl, sym, ap, subst, arith, List, [], ◌∷◌, ◌++◌, length, map, take, drop, get_or, All, Result, Ok, Err, IfOk}
+use Rattle.std.proofs.Common.{ℕ, zero, suc, ◌≡◌, ◌<◌, ◌∙◌, refl, sym, ap, subst, arith, List, [], ◌∷◌, ◌++◌, length, map, get_or, All, Result, Ok, Err, IfOk}
 use Rattle.std.specs.List.{AllZip}
-use Rattle.std.proofs.lemmas.List.{length-map, length-set, take_all, take-append-le}
+use Rattle.std.proofs.lemmas.List.{length-map, length-set}
 use Rattle.std.proofs.lemmas.List.FromFn.{get_or-map-range_with_len, length-map-range_with_len}
 use Rattle.std.proofs.lemmas.Simd.{map-map}
 use Rattle.zp_trace.specs.declared.trace.Trace.{Trace}
@@ -9,18 +9,13 @@ use Rattle.zp_zone.specs.NamedZone.{NamedZone}
 use Rattle.zp_zone.specs.Seats.{ZoneState}
 use Rattle.zp_share.specs.ZoneShares.{ZoneShareState}
 use Rattle.zp_share.specs.Shares.{ZoneKey, key_of, named_zone}
-use Rattle.zp_desk.specs.Desks.{DeskState, PlainDesk, IsAnswerTo, plain_desk}
-use Rattle.zp_crew.specs.Offices.{OfficeState, AreDesksOf, desk_of, in_order, names_in, next_done, no_desk, opened_desk, opened_office}
+use Rattle.zp_office.specs.Desks.{DeskState, PlainDesk, IsAnswerTo, plain_desk}
+use Rattle.zp_office.specs.Offices.{OfficeState, AreDesksOf, desk_of, in_order, names_in, next_done, no_desk, opened_desk, opened_office}
 use Rattle.zp_replay.specs.Serving.{IsDeskServed, IsOfficeServed, IsServed}
 
 pub if_ok : {T E : Type 0} (P Q : T → Type 0) (r : Result T E) → ((x : T) → P x → Q x) → IfOk r P → IfOk r Q
 if_ok P Q (Ok x) f p = f x p
 if_ok P Q (Err e) f p = p
-
--- what was lent whole is what came back
-pub written_back : (n : ℕ) (ds es : List DeskState) → length es ≡ length ds → n ≡ length ds → take n (es ++ drop (length es) ds) ≡ es
-written_back n ds es same all =
-    take-append-le n es (drop (length es) ds) (omega (arith, same, all)) ∙ take_all n es (omega (arith, same, all))
 
 -- as many desks as before
 pub order_length : (o : OfficeState) (ws : List ℕ) → length (in_order o ws).desks ≡ length o.desks

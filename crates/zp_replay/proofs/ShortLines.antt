@@ -13,7 +13,7 @@ use Rattle.zp_trace.specs.declared.bounds.TheConstants.{MOST_LINES}
 use Rattle.zp_trace.specs.declared.line.ZoneLine.{ZoneLine}
 use Rattle.zp_trace.specs.declared.line.Call.{Call}
 use Rattle.zp_trace.specs.declared.line.Call.TheVariants.{Info, Alloc, Low, Free, Post, Collect, Drain}
-use Rattle.zp_trace.specs.declared.line.Command.{Command}
+use Rattle.zp_trace.specs.declared.line.CommandLine.{CommandLine}
 use Rattle.zp_trace.specs.declared.trace.Header.{Header}
 use Rattle.zp_trace.specs.declared.trace.Trace.{Trace}
 use Rattle.zp_trace.specs.Lines.{Line}
@@ -112,7 +112,7 @@ call_short h worker (Collect label zone) good at is =
     let n = declared_short h zone good is.1 in
     omega arith
 
-command_short : (h : Header) (c : Command) → IsHeader h → IsCommandOf h c → length (line_text (line.Command c)) ≤ 40
+command_short : (h : Header) (c : CommandLine) → IsHeader h → IsCommandOf h c → length (line_text (line.CommandLine c)) ≤ 40
 command_short h c good is =
     let s = call_short h c.worker c.call good is.0 is.1 in
     omega (arith, length-line (decimal c.worker) (call_words c.call))
@@ -121,7 +121,7 @@ pub allowed_short : (before : List Line) (l : Line) → IsBeginning before → I
 allowed_short before (line.Zone z) begins allowed = zone_short z allowed.2.1
 allowed_short before (line.Workers n) begins allowed = workers_short n allowed.3
 allowed_short before (line.Lists batch high) begins allowed = lists_short batch high allowed.3
-allowed_short before (line.Command c) begins allowed =
+allowed_short before (line.CommandLine c) begins allowed =
     command_short allowed.0.header c (header_is allowed.0.header allowed.0.commands (subst IsBeginning allowed.1 begins)) allowed.3.0
 
 begins_front : (lines ls : List Line) → IsBeginning (lines ++ ls) → IsBeginning lines
@@ -137,7 +137,7 @@ allowed_few before (line.Workers n) begins allowed =
 allowed_few before (line.Lists batch high) begins allowed =
     let few = zones_are_few [] allowed.0 (line.Workers allowed.1 ∷ []) (omega arith) (subst IsBeginning allowed.2 begins) in
     omega (arith, few, ap length allowed.2, length-append (map line.Zone allowed.0) (line.Workers allowed.1 ∷ []), length-map allowed.0 line.Zone)
-allowed_few before (line.Command c) begins allowed = allowed.2
+allowed_few before (line.CommandLine c) begins allowed = allowed.2
 
 -- what lines add to those before them
 lines_short : (before ls : List Line) → length before ≤ MOST_LINES → IsBeginning (before ++ ls) → (length before + length ls ≤ MOST_LINES) × (length (text_of ls) ≤ 40 * length ls)
@@ -160,4 +160,4 @@ beginning_short lines begins =
 pub commands_few : (t : Trace) → IsBeginning (lines_of t) → length t.commands ≤ MOST_LINES
 commands_few t begins =
     let s = lines_short [] (lines_of t) (omega arith) begins in
-    omega (arith, s.0, length-append (header_of t.header) (map line.Command t.commands), length-map t.commands line.Command)
+    omega (arith, s.0, length-append (header_of t.header) (map line.CommandLine t.commands), length-map t.commands line.CommandLine)

@@ -6,9 +6,9 @@ use Rattle.zp_model.specs.Zone.{workers_of}
 use Rattle.zp_zone.specs.NamedZone.{NamedZone}
 use Rattle.zp_zone.specs.Seats.{ZoneState}
 use Rattle.zp_share.specs.Shares.{ZoneKey, IsShareOf, key_of, named_zone}
-use Rattle.zp_desk.specs.Desks.{DeskState, IsScriptFor, IsWorked, plain_desk}
-use Rattle.zp_crew.specs.Offices.{AreDesksOf, office_of}
-use Rattle.zp_crew.proofs.Turns.{keys-length, keys-workers}
+use Rattle.zp_office.specs.Desks.{DeskState, IsScriptFor, IsWorked, plain_desk}
+use Rattle.zp_office.specs.Offices.{AreDesksOf, office_of}
+use Rattle.zp_office.proofs.Turns.{keys-length, keys-workers}
 use Rattle.zp_replay.specs.Serving.{IsDeskServed, IsOfficeServed}
 
 front : {X : Type 0} (P : X → Type 0) (x : X) (xs : List X) → All P (x ∷ xs) → P x

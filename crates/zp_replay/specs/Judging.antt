@@ -1,17 +1,17 @@
 -- What the replays of a trace's journals find, and what is written of it.
 use Rattle.std.specs.Prelude.{ℕ, ◌≡◌, ◌++◌, Bool, List, [], length, cond}
 use Rattle.std.specs.List.{flat_map}
-use Rattle.zp_model.specs.declared.request.Entry.{Entry}
+use Rattle.zp_model.specs.Entries.{Entry}
 use Rattle.zp_model.specs.Zone.{PlainZone}
 use Rattle.zp_model.specs.Run.{IsLegal}
 use Rattle.zp_trace.specs.declared.line.ZoneLine.{ZoneLine}
 use Rattle.zp_journal.specs.declared.replay.JournalCheck.{JournalCheck}
 use Rattle.zp_journal.specs.declared.replay.JournalCheck.TheVariants as check
 use Rattle.zp_journal.specs.Journals.{IsFirstIllegal}
-use Rattle.zp_journal_text.specs.declared.verdict.Verdict.{Verdict}
-use Rattle.zp_journal_text.specs.declared.verdict.Verdict.TheVariants.{Legal, Differs}
-use Rattle.zp_journal_text.specs.JournalText.{journal_text, verdict_line}
-use Rattle.zp_crew.specs.Opening.{declared_zone}
+use Rattle.zp_text.specs.declared.verdict.Verdict.{Verdict}
+use Rattle.zp_text.specs.declared.verdict.Verdict.TheVariants.{Legal, Differs}
+use Rattle.zp_text.specs.JournalText.{journal_text, verdict_line}
+use Rattle.zp_office.specs.Opening.{declared_zone}
 
 -- a zone's journal, under the zone's name, with what its replay found
 pub record JudgedJournal : Type 0 where

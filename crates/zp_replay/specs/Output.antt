@@ -10,9 +10,9 @@ use Rattle.zp_trace.specs.declared.trace.Trace.{Trace}
 use Rattle.zp_share.specs.declared.gathering.Totals.{Totals}
 use Rattle.zp_share.specs.Commands.{zone_at}
 use Rattle.zp_share.specs.Gathering.{totals_of, owns_at}
-use Rattle.zp_desk.specs.declared.reply.Reply.{Reply}
-use Rattle.zp_crew.specs.Crews.{CrewState}
-use Rattle.zp_crew.specs.Offices.{OfficeState, crew_in, desk_of, in_order, names_in, opened_office, turns, workers_in}
+use Rattle.zp_office.specs.declared.reply.CommandReply.{CommandReply}
+use Rattle.zp_office.specs.Crews.{CrewState}
+use Rattle.zp_office.specs.Offices.{OfficeState, crew_in, desk_of, in_order, names_in, opened_office, turns, workers_in}
 use Rattle.zp_replay.specs.Replies.{line_feed, info_of, reply_text}
 
 abbrev pub level_word : Level → List ℕ
@@ -46,7 +46,7 @@ abbrev pub total_lines : CrewState → List ℕ
 total_lines c = flat_map (total_of c) (range_with_len 0 (length c.zones))
 
 -- what the output says of a reply, where there is one
-abbrev pub text_of : List (List ℕ) → ℕ → Option Reply → List ℕ
+abbrev pub text_of : List (List ℕ) → ℕ → Option CommandReply → List ℕ
 text_of names worker None = []
 text_of names worker (Some q) = reply_text names worker q
 

@@ -6,14 +6,14 @@ use Rattle.zp_model.specs.declared.counts.Counts.{Counts}
 use Rattle.zp_model.specs.Refused.{refused_number}
 use Rattle.zp_model.specs.Info.{counts_of, info_line}
 use Rattle.zp_zone.specs.NamedZone.{NamedZone}
-use Rattle.zp_desk.specs.declared.reply.Reply.{Reply}
-use Rattle.zp_desk.specs.declared.reply.Reply.TheVariants.{Page, Block, Freed, Posted, Drained, Info, Refused}
+use Rattle.zp_office.specs.declared.reply.CommandReply.{CommandReply}
+use Rattle.zp_office.specs.declared.reply.CommandReply.TheVariants.{Page, Block, Freed, Posted, Drained, Info, Refused}
 
 abbrev pub line_feed : ℕ
 line_feed = 10
 
 -- what a worker got, or that it was done, in words; an info has lines of its own
-abbrev pub reply_words : Reply → List ℕ
+abbrev pub reply_words : CommandReply → List ℕ
 reply_words (Page p) = codes "page " ++ decimal p
 reply_words (Block b) = codes "block " ++ (decimal b.page ++ (codes " order " ++ decimal b.order))
 reply_words Freed = codes "freed"
@@ -23,7 +23,7 @@ reply_words (Refused r) = codes "refused " ++ decimal (refused_number r)
 reply_words (Info counts) = []
 
 -- whose reply it is, and the reply
-abbrev pub reply_line : ℕ → Reply → List ℕ
+abbrev pub reply_line : ℕ → CommandReply → List ℕ
 reply_line worker q = decimal worker ++ (codes ": " ++ (reply_words q ++ line_feed ∷ []))
 
 -- the info line of a zone
@@ -35,6 +35,6 @@ abbrev pub info_lines : List (List ℕ) → List Counts → List ℕ
 info_lines names counts = flat_map (λ (p : List ℕ × Counts). info_line p.0 p.1) (zip names counts)
 
 -- what the output says of a reply, where the zones have these names
-abbrev pub reply_text : List (List ℕ) → ℕ → Reply → List ℕ
+abbrev pub reply_text : List (List ℕ) → ℕ → CommandReply → List ℕ
 reply_text names worker (Info counts) = info_lines names counts
 reply_text names worker q = reply_line worker q

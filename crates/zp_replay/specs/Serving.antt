@@ -1,16 +1,17 @@
 -- What has become of the office of a trace when its commands were carried out, in order or by all workers at the same time.
 use Rattle.std.specs.Prelude.{ℕ, ◌≡◌, ◌<◌, ◌⊎◌, ◌++◌, Bool, List, [], length, map, Option}
 use Rattle.std.specs.List.{AllZip}
-use Rattle.zp_trace.specs.declared.line.Command.{Command}
+use Rattle.zp_trace.specs.declared.line.CommandLine.{CommandLine}
 use Rattle.zp_trace.specs.declared.trace.Trace.{Trace}
-use Rattle.zp_zone.specs.Streams.{IsWritten, IsBegun}
+use Rattle.zp_text.specs.Streams.{IsWritten, IsBegun}
+use Rattle.zp_model.specs.Entries.{Entry}
 use Rattle.zp_model.specs.Run.{IsHistory}
 use Rattle.zp_zone.specs.NamedZone.{NamedZone}
 use Rattle.zp_zone.specs.Seats.{ZoneState}
 use Rattle.zp_journal.specs.Journals.{JournalState}
-use Rattle.zp_desk.specs.Desks.{DeskState, PlainDesk, IsAnswerTo}
-use Rattle.zp_script.specs.Scripts.{script_of}
-use Rattle.zp_crew.specs.Offices.{OfficeState, desk_of, in_order, names_in, opened_office, workers_in}
+use Rattle.zp_office.specs.Desks.{DeskState, PlainDesk, IsAnswerTo}
+use Rattle.zp_office.specs.Scripts.{script_of}
+use Rattle.zp_office.specs.Offices.{OfficeState, desk_of, in_order, names_in, opened_office, workers_in}
 use Rattle.zp_replay.specs.Replaying.{AddUp, IsBadLineCut, IsTraceRead}
 use Rattle.zp_replay.specs.Judging.{JudgedJournal, IsJudged, ending}
 use Rattle.zp_replay.specs.Output.{output, report}
@@ -39,13 +40,16 @@ pub record IsOfficeServed (zs : List ZoneState) (ds : List DeskState) (o : Offic
   pub names : names_in o ≡ map (λ (z : ZoneState). z.name) zs
   pub desks : AllZip IsDeskServed ds o.desks
 
--- the journal has all that was asked of the zone since its opening
-abbrev pub IsHistoryOf : NamedZone → JournalState → Type 0
-IsHistoryOf z j = IsHistory z.plain j.entries
+-- the entries are all that was asked of the zone since its opening
+abbrev pub IsHistoryOf : NamedZone → List Entry → Type 0
+IsHistoryOf z es = IsHistory z.plain es
 
--- the same of a journal that was replayed
-abbrev pub IsJudgedHistory : NamedZone → JudgedJournal → Type 0
-IsJudgedHistory z j = IsHistory z.plain j.entries
+-- the entries of each journal, and of each that was replayed
+abbrev pub entries_in : List JournalState → List (List Entry)
+entries_in js = map (λ (j : JournalState). j.entries) js
+
+abbrev pub entries_judged : List JudgedJournal → List (List Entry)
+entries_judged js = map (λ (j : JudgedJournal). j.entries) js
 
 -- the input was the text of a trace, and the trace's output was written
 pub record IsReplayed (had left old new : Option (List ℕ)) : Type 0 where
@@ -56,11 +60,11 @@ pub record IsReplayed (had left old new : Option (List ℕ)) : Type 0 where
 -- an office whose workers have each carried out their commands, the journal of each of its zones, and what its replay found
 pub record IsJudgedOffice (t : Trace) (o : OfficeState) (js : List JudgedJournal) : Type 0 where
   pub served : IsServed t o
-  pub histories : AllZip IsJudgedHistory o.zones js
+  pub histories : AllZip IsHistoryOf o.zones (entries_judged js)
   pub judged : AllZip (IsJudged t.header.workers) t.header.zones js
 
 -- what is written of it: the report, what was found of the journals, and their entries, where they are asked for
-abbrev pub journaled_report : Bool → List Command → OfficeState → List JudgedJournal → List ℕ
+abbrev pub journaled_report : Bool → List CommandLine → OfficeState → List JudgedJournal → List ℕ
 journaled_report entries cs o js = report o (workers_in cs) ++ ending entries js
 
 -- all workers of the trace carried out their commands, and what is written of zones, desks and journals was written

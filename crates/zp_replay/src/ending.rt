@@ -6,7 +6,7 @@ use std::alloc::AllocError;
 use std::error::Error;
 use std::fmt;
 use std::fmt::{Display, Formatter};
-use zp_zone::WriteFault;
+use zp_text::WriteFault;
 
 /// What was replayed.
 #[derive(Clone, Copy, PartialEq, Eq, Debug, Drop)]

@@ -4,7 +4,7 @@ ghost use Rattle.zp_replay.specs.Inputs.{IsFilled, IsRead, IsReadWithin};
 
 use crate::ending::ReplayFault;
 use std::alloc::{AllocError, Global};
-use zp_zone::{ReadFault, Reader};
+use zp_text::{ReadFault, Reader};
 
 /// The most bytes that are read. No good trace has so many: what is longer has its bad line among them.
 pub const INPUT_LIMIT: usize = 262_144;

@@ -4,7 +4,7 @@ ghost use Rattle.std.specs.List.{AllZip, flat_map};
 ghost use Rattle.zp_model.specs.Bounds.{IsCrew};
 ghost use Rattle.zp_model.specs.Naming.{IsName};
 ghost use Rattle.zp_trace.specs.Grammar.{IsHeader, IsZoneLine};
-ghost use Rattle.zp_zone.specs.Streams.{IsWritten, IsBegun};
+ghost use Rattle.zp_text.specs.Streams.{IsWritten, IsBegun};
 ghost use Rattle.zp_journal.specs.Journals.{JournalState};
 ghost use Rattle.zp_replay.specs.Judging.{JudgedJournal, IsJudged, ending, judged_text, judged_verdict, verdict_in};
 
@@ -12,10 +12,10 @@ use crate::ending::ReplayFault;
 use std::alloc::Global;
 use std::marker::Model;
 use zp_journal::{Journal, JournalCheck, replay_journal};
-use zp_journal_text::{Verdict, write_journal, write_verdict};
 use zp_model::{Name, Refused};
+use zp_text::{Verdict, WriteFault, Writer, write_journal, write_verdict};
 use zp_trace::{Header, ZoneLine};
-use zp_zone::{WriteFault, Writer, ZoneConfig};
+use zp_zone::ZoneConfig;
 
 /// The journal of a zone, under the zone's name, with what its replay found.
 #[derive(Drop)]

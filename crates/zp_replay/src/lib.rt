@@ -5,10 +5,8 @@
 //! replay in threads is proved to write the report of an office whose workers have each carried out their commands.
 #![tactic(auto)]
 
-pub mod device;
 mod ending;
 mod exit;
-mod failures;
 mod input;
 mod journals;
 mod lines;
@@ -19,9 +17,9 @@ mod traces;
 
 pub use ending::{Ending, ReplayFault};
 pub use exit::{Exit, exit_status};
-pub use failures::Failures;
 pub use input::INPUT_LIMIT;
 pub use serial::replay_serial;
 pub use threads::replay_threads;
 pub use zp_flags::{FlagFault, Flags, read_flags};
+pub use zp_text::{Failures, Sink, Source};
 pub use zp_trace::{Trace, TraceFault, parse_trace};

@@ -9,8 +9,8 @@ ghost use Rattle.zp_replay.specs.Output.{level_word, counted, total_line, bad_li
 
 use arrayvec::ArrayString;
 use itoa::Buffer;
-use zp_desk::Reply;
 use zp_model::{LONGEST_NAME, Level, Worker};
+use zp_office::CommandReply;
 use zp_share::Totals;
 use zp_zone::Zone;
 
@@ -24,7 +24,7 @@ const DIGITS: usize = 10;
 pub type Line = ArrayString<LINE>;
 
 /// What a worker is answered: `W: page P`, `W: block P order K`, `W: freed`, `W: posted`, `W: drained N` or `W: refused C`.
-pub fn reply_line(worker: Worker, reply: &Reply) -> Line
+pub fn reply_line(worker: Worker, reply: &CommandReply) -> Line
     ensures { result.bytes ≡ reply_line worker reply.now }
 {
     let mut line = line_of(worker);
@@ -34,22 +34,26 @@ pub fn reply_line(worker: Worker, reply: &Reply) -> Line
 }
 
 /// Appends what a worker gets, or that it was done. An info has lines of its own.
-fn push_reply(line: &mut Line, reply: &Reply)
+fn push_reply(line: &mut Line, reply: &CommandReply)
     requires { array_string_len line.old ≤ DIGITS + 2 }
     ensures bytes { line.new.bytes ≡ line.old.bytes ++ reply_words reply.now }
     ensures len { array_string_len line.new ≤ 3 * DIGITS + 15 }
 {
     match reply {
-        Reply::Page(page) => push_counted(line, "page ", page.number()),
-        Reply::Block(block) => {
+        CommandReply::Page(page) => push_counted(line, "page ", page.number()),
+        CommandReply::Block(block) => {
             push_counted(line, "block ", block.page.number());
             push_counted(line, " order ", u32::from(block.order.number()));
         }
-        Reply::Freed => line.push_str("freed"),
-        Reply::Posted => line.push_str("posted"),
-        Reply::Drained(pages) => push_counted(line, "drained ", *pages),
-        Reply::Refused(refused) => push_counted(line, "refused ", u32::from(refused.number())),
-        Reply::Info(_) => {}
+        CommandReply::Freed => line.push_str("freed"),
+        CommandReply::Posted => line.push_str("posted"),
+        CommandReply::Drained(pages) => push_counted(line, "drained ", *pages),
+        CommandReply::Refused(refused) => push_counted(
+            line,
+            "refused ",
+            u32::from(refused.number()),
+        ),
+        CommandReply::Info(_) => {}
     }
 }
 

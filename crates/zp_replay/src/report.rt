@@ -2,33 +2,34 @@
 ghost use Rattle.std.specs.Prelude.{ℕ, ◌≡◌, ◌<◌, ◌≤◌, ◌++◌, [], All, length, map, vec_capacity, OnOk, OnErr};
 ghost use Rattle.std.specs.List.{flat_map};
 ghost use Rattle.zp_model.specs.declared.counts.Counts.{Counts};
-ghost use Rattle.zp_trace.specs.declared.line.Command.{Command};
+ghost use Rattle.zp_trace.specs.declared.line.CommandLine.{CommandLine};
 ghost use Rattle.zp_zone.specs.Seats.{ZoneState};
-ghost use Rattle.zp_zone.specs.Streams.{IsWritten, IsBegun};
+ghost use Rattle.zp_text.specs.Streams.{IsWritten, IsBegun};
 ghost use Rattle.zp_share.specs.Commands.{zone_at};
 ghost use Rattle.zp_share.specs.Gathering.{AddsUp, owns_at, totals_of};
-ghost use Rattle.zp_share.specs.Shares.{named_zone};
-ghost use Rattle.zp_crew.specs.Offices.{crew_in, workers_in};
+ghost use Rattle.zp_share.specs.Shares.{named_zone, plain};
+ghost use Rattle.zp_office.specs.Crews.{AreSharesOf, crew_of};
+ghost use Rattle.zp_office.specs.Offices.{crew_in, workers_in};
 ghost use Rattle.zp_replay.specs.Output.{replies_text, reply_at, report, total_lines, total_of};
 ghost use Rattle.zp_replay.specs.Replies.{info_lines, info_of, reply_text};
 
 use crate::lines::{Line, reply_line, total_line_of};
-use zp_crew::{Crew, Office};
-use zp_desk::Reply;
 use zp_model::{Counts, MAX_WORKERS, Worker};
-use zp_share::{Share, Totals};
-use zp_trace::Command;
-use zp_zone::{WriteFault, Writer, Zone, write_all, write_counts};
+use zp_office::{CommandReply, Office};
+use zp_share::{PlainZones, Share, Totals};
+use zp_text::{WriteFault, Writer, write_all, write_counts, write_info};
+use zp_trace::CommandLine;
+use zp_zone::Zone;
 
 /// Writes the replies to these commands, the total lines and the info lines. The room is for the shares of all workers, so that
 /// no memory is taken.
 pub fn write_report<W: Writer>(
     writer: &mut W,
     office: Office,
-    commands: &[Command],
+    commands: &[CommandLine],
     room: Vec<Share>,
 ) -> Result<(), WriteFault>
-    requires workers { All (λ (c : Command). c.worker < length office.desks) commands.now }
+    requires workers { All (λ (c : CommandLine). c.worker < length office.desks) commands.now }
     requires empty { room.items ≡ [] }
     requires room { length office.desks ≤ vec_capacity room }
     ensures ok { OnOk result (IsWritten (W.contents writer.old) (W.contents writer.new) (report office (workers_in commands.now))) }
@@ -38,18 +39,18 @@ pub fn write_report<W: Writer>(
     ensures adds_up { OnOk result ((i : ℕ) → i < length office.zones → AddsUp (zone_at office.zones i).plain (owns_at (crew_in office).shares i)) }
 {
     write_replies(writer, &office, commands)?;
-    let mut crew = office.into_crew(room);
-    write_total_lines(writer, &mut crew)?;
-    write_infos(writer, crew.zones())
+    let (mut zones, mut shares) = office.into_parts(room);
+    write_total_lines(writer, &mut zones, &mut shares)?;
+    write_infos(writer, zones.as_slice())
 }
 
 /// Writes the replies to these commands, in this order.
 fn write_replies<W: Writer>(
     writer: &mut W,
     office: &Office,
-    commands: &[Command],
+    commands: &[CommandLine],
 ) -> Result<(), WriteFault>
-    requires workers { All (λ (c : Command). c.worker < length office.now.desks) commands.now }
+    requires workers { All (λ (c : CommandLine). c.worker < length office.now.desks) commands.now }
     ensures ok { OnOk result (IsWritten (W.contents writer.old) (W.contents writer.new) (replies_text office.now (workers_in commands.now))) }
     ensures calm { OnOk result (W.failures writer.new ≡ W.failures writer.old) }
     ensures err { OnErr result (IsBegun (W.contents writer.old) (W.contents writer.new) (replies_text office.now (workers_in commands.now))) }
@@ -89,7 +90,7 @@ fn write_reply<W: Writer>(
     writer: &mut W,
     zones: &[Zone],
     worker: Worker,
-    reply: &Reply,
+    reply: &CommandReply,
 ) -> Result<(), WriteFault>
     ensures ok { OnOk result (IsWritten (W.contents writer.old) (W.contents writer.new) (reply_text (map (λ (z : ZoneState). z.name) zones.now) worker reply.now)) }
     ensures calm { OnOk result (W.failures writer.new ≡ W.failures writer.old) }
@@ -97,7 +98,7 @@ fn write_reply<W: Writer>(
     ensures failed { OnErr result (W.failures writer.old < W.failures writer.new) }
 {
     match reply {
-        Reply::Info(counts) => write_info_lines(writer, zones, counts.as_slice()),
+        CommandReply::Info(counts) => write_info_lines(writer, zones, counts.as_slice()),
         reply => write_all(writer, reply_line(worker, reply).as_bytes()),
     }
 }
@@ -127,32 +128,39 @@ fn write_infos<W: Writer>(writer: &mut W, zones: &[Zone]) -> Result<(), WriteFau
     ensures failed { OnErr result (W.failures writer.old < W.failures writer.new) }
 {
     for zone in zones {
-        zone.write_info(writer)?;
+        write_info(zone, writer)?;
     }
     Ok(())
 }
 
 /// The total line of the zone of this number, with where its pages are.
-fn total_line(crew: &Crew, number: usize, totals: Totals) -> Line
-    requires place { number < length crew.now.zones }
-    requires totals { totals ≡ totals_of (zone_at crew.now.zones number).plain (owns_at crew.now.shares number) }
-    ensures { result.bytes ≡ total_of crew.now number }
+fn total_line(zones: &PlainZones, shares: &[Share], number: usize, totals: Totals) -> Line
+    requires place { number < length zones.now }
+    requires totals { totals ≡ totals_of (zone_at (map named_zone zones.now) number).plain (owns_at (map plain shares.now) number) }
+    ensures { result.bytes ≡ total_of (crew_of zones.now shares.now) number }
 {
-    total_line_of(&crew.zones()[number], &totals)
+    // the shares are named for the contract alone
+    let _ = shares;
+    total_line_of(&zones.as_slice()[number], &totals)
 }
 
 /// Writes the total line of each zone. The shares are gathered, so each page is in one place; nothing changes.
-fn write_total_lines<W: Writer>(writer: &mut W, crew: &mut Crew) -> Result<(), WriteFault>
-    ensures ok { OnOk result (IsWritten (W.contents writer.old) (W.contents writer.new) (total_lines crew.old)) }
+fn write_total_lines<W: Writer>(
+    writer: &mut W,
+    zones: &mut PlainZones,
+    shares: &mut [Share],
+) -> Result<(), WriteFault>
+    requires { AreSharesOf zones.old shares.old }
+    ensures ok { OnOk result (IsWritten (W.contents writer.old) (W.contents writer.new) (total_lines (crew_of zones.old shares.old))) }
     ensures calm { OnOk result (W.failures writer.new ≡ W.failures writer.old) }
-    ensures err { OnErr result (IsBegun (W.contents writer.old) (W.contents writer.new) (total_lines crew.old)) }
+    ensures err { OnErr result (IsBegun (W.contents writer.old) (W.contents writer.new) (total_lines (crew_of zones.old shares.old))) }
     ensures failed { OnErr result (W.failures writer.old < W.failures writer.new) }
-    ensures same { crew.new ≡ crew.old }
-    ensures adds_up { (i : ℕ) → i < length crew.old.zones → AddsUp (zone_at crew.old.zones i).plain (owns_at crew.old.shares i) }
+    ensures same { zones.new ≡ zones.old }
+    ensures adds_up { (i : ℕ) → i < length zones.old → AddsUp (zone_at (map named_zone zones.old) i).plain (owns_at (map plain shares.old) i) }
 {
-    let totals = crew.gather();
+    let totals = zones.gather(shares);
     for number in 0..totals.len() {
-        let line = total_line(crew, number, totals[number]);
+        let line = total_line(zones, shares, number, totals[number]);
         write_all(writer, line.as_bytes())?;
     }
     Ok(())

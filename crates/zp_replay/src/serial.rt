@@ -1,6 +1,6 @@
 //! The serial replay: one thread, the commands in the trace's order.
 ghost use Rattle.std.specs.Prelude.{◌≡◌, ◌≢◌, ◌<◌, ℕ, Ok, Err, IfOk, IfErr, OnOk, length};
-ghost use Rattle.zp_zone.specs.Streams.{IsBegun, IsWritten};
+ghost use Rattle.zp_text.specs.Streams.{IsBegun, IsWritten};
 ghost use Rattle.zp_replay.specs.Output.{output};
 ghost use Rattle.zp_replay.specs.Replaying.{IsParsed, IsRefusedAt, IsUnanswered};
 ghost use Rattle.zp_replay.specs.Serving.{IsCutShort, IsReplayed, IsServedInOrder};
@@ -9,10 +9,10 @@ use crate::ending::{Ending, ReplayFault};
 use crate::report::write_report;
 use crate::traces::{Input, read_trace};
 use std::alloc::Global;
-use zp_crew::Office;
 use zp_model::Refused;
+use zp_office::Office;
+use zp_text::{Reader, Writer};
 use zp_trace::Trace;
-use zp_zone::{Reader, Writer};
 
 /// The zones and desks of a trace, when its commands were carried out one after another, in their order. Memory.
 fn serve_in_order(alloc: Global, trace: &Trace) -> Result<Office, ReplayFault>

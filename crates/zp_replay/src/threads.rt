@@ -1,14 +1,13 @@
 //! The replay in threads: one for each worker, all at the same time.
 ghost use Rattle.std.specs.Prelude.{◌≡◌, ◌≢◌, ◌<◌, ◌≤◌, ℕ, [], length, vec_capacity, All, Ok, Err, IfOk, OnErr, OnOk};
 ghost use Rattle.std.specs.List.{AllZip};
-ghost use Rattle.std.specs.Thread.{IsSync};
 ghost use Rattle.zp_zone.specs.Seats.{ZoneState};
-ghost use Rattle.zp_zone.specs.Streams.{IsBegun, IsWritten};
-ghost use Rattle.zp_trace.specs.declared.line.Command.{Command};
+ghost use Rattle.zp_text.specs.Streams.{IsBegun, IsWritten};
+ghost use Rattle.zp_trace.specs.declared.line.CommandLine.{CommandLine};
 ghost use Rattle.zp_journal.specs.declared.journal.TheConstants.{LONGEST_JOURNAL};
-ghost use Rattle.zp_crew.specs.Offices.{AreDesksOf};
+ghost use Rattle.zp_office.specs.Offices.{AreDesksOf};
 ghost use Rattle.zp_replay.specs.Replaying.{AddUp, IsParsed, IsRefusedAt, IsUnanswered};
-ghost use Rattle.zp_replay.specs.Serving.{IsHistoryOf, IsJudgedOffice, IsOfficeServed, IsReportCut, IsReported, IsServed, IsTraceReported, IsTraceReportBegun, IsUnworked, journaled_report};
+ghost use Rattle.zp_replay.specs.Serving.{IsHistoryOf, IsJudgedOffice, IsOfficeServed, IsReportCut, IsReported, IsServed, IsTraceReported, IsTraceReportBegun, IsUnworked, entries_in, journaled_report};
 
 use crate::ending::{Ending, ReplayFault};
 use crate::journals::{ZoneJournal, judge, write_ending};
@@ -17,14 +16,13 @@ use crate::traces::{Input, read_trace};
 use std::alloc::Global;
 use std::sync::Wait;
 use std::thread::Threads;
-use zp_crew::{Office, opened_desks};
-use zp_desk::{Desk, Gate};
 use zp_journal::Journal;
 use zp_model::Refused;
+use zp_office::{Desk, Gate, Office, opened_desks, run_zones};
 use zp_share::Share;
-use zp_shared::run_zones;
-use zp_trace::{Command, Trace};
-use zp_zone::{Reader, WriteFault, Writer, Zone};
+use zp_text::{Reader, WriteFault, Writer};
+use zp_trace::{CommandLine, Trace};
+use zp_zone::Zone;
 
 /// The room of a zone's journal, in entries a command: with one zone a drain makes a section for each of the worker's three lists, a
 /// free at most two, and any other command one.
@@ -40,7 +38,7 @@ fn serve_at_once<T: Threads + Wait + Sync, G: Gate + Sync>(
 ) -> Result<(Office, Vec<Journal>), ReplayFault>
     requires { IsParsed trace.now }
     ensures served { IfOk result (λ s. IsServed trace.now s.0) }
-    ensures journals { IfOk result (λ s. AllZip IsHistoryOf s.0.zones s.1.items) }
+    ensures journals { IfOk result (λ s. AllZip IsHistoryOf s.0.zones (entries_in s.1.items)) }
     ensures only { (result ≡ Err ReplayFault.Read → ⊥) × (result ≡ Err ReplayFault.Write → ⊥) }
 {
     let (zones, desks) = match opened_desks(alloc, trace) {
@@ -66,7 +64,7 @@ fn serve<T: Threads + Wait + Sync, G: Gate + Sync>(
     requires desks { AreDesksOf zones.items desks.items }
     requires unworked { All IsUnworked desks.items }
     ensures office { IfOk result (λ s. IsOfficeServed zones.items desks.items s.0) }
-    ensures journals { IfOk result (λ s. AllZip IsHistoryOf s.0.zones s.1.items) }
+    ensures journals { IfOk result (λ s. AllZip IsHistoryOf s.0.zones (entries_in s.1.items)) }
     ensures only { (result ≡ Err ReplayFault.Read → ⊥) × (result ≡ Err ReplayFault.Write → ⊥) }
 {
     let mut desks = desks;
@@ -98,12 +96,12 @@ fn serve_and_judge<T: Threads + Wait + Sync, G: Gate + Sync>(
 fn write_journaled_report<W: Writer>(
     writer: &mut W,
     office: Office,
-    commands: &[Command],
+    commands: &[CommandLine],
     room: Vec<Share>,
     journals: &[ZoneJournal],
     entries: bool,
 ) -> Result<(), WriteFault>
-    requires workers { All (λ (c : Command). c.worker < length office.desks) commands.now }
+    requires workers { All (λ (c : CommandLine). c.worker < length office.desks) commands.now }
     requires empty { room.items ≡ [] }
     requires room { length office.desks ≤ vec_capacity room }
     ensures ok { OnOk result (IsWritten (W.contents writer.old) (W.contents writer.new) (journaled_report entries commands.now office journals.now)) }

@@ -6,8 +6,8 @@ use crate::ending::ReplayFault;
 use crate::input::read_input;
 use crate::lines::bad_line;
 use std::alloc::Global;
+use zp_text::{Reader, Writer, write_all};
 use zp_trace::{Trace, TraceFault, parse_trace};
-use zp_zone::{Reader, Writer, write_all};
 
 /// What the input was.
 #[derive(Drop)]

@@ -1,14 +1,14 @@
 //! A reader and a writer in memory, which give and take their bytes in small pieces and can fail at a call.
 ghost use Rattle.std.specs.Prelude.{◌≡◌, ◌<◌, ◌+◌, ◌==◌, ℕ, [], Some, None, true, false, length, is_err, IfOk, OnOk, OnErr};
 ghost use Rattle.std.specs.Io.KnownBytes.{Keeps};
-ghost use Rattle.zp_zone.specs.Streams.{Fills, Takes};
+ghost use Rattle.zp_text.specs.Streams.{Fills, Takes};
 ghost use Rattle.zp_replay_tests.specs.Devices.{is_due, after_call, after_calls, Gives, Stores, failed_reader, failed_writer};
 
 use std::alloc::Global;
 use std::marker::Model;
 use std::sync::ledger::Ledger;
 use zp_replay::Failures;
-use zp_zone::{ReadFault, Reader, WriteFault, Writer};
+use zp_text::{ReadFault, Reader, WriteFault, Writer};
 
 /// When a device in memory fails: at one call, counted from 0, or never.
 #[derive(Clone, Copy, Drop)]

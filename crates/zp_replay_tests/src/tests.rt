@@ -11,10 +11,10 @@ use std::test::*;
 use std::thread;
 use std::thread::Threads;
 use std::time::{Clock, Duration};
-use zp_desk::{Gate, OpenGate};
 use zp_model::Worker;
+use zp_office::{Gate, OpenGate};
 use zp_replay::{Ending, Failures, ReplayFault, replay_threads};
-use zp_zone::{Reader, Writer};
+use zp_text::{Reader, Writer};
 
 /// How the devices of a replay behave.
 #[derive(Clone, Copy, Drop)]

@@ -1,83 +1,34 @@
 -- A block given back: to its zone, or to the front of its list.
-use Rattle.std.proofs.Common.{ℕ, ◌-◌, ◌<◌, ◌≡◌, ◌==◌, refl, sym, ◌∙◌, ap, subst, List, [], ◌∷◌, length, Option, Some, None, Result, Ok, Err, Bool, true, false, cond}
-use Rattle.std.specs.Prelude.{slice_set, ltb}
-use Rattle.std.proofs.lemmas.Bool.{eq-eqb, eqb-true, lt-ltb}
+use Rattle.std.proofs.Common.{ℕ, arith, ◌<◌, ◌≡◌, refl, sym, ◌∙◌, ap, subst, List, length, Option, Some, Result, Ok, Err, true, false, cond}
 use Rattle.zp_model.specs.declared.migrate_type.MigrateType.{MigrateType}
 use Rattle.zp_model.specs.declared.refused.Refused.{Refused}
-use Rattle.zp_model.specs.declared.refused.Refused.TheVariants.{NotLent, ListFull}
 use Rattle.zp_model.specs.declared.request.Request.TheVariants.{Free}
-use Rattle.zp_model.proofs.Settles.{stands_first}
 use Rattle.zp_zone.specs.NamedZone.{NamedZone}
 use Rattle.zp_share.specs.declared.page_use.PageUse.{PageUse}
 use Rattle.zp_share.specs.declared.page_use.PageUse.TheVariants.{Away, Lent, Cached}
-use Rattle.zp_share.specs.PageUses.{use_of, is_lent_as}
-use Rattle.zp_share.specs.PlainShares.{PlainZoneShare, Putting, used_as, lends, lent_kind, list_of, put, putting, putting_as}
+use Rattle.zp_share.specs.PageUses.{is_lent_as}
+use Rattle.zp_share.specs.PlainShares.{PlainZoneShare, used_as, lends, lent_kind, put, putting, putting_as}
 use Rattle.zp_share.specs.ZoneShares.{plain_share, use_in, is_lent}
 use Rattle.zp_share.specs.Commands.{World, Done, done, told_as, and_then, done_answer, section, is_listed, drain_full, put_page, free_listed, free_as, free_in}
 use Rattle.zp_share.specs.Shares.{ShareState, HasSameLent, IsDone, share_at, with_zone_share, plain, world}
-use Rattle.zp_share.proofs.OneUse.{IsIn, in_by_use, use-all_as}
-use Rattle.zp_share.proofs.Answering.{only}
-use Rattle.zp_share.proofs.LentBlocks.{same_lent}
-use Rattle.zp_share.proofs.Carrying.{own-plain, moved, then_ok, then_err}
+use Rattle.zp_share.proofs.OneUse.{in_by_use, use-set}
+use Rattle.zp_share.proofs.Carrying.{same_lent, own-plain, moved, then_ok}
 
 -- a page that is put on its list is lent no more
 put_away : (x : PlainZoneShare) (p k : ℕ) (t : MigrateType) → (used_as x p ≡ Away → ⊥) → lends (put p t x) p k ≡ false
-put_away x p k t ne =
-    let i : IsIn x.base x.uses p = in_by_use x.base p x.uses ne in
-    let is : use_of x.base (slice_set x.uses (p - x.base) (Cached t)) p ≡ Cached t =
-    use-all_as x.base p (Cached t) (p ∷ []) x.uses (λ q e. subst (λ n. IsIn x.base x.uses n) (sym (only q p e)) i)
-    ∙ ap (λ b. cond b (Cached t) (use_of x.base x.uses p)) (stands_first p []) in
-    ap (is_lent_as k) is
-
-put_room : (x : PlainZoneShare) (p k : ℕ) (t : MigrateType) (v : Unit {0}) (b c : Bool) → (used_as x p ≡ Away → ⊥) →
-    (let y : Putting = cond b (cond c (record { answer = Ok tt; share = put p t x }) (record { answer = Err ListFull; share = x })) (record { answer = Err NotLent; share = x }) in
-    Ok v ≡ y.answer → lends y.share p k ≡ false)
-put_room x p k t v true true ne e = put_away x p k t ne
-put_room x p k t v true false ne e = absurd (cc)
-put_room x p k t v false c ne e = absurd (cc)
+put_away x p k t ne = ap (is_lent_as k) (use-set x.base p (Cached t) x.uses (in_by_use x.base p x.uses ne))
 
 put_use : (x : PlainZoneShare) (p k high : ℕ) (v : Unit {0}) (u : PageUse) → used_as x p ≡ u → Ok v ≡ (putting_as u p high x).answer → lends (putting_as u p high x).share p k ≡ false
-put_use x p k high v Away f e = absurd (cc)
-put_use x p k high v (Lent j t) f e = put_room x p k t v (j == 0) (ltb (length (list_of x t)) high) (λ g. absurd (let h : Lent j t ≡ Away = sym f ∙ g in cc)) e
-put_use x p k high v (Cached t) f e = absurd (cc)
+put_use x p k high v (Lent j t) f e = grind (arith, put_away x p k t)
+put_use x p k high v u f e = absurd (cc)
 
 pub put_gone : (s u : ShareState) (i p k high : ℕ) (v : Unit {0}) → Ok v ≡ (putting (plain_share (share_at s i)) p high).answer →
     plain_share (share_at u i) ≡ (putting (plain_share (share_at s i)) p high).share → is_lent (share_at u i) p k ≡ false
 put_gone s u i p k high v e f = ap (λ x. lends x p k) f ∙ put_use (plain_share (share_at s i)) p k high v (used_as (plain_share (share_at s i)) p) refl e
 
--- a lent page is put where its list has room
-pub put_room_ok : (x : PlainZoneShare) (p k high : ℕ) (t : MigrateType) → Some t ≡ lent_kind (used_as x p) k → k ≡ 0 → length (list_of x t) < high → (putting x p high).answer ≡ Ok tt
-put_room_ok x p k high t e zero room = go (used_as x p) e
-  where
-    lent : (j : ℕ) (v : MigrateType) (b : Bool) → (j == k) ≡ b → Some t ≡ cond b (Some v) None → (putting_as (Lent j v) p high x).answer ≡ Ok tt
-    lent j v true e f =
-        let same : t ≡ v = cc in
-        let none : (j == 0) ≡ true = eq-eqb j 0 (eqb-true j k e ∙ zero) in
-        let less : ltb (length (list_of x v)) high ≡ true = lt-ltb (length (list_of x v)) high (subst (λ u. length (list_of x u) < high) same room) in
-        let full : Putting = record { answer = Err ListFull; share = x } in
-        let done : Putting = record { answer = Ok tt; share = put p v x } in
-        let other : Putting = record { answer = Err NotLent; share = x } in
-        ap (λ b. let y : Putting = cond b (cond (ltb (length (list_of x v)) high) done full) other in y.answer) none
-        ∙ ap (λ b. let y : Putting = cond b done full in y.answer) less
-    lent j v false e f = absurd (cc)
-
-    go : (u : PageUse) → Some t ≡ lent_kind u k → (putting_as u p high x).answer ≡ Ok tt
-    go Away f = absurd (cc)
-    go (Lent j v) f = lent j v (j == k) refl f
-    go (Cached v) f = absurd (cc)
-
 -- where a page is not put, the share stays
 put_nothing : (x : PlainZoneShare) (p high : ℕ) (e : Refused) (u : PageUse) → Err e ≡ (putting_as u p high x).answer → (putting_as u p high x).share ≡ x
-put_nothing x p high e Away f = refl
-put_nothing x p high e (Lent j t) f = go (j == 0) (ltb (length (list_of x t)) high) f
-  where
-    go : (b c : Bool) →
-        (let y : Putting = cond b (cond c (record { answer = Ok tt; share = put p t x }) (record { answer = Err ListFull; share = x })) (record { answer = Err NotLent; share = x }) in
-        Err e ≡ y.answer → y.share ≡ x)
-    go true true f = absurd (cc)
-    go true false f = refl
-    go false c f = refl
-put_nothing x p high e (Cached t) f = refl
+put_nothing x p high e u f = grind arith
 
 pub not_put_lent : (s u : ShareState) (i p high : ℕ) (e : Refused) → i < length s.zones → Err e ≡ (putting (plain_share (share_at s i)) p high).answer → u ≡ with_zone_share i (share_at u i) s →
     plain_share (share_at u i) ≡ (putting (plain_share (share_at s i)) p high).share → HasSameLent s u
@@ -121,13 +72,3 @@ freed rows s m n u i p k t a b r mid last e on x y f g z =
     (λ rows2 e2.
     then_ok (put_page (world rows2 m) i p) (λ _ v. done (Ok tt) (drain_full v i t).world) b (Ok b) mid n (Ok tt) last u (puts rows2 m n i p (Ok b) mid e2 y f g) refl
     (λ rows3 e3. let d = z rows3 e3 in record { answer = refl; zones = d.zones; share = d.share })))
-
--- the page is not put
-pub not_put : (rows : List NamedZone) (s m n : ShareState) (i p k : ℕ) (t : MigrateType) (a : Unit {0}) (q : Refused) (mid : Option (List NamedZone)) →
-    Some t ≡ lent_kind (use_in (share_at s i) p) k → is_listed (plain s) k ≡ true → IsDone (drain_full (world rows s) i t) (Ok a) mid m →
-    Err q ≡ (putting (plain_share (share_at m i)) p m.high_len).answer → n ≡ with_zone_share i (share_at n i) m →
-    plain_share (share_at n i) ≡ (putting (plain_share (share_at m i)) p m.high_len).share → IsDone (free_in (world rows s) i p k) (Err q) mid n
-not_put rows s m n i p k t a q mid e on x y f g =
-    subst (λ d. IsDone d (Err q) mid n) (sym (free_on rows s i p k t e on))
-    (then_ok (drain_full (world rows s) i t) (after_room i p t) a (Ok a) mid m (Err q) mid n x refl
-    (λ rows2 e2. then_err (put_page (world rows2 m) i p) (λ _ v. done (Ok tt) (drain_full v i t).world) q (Err q) mid n (puts rows2 m n i p (Err q) mid e2 y f g) refl))

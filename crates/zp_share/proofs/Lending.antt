@@ -1,52 +1,107 @@
--- A block out of a zone or one below it, and a page off a list.
+-- A block out of a zone or one below it, and a page off a list: what is lent then, and what is done.
 use Rattle.std.specs.Option.{ok_or}
-use Rattle.std.proofs.Common.{ℕ, ◌≡◌, refl, sym, ◌∙◌, ap, subst, arith, List, [], ◌∷◌, length, Option, Some, Result, Ok, Err, true, false, cond, zero, suc}
+use Rattle.std.proofs.Common.{ℕ, ◌+◌, ◌≡◌, ◌≢◌, ◌<◌, ◌≤◌, refl, sym, ◌∙◌, ap, subst, arith, Bool, true, cond, List, [], ◌∷◌, ◌++◌, length, All, Option, Result, Ok, Some, Err, false, zero, suc}
+use Rattle.std.proofs.lemmas.List.{get_or-set_same, length-append, nil_from_length}
 use Rattle.zp_model.specs.declared.mark.Mark.{Mark}
 use Rattle.zp_model.specs.declared.migrate_type.MigrateType.{MigrateType}
 use Rattle.zp_model.specs.declared.refused.Refused.{Refused}
 use Rattle.zp_model.specs.declared.refused.Refused.TheVariants.{NoBlock, JournalFull}
-use Rattle.zp_model.specs.declared.request.Request.TheVariants.{Alloc, Refill}
 use Rattle.zp_model.specs.declared.request.Reply.{Reply}
-use Rattle.zp_model.specs.Rows.{front}
+use Rattle.zp_model.specs.MigrateType.{type_number}
+use Rattle.zp_model.specs.Rows.{front, stands_in}
+use Rattle.zp_model.specs.declared.request.Request.TheVariants.{Refill}
+use Rattle.zp_model.proofs.Settles.{stands_first}
 use Rattle.zp_zone.specs.NamedZone.{NamedZone}
-use Rattle.zp_share.specs.declared.commands.Lent.{Lent}
-use Rattle.zp_share.specs.PlainShares.{taken, own_at, list_of}
-use Rattle.zp_share.specs.ZoneShares.{plain_share, cached_of}
-use Rattle.zp_share.specs.Commands.{World, Done, told_as, and_then, done_answer, section, is_listed, alloc_in, alloc_listed, alloc_down, goes_down, lent_in, take_front, front_answer, page_answer}
-use Rattle.zp_share.specs.Shares.{ShareState, IsDone, share_at, with_zone_share, plain, world}
-use Rattle.zp_share.proofs.Carrying.{own-plain, moved, told_as_is, then_ok}
+use Rattle.zp_model.specs.declared.request.Request.TheVariants as request
+use Rattle.zp_share.specs.declared.page_use.PageUse.{PageUse}
+use Rattle.zp_share.specs.declared.page_use.PageUse.TheVariants.{Away, Lent, Cached}
+use Rattle.zp_share.specs.PageUses.{is_lent_as, use_of, all_as}
+use Rattle.zp_share.specs.PlainShares.{lends, taken, taken_at, own_at, list_of}
+use Rattle.zp_share.specs.ZoneShares.{ZoneShareState, IsShare, IsNew, use_in, is_lent, cached_of, answered, plain_share}
+use Rattle.zp_share.specs.Shares.{ShareState, IsAskedFor, HasSameLent, share_at, with_zone_share, noted_at, IsDone, plain, world}
+use Rattle.zp_share.specs.declared.commands.Lent.{Lent as LentBlock}
+use Rattle.zp_share.specs.Commands.{World, Done, told_as, and_then, done_answer, section, is_listed, alloc_in, alloc_listed, alloc_down, goes_down, lent_in, take_front, front_answer}
+use Rattle.zp_share.proofs.Carrying.{here, elsewhere, same_lent, same_lent_but, own-plain, moved, told_as_is, then_ok}
+use Rattle.zp_share.proofs.OneUse.{use-set_other, use-all_as}
+use Rattle.zp_share.proofs.Listing.{standing_of_all, number_in, standing_cached, standing_in}
+use Rattle.zp_share.proofs.Closing.{listing}
 
--- a zone that gives a block, or refuses it 30, is the last that is asked
-stops : (k : ℕ) (t : MigrateType) (m : Mark) (n : ℕ) (w : World) (r : Result ℕ Refused) (b : Result Lent Refused) (told : Option (List NamedZone)) (u : ShareState) →
-    IsDone (alloc_in w n k t m) r told u → goes_down r ≡ false → b ≡ lent_in n k r → IsDone (alloc_down k t m n w) b told u
+-- a list from which a page can be taken, and what changed to have it
+pub record IsFilled (i : ℕ) (t : MigrateType) (s v : ShareState) : Type 0 where
+  pub lent : HasSameLent s v
+  pub elsewhere : (j : ℕ) → j ≢ i → share_at v j ≡ share_at s j
+  pub some : 1 ≤ length (cached_of (share_at v i) t)
+
+pub filled_before : (s v : ShareState) (i n : ℕ) (t : MigrateType) → v ≡ s → n ≡ length (cached_of (share_at s i) t) → n ≢ 0 → IsFilled i t s v
+filled_before s v i n t same len ne =
+    subst (λ u. IsFilled i t s u) (sym same) (record { lent = λ j p k. refl; elsewhere = λ j other. refl; some = omega (arith, len, ne) })
+
+-- no page of a refill was lent
+lent_by : (k : ℕ) (t : MigrateType) (b : Bool) (u : PageUse) → (b ≡ true → u ≡ Away) → is_lent_as k (cond b (Cached t) u) ≡ is_lent_as k u
+lent_by k t b u f = grind arith
+
+lent-cached : (s : ZoneShareState) (t : MigrateType) (ps : List ℕ) (p k : ℕ) → All (IsNew s) ps →
+    is_lent_as k (use_of s.seat.part.base (all_as s.seat.part.base (Cached t) ps s.uses) p) ≡ is_lent s p k
+lent-cached s t ps p k new =
+    ap (is_lent_as k) (use-all_as s.seat.part.base p (Cached t) ps s.uses (λ q e. (standing_of_all (IsNew s) ps new q e).place))
+    ∙ lent_by k t (stands_in p ps) (use_in s p) (λ e. (standing_of_all (IsNew s) ps new p e).away)
+
+pub filled_now : (s v : ShareState) (i n : ℕ) (t : MigrateType) (m : Mark) (ps : List ℕ) → i < length s.zones → IsShare (share_at s i) →
+    v ≡ noted_at i (request.Refill t m n) (Reply.Pages ps) s → All (IsNew (share_at s i)) ps → 1 ≤ length ps → IsFilled i t s v
+filled_now s v i n t m ps lt whole is new some =
+    let z : ZoneShareState = share_at s i in
+    let x : ZoneShareState = answered (request.Refill t m n) (Reply.Pages ps) z in
+    let on : cached_of x t ≡ ps ++ cached_of z t = get_or-set_same z.cached (type_number t) (ps ++ cached_of z t) [] (number_in z.seat.part.base z.uses z.cached t (listing z whole)) in
+    let many : length (cached_of x t) ≡ length ps + length (cached_of z t) = ap length on ∙ length-append ps (cached_of z t) in
+    let at : length (cached_of (share_at (with_zone_share i x s) i) t) ≡ length (cached_of x t) = ap (λ y. length (cached_of y t)) (here s i x lt) in
+    subst (λ u. IsFilled i t s u) (sym is)
+    (record {
+      lent = same_lent s i x lt (λ p k. lent-cached z t ps p k new);
+      elsewhere = λ j ne. elsewhere s i j x ne;
+      some = omega (arith, some, many, at);
+    })
+
+-- the front of such a list, taken and lent: it was cached
+pub taken_asked : (s v u : ShareState) (i : ℕ) (t : MigrateType) (o : Option ℕ) (r : Result ℕ Refused) → i < length v.zones → IsFilled i t s v → IsShare (share_at v i) →
+    u ≡ with_zone_share i (share_at u i) v → plain_share (share_at u i) ≡ taken t (plain_share (share_at v i)) → o ≡ front (cached_of (share_at v i) t) → r ≡ ok_or o NoBlock →
+    IsAskedFor i r s u
+taken_asked s v u i t o r lt full whole is after first answer = go (cached_of (share_at v i) t) refl
+  where
+    go : (xs : List ℕ) → cached_of (share_at v i) t ≡ xs → IsAskedFor i r s u
+    go [] e = absurd (let none : length (cached_of (share_at v i) t) ≡ 0 = ap length e in omega (arith, none, full.some))
+    go (p ∷ ps) e =
+        let z : ZoneShareState = share_at v i in
+        let on : stands_in p (cached_of z t) ≡ true = ap (stands_in p) e ∙ stands_first p ps in
+        let cached : use_in z p ≡ Cached t = standing_cached z.seat.part.base p z.uses z.cached t (listing z whole) on in
+        let place = standing_in z.seat.part.base (type_number t) p z.uses z.cached (listing z whole) on in
+        let now : plain_share (share_at u i) ≡ taken_at t (p ∷ ps) (plain_share z) = after ∙ ap (λ l. taken_at t l (plain_share z)) e in
+        let others : (q k : ℕ) → q ≢ p → is_lent (share_at u i) q k ≡ is_lent z q k = λ q k ne. ap (λ y. lends y q k) now ∙ ap (is_lent_as k) (use-set_other z.seat.part.base p q (Lent 0 t) z.uses place.from ne) in
+        let got : r ≡ Ok p = answer ∙ ap (λ q. ok_or q NoBlock) (first ∙ ap front e) in
+        subst (λ q. IsAskedFor i q s u) (sym got)
+        (record {
+          fresh = λ k. sym (full.lent i p k) ∙ ap (is_lent_as k) cached;
+          others = λ j q k ne. ap (λ y. is_lent (share_at y j) q k) is ∙ same_lent_but v i p (share_at u i) lt others j q k ne ∙ full.lent j q k;
+          left = tt;
+          asked = tt;
+          elsewhere = λ j ne. ap (λ y. share_at y j) is ∙ elsewhere v i j (share_at u i) ne ∙ full.elsewhere j ne;
+        })
+
+-- a zone that gives a block, or refuses it 30, is the last that is asked, and so is the lowest
+pub stops : (k : ℕ) (t : MigrateType) (m : Mark) (n : ℕ) (w : World) (r : Result ℕ Refused) (b : Result LentBlock Refused) (told : Option (List NamedZone)) (u : ShareState) →
+    IsDone (alloc_in w n k t m) r told u → (n ≢ 0 → goes_down r ≡ false) → b ≡ lent_in n k r → IsDone (alloc_down k t m n w) b told u
 stops k t m zero w r b told u x g e = told_as_is (lent_in 0 k) (alloc_in w 0 k t m) r b told u x e
 stops k t m (suc i) w r b told u x g e =
     let d : Done (Result ℕ Refused) = alloc_in w (suc i) k t m in
     let on : alloc_down k t m (suc i) w ≡ told_as (lent_in (suc i) k) d =
-    ap (λ q. cond q (alloc_down k t m i d.world) (told_as (lent_in (suc i) k) d)) (ap goes_down (sym x.answer) ∙ g) in
+    ap (λ q. cond q (alloc_down k t m i d.world) (told_as (lent_in (suc i) k) d)) (ap goes_down (sym x.answer) ∙ g (λ z. absurd (omega (arith, z)))) in
     subst (λ y. IsDone y b told u) (sym on) (told_as_is (lent_in (suc i) k) d r b told u x e)
-
-pub down_ok : (k : ℕ) (t : MigrateType) (m : Mark) (n : ℕ) (w : World) (p : ℕ) (told : Option (List NamedZone)) (u : ShareState) →
-    IsDone (alloc_in w n k t m) (Ok p) told u → IsDone (alloc_down k t m n w) (Ok (record { zone = n; page = p; order = k })) told u
-down_ok k t m n w p told u x = stops k t m n w (Ok p) (Ok (record { zone = n; page = p; order = k })) told u x refl refl
-
--- where it is refused, the lowest zone is the last, and so is one that answers 30
-pub down_lowest : (k : ℕ) (t : MigrateType) (m : Mark) (n : ℕ) (w : World) (e : Refused) (told : Option (List NamedZone)) (u : ShareState) → n ≡ 0 →
-    IsDone (alloc_in w n k t m) (Err e) told u → IsDone (alloc_down k t m n w) (Err e) told u
-down_lowest k t m zero w e told u none x = told_as_is (lent_in 0 k) (alloc_in w 0 k t m) (Err e) (Err e) told u x refl
-down_lowest k t m (suc i) w e told u none x = absurd (omega (arith, none))
-
-pub down_full : (k : ℕ) (t : MigrateType) (m : Mark) (n : ℕ) (w : World) (e : Refused) (told : Option (List NamedZone)) (u : ShareState) → e ≡ JournalFull →
-    IsDone (alloc_in w n k t m) (Err e) told u → IsDone (alloc_down k t m n w) (Err e) told u
-down_full k t m n w e told u full x = stops k t m n w (Err e) (Err e) told u x (ap (λ r. goes_down (Err r)) full) refl
 
 -- each refusal but 30 leaves the block to the zones below
 pub goes_on : (e : Refused) → (e ≡ JournalFull → ⊥) → goes_down (Err e) ≡ true
-goes_on JournalFull ne = absurd (ne refl)
-goes_on e ne = refl
+goes_on e ne = grind arith
 
 -- a zone above the lowest that refuses otherwise leaves it to those below
-pub down_below : (k : ℕ) (t : MigrateType) (m : Mark) (n i : ℕ) (w : World) (e : Refused) (mid : Option (List NamedZone)) (v : ShareState) (b : Result Lent Refused) (told : Option (List NamedZone))
+pub down_below : (k : ℕ) (t : MigrateType) (m : Mark) (n i : ℕ) (w : World) (e : Refused) (mid : Option (List NamedZone)) (v : ShareState) (b : Result LentBlock Refused) (told : Option (List NamedZone))
     (u : ShareState) → n ≡ suc i → IsDone (alloc_in w n k t m) (Err e) mid v → goes_down (Err e) ≡ true →
     ((rows : List NamedZone) → mid ≡ Some rows → IsDone (alloc_down k t m i (world rows v)) b told u) → IsDone (alloc_down k t m n w) b told u
 down_below k t m n i w e mid v b told u same x g rest =
@@ -68,23 +123,14 @@ takes rows s u i t r told z e g a = record {
 }
 
 pub front_ok : (xs : List ℕ) (o : Option ℕ) (r : Result ℕ Refused) → r ≡ ok_or o NoBlock → o ≡ front xs → r ≡ front_answer xs
-front_ok xs o r e f = e ∙ ap (λ q. ok_or q NoBlock) f ∙ fronts xs
-  where
-    fronts : (xs : List ℕ) → ok_or (front xs) NoBlock ≡ front_answer xs
-    fronts [] = refl
-    fronts (x ∷ xs) = refl
+front_ok xs o r e f = grind arith
 
 -- a block of a listed order comes from the list
 listed : (w : World) (i k : ℕ) (t : MigrateType) (m : Mark) → is_listed w.share k ≡ true → alloc_in w i k t m ≡ alloc_listed (list_of (own_at w.share i) t) w i t m
-listed w i k t m e = ap (λ b. cond b (alloc_listed (list_of (own_at w.share i) t) w i t m) (told_as page_answer (section w i (Alloc k t m)))) e
+listed w i k t m e = rw e refl
 
 some_on : (xs : List ℕ) (w : World) (i : ℕ) (t : MigrateType) (m : Mark) → (length xs ≡ 0 → ⊥) → alloc_listed xs w i t m ≡ take_front w i t
-some_on [] w i t m ne = absurd (ne refl)
-some_on (x ∷ xs) w i t m ne = refl
-
-none_on : (xs : List ℕ) → length xs ≡ 0 → xs ≡ []
-none_on [] e = refl
-none_on (x ∷ xs) e = absurd (omega (arith, e))
+some_on xs w i t m ne = grind arith
 
 length-own : (s : ShareState) (i : ℕ) (t : MigrateType) → length (list_of (own_at (plain s) i) t) ≡ length (cached_of (share_at s i) t)
 length-own s i t = ap (λ x. length (list_of x t)) (own-plain s i)
@@ -111,7 +157,7 @@ from_refill rows s u v x i k n t m ps r told mid on len none d same share e g a 
     let f : Unit {0} → World → Done (Result ℕ Refused) = λ _ y. take_front y i t in
     let sec : Done (Result (Unit {0}) Refused) = told_as done_answer (section w i (Refill t m s.batch)) in
     let is : alloc_in w i k t m ≡ and_then sec f =
-    listed w i k t m on ∙ ap (λ xs. alloc_listed xs w i t m) (none_on (list_of (own_at (plain s) i) t) (length-own s i t ∙ sym len ∙ none)) in
+    listed w i k t m on ∙ ap (λ xs. alloc_listed xs w i t m) (nil_from_length (list_of (own_at (plain s) i) t) (length-own s i t ∙ sym len ∙ none)) in
     let y : IsDone (section w i (Refill t m s.batch)) (Reply.Pages ps) told v = record { answer = d.answer; zones = same ∙ d.zones; share = ap plain share ∙ d.share } in
     subst (λ y. IsDone y r told u) (sym is)
     (then_ok sec f tt (Ok tt) told v r told u (told_as_is done_answer (section w i (Refill t m s.batch)) (Reply.Pages ps) (Ok tt) told v y refl) refl

@@ -1,8 +1,9 @@
 -- Pages that all get one use.
-use Rattle.std.proofs.Common.{ℕ, ◌-◌, ◌≡◌, ◌≤◌, ◌<◌, inl, inr, refl, sym, ◌∙◌, ap, subst, arith, Bool, true, false, List, [], ◌∷◌, ◌++◌, length, get_or, take, map, cond, leb, ◌+◌, All}
+use Rattle.std.proofs.Common.{ℕ, ◌-◌, ◌≡◌, ◌≤◌, ◌<◌, refl, sym, ◌∙◌, ap, subst, arith, true, List, [], ◌∷◌, ◌++◌, length, get_or, take, map, cond, ◌+◌, All}
 use Rattle.std.specs.Prelude.{slice_set}
-use Rattle.std.proofs.lemmas.Bool.{cases_lt, cases_eq, le-leb, leb-true, eq-eqb, ne_eqb}
-use Rattle.std.proofs.lemmas.List.{get_or-set_same, get_or-set_other, get_or_past, map-set, length-set, take_more}
+use Rattle.std.proofs.lemmas.Bool.Decides.{nat_tests}
+use Rattle.std.proofs.lemmas.Grind.{common_steps}
+use Rattle.std.proofs.lemmas.List.{get_or_past, map-set, length-set, take_more}
 use Rattle.std.proofs.lemmas.List.Elements.{All-get_or}
 use Rattle.zp_model.specs.declared.migrate_type.MigrateType.{MigrateType}
 use Rattle.zp_model.specs.Rows.{stands_in}
@@ -17,33 +18,17 @@ IsIn base us p = let u : UsesState = record { base = base; uses = us } in IsPlac
 
 -- the use of a page that is set, and of another
 pub use-set : (base p : ℕ) (u : PageUse) (us : List PageUse) → IsIn base us p → use_of base (slice_set us (p - base) u) p ≡ u
-use-set base p u us i =
-    ap (λ b. cond b (use_at (slice_set us (p - base) u) (p - base)) Away) (le-leb base p i.from) ∙ get_or-set_same us (p - base) u Away i.below
+use-set base p u us i = grind (arith, nat_tests, common_steps)
 
 pub use-set_other : (base p q : ℕ) (u : PageUse) (us : List PageUse) → base ≤ p → (q ≡ p → ⊥) → use_of base (slice_set us (p - base) u) q ≡ use_of base us q
-use-set_other base p q u us le ne = go base p q u us le ne (leb base q) refl
-  where
-    go : (base p q : ℕ) (u : PageUse) (us : List PageUse) → base ≤ p → (q ≡ p → ⊥) → (b : Bool) → leb base q ≡ b →
-        cond b (use_at (slice_set us (p - base) u) (q - base)) Away ≡ cond b (use_at us (q - base)) Away
-    go base p q u us le ne true e =
-        let le2 : base ≤ q = leb-true base q e in
-        get_or-set_other us (p - base) (q - base) u Away (λ d. ne (omega (arith, d, le, le2)))
-    go base p q u us le ne false e = refl
+use-set_other base p q u us le ne = grind (arith, nat_tests, common_steps)
 
 -- a page with a use is one of the zone
 pub in_by_use : (base p : ℕ) (us : List PageUse) → (use_of base us p ≡ Away → ⊥) → IsIn base us p
-in_by_use base p us ne = go base p us (leb base p) refl ne
-  where
-    go : (base p : ℕ) (us : List PageUse) (b : Bool) → leb base p ≡ b → (cond b (use_at us (p - base)) Away ≡ Away → ⊥) → IsIn base us p
-    go base p us false e ne = absurd (ne refl)
-    go base p us true e ne =
-        record {
-          from = leb-true base p e;
-          below = elim (cases_lt (p - base) (length us)) [ inl lt ↦ lt | inr ge ↦ absurd (ne (get_or_past us (p - base) Away ge)) ];
-        }
+in_by_use base p us ne = record { from = grind (arith, nat_tests); below = grind (arith, nat_tests, get_or_past us (p - base) Away) }
 
 pub in_at : (base p : ℕ) (us : List PageUse) → IsIn base us p → use_at us (p - base) ≡ use_of base us p
-in_at base p us i = sym (ap (λ b. cond b (use_at us (p - base)) Away) (le-leb base p i.from))
+in_at base p us i = grind (arith, nat_tests)
 
 pub length-all_as : (base : ℕ) (u : PageUse) (ps : List ℕ) (us : List PageUse) → length (all_as base u ps us) ≡ length us
 length-all_as base u [] us = refl
@@ -64,14 +49,7 @@ use-all_as base q u (p ∷ ps) us f =
     let i : IsIn base us p = f p (stands_first p ps) in
     use-all_as base q u ps (slice_set us (p - base) u)
     (λ x e. let j : IsIn base us x = f x (stands_later x p ps e) in record { from = j.from; below = subst (λ n. x - base < n) (sym (length-set us (p - base) u)) j.below })
-    ∙ elim (cases_eq q p) [
-      | inl e ↦ same (stands_in q ps) (ap (use_of base (slice_set us (p - base) u)) e ∙ use-set base p u us i) ∙ rw (eq-eqb q p e) refl
-      | inr ne ↦ ap (λ v. cond (stands_in q ps) u v) (use-set_other base p q u us i.from ne) ∙ rw (ne_eqb q p ne) refl
-    ]
-  where
-    same : {u v : PageUse} → (b : Bool) → v ≡ u → cond b u v ≡ u
-    same true e = refl
-    same false e = e
+    ∙ grind (arith, nat_tests, use-set base p u us i, use-set_other base p q u us i.from)
 
 -- the blocks that the uses stand for
 pub held-cached : (base w : ℕ) (t : MigrateType) (ps : List ℕ) (us : List PageUse) →

@@ -1,11 +1,10 @@
 -- What a request to a zone may come to: one section, or no section, with nothing changed.
-use Rattle.std.specs.Prelude.{◌↔◌, Result, Ok, Err, IfErr}
-use Rattle.std.proofs.Common.{ℕ, suc, zero, ◌≡◌, ◌≢◌, ◌⊎◌, ◌==◌, ◌++◌, inl, inr, refl, sym, ◌∙◌, ap, subst, Bool, true, false, cond, List, [], ◌∷◌, Option, Some, None}
-use Rattle.std.proofs.lemmas.Bool.{eqb-true, eqb-false}
+use Rattle.std.specs.Prelude.{◌↔◌}
+use Rattle.std.proofs.Common.{ℕ, suc, zero, ◌≡◌, ◌⊎◌, ◌++◌, inl, inr, refl, sym, ◌∙◌, ap, arith, Bool, true, false, cond, List, [], ◌∷◌, Option, Some, None}
 use Rattle.zp_model.specs.declared.mark.Mark.{Mark}
 use Rattle.zp_model.specs.declared.migrate_type.MigrateType.{MigrateType}
 use Rattle.zp_model.specs.declared.refused.Refused.{Refused}
-use Rattle.zp_model.specs.declared.refused.Refused.TheVariants.{BelowMark, NotLent, JournalFull}
+use Rattle.zp_model.specs.declared.refused.Refused.TheVariants.{BelowMark, NoBlock, NothingPosted, NotLent, JournalFull}
 use Rattle.zp_model.specs.declared.request.Request.{Request}
 use Rattle.zp_model.specs.declared.request.Reply.{Reply}
 use Rattle.zp_model.specs.Choose.{Chosen, choose}
@@ -14,127 +13,82 @@ use Rattle.zp_model.specs.Mark.{passes}
 use Rattle.zp_model.specs.Zone.{PlainZone, PostedBlock, posted_to}
 use Rattle.zp_model.specs.Step.{Outcome, alloc, alloc_chosen, alloc_low_at, refuse, collected, refill, refill_end, page_of, step}
 use Rattle.zp_zone.specs.Seats.{ZoneState}
-use Rattle.zp_share.specs.declared.sections.TheConstants.{LAST_SECTION}
-use Rattle.zp_share.specs.ZoneShares.{ZoneShareState, IsSection, IsLeft, is_lent}
+use Rattle.zp_share.specs.PlainShares.{refusal}
+use Rattle.zp_share.specs.Sections.{ComesOf}
+use Rattle.zp_share.specs.ZoneShares.{ZoneShareState, answered}
 use Rattle.zp_share.specs.Shares.{is_section}
 
--- what a zone answers to one request or another is a section
-chosen-section : (z : PlainZone) (w k : ℕ) (t : MigrateType) (o : Option Chosen) → is_section (alloc_chosen z w k t o).reply ≡ true
-chosen-section z w k t None = refl
-chosen-section z w k t (Some c) = refl
+-- why a zone gives no block
+abbrev pub IsNoneWhy : Refused → Type 0
+IsNoneWhy e = (e ≡ BelowMark) ⊎ (e ≡ NoBlock)
 
-alloc-section : (z : PlainZone) (w k : ℕ) (t : MigrateType) (m : Mark) → is_section (alloc z w k t m).reply ≡ true
+-- why a zone refuses a request, and that a reply is no other refusal
+abbrev pub IsWhy : Request → Refused → Type 0
+IsWhy (Request.Alloc k t m) e = IsNoneWhy e
+IsWhy (Request.AllocLow k) e = e ≡ NoBlock
+IsWhy Request.Collect e = e ≡ NothingPosted
+IsWhy (Request.Refill t m n) e = IsNoneWhy e
+IsWhy r e = ⊥
+
+abbrev pub IfRefused : (Refused → Type 0) → Reply → Type 0
+IfRefused P (Reply.Refused e) = P e
+IfRefused P q = Unit {0}
+
+alloc-why : (z : PlainZone) (w k : ℕ) (t : MigrateType) (m : Mark) → IfRefused IsNoneWhy (alloc z w k t m).reply
 unfolding alloc
-alloc-section z w k t m = go z w k t (passes z k m)
+alloc-why z w k t m = go z w k t (passes z k m) (choose z.area k t)
   where
-    go : (z : PlainZone) (w k : ℕ) (t : MigrateType) (b : Bool) → is_section (cond b (alloc_chosen z w k t (choose z.area k t)) (refuse z BelowMark)).reply ≡ true
-    go z w k t true = chosen-section z w k t (choose z.area k t)
-    go z w k t false = refl
+    go : (z : PlainZone) (w k : ℕ) (t : MigrateType) (b : Bool) (o : Option Chosen) → IfRefused IsNoneWhy (cond b (alloc_chosen z w k t o) (refuse z BelowMark)).reply
+    go z w k t true None = inr refl
+    go z w k t true (Some c) = tt
+    go z w k t false o = inl refl
 
-low-section : (z : PlainZone) (w k : ℕ) (o : Option ℕ) → is_section (alloc_low_at z w k o).reply ≡ true
-low-section z w k None = refl
-low-section z w k (Some h) = refl
-
-collected-section : (z : PlainZone) (w : ℕ) (ps : List PostedBlock) → is_section (collected z w ps).reply ≡ true
-collected-section z w [] = refl
-collected-section z w (p ∷ ps) = refl
-
-refill_end-section : (got : List ℕ) (o : Outcome) → is_section o.reply ≡ true → is_section (refill_end got o).reply ≡ true
-refill_end-section [] o e = e
-refill_end-section (p ∷ ps) o e = refl
-
-refill-section : (z : PlainZone) (w : ℕ) (t : MigrateType) (m : Mark) (got : List ℕ) (n : ℕ) → is_section (refill z w t m got n).reply ≡ true
-refill-section z w t m got zero = refl
-refill-section z w t m got (suc n) =
+refill-why : (z : PlainZone) (w : ℕ) (t : MigrateType) (m : Mark) (got : List ℕ) (n : ℕ) → IfRefused IsNoneWhy (refill z w t m got n).reply
+refill-why z w t m got zero = tt
+refill-why z w t m got (suc n) =
     let o = alloc z w 0 t m in
-    let e : is_section o.reply ≡ true = alloc-section z w 0 t m in
-    elim (page_of o.reply) as (λ r. is_section (elim r as (λ x. Outcome) [ Some p ↦ refill o.zone w t m (got ++ p ∷ []) n | None ↦ refill_end got o ]).reply ≡ true) [
-      | Some p ↦ refill-section o.zone w t m (got ++ p ∷ []) n
-      | None ↦ refill_end-section got o e
+    elim (page_of o.reply) as (λ r. IfRefused IsNoneWhy (elim r as (λ x. Outcome) [ Some p ↦ refill o.zone w t m (got ++ p ∷ []) n | None ↦ refill_end got o ]).reply) [
+      | Some p ↦ refill-why o.zone w t m (got ++ p ∷ []) n
+      | None ↦ end got o (alloc-why z w 0 t m)
     ]
+  where
+    end : (got : List ℕ) (o : Outcome) → IfRefused IsNoneWhy o.reply → IfRefused IsNoneWhy (refill_end got o).reply
+    end [] o f = f
+    end (p ∷ ps) o f = tt
 
--- so each step's reply is one
+pub step-why : (z : PlainZone) (w : ℕ) (r : Request) → IfRefused (IsWhy r) (step z w r).reply
+step-why z w (Request.Alloc k t m) = alloc-why z w k t m
+step-why z w (Request.AllocLow k) = go (take_low_answer z.area k)
+  where
+    go : (o : Option ℕ) → IfRefused (λ e. e ≡ NoBlock) (alloc_low_at z w k o).reply
+    go None = refl
+    go (Some h) = tt
+step-why z w (Request.Free p k) = tt
+step-why z w (Request.Post p k to) = tt
+step-why z w Request.Collect = go (posted_to z w)
+  where
+    go : (ps : List PostedBlock) → IfRefused (λ e. e ≡ NothingPosted) (collected z w ps).reply
+    go [] = refl
+    go (p ∷ ps) = tt
+step-why z w (Request.Refill t m n) = refill-why z w t m [] n
+step-why z w (Request.Drain t ps) = tt
+
+-- so each step's reply is a section
 pub step-section : (z : PlainZone) (w : ℕ) (r : Request) → is_section (step z w r).reply ≡ true
-step-section z w (Request.Alloc k t m) = alloc-section z w k t m
-step-section z w (Request.AllocLow k) = low-section z w k (take_low_answer z.area k)
-step-section z w (Request.Free p k) = refl
-step-section z w (Request.Post p k to) = refl
-step-section z w Request.Collect = collected-section z w (posted_to z w)
-step-section z w (Request.Refill t m n) = refill-section z w t m [] n
-step-section z w (Request.Drain t ps) = refl
-
--- nothing changed, and the answer is no section, or one section was made
-abbrev pub IsTried : Request → Reply → ZoneState → ZoneState → ZoneShareState → ZoneShareState → Type 0
-IsTried r q z y a b = ((is_section q ≡ false) × IsLeft z y a b) ⊎ IsSection r q z y a b
-
--- at the last number of sections the answer is a refusal 30
-abbrev pub IsFull : Reply → ZoneState → ZoneState → ZoneShareState → ZoneShareState → Type 0
-IsFull q z y a b = a.sections.made ≡ LAST_SECTION → (q ≡ Reply.Refused JournalFull) × IsLeft z y a b
-
--- before it, one section is made
-abbrev pub IsMade : Request → Reply → ZoneState → ZoneState → ZoneShareState → ZoneShareState → Type 0
-IsMade r q z y a b = a.sections.made ≢ LAST_SECTION → IsSection r q z y a b
-
--- a request that is refused at the last number of sections alone
-pub tried : (r : Request) (q : Reply) (z y : ZoneState) (a b : ZoneShareState) → IsFull q z y a b → IsMade r q z y a b → IsTried r q z y a b
-tried r q z y a b full made = go (a.sections.made == LAST_SECTION) refl
+step-section z w r = go r (step z w r).reply (step-why z w r)
   where
-    go : (v : Bool) → (a.sections.made == LAST_SECTION) ≡ v → IsTried r q z y a b
-    go true e = let x = full (eqb-true a.sections.made LAST_SECTION e) in inl (ap is_section x.0, x.1)
-    go false e = inr (made (eqb-false a.sections.made LAST_SECTION e))
+    go : (r : Request) (q : Reply) → IfRefused (IsWhy r) q → is_section q ≡ true
+    go r q x = grind arith
 
--- a block that is not lent is refused 20
-abbrev pub IsNotLent : ℕ → ℕ → Reply → ZoneState → ZoneState → ZoneShareState → ZoneShareState → Type 0
-IsNotLent p k q z y a b = is_lent a p k ≡ false → (q ≡ Reply.Refused NotLent) × IsLeft z y a b
-
--- a request that is refused also where the block is not lent
-pub tried_lent : (r : Request) (q : Reply) (p k : ℕ) (z y : ZoneState) (a b : ZoneShareState) → IsNotLent p k q z y a b → (is_lent a p k ≡ true → IsFull q z y a b) →
-    (is_lent a p k ≡ true → IsMade r q z y a b) → IsTried r q z y a b
-tried_lent r q p k z y a b none full made = go (is_lent a p k) refl
-  where
-    go : (v : Bool) → is_lent a p k ≡ v → IsTried r q z y a b
-    go true e = tried r q z y a b (full e) (made e)
-    go false e = let x = none e in inl (ap is_section x.0, x.1)
-
--- a refusal at the last number of sections alone
-pub only_full : (made : ℕ) (x : Result (Unit {0}) Refused) → (made ≡ LAST_SECTION → x ≡ Err JournalFull) → (made ≢ LAST_SECTION → x ≡ Ok tt) → IfErr x (λ e. e ≡ JournalFull)
-only_full made x full done = go (made == LAST_SECTION) refl
-  where
-    go : (v : Bool) → (made == LAST_SECTION) ≡ v → IfErr x (λ e. e ≡ JournalFull)
-    go true e = subst (λ r. IfErr r (λ e. e ≡ JournalFull)) (sym (full (eqb-true made LAST_SECTION e))) refl
-    go false e = subst (λ r. IfErr r (λ e. e ≡ JournalFull)) (sym (done (eqb-false made LAST_SECTION e))) tt
-
--- what is answered to a request for a block that is to be lent
-abbrev WasAnswered : Bool → ℕ → Result (Unit {0}) Refused → Type 0
-WasAnswered lent made x =
-    (x ≡ Err NotLent) × (lent ≡ false) ⊎ ((x ≡ Err JournalFull) × (lent ≡ true) ⊎ (x ≡ Ok tt) × (lent ≡ true))
-
--- one of the three it is
-was_answered : (lent : Bool) (made : ℕ) (x : Result (Unit {0}) Refused) → (lent ≡ false → x ≡ Err NotLent) → (lent ≡ true → made ≡ LAST_SECTION → x ≡ Err JournalFull) →
-    (lent ≡ true → made ≢ LAST_SECTION → x ≡ Ok tt) → WasAnswered lent made x
-was_answered false made x none full done = inl (none refl, refl)
-was_answered true made x none full done = go (made == LAST_SECTION) refl
-  where
-    go : (v : Bool) → (made == LAST_SECTION) ≡ v → WasAnswered true made x
-    go true e = inr (inl (full refl (eqb-true made LAST_SECTION e), refl))
-    go false e = inr (inr (done refl (eqb-false made LAST_SECTION e), refl))
+-- the share of the zone has one section more where the answer is a section, and else is as it was
+pub tried : (lent full : Bool) (r : Request) (q : Reply) (z y : ZoneState) (a b : ZoneShareState) → ComesOf (refusal lent full) r q z y a b → b ≡ cond (is_section q) (answered r q a) a
+tried false full r q z y a b x = x.1.share ∙ sym (ap (λ v. cond (is_section v) (answered r v a) a) x.0)
+tried true true r q z y a b x = x.1.share ∙ sym (ap (λ v. cond (is_section v) (answered r v a) a) x.0)
+tried true false r q z y a b x = x.share ∙ sym (ap (λ c. cond c (answered r q a) a) (ap is_section x.reply ∙ step-section z.plain a.seat.worker r))
 
 -- a refusal 20 exactly where the block is not lent
-pub not_lent_alone : (lent : Bool) (made : ℕ) (x : Result (Unit {0}) Refused) → (lent ≡ false → x ≡ Err NotLent) → (lent ≡ true → made ≡ LAST_SECTION → x ≡ Err JournalFull) →
-    (lent ≡ true → made ≢ LAST_SECTION → x ≡ Ok tt) → (x ≡ Err NotLent) ↔ (lent ≡ false)
-not_lent_alone lent made x none full done = (λ e. back e (was_answered lent made x none full done), none)
-  where
-    back : x ≡ Err NotLent → WasAnswered lent made x → lent ≡ false
-    back e (inl n) = n.1
-    back e (inr (inl f)) = let same : Err NotLent ≡ Err JournalFull = sym e ∙ f.0 in absurd (cc)
-    back e (inr (inr d)) = let same : Err NotLent ≡ Ok tt = sym e ∙ d.0 in absurd (cc)
-
--- no refusal but 20 and 30
-pub only_these : (lent : Bool) (made : ℕ) (x : Result (Unit {0}) Refused) → (lent ≡ false → x ≡ Err NotLent) → (lent ≡ true → made ≡ LAST_SECTION → x ≡ Err JournalFull) →
-    (lent ≡ true → made ≢ LAST_SECTION → x ≡ Ok tt) → IfErr x (λ e. (e ≡ NotLent) ⊎ (e ≡ JournalFull))
-only_these lent made x none full done = go (was_answered lent made x none full done)
-  where
-    go : WasAnswered lent made x → IfErr x (λ e. (e ≡ NotLent) ⊎ (e ≡ JournalFull))
-    go (inl n) = subst (λ r. IfErr r (λ e. (e ≡ NotLent) ⊎ (e ≡ JournalFull))) (sym n.0) (inl refl)
-    go (inr (inl f)) = subst (λ r. IfErr r (λ e. (e ≡ NotLent) ⊎ (e ≡ JournalFull))) (sym f.0) (inr refl)
-    go (inr (inr d)) = subst (λ r. IfErr r (λ e. (e ≡ NotLent) ⊎ (e ≡ JournalFull))) (sym d.0) tt
+pub not_lent_alone : (lent full : Bool) (r : Request) (q : Reply) (z y : ZoneState) (a b : ZoneShareState) → ComesOf (refusal lent full) r q z y a b → (q ≡ Reply.Refused NotLent) ↔ (lent ≡ false)
+not_lent_alone false full r q z y a b x = (λ e. refl, λ e. x.0)
+not_lent_alone true true r q z y a b x = (λ e. absurd (let same : Reply.Refused NotLent ≡ Reply.Refused JournalFull = sym e ∙ x.0 in cc), λ e. absurd (cc))
+not_lent_alone true false r q z y a b x =
+    (λ e. absurd (let same : false ≡ true = ap is_section (sym e ∙ x.reply) ∙ step-section z.plain a.seat.worker r in cc), λ e. absurd (cc))

@@ -14,8 +14,7 @@ use Rattle.zp_model.specs.Zone.{zone_opening}
 use Rattle.zp_model.specs.Step.{Outcome, step}
 use Rattle.zp_zone.specs.NamedZone.{NamedZone}
 use Rattle.zp_share.specs.declared.commands.Lent.{Lent}
-use Rattle.zp_share.specs.declared.sections.TheConstants.{LAST_SECTION}
-use Rattle.zp_share.specs.PlainShares.{PlainZoneShare, PlainShare, used_as, lends, lent_kind, list_of, back, share_after, taken, putting, own_at, with_own}
+use Rattle.zp_share.specs.PlainShares.{PlainZoneShare, PlainShare, refusal_of, used_as, lent_kind, list_of, back, share_after, taken, putting, own_at, with_own}
 
 -- a row of zones, the lowest first, and one worker's share of them
 pub record World : Type 0 where
@@ -56,15 +55,13 @@ with_share i x w = record { zones = w.zones; share = with_own i x w.share }
 abbrev pub stepped : World → ℕ → Request → Outcome → Done Reply
 stepped w i r o = done o.reply (record { zones = row_with w.zones i o; share = with_own i (share_after r o.reply (own_at w.share i)) w.share })
 
--- one section: at the last number of sections it is refused 30, and asks no zone
-abbrev pub section : World → ℕ → Request → Done Reply
-section w i r =
-    cond ((own_at w.share i).sections.made == LAST_SECTION) (done (Reply.Refused JournalFull) w)
-    (stepped w i r (step (zone_at w.zones i).plain (own_at w.share i).worker r))
+-- one section, where it is not refused
+abbrev pub section_as : Option Refused → World → ℕ → Request → Done Reply
+section_as (Some e) w i r = done (Reply.Refused e) w
+section_as None w i r = stepped w i r (step (zone_at w.zones i).plain (own_at w.share i).worker r)
 
--- one section of the block of order k at page p, which is refused 20 where it is not lent
-abbrev pub section_of : World → ℕ → ℕ → ℕ → Request → Done Reply
-section_of w i p k r = cond (lends (own_at w.share i) p k) (section w i r) (done (Reply.Refused NotLent) w)
+abbrev pub section : World → ℕ → Request → Done Reply
+section w i r = section_as (refusal_of r (own_at w.share i)) w i r
 
 -- a zone answers an alloc with a page, or refuses it
 abbrev pub page_answer : Reply → Result ℕ Refused

@@ -1,6 +1,7 @@
 pub mod PageUses
 pub mod PlainShares
 pub mod ZoneShares
+pub mod Sections
 pub mod Commands
 pub mod Shares
 pub mod Gathering

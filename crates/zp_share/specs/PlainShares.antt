@@ -1,13 +1,14 @@
 -- What one worker has of a row of zones, without what ties it to them (this profile).
-use Rattle.std.specs.Prelude.{ℕ, ◌+◌, ◌-◌, ◌==◌, Bool, List, [], ◌∷◌, ◌++◌, length, take, reverse, replicate, slice_set, slice_index_or, Option, None, Some, Result, Ok, Err, cond, ltb}
+use Rattle.std.specs.Prelude.{ℕ, zero, suc, ◌+◌, ◌-◌, ◌==◌, Bool, true, false, List, [], ◌∷◌, ◌++◌, length, take, reverse, replicate, slice_set, slice_index_or, Option, None, Some, Result, Ok, Err, cond, ltb}
 use Rattle.zp_model.specs.declared.migrate_type.MigrateType.{MigrateType}
 use Rattle.zp_model.specs.declared.refused.Refused.{Refused}
-use Rattle.zp_model.specs.declared.refused.Refused.TheVariants.{NotLent, ListFull}
-use Rattle.zp_model.specs.declared.request.Entry.{Entry}
+use Rattle.zp_model.specs.declared.refused.Refused.TheVariants.{NotLent, ListFull, JournalFull}
+use Rattle.zp_model.specs.Entries.{Entry}
 use Rattle.zp_model.specs.declared.request.Request.{Request}
 use Rattle.zp_model.specs.declared.request.Reply.{Reply}
 use Rattle.zp_model.specs.MigrateType.{type_number, types_count}
 use Rattle.zp_model.specs.Rows.{list_at}
+use Rattle.zp_share.specs.declared.sections.TheConstants.{LAST_SECTION}
 use Rattle.zp_share.specs.declared.page_use.PageUse.{PageUse}
 use Rattle.zp_share.specs.declared.page_use.PageUse.TheVariants.{Away, Lent, Cached}
 use Rattle.zp_share.specs.PageUses.{use_of, is_lent_as, uses_after}
@@ -16,6 +17,11 @@ pub record SectionsState : Type 0 where
   -- how many were made, and the last one
   pub made : ℕ
   pub last : Option Entry
+
+-- the last of so many sections, where there is one
+abbrev pub last_made : ℕ → Entry → Option Entry
+last_made zero e = None
+last_made (suc n) e = Some e
 
 -- what a worker has of one zone
 pub record PlainZoneShare : Type 0 where
@@ -41,6 +47,25 @@ used_as s p = use_of s.base s.uses p
 -- whether the block of order k at an absolute page is lent
 abbrev pub lends : PlainZoneShare → ℕ → ℕ → Bool
 lends s p k = is_lent_as k (used_as s p)
+
+-- whether the block that a request names, if it names one, is lent
+abbrev pub lends_for : Request → PlainZoneShare → Bool
+lends_for (Request.Free p k) s = lends s p k
+lends_for (Request.Post p k to) s = lends s p k
+lends_for r s = true
+
+-- why no section is made, if none is: 20 where the block named is not lent, else 30 where there is no room for one more
+abbrev pub refusal : Bool → Bool → Option Refused
+refusal false full = Some NotLent
+refusal true true = Some JournalFull
+refusal true false = None
+
+abbrev pub refusal_of : Request → PlainZoneShare → Option Refused
+refusal_of r s = refusal (lends_for r s) (s.sections.made == LAST_SECTION)
+
+-- the answer where there is no room
+abbrev pub refused_full : Request → PlainZoneShare → Reply
+refused_full r s = Reply.Refused (cond (lends_for r s) JournalFull NotLent)
 
 -- the type of a page's block, where it is lent with order k
 abbrev pub lent_kind : PageUse → ℕ → Option MigrateType

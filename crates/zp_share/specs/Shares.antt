@@ -1,5 +1,5 @@
 -- A worker's share of a row of zones, and what its calls with the zones promise (this profile).
-use Rattle.std.specs.Prelude.{ℕ, ◌≡◌, ◌≢◌, ◌<◌, ◌≤◌, ◌+◌, ◌⊎◌, IsTrue, IfOk, IfErr, Bool, true, false, List, [], length, map, slice_index_or, slice_set, Option, Some, Result, Ok, Err, cond}
+use Rattle.std.specs.Prelude.{ℕ, ◌≡◌, ◌≢◌, ◌<◌, ◌≤◌, ◌+◌, ◌⊎◌, ◌↔◌, IsTrue, IfOk, IfErr, Bool, true, false, List, [], length, map, slice_index_or, slice_set, Option, Some, Result, Ok, Err, cond}
 use Rattle.atomic_table.specs.Seated.{TableId}
 use Rattle.zp_model.specs.declared.refused.Refused.{Refused}
 use Rattle.zp_model.specs.declared.refused.Refused.TheVariants.{NotLent, JournalFull}
@@ -10,9 +10,10 @@ use Rattle.zp_model.specs.Zone.{workers_of}
 use Rattle.zp_zone.specs.NamedZone.{NamedZone}
 use Rattle.zp_zone.specs.Seats.{ZoneState, SeatState}
 use Rattle.zp_share.specs.declared.commands.Lent.{Lent}
-use Rattle.zp_share.specs.PlainShares.{PlainShare}
+use Rattle.zp_share.specs.PlainShares.{PlainShare, lends_for}
+use Rattle.zp_share.specs.Sections.{IsReplyTo}
 use Rattle.zp_share.specs.ZoneShares.{ZoneShareState, plain_share, answered, opening_share, is_lent, cached_of}
-use Rattle.zp_share.specs.Commands.{World, Done}
+use Rattle.zp_share.specs.Commands.{World, Done, section}
 
 pub record ShareState : Type 0 where
   pub worker : ℕ
@@ -67,9 +68,12 @@ IsShareOf keys s = ties_of s ≡ map (λ (k : ZoneKey). k.tie) keys
 abbrev pub no_key : ZoneKey
 no_key = record { tie = no_tie; name = []; workers = 0 }
 
+abbrev pub workers_at : List ZoneKey → ℕ → ℕ
+workers_at keys i = (slice_index_or keys i no_key).workers
+
 -- the zone at place i has this worker
 abbrev pub HasWorkerAt : List ZoneKey → ℕ → ℕ → Type 0
-HasWorkerAt keys i w = w < (slice_index_or keys i no_key).workers
+HasWorkerAt keys i w = w < workers_at keys i
 
 -- whether an answer is a section: refused 20 or 30 it is none
 abbrev pub is_section : Reply → Bool
@@ -81,16 +85,20 @@ is_section q = true
 abbrev pub noted_at : ℕ → Request → Reply → ShareState → ShareState
 noted_at i r q s = cond (is_section q) (with_zone_share i (answered r q (share_at s i)) s) s
 
--- the answer of a call that has no other
-abbrev pub done_reply : Reply → Result (Unit {0}) Refused → Reply
-done_reply q (Ok u) = q
-done_reply q (Err r) = Reply.Refused r
-
 -- what was to be done is what was answered and left; the zones are told here
 pub record IsDone {A : Type 0} (d : Done A) (a : A) (rows : Option (List NamedZone)) (s : ShareState) : Type 0 where
   pub answer : a ≡ d.answer
   pub zones : rows ≡ Some d.world.zones
   pub share : plain s ≡ d.world.share
+
+-- what a request to the zone at place i of a row comes to: the row has keys ks and tells the zones zs before, ls and ys after
+pub record IsAskedAt (i : ℕ) (r : Request) (q : Reply) (ks ls : List ZoneKey) (zs ys : Option (List NamedZone)) (s t : ShareState) : Type 0 where
+  pub keys : ls ≡ ks
+  pub fits : IsShareOf ls t
+  pub share : t ≡ noted_at i r q s
+  pub reply : IsReplyTo r q (share_at s i) (share_at t i)
+  pub not_lent : (q ≡ Reply.Refused NotLent) ↔ (lends_for r (plain_share (share_at s i)) ≡ false)
+  pub told : (rows : List NamedZone) → zs ≡ Some rows → IsDone (section (world rows s) i r) q ys t
 
 -- how many sections were made with zone i
 abbrev pub sections_at : ShareState → ℕ → ℕ

@@ -5,7 +5,7 @@ use Rattle.std.specs.List.{IsDistinct}
 use Rattle.zp_model.specs.declared.migrate_type.MigrateType.{MigrateType}
 use Rattle.zp_model.specs.declared.refused.Refused.{Refused}
 use Rattle.zp_model.specs.declared.refused.Refused.TheVariants.{BelowMark, NoBlock, JournalFull}
-use Rattle.zp_model.specs.declared.request.Entry.{Entry}
+use Rattle.zp_model.specs.Entries.{Entry}
 use Rattle.zp_model.specs.declared.request.Request.{Request}
 use Rattle.zp_model.specs.declared.request.Reply.{Reply}
 use Rattle.zp_model.specs.MigrateType.{types_count}
@@ -55,6 +55,11 @@ cached_of s t = list_of (plain_share s) t
 -- no list has more than n pages
 abbrev pub HasAtMost : ℕ → ZoneShareState → Type 0
 HasAtMost n s = (t : MigrateType) → length (cached_of s t) ≤ n
+
+-- a refill asks for n pages at most
+abbrev pub RefillsAtMost : ℕ → Request → Type 0
+RefillsAtMost n (Request.Refill t m k) = k ≤ n
+RefillsAtMost n r = Unit {0}
 
 -- the last entry of a list, where it has one
 abbrev pub last_of : List Entry → Option Entry

@@ -1,6 +1,7 @@
 //! A worker's share: its own lists of pages, the blocks lent to it, and its sections.
 #![tactic(auto)]
 
+mod answered;
 mod commands;
 mod gathering;
 mod list_config;
@@ -13,6 +14,7 @@ mod share;
 mod zone_share;
 mod zones;
 
+pub use answered::is_section;
 pub use commands::{Lent, alloc, drain_all, free};
 pub use gathering::{Totals, gather};
 pub use list_config::ListConfig;

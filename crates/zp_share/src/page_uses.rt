@@ -1,12 +1,13 @@
 //! What each page of a zone is to one worker.
 ghost use Rattle.std.specs.Prelude.{◌≡◌, ◌<◌, ◌-◌, All, replicate, slice_set, IfOk};
-ghost use Rattle.zp_share.specs.declared.page_use.PageUse.TheVariants.{Away, Lent};
-ghost use Rattle.zp_share.specs.PageUses.{use_of, all_as, IsPlace};
+ghost use Rattle.zp_share.specs.declared.page_use.PageUse.TheVariants.{Away};
+ghost use Rattle.zp_share.specs.PageUses.{use_of, all_as, uses_after, IsPlace};
+ghost use Rattle.zp_share.specs.Sections.{HasPlaces};
 
 use crate::page_use::PageUse;
 use std::alloc::{AllocError, Global};
 use std::marker::Model;
-use zp_model::{Block, PageNo};
+use zp_model::{PageNo, Reply, Request};
 
 /// One entry for each page of a zone, made with the share.
 #[derive(Drop)]
@@ -54,14 +55,6 @@ impl PageUses {
         self.uses[(page.number() - self.base) as usize] = used;
     }
 
-    /// A block of the zone is lent.
-    pub fn lend(&mut self, block: &Block)
-        requires { IsPlace self.old block.now.page }
-        ensures { self.new ≡ record self.old { uses = slice_set self.old.uses (block.now.page - self.old.base) (Lent block.now.order block.now.kind) } }
-    {
-        self.set(block.page, PageUse::Lent(block.order, block.kind));
-    }
-
     /// All of these pages get one use.
     pub fn set_all(&mut self, pages: &[PageNo], used: PageUse)
         requires { All (IsPlace self.old) pages.now }
@@ -71,6 +64,51 @@ impl PageUses {
             // a copy, since the call takes its own
             let same = used;
             self.set(*page, same);
+        }
+    }
+
+    /// What a request, answered so, makes of the pages.
+    #[inline(always)]
+    pub fn note(&mut self, request: &Request, reply: &Reply)
+        requires { HasPlaces request.now reply.now self.old }
+        ensures { self.new ≡ record self.old { uses = uses_after self.old.base request.now reply.now self.old.uses } }
+    {
+        match request {
+            Request::Alloc(order, kind, _) => {
+                if let Reply::Page(page) = reply {
+                    self.set(*page, PageUse::Lent(*order, *kind));
+                }
+            }
+            Request::AllocLow(order) => {
+                if let Reply::Block(block) = reply {
+                    self.set(block.page, PageUse::Lent(*order, block.kind));
+                }
+            }
+            Request::Free(page, _) => {
+                if let Reply::Freed = reply {
+                    self.set(*page, PageUse::Away);
+                }
+            }
+            Request::Post(page, _, _) => {
+                if let Reply::Posted = reply {
+                    self.set(*page, PageUse::Away);
+                }
+            }
+            Request::Collect => {
+                if let Reply::Block(block) = reply {
+                    self.set(block.page, PageUse::Lent(block.order, block.kind));
+                }
+            }
+            Request::Refill(kind, _, _) => {
+                if let Reply::Pages(pages) = reply {
+                    self.set_all(pages.as_slice(), PageUse::Cached(*kind));
+                }
+            }
+            Request::Drain(_, pages) => {
+                if let Reply::Drained = reply {
+                    self.set_all(pages.as_slice(), PageUse::Away);
+                }
+            }
         }
     }
 }

@@ -10,9 +10,7 @@ use crate::share::Share;
 use crate::zones::Zones;
 use arrayvec::ArrayVec;
 use std::marker::Model;
-use zp_model::{
-    Block, Counts, MAX_BATCH, MAX_ZONES, Mark, MigrateType, Order, PageNo, Refused, Worker,
-};
+use zp_model::{Counts, MAX_ZONES, Reply, Request};
 use zp_zone::Zone;
 
 /// A row of zones for one thread, the lowest first. It tells what its zones are.
@@ -72,69 +70,9 @@ impl Zones for PlainZones {
 
     ghost told = { λ z. Some (map named_zone z) };
 
-    fn alloc_block(
-        &mut self,
-        share: &mut Share,
-        zone: usize,
-        order: Order,
-        kind: MigrateType,
-        mark: Mark,
-    ) -> Result<PageNo, Refused> {
-        share.alloc_block(&mut self.zones[zone], zone, order, kind, mark)
-    }
-
-    fn alloc_low(
-        &mut self,
-        share: &mut Share,
-        zone: usize,
-        order: Order,
-    ) -> Result<Block, Refused> {
-        share.alloc_low(&mut self.zones[zone], zone, order)
-    }
-
-    fn free_block(
-        &mut self,
-        share: &mut Share,
-        zone: usize,
-        page: PageNo,
-        order: Order,
-    ) -> Result<(), Refused> {
-        share.free_block(&mut self.zones[zone], zone, page, order)
-    }
-
-    fn post(
-        &mut self,
-        share: &mut Share,
-        zone: usize,
-        page: PageNo,
-        order: Order,
-        to: Worker,
-    ) -> Result<(), Refused> {
-        share.post(&mut self.zones[zone], zone, page, order, to)
-    }
-
-    fn collect(&mut self, share: &mut Share, zone: usize) -> Result<Block, Refused> {
-        share.collect(&mut self.zones[zone], zone)
-    }
-
-    fn refill(
-        &mut self,
-        share: &mut Share,
-        zone: usize,
-        kind: MigrateType,
-        mark: Mark,
-    ) -> Result<ArrayVec<PageNo, MAX_BATCH>, Refused> {
-        share.refill(&mut self.zones[zone], zone, kind, mark)
-    }
-
-    fn drain(
-        &mut self,
-        share: &mut Share,
-        zone: usize,
-        kind: MigrateType,
-        count: usize,
-    ) -> Result<(), Refused> {
-        share.drain(&mut self.zones[zone], zone, kind, count)
+    #[inline(always)]
+    fn section(&mut self, share: &mut Share, zone: usize, request: &Request) -> Reply {
+        share.section(&mut self.zones[zone], zone, request)
     }
 
     fn counts(&mut self, zone: usize) -> Counts {

@@ -1,5 +1,7 @@
 //! The sections that a share makes with one zone.
 ghost use Rattle.std.specs.Prelude.{◌≡◌, ◌<◌, ◌+◌, ◌==◌, Some, None, false};
+ghost use Rattle.std.specs.Option.{option_copied};
+ghost use Rattle.zp_model.specs.Entries.{HasOneList};
 
 use std::marker::Model;
 use zp_model::{Entry, Reply, Request, Worker};
@@ -7,19 +9,19 @@ use zp_model::{Entry, Reply, Request, Worker};
 /// The number of sections after which none can be counted.
 pub const LAST_SECTION: u64 = u64::MAX;
 
-/// How many there were, and the last one.
+/// How many there were, and the last one. The entry of the last one is written over where it lies.
 #[derive(Drop)]
 pub struct Sections {
     made: u64,
-    last: Option<Entry>,
+    last: Entry,
 }
 
 impl Model for Sections {
-    ghost use Rattle.zp_share.specs.PlainShares.{SectionsState};
+    ghost use Rattle.zp_share.specs.PlainShares.{SectionsState, last_made};
 
     ghost Value = { SectionsState };
 
-    ghost view = { λ s. record { made = s.made; last = s.last } };
+    ghost view = { λ s. record { made = s.made; last = last_made s.made s.last } };
 }
 
 impl Sections {
@@ -28,7 +30,7 @@ impl Sections {
     {
         Sections {
             made: 0,
-            last: None,
+            last: Entry::blank(),
         }
     }
 
@@ -46,22 +48,23 @@ impl Sections {
         self.made == LAST_SECTION
     }
 
-    pub fn last(&self) -> &Option<Entry>
-        ensures { result.now ≡ self.now.last }
+    pub fn last(&self) -> Option<&Entry>
+        ensures { option_copied result ≡ self.now.last }
     {
-        &self.last
+        if self.made == 0 {
+            return None;
+        }
+        Some(&self.last)
     }
 
     /// One section more, in which a worker's request was answered so.
-    pub fn add(&mut self, worker: Worker, request: Request, reply: Reply)
-        requires { self.old.made < LAST_SECTION }
-        ensures { self.new ≡ record { made = self.old.made + 1; last = Some (record { worker = worker; request = request; reply = reply }) } }
+    #[inline(always)]
+    pub fn add(&mut self, worker: Worker, request: &Request, reply: &Reply)
+        requires room { self.old.made < LAST_SECTION }
+        requires entry { HasOneList request.now reply.now }
+        ensures { self.new ≡ record { made = self.old.made + 1; last = Some (record { worker = worker; request = request.now; reply = reply.now }) } }
     {
         self.made += 1;
-        self.last = Some(Entry {
-            worker,
-            request,
-            reply,
-        });
+        self.last.set(worker, request, reply);
     }
 }

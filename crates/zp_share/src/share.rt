@@ -6,7 +6,9 @@ ghost use Rattle.zp_model.specs.declared.refused.Refused.TheVariants.{Memory};
 ghost use Rattle.zp_model.specs.declared.constants.TheConstants.{LONGEST_LIST};
 ghost use Rattle.zp_zone.specs.Seats.{SeatState, IsSeatOf, IsUnused};
 ghost use Rattle.zp_model.specs.Bounds.{AreLists};
-ghost use Rattle.zp_share.specs.PlainShares.{taken, putting, lent_kind};
+ghost use Rattle.std.specs.Option.{option_copied};
+ghost use Rattle.zp_share.specs.PlainShares.{back, lends_for, lent_kind, putting, refused_full, taken};
+ghost use Rattle.zp_share.specs.Sections.{IsBack};
 ghost use Rattle.zp_share.specs.ZoneShares.{ZoneShareState, IsShare, SharesIn, use_in, is_lent, cached_of, opening_share, plain_share};
 ghost use Rattle.zp_share.specs.Commands.{is_listed};
 ghost use Rattle.zp_share.specs.Gathering.{cached_pages};
@@ -16,10 +18,12 @@ use crate::list_config::ListConfig;
 use crate::zone_share::ZoneShare;
 use std::alloc::Global;
 use std::marker::Model;
-use zp_model::{Entry, MAX_ZONES, MigrateType, Order, PageNo, Refused, Worker};
+use zp_model::{
+    Entry, MAX_ZONES, MigrateType, Order, PageList, PageNo, Refused, Reply, Request, Worker,
+};
 use zp_zone::{Seat, Zone};
 
-mod requests;
+mod sections;
 
 /// What one worker has of each zone of a row: its lists of pages of order 0, the blocks lent to it, and its sections. Zones
 /// are named by their place in the row, the lowest first.
@@ -138,6 +142,37 @@ impl Share {
         self.zones[zone].cached_pages()
     }
 
+    /// Whether the block that a request to this zone names, if it names one, is lent.
+    #[inline(always)]
+    pub fn lends_for(&self, zone: usize, request: &Request) -> bool
+        requires { zone < length self.now.zones }
+        ensures { result ≡ lends_for request.now (plain_share (share_at self.now zone)) }
+    {
+        self.zones[zone].lends_for(request)
+    }
+
+    /// The answer to a request for which no section can be made: 20 where the block that it names is not lent, else 30.
+    pub fn refuse(&self, zone: usize, request: &Request) -> Reply
+        requires { zone < length self.now.zones }
+        ensures { result ≡ refused_full request.now (plain_share (share_at self.now zone)) }
+    {
+        if self.lends_for(zone, request) {
+            Reply::Refused(Refused::JournalFull)
+        } else {
+            Reply::Refused(Refused::NotLent)
+        }
+    }
+
+    /// The pages at the back of the list of this type, the last one first, as a drain gives them back.
+    pub fn back(&self, zone: usize, kind: MigrateType, count: usize) -> PageList
+        requires zone { zone < length self.now.zones }
+        requires within { count ≤ length (cached_of (share_at self.now zone) kind) }
+        ensures pages { result ≡ back count (cached_of (share_at self.now zone) kind) }
+        ensures back { IsBack (share_at self.now zone) kind result }
+    {
+        self.zones[zone].back(kind, count)
+    }
+
     /// How many sections were made with this zone.
     pub fn sections(&self, zone: usize) -> u64
         requires { zone < length self.now.zones }
@@ -147,9 +182,9 @@ impl Share {
     }
 
     /// The last section with this zone: its worker, its request and its reply.
-    pub fn last(&self, zone: usize) -> &Option<Entry>
+    pub fn last(&self, zone: usize) -> Option<&Entry>
         requires { zone < length self.now.zones }
-        ensures { result.now ≡ (share_at self.now zone).sections.last }
+        ensures { option_copied result ≡ (share_at self.now zone).sections.last }
     {
         self.zones[zone].last()
     }

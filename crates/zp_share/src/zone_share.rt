@@ -5,7 +5,9 @@ ghost use Rattle.zp_model.specs.declared.refused.Refused.TheVariants.{Memory};
 ghost use Rattle.zp_model.specs.Rows.{front};
 ghost use Rattle.zp_zone.specs.Seats.{IsSeatOf, IsUnused};
 ghost use Rattle.zp_share.specs.Gathering.{cached_pages};
-ghost use Rattle.zp_share.specs.PlainShares.{lent_kind, taken, putting};
+ghost use Rattle.std.specs.Option.{option_copied};
+ghost use Rattle.zp_share.specs.PlainShares.{back, lent_kind, taken, putting};
+ghost use Rattle.zp_share.specs.Sections.{IsBack};
 ghost use Rattle.zp_share.specs.ZoneShares.{HasAtMost, use_in, is_lent, cached_of, IsShare, SharesIn, IsLeft, plain_share, opening_share};
 
 use crate::page_stack::PageStack;
@@ -14,10 +16,10 @@ use crate::page_uses::PageUses;
 use crate::sections::Sections;
 use std::alloc::Global;
 use std::marker::Model;
-use zp_model::{Entry, LONGEST_LIST, MigrateType, Order, PageNo, Refused, TYPES, Worker};
+use zp_model::{Entry, LONGEST_LIST, MigrateType, Order, PageList, PageNo, Refused, TYPES, Worker};
 use zp_zone::{Seat, Zone};
 
-mod requests;
+mod section;
 
 /// What one worker has of a zone: its lists of pages of order 0, one for each type, the blocks lent to it, and its sections.
 #[derive(Drop)]
@@ -95,6 +97,15 @@ impl ZoneShare {
         self.cached[kind.number()].len()
     }
 
+    /// The pages at the back of the list of this type, the last one first.
+    pub fn back(&self, kind: MigrateType, count: usize) -> PageList
+        requires { count ≤ length (cached_of self.now kind) }
+        ensures pages { result ≡ back count (cached_of self.now kind) }
+        ensures back { IsBack self.now kind result }
+    {
+        PageList::of(self.cached[kind.number()].back(count))
+    }
+
     /// How many pages all lists have.
     pub(crate) fn cached_pages(&self) -> u32
         ensures { result ≡ cached_pages (plain_share self.now) }
@@ -114,8 +125,8 @@ impl ZoneShare {
     }
 
     /// The last section's worker, request and reply.
-    pub fn last(&self) -> &Option<Entry>
-        ensures { result.now ≡ self.now.sections.last }
+    pub fn last(&self) -> Option<&Entry>
+        ensures { option_copied result ≡ self.now.sections.last }
     {
         self.sections.last()
     }

@@ -1,25 +1,29 @@
 -- A request of a share to the guarded zone at its place: what the zone, its journal, its board and the share are after it.
-use Rattle.std.proofs.Common.{ℕ, ◌≡◌, ◌≢◌, ◌<◌, ◌≤◌, ◌++◌, ◌-◌, Bool, true, false, refl, sym, ◌∙◌, ap, ap₂, subst, arith, cond, List, [], ◌∷◌, get_or, length, length-append, Some}
+use Rattle.std.proofs.Common.{ℕ, ◌≡◌, ◌≢◌, ◌<◌, ◌≤◌, ◌==◌, ◌++◌, ◌-◌, ◌⊎◌, inl, inr, Bool, true, false, leb, refl, sym, ◌∙◌, ap, ap₂, subst, arith, cond, List, [], ◌∷◌, get_or, length, length-append, None, Some, ◌↔◌}
+use Rattle.std.proofs.lemmas.Bool.{eqb-true, leb-false}
 use Rattle.std.proofs.Math.ListN.{get_or-map}
 use Rattle.std.proofs.Math.Seq.{map-set_same, get_or-append_seam}
 use Rattle.std.proofs.lemmas.List.{set-get_or}
 use Rattle.std.specs.List.{filter}
 use Rattle.zp_model.specs.declared.counts.Counts.{Counts}
-use Rattle.zp_model.specs.declared.request.Entry.{Entry}
+use Rattle.zp_model.specs.Entries.{Entry}
+use Rattle.zp_model.specs.declared.refused.Refused.TheVariants.{NotLent, JournalFull}
 use Rattle.zp_model.specs.declared.request.Request.{Request}
 use Rattle.zp_model.specs.declared.request.Reply.{Reply}
 use Rattle.zp_model.specs.Books.{entry_of, made_by}
 use Rattle.zp_laws.proofs.Sameness.{step-same}
-use Rattle.zp_zone.specs.Seats.{ZoneState, IsSeatOf, KeepsSeats}
+use Rattle.zp_zone.specs.Seats.{ZoneState, IsSeatOf}
 use Rattle.zp_board.specs.Boards.{BoardState}
 use Rattle.zp_counts.specs.CountBoards.{CountsPublished, counts_in, last_counts}
 use Rattle.zp_journal.specs.declared.journal.TheConstants.{LONGEST_JOURNAL}
 use Rattle.zp_journal.specs.Journals.{JournalState}
 use Rattle.zp_share.specs.declared.sections.TheConstants.{LAST_SECTION}
-use Rattle.zp_share.specs.ZoneShares.{ZoneShareState, SharesIn, IsSection, IsSameSeat, answered, opening_share}
-use Rattle.zp_share.specs.Shares.{ShareState, ZoneKey, IsShareOf, no_key, no_tie, key_of, ties_of, sections_at, share_at, with_zone_share, is_section, noted_at, no_seat}
-use Rattle.zp_share.proofs.Tried.{step-section}
-use Rattle.zp_shared.specs.Rows.{GuardedZone, IsKeptAt, IsPublished, IsPublishedOnce, IsSectionAt, board_at, key_at, zone_counts}
+use Rattle.zp_share.specs.PlainShares.{lends, lends_for, refusal, refused_full}
+use Rattle.zp_share.specs.Sections.{ComesOf, IsAsked, IsReplyTo}
+use Rattle.zp_share.specs.ZoneShares.{ZoneShareState, SharesIn, IsLeft, IsSection, answered, opening_share, plain_share}
+use Rattle.zp_share.specs.Shares.{ShareState, ZoneKey, IsAskedAt, IsShareOf, no_key, no_tie, key_of, ties_of, share_at, with_zone_share, is_section, noted_at, no_seat}
+use Rattle.zp_share.proofs.Tried.{not_lent_alone, step-section}
+use Rattle.zp_shared.specs.Rows.{GuardedZone, IsAskedUnderLock, IsPublished, IsPublishedOnce, board_at, is_journal_full, key_at, zone_counts}
 
 -- the guarded zone is that of the share's seat at its place
 pub seat_at : (keys : List ZoneKey) (i : ℕ) (z : ZoneState) (s : ShareState) → key_of z ≡ key_at keys i → IsShareOf keys s → IsSeatOf z (share_at s i).seat
@@ -76,13 +80,6 @@ few_sections z s capacity in_zone room long last =
     let few : length (made_by s.seat.worker z.entries) ≤ length z.entries = filter_few (λ (e : Entry). Rattle.std.specs.Prelude.nat_eq e.worker s.seat.worker) z.entries in
     omega (arith, few, in_zone.sections, room, long, last)
 
--- what a share has of a zone, where share and place are what they were
-pub share_here : (u s : ShareState) (p i : ℕ) → s ≡ u → i ≡ p → share_at s i ≡ share_at u p
-share_here u s p i same at = ap₂ share_at same at
-
-pub still_countable : (u s : ShareState) (p i : ℕ) → s ≡ u → i ≡ p → sections_at u p ≢ LAST_SECTION → sections_at s i ≢ LAST_SECTION
-still_countable u s p i same at free last = free (ap (λ v. v.sections.made) (sym (share_here u s p i same at)) ∙ last)
-
 -- what lies under a lock: a place, a zone, its journal, and the right to publish
 pub record Parts : Type 0 where
   pub place : ℕ
@@ -102,20 +99,9 @@ AreGuarded keys boards p =
     × (p.journal.capacity ≡ (board_at boards p.place).capacity)
     × IsPublished p.zone p.publisher.published
 
--- where the journal has room, so has the board
-pub board_has_room : (z : ZoneState) (cs : List Counts) (capacity : ℕ) → IsPublished z cs → length z.entries < capacity → length cs ≤ capacity
-board_has_room z cs capacity published room = omega (arith, published.many, room)
-
 -- a list with one more at its end is another list
 longer : {X : Type 0} (xs ys : List X) (x : X) → ys ≡ xs ++ x ∷ [] → ys ≡ xs → ⊥
 longer xs ys x more same = omega (arith, ap length more, ap length same, length-append xs (x ∷ []))
-
--- what is published stays where no entry was made
-pub nothing_published : (g h : GuardedZone) → h ≡ g → IsPublishedOnce g h
-nothing_published g h same = record {
-  left = λ e. ap (λ (v : GuardedZone). v.published) same;
-  made = λ e more. absurd (longer g.zone.entries h.zone.entries e more (ap (λ (v : GuardedZone). v.zone.entries) same));
-}
 
 -- the zone's counts are published where an entry was made
 counts_published : (g h : GuardedZone) (e : Entry) → h.zone.entries ≡ g.zone.entries ++ e ∷ [] → h.published ≡ g.published ++ zone_counts h.zone ∷ [] → IsPublishedOnce g h
@@ -139,92 +125,172 @@ still_published z y cs ds e was more published = record {
 
 -- a share turned to the guarded zone at its place, with which the zone, its journal, and what the share has of it alone became others:
 -- one section was made, and noted; then the zone's counts were published
-pub record IsCall (keys : List ZoneKey) (boards : List BoardState) (r : Request) (q : Reply) (g : GuardedZone) (p n : Parts) (u s t : ShareState) : Type 0 where
-  pub view : guarded_of p ≡ g
-  pub same : s ≡ u
+pub record IsCall (keys : List ZoneKey) (boards : List BoardState) (r : Request) (q : Reply) (p : Parts) (y : ZoneState) (k : JournalState) (u : CountsPublished) (s t : ShareState) : Type 0 where
   pub guarded : AreGuarded keys boards p
-  pub fits : IsShareOf keys u
-  pub place : n.place ≡ p.place
+  pub fits : IsShareOf keys s
   pub others : t ≡ with_zone_share p.place (share_at t p.place) s
-  pub seats : KeepsSeats p.zone n.zone
-  pub seat : IsSameSeat (share_at s p.place) (share_at t p.place)
-  pub section : IsSection r q p.zone n.zone (share_at s p.place) (share_at t p.place)
-  pub noted : (e : Entry) → (share_at t p.place).sections.last ≡ Some e → n.journal ≡ record { capacity = p.journal.capacity; entries = p.journal.entries ++ e ∷ [] }
-  pub tie : n.publisher.tie ≡ p.publisher.tie
-  pub published : n.publisher.published ≡ p.publisher.published ++ zone_counts n.zone ∷ []
+  pub asked : IsAsked r q p.zone y (share_at s p.place) (share_at t p.place)
+  pub is_section : is_section q ≡ true
+  pub noted : (e : Entry) → (share_at t p.place).sections.last ≡ Some e → k ≡ record { capacity = p.journal.capacity; entries = p.journal.entries ++ e ∷ [] }
+  pub tie : u.tie ≡ p.publisher.tie
+  pub published : u.published ≡ p.publisher.published ++ zone_counts y ∷ []
 
--- what is left: the zone, its journal and its board belong to its place still, and the share is what the answer makes of it
-pub record IsAfter (keys : List ZoneKey) (boards : List BoardState) (r : Request) (q : Reply) (g : GuardedZone) (n : Parts) (u t : ShareState) : Type 0 where
+-- what is left: the zone, its journal and its board belong to their place still
+pub record IsAfter (keys : List ZoneKey) (boards : List BoardState) (r : Request) (q : Reply) (g : GuardedZone) (n : Parts) (s t : ShareState) : Type 0 where
   pub guarded : AreGuarded keys boards n
-  pub kept : IsKeptAt keys g (guarded_of n) u t
-  pub share : t ≡ noted_at g.place r q u
-  pub section : IsSectionAt r q g (guarded_of n) u t
-  pub published : IsPublishedOnce g (guarded_of n)
+  pub asked : IsAskedUnderLock keys r q g (guarded_of n) s t
 
--- where the share and the guarded zone are said by what the code has of them
-after_own : (keys : List ZoneKey) (boards : List BoardState) (r : Request) (q : Reply) (p n : Parts) (s t : ShareState) → IsCall keys boards r q (guarded_of p) p n s s t →
-    n.place ≡ p.place → IsAfter keys boards r q (guarded_of p) (record n { place = p.place }) s t
-after_own keys boards r q p n s t c at =
+-- a request that was a section was made, of a block that is lent
+was_made : (lent last full : Bool) (r : Request) (q : Reply) (z y : ZoneState) (a b : ZoneShareState) → ComesOf (refusal lent last) r q z y a b → is_section q ≡ true → full ≡ false →
+    IsSection r q z y a b × ComesOf (refusal lent full) r q z y a b
+was_made false last full r q z y a b x e f = absurd (let same : false ≡ true = sym (ap is_section x.0) ∙ e in cc)
+was_made true true full r q z y a b x e f = absurd (let same : false ≡ true = sym (ap is_section x.0) ∙ e in cc)
+was_made true false full r q z y a b x e f = (x, subst (λ v. ComesOf (refusal true v) r q z y a b) (sym f) x)
+
+pub after : (keys : List ZoneKey) (boards : List BoardState) (r : Request) (q : Reply) (g : GuardedZone) (p : Parts) (y : ZoneState) (k : JournalState) (u : CountsPublished) (s t : ShareState) →
+    IsCall keys boards r q p y k u s t → guarded_of p ≡ g → leb p.journal.capacity (length p.journal.entries) ≡ false →
+    IsAfter keys boards r q g (record { place = p.place; zone = y; journal = k; publisher = u }) s t
+after keys boards r q g p y k u s t c view room =
     let i = p.place in
-    let key : key_of n.zone ≡ key_at keys i = key_kept r q p.zone n.zone (share_at s i) (share_at t i) c.section ∙ c.guarded.0 in
-    let entry = one_entry r q p.zone n.zone (share_at s i) (share_at t i) p.journal n.journal c.section c.guarded.1 c.noted in
+    let n : Parts = record { place = i; zone = y; journal = k; publisher = u } in
+    let own = plain_share (share_at s i) in
+    let free : is_journal_full (guarded_of p) ≡ false = ap (λ es. leb p.journal.capacity (length es)) (sym c.guarded.1) ∙ room in
+    let made = was_made (lends_for r own) (own.sections.made == LAST_SECTION) (is_journal_full (guarded_of p)) r q p.zone y (share_at s i) (share_at t i) c.asked.made c.is_section free in
+    let key : key_of y ≡ key_at keys i = key_kept r q p.zone y (share_at s i) (share_at t i) made.0 ∙ c.guarded.0 in
+    let entry = one_entry r q p.zone y (share_at s i) (share_at t i) p.journal k made.0 c.guarded.1 c.noted in
     let e : Entry = entry_of p.zone.plain (share_at s i).seat.worker r in
-    let more : n.zone.entries ≡ p.zone.entries ++ e ∷ [] = ap (λ (v : ZoneState). v.entries) c.section.zone in
-    record {
-      guarded = (
-        key,
-        entry.0,
-        c.tie ∙ c.guarded.2,
-        entry.1 ∙ c.guarded.3,
-        still_published p.zone n.zone p.publisher.published n.publisher.published e c.guarded.4 more c.published,
-      );
-      kept =
+    let more : y.entries ≡ p.zone.entries ++ e ∷ [] = ap (λ (v : ZoneState). v.entries) made.0.zone in
+    subst (λ v. IsAfter keys boards r q v n s t) view
+    (record {
+      guarded = (key, entry.0, c.tie ∙ c.guarded.2, entry.1 ∙ c.guarded.3, still_published p.zone y p.publisher.published u.published e c.guarded.4 more c.published);
+      asked =
           record {
-            place = refl;
-            capacity = entry.1;
-            key = key;
-            seats = c.seats;
-            seat = c.seat;
-            others = c.others;
-            fits = share_kept keys r q p.zone n.zone s t i c.fits c.others c.section;
+            made = made.1;
+            published = counts_published (guarded_of p) (guarded_of n) e more c.published;
+            kept =
+                record {
+                  place = refl;
+                  capacity = entry.1;
+                  key = key;
+                  seats = c.asked.seats;
+                  seat = c.asked.same;
+                  others = c.others;
+                  fits = share_kept keys r q p.zone y s t i c.fits c.others made.0;
+                };
+            share = share_noted r q p.zone y s t i c.others made.0;
+            reply = c.asked.reply;
           };
-      share = share_noted r q p.zone n.zone s t i c.others c.section;
-      section = c.section;
-      published = counts_published (guarded_of p) (guarded_of (record n { place = p.place })) e more c.published;
-    }
+    })
 
-pub after : (keys : List ZoneKey) (boards : List BoardState) (r : Request) (q : Reply) (g : GuardedZone) (p n : Parts) (u s t : ShareState) → IsCall keys boards r q g p n u s t → IsAfter keys boards r q g n u t
-after keys boards r q g p n u s t c =
-    subst (λ (v : ShareState). IsAfter keys boards r q g n v t) c.same
-    (subst (λ (v : GuardedZone). IsAfter keys boards r q v n s t) c.view
-    (subst (λ (i : ℕ). IsAfter keys boards r q (guarded_of p) (record n { place = i }) s t) (sym c.place)
-    (after_own keys boards r q p n s t
-    (record {
-      view = refl;
-      same = refl;
-      guarded = c.guarded;
-      fits = subst (IsShareOf keys) (sym c.same) c.fits;
-      place = c.place;
-      others = c.others;
-      seats = c.seats;
-      seat = c.seat;
-      section = c.section;
-      noted = c.noted;
-      tie = c.tie;
-      published = c.published;
-    }) c.place)))
+-- nothing was asked, and all is as it was
+unasked : (keys : List ZoneKey) (r : Request) (q : Reply) (g : GuardedZone) (s : ShareState) → key_of g.zone ≡ key_at keys g.place → IsShareOf keys s → is_section q ≡ false →
+    IsReplyTo r q (share_at s g.place) (share_at s g.place) →
+    ComesOf (refusal (lends_for r (plain_share (share_at s g.place))) (is_journal_full g)) r q g.zone g.zone (share_at s g.place) (share_at s g.place) → IsAskedUnderLock keys r q g g s s
+unasked keys r q g s key fits none reply made = record {
+  made = made;
+  published = record { left = λ e. refl; made = λ e more. absurd (longer g.zone.entries g.zone.entries e more refl) };
+  kept =
+      record {
+        place = refl;
+        capacity = refl;
+        key = key;
+        seats = λ x a. a;
+        seat = record { tie = refl; worker = refl };
+        others = sym (ap (λ l. let u : ShareState = record s { zones = l } in u) (set-get_or s.zones g.place (opening_share no_seat 0)));
+        fits = fits;
+      };
+  share = sym (ap (λ b. cond b (with_zone_share g.place (answered r q (share_at s g.place)) s) s) none);
+  reply = reply;
+}
 
--- where nothing was asked
-pub kept_as_it_was : (keys : List ZoneKey) (g h : GuardedZone) (s t : ShareState) → h ≡ g → t ≡ s → key_of g.zone ≡ key_at keys g.place → IsShareOf keys s → IsKeptAt keys g h s t
-kept_as_it_was keys g h s t same stays key fits =
-    subst (λ (v : GuardedZone). IsKeptAt keys g v s t) (sym same)
-    (subst (λ (u : ShareState). IsKeptAt keys g g s u) (sym stays)
+one_of : (b : Bool) → (cond b JournalFull NotLent ≡ NotLent) ⊎ (cond b JournalFull NotLent ≡ JournalFull)
+one_of true = inr refl
+one_of false = inl refl
+
+-- the refusal where there is no room is one to each request, and no section
+pub full_reply : (r : Request) (s t : ZoneShareState) → IsReplyTo r (refused_full r (plain_share s)) s t
+full_reply (Request.Alloc k u m) s t = inr (inr refl)
+full_reply (Request.AllocLow k) s t = inr refl
+full_reply (Request.Free p k) s t = one_of (lends (plain_share s) p k)
+full_reply (Request.Post p k to) s t = one_of (lends (plain_share s) p k)
+full_reply Request.Collect s t = inr refl
+full_reply (Request.Refill u m n) s t = inr (inr refl)
+full_reply (Request.Drain u ps) s t = refl
+
+pub full_made : (lent full : Bool) (r : Request) (z : ZoneState) (a : ZoneShareState) → full ≡ true → ComesOf (refusal lent full) r (Reply.Refused (cond lent JournalFull NotLent)) z z a a
+full_made false full r z a f = (refl, record { zone = refl; share = refl })
+full_made true true r z a f = (refl, record { zone = refl; share = refl })
+full_made true false r z a f = absurd (cc)
+
+pub full_section : (lent : Bool) → is_section (Reply.Refused (cond lent JournalFull NotLent)) ≡ false
+full_section true = refl
+full_section false = refl
+
+-- a full journal
+pub full_left : (keys : List ZoneKey) (boards : List BoardState) (r : Request) (g : GuardedZone) (p : Parts) (s : ShareState) → AreGuarded keys boards p → IsShareOf keys s → guarded_of p ≡ g →
+    leb p.journal.capacity (length p.journal.entries) ≡ true → IsAskedUnderLock keys r (refused_full r (plain_share (share_at s p.place))) g g s s
+full_left keys boards r g p s guarded fits view full =
+    let own = plain_share (share_at s p.place) in
+    subst (λ v. IsAskedUnderLock keys r (refused_full r own) v v s s) view
+    (unasked keys r (refused_full r own) (guarded_of p) s guarded.0 fits (full_section (lends_for r own)) (full_reply r (share_at s p.place) (share_at s p.place))
+    (full_made (lends_for r own) (is_journal_full (guarded_of p)) r p.zone (share_at s p.place) (ap (λ es. leb p.journal.capacity (length es)) (sym guarded.1) ∙ full)))
+
+-- a request that was no section, of a share whose sections can be counted, is refused 20
+was_left : (lent last : Bool) (r : Request) (q : Reply) (z y : ZoneState) (a b : ZoneShareState) → ComesOf (refusal lent last) r q z y a b → is_section q ≡ false → (last ≡ true → IsLeft z y a b → ⊥) →
+    (lent ≡ false) × ((q ≡ Reply.Refused NotLent) × IsLeft z y a b)
+was_left false last r q z y a b x e f = (refl, x)
+was_left true true r q z y a b x e f = absurd (f refl x.1)
+was_left true false r q z y a b x e f = absurd (let same : false ≡ true = sym e ∙ ap is_section x.reply ∙ step-section z.plain a.seat.worker r in cc)
+
+pub not_lent_left : (keys : List ZoneKey) (boards : List BoardState) (r : Request) (q : Reply) (g : GuardedZone) (p : Parts) (y : ZoneState) (s t : ShareState) → AreGuarded keys boards p → IsShareOf keys s →
+    guarded_of p ≡ g → leb p.journal.capacity (length p.journal.entries) ≡ false → p.journal.capacity ≤ LONGEST_JOURNAL → t ≡ with_zone_share p.place (share_at t p.place) s →
+    IsAsked r q p.zone y (share_at s p.place) (share_at t p.place) → is_section q ≡ false → SharesIn y (share_at t p.place) →
+    IsAfter keys boards r q g (record p { zone = y }) s t
+not_lent_left keys boards r q g p y s t guarded fits view room long others x none agree =
+    let i = p.place in
+    let own = plain_share (share_at s i) in
+    let few : length p.journal.entries < p.journal.capacity = leb-false p.journal.capacity (length p.journal.entries) room in
+    let countable : (own.sections.made == LAST_SECTION) ≡ true → IsLeft p.zone y (share_at s i) (share_at t i) → ⊥ = λ e l.
+    few_sections p.zone (share_at s i) p.journal.capacity (subst (λ v. SharesIn v (share_at s i)) l.zone (subst (SharesIn y) l.share agree))
+    (omega (arith, few, ap length guarded.1)) long (eqb-true own.sections.made LAST_SECTION e) in
+    let was = was_left (lends_for r own) (own.sections.made == LAST_SECTION) r q p.zone y (share_at s i) (share_at t i) x.made none countable in
+    let same : t ≡ s = others ∙ ap (λ v. with_zone_share i v s) was.1.1.share ∙ ap (λ l. let u : ShareState = record s { zones = l } in u) (set-get_or s.zones i (opening_share no_seat 0)) in
+    subst (λ v. IsAfter keys boards r q v (record p { zone = y }) s t) view
+    (subst (λ v. IsAfter keys boards r q (guarded_of p) (record p { zone = v }) s t) (sym was.1.1.zone)
+    (subst (λ u. IsAfter keys boards r q (guarded_of p) p s u) (sym same)
     (record {
-      place = refl;
-      capacity = refl;
-      key = key;
-      seats = λ x a. a;
-      seat = record { tie = refl; worker = refl };
-      others = sym (ap (λ l. let u : ShareState = record s { zones = l } in u) (set-get_or s.zones g.place (opening_share no_seat 0)));
+      guarded = guarded;
+      asked =
+          unasked keys r q (guarded_of p) s guarded.0 fits none (subst (λ v. IsReplyTo r q (share_at s i) v) was.1.1.share x.reply)
+          (subst (λ b. ComesOf (refusal b (is_journal_full (guarded_of p))) r q p.zone p.zone (share_at s i) (share_at s i)) (sym was.0) (was.1.0, record { zone = refl; share = refl }));
+    })))
+
+-- at another place's zone: what a worker's view says of the request
+pub strayed : (keys : List ZoneKey) (i : ℕ) (r : Request) (s : ShareState) → IsShareOf keys s → IsAskedAt i r (refused_full r (plain_share (share_at s i))) keys keys None None s s
+strayed keys i r s fits =
+    let own = plain_share (share_at s i) in
+    record {
+      keys = refl;
       fits = fits;
-    }))
+      share = sym (ap (λ b. cond b (with_zone_share i (answered r (refused_full r own) (share_at s i)) s) s) (full_section (lends_for r own)));
+      reply = full_reply r (share_at s i) (share_at s i);
+      not_lent = not_lent (lends_for r own);
+      told = λ rows e. absurd (cc);
+    }
+  where
+    not_lent : (b : Bool) → (Reply.Refused (cond b JournalFull NotLent) ≡ Reply.Refused NotLent) ↔ (b ≡ false)
+    not_lent true = (λ e. absurd (cc), λ e. absurd (cc))
+    not_lent false = (λ e. refl, λ e. refl)
+
+-- under the lock of a place it says what came of it there
+pub viewed : (keys : List ZoneKey) (i : ℕ) (r : Request) (q : Reply) (g h : GuardedZone) (s t : ShareState) → g.place ≡ i → IsAskedUnderLock keys r q g h s t → IsAskedAt i r q keys keys None None s t
+viewed keys i r q g h s t at x =
+    subst (λ p. IsAskedAt p r q keys keys None None s t) at
+    (record {
+      keys = refl;
+      fits = x.kept.fits;
+      share = x.share;
+      reply = x.reply;
+      not_lent = not_lent_alone (lends_for r (plain_share (share_at s g.place))) (is_journal_full g) r q g.zone h.zone (share_at s g.place) (share_at t g.place) x.made;
+      told = λ rows e. absurd (cc);
+    })

@@ -2,4 +2,3 @@ pub mod Guarding
 pub mod Opening
 pub mod Places
 pub mod Readers
-pub mod Running

@@ -1,16 +1,12 @@
 -- Zones that are opened for threads, and the readers of their boards.
-use Rattle.std.proofs.Common.{ℕ, ◌≡◌, List, [], ◌∷◌, ◌++◌, All, length, map, take, drop, refl, sym, ap, subst, ◌∙◌, arith, append-nil, append_assoc, length-append}
-use Rattle.std.specs.Global.{Vec}
+use Rattle.std.proofs.Common.{ℕ, ◌≡◌, List, [], ◌∷◌, ◌++◌, All, length, map, take, drop, refl, sym, ap, subst, ◌∙◌, arith, append_assoc, length-append}
 use Rattle.std.specs.List.{AllZip}
 use Rattle.std.proofs.lemmas.Simd.{map-map}
-use Rattle.std.proofs.lemmas.List.{drop_all, take_all}
 use Rattle.std.proofs.lemmas.List.Elements.{All-push, All-head, All-tail}
-use Rattle.zp_counts.specs.CountBoards.{CountsSeen}
+use Rattle.zp_model.proofs.RowLists.{written_back}
 use Rattle.zp_zone.specs.Seats.{ZoneState}
 use Rattle.zp_share.specs.Shares.{key_of}
-use Rattle.zp_desk.specs.Desks.{DeskState}
-use Rattle.zp_shared.specs.Rows.{OpenedState, AreReaders, AreReadersOf, opened_board, opened_key, opened_reader}
-use Rattle.zp_shared.specs.Runs.{IsLentTo}
+use Rattle.zp_shared.specs.Rows.{OpenedState, AreReadersOf, opened_board, opened_key, opened_reader}
 
 -- one more goes over to those before it
 pub one_over : {X : Type 0} (before rest all after : List X) (x : X) → before ++ rest ≡ all → rest ≡ x ∷ after → (before ++ x ∷ []) ++ after ≡ all
@@ -36,26 +32,10 @@ pub readers_fit : (os : List OpenedState) → AreReadersOf (map opened_key os) (
 readers_fit [] = (refl, refl)
 readers_fit (o ∷ os) = let rest = readers_fit os in (omega (arith, rest.0), ap (λ l. o.board.tie ∷ l) rest.1)
 
--- a list whose front was lent, and came back as it was
-pub written_back : {X : Type 0} (xs ys : List X) (n : ℕ) → ys ≡ xs → n ≡ length xs → take n (ys ++ drop (length ys) xs) ≡ xs
-written_back xs ys n same many =
-    ap (λ l. take n (l ++ drop (length l) xs)) same
-    ∙ ap (λ l. take n (xs ++ l)) (drop_all (length xs) xs (omega arith))
-    ∙ ap (take n) (append-nil xs)
-    ∙ take_all n xs (omega (arith, many))
-
 -- opened zones that were lent, and came back as they were, have the keys that the zones had
 pub keys_back : (os lent : List OpenedState) (n : ℕ) (zs : List ZoneState) → lent ≡ os → n ≡ length os → map (λ (o : OpenedState). o.zone) os ≡ zs →
     map opened_key (take n (lent ++ drop (length lent) os)) ≡ map key_of zs
 keys_back os lent n zs same many zones =
-    ap (map opened_key) (written_back os lent n same many)
+    ap (map opened_key) (written_back lent os n (ap length same) many ∙ same)
     ∙ sym (map-map key_of (λ (o : OpenedState). o.zone) os)
     ∙ ap (map key_of) zones
-
--- each worker has a row of readers, where there are as many rows as desks
-pub rows_lent : (os now : List OpenedState) (rows lent : List (Vec CountsSeen)) (ds : List DeskState) → now ≡ os → lent ≡ rows →
-    All (AreReaders (map opened_key os) (map opened_board os)) rows → length rows ≡ length ds → AllZip (IsLentTo (map opened_key now) (map opened_board now)) lent ds
-rows_lent os now rows lent ds same same_rows fit many =
-    subst (λ l. AllZip (IsLentTo (map opened_key l) (map opened_board l)) lent ds) (sym same)
-    (subst (λ l. AllZip (IsLentTo (map opened_key os) (map opened_board os)) l ds) (sym same_rows)
-    (zip_from_all (AreReaders (map opened_key os) (map opened_board os)) rows ds fit many))

@@ -1,23 +1,18 @@
 -- The places of a row, and what stands at them.
-use Rattle.std.proofs.Common.{ℕ, zero, suc, ◌≡◌, ◌+◌, Bool, true, false, not, List, [], ◌∷◌, ◌++◌, length, map, get_or, refl, sym, ap, ap₂, ◌∙◌, arith, append_assoc, length-append}
+use Rattle.std.proofs.Common.{ℕ, suc, ◌≡◌, ◌+◌, Bool, true, false, not, List, [], ◌∷◌, ◌++◌, length, map, get_or, refl, sym, ap, ap₂, ◌∙◌, arith, append_assoc, length-append}
 use Rattle.std.specs.List.{AllZip, range_with_len}
 use Rattle.std.proofs.lemmas.List.FromFn.{length-range_with_len}
 use Rattle.std.proofs.Math.Seq.{get_or-append_seam}
+use Rattle.zp_model.proofs.FirstFound.{range-snoc}
 use Rattle.zp_share.specs.Shares.{ZoneKey, no_key}
 use Rattle.zp_shared.specs.Rows.{key_at, IsRowOf}
-
-more : (a n : ℕ) → range_with_len a (suc n) ≡ range_with_len a n ++ (a + n) ∷ []
-more a zero = let e : a ≡ a + 0 = omega arith in ap (λ k. k ∷ []) e
-more a (suc n) =
-    let e : a + 1 + n ≡ a + suc n = omega arith in
-    ap (λ l. a ∷ l) (more (a + 1) n ∙ ap (λ k. range_with_len (a + 1) n ++ k ∷ []) e)
 
 -- one place more
 pub places_more : (n : ℕ) → range_with_len 0 n ++ n ∷ [] ≡ range_with_len 0 (n + 1)
 places_more n =
     let e : n + 1 ≡ suc n = omega arith in
     let z : 0 + n ≡ n = omega arith in
-    sym (ap (range_with_len 0) e ∙ more 0 n ∙ ap (λ k. range_with_len 0 n ++ k ∷ []) z)
+    sym (ap (range_with_len 0) e ∙ range-snoc 0 n ∙ ap (λ k. range_with_len 0 n ++ k ∷ []) z)
 
 -- one more of the row, at the next place
 pub row_more : {B : Type 0} (row new : List ℕ) (place : ℕ) (ys : List B) (y : B) → row ≡ range_with_len 0 (length ys) → place ≡ length ys →

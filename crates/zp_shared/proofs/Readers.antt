@@ -1,17 +1,13 @@
 -- Rows of readers: whose boards they read, and what they have seen.
 use Rattle.std.proofs.Common.{ℕ, zero, suc, ◌≡◌, ◌≢◌, ◌<◌, ◌+◌, List, [], ◌∷◌, ◌++◌, length, map, slice_index_or, slice_set, refl, sym, ap, subst, ◌∙◌, arith, append_assoc, append-nil}
-use Rattle.std.specs.Global.{Vec}
-use Rattle.std.specs.List.{AllZip}
 use Rattle.std.proofs.lemmas.List.{get_or-map, length-map}
 use Rattle.std.proofs.lemmas.List.FromFn.{get_or-range_with_len}
 use mathlib.Core.List.{IsPrefix}
 use Rattle.zp_model.specs.declared.counts.Counts.{Counts}
 use Rattle.zp_board.specs.Boards.{BoardState}
 use Rattle.zp_counts.specs.CountBoards.{CountsSeen}
-use Rattle.zp_desk.specs.Desks.{DeskState}
 use Rattle.zp_share.specs.Shares.{ZoneKey}
 use Rattle.zp_shared.specs.Rows.{IsRowOf, AreReadersOf, HaveSeen, board_at, no_board, seen_at, seen_by}
-use Rattle.zp_shared.specs.Runs.{AreKept, IsLentTo}
 
 -- at each place of a row stands that place
 pub place_at : (keys : List ZoneKey) (places : List ℕ) (i d : ℕ) → IsRowOf keys places → i < length keys → slice_index_or places i d ≡ i
@@ -92,14 +88,3 @@ seen_beside (r ∷ rs) (suc k) (suc i) s other = seen_beside rs k i s (λ same. 
 pub kept_same : (keys : List ZoneKey) (boards : List BoardState) (rs ss : List CountsSeen) → ss ≡ rs → AreReadersOf keys boards rs
     → AreReadersOf keys boards ss × HaveSeen (seen_by rs) (seen_by ss)
 kept_same keys boards rs ss e fit = (subst (AreReadersOf keys boards) (sym e) fit, seen_named (seen_by rs) (seen_by ss) (ap seen_by e))
-
--- rows of readers that are as they were are kept
-pub rows_kept : (keys : List ZoneKey) (boards : List BoardState) (rows : List (Vec CountsSeen)) (ds : List DeskState) → AllZip (IsLentTo keys boards) rows ds
-    → AllZip (AreKept keys boards) rows rows
-rows_kept keys boards [] ds fit = tt
-rows_kept keys boards (v ∷ rows) (d ∷ ds) fit = (kept_same keys boards v.items v.items refl fit.0, rows_kept keys boards rows ds fit.1)
-rows_kept keys boards (v ∷ rows) [] fit = absurd fit
-
-pub rows_kept_same : (keys : List ZoneKey) (boards : List BoardState) (vs ws : List (Vec CountsSeen)) (ds : List DeskState) → ws ≡ vs → AllZip (IsLentTo keys boards) vs ds
-    → AllZip (AreKept keys boards) vs ws
-rows_kept_same keys boards vs ws ds e fit = subst (AllZip (AreKept keys boards) vs) (sym e) (rows_kept keys boards vs ds fit)

@@ -1,8 +1,8 @@
 -- A row of zones that threads share, each behind a lock of its own, under one name: the keys of its zones (this profile).
-use Rattle.std.specs.Prelude.{ℕ, ◌≡◌, ◌≢◌, ◌+◌, ◌≤◌, List, [], ◌∷◌, ◌++◌, length, map, slice_index_or}
+use Rattle.std.specs.Prelude.{ℕ, ◌≡◌, ◌≢◌, ◌+◌, Bool, leb, List, [], ◌∷◌, ◌++◌, length, map, slice_index_or}
 use mathlib.Core.List.{IsPrefix}
 use Rattle.zp_model.specs.declared.counts.Counts.{Counts}
-use Rattle.zp_model.specs.declared.request.Entry.{Entry}
+use Rattle.zp_model.specs.Entries.{Entry}
 use Rattle.zp_model.specs.Info.{counts_of}
 use Rattle.zp_board.specs.Boards.{BoardState}
 use Rattle.zp_counts.specs.CountBoards.{CountsSeen, last_counts}
@@ -11,8 +11,10 @@ use Rattle.std.specs.List.{range_with_len}
 use Rattle.zp_model.specs.declared.request.Request.{Request}
 use Rattle.zp_model.specs.declared.request.Reply.{Reply}
 use Rattle.zp_zone.specs.Seats.{ZoneState, KeepsSeats}
-use Rattle.zp_share.specs.ZoneShares.{IsSection, IsLeft, IsSameSeat}
-use Rattle.zp_share.specs.Shares.{ShareState, ZoneKey, IsShareOf, key_of, no_key, no_tie, share_at, with_zone_share}
+use Rattle.zp_share.specs.PlainShares.{lends_for, refusal}
+use Rattle.zp_share.specs.Sections.{ComesOf, IsReplyTo}
+use Rattle.zp_share.specs.ZoneShares.{IsSameSeat, plain_share}
+use Rattle.zp_share.specs.Shares.{ShareState, ZoneKey, IsShareOf, key_of, no_key, no_tie, noted_at, share_at, with_zone_share}
 
 -- how many free blocks of each order the zone has, and how many free pages
 abbrev pub zone_counts : ZoneState → Counts
@@ -49,9 +51,9 @@ pub record GuardedZone : Type 0 where
   -- the counts on its board
   pub published : List Counts
 
--- its journal has no room for an entry more
-abbrev pub IsJournalFull : GuardedZone → Type 0
-IsJournalFull g = g.capacity ≤ length g.zone.entries
+-- whether its journal has no room for an entry more
+abbrev pub is_journal_full : GuardedZone → Bool
+is_journal_full g = leb g.capacity (length g.zone.entries)
 
 -- the key at a place of the row
 abbrev pub key_at : List ZoneKey → ℕ → ZoneKey
@@ -90,18 +92,10 @@ IsRowOf keys places = places ≡ range_with_len 0 (length keys)
 abbrev pub IsElsewhere : List ZoneKey → ℕ → ZoneState → Type 0
 IsElsewhere keys place z = (p : ℕ) × (p ≢ place) × (key_of z ≡ key_at keys p)
 
--- the request is one section of the guarded zone and of what the share has at its place, and one entry of the journal
-abbrev pub IsSectionAt : Request → Reply → GuardedZone → GuardedZone → ShareState → ShareState → Type 0
-IsSectionAt r q g h s t = IsSection r q g.zone h.zone (share_at s g.place) (share_at t g.place)
-
 -- the zone's counts were published where an entry was made, once, and nothing where none was
 pub record IsPublishedOnce (g h : GuardedZone) : Type 0 where
   pub left : h.zone.entries ≡ g.zone.entries → h.published ≡ g.published
   pub made : (e : Entry) → h.zone.entries ≡ g.zone.entries ++ e ∷ [] → h.published ≡ g.published ++ zone_counts h.zone ∷ []
-
--- nothing was asked of the guarded zone, and nothing changed
-abbrev pub IsLeftAt : GuardedZone → GuardedZone → ShareState → ShareState → Type 0
-IsLeftAt g h s t = IsLeft g.zone h.zone (share_at s g.place) (share_at t g.place)
 
 -- whatever was asked: the zone is that of its place still, and the share is one of the row still and has the rest as it was
 pub record IsKeptAt (keys : List ZoneKey) (g h : GuardedZone) (s t : ShareState) : Type 0 where
@@ -112,3 +106,12 @@ pub record IsKeptAt (keys : List ZoneKey) (g h : GuardedZone) (s t : ShareState)
   pub seat : IsSameSeat (share_at s g.place) (share_at t g.place)
   pub others : t ≡ with_zone_share g.place (share_at t g.place) s
   pub fits : IsShareOf keys t
+
+-- what a request under the lock comes to: where it is refused 20, or 30 for want of room in the journal, nothing changed; else it is one
+-- section of the zone and of what the share has at its place, one entry, and one publishing
+pub record IsAskedUnderLock (keys : List ZoneKey) (r : Request) (q : Reply) (g h : GuardedZone) (s t : ShareState) : Type 0 where
+  pub made : ComesOf (refusal (lends_for r (plain_share (share_at s g.place))) (is_journal_full g)) r q g.zone h.zone (share_at s g.place) (share_at t g.place)
+  pub published : IsPublishedOnce g h
+  pub kept : IsKeptAt keys g h s t
+  pub share : t ≡ noted_at g.place r q s
+  pub reply : IsReplyTo r q (share_at s g.place) (share_at t g.place)

@@ -1,16 +1,15 @@
 //! What lies under a lock: a zone, its journal and the right to publish its counts, with the place in the row that the zone says is
 //! its own.
-ghost use Rattle.std.specs.Prelude.{◌≡◌, ◌≢◌, ◌<◌, ◌≤◌, ◌++◌, ◌∷◌, [], length, true, false, Some};
-ghost use Rattle.zp_model.specs.declared.request.Entry.{Entry};
+ghost use Rattle.std.specs.Prelude.{◌≡◌, ◌<◌, ◌≤◌, ◌++◌, ◌∷◌, [], length, Some};
+ghost use Rattle.zp_model.specs.Entries.{Entry};
 ghost use Rattle.zp_model.specs.Info.{counts_of};
 ghost use Rattle.zp_model.specs.Lawful.{IsLawful};
 ghost use Rattle.zp_model.specs.Zone.{workers_of};
 ghost use Rattle.zp_journal.specs.Journals.{IsJournalOf};
-ghost use Rattle.zp_share.specs.declared.sections.TheConstants.{LAST_SECTION};
-ghost use Rattle.zp_share.specs.Shares.{IsShareOf, key_of, sections_at, share_at};
+ghost use Rattle.zp_share.specs.Shares.{IsShareOf, key_of, share_at};
 ghost use Rattle.zp_share.specs.ZoneShares.{IsShare, SharesIn};
 ghost use mathlib.Core.List.{IsPrefix};
-ghost use Rattle.zp_shared.specs.Rows.{IsJournalFull, IsPublished, board_at, key_at, opened_key, zone_counts};
+ghost use Rattle.zp_shared.specs.Rows.{IsPublished, board_at, key_at, opened_key, zone_counts};
 
 use crate::naming::Naming;
 use crate::opened::OpenedZone;
@@ -122,25 +121,6 @@ impl<J: Naming> Guarded<J> {
         share.check(&mut self.zone, self.place);
     }
 
-    // Whether the journal has room for an entry more, so that a section with the share can be made. Nothing changes.
-    fn has_room(&mut self, share: &mut Share) -> bool
-        requires fits { IsShareOf J.zones share.old }
-        requires place { self.old.place < length share.old.zones }
-        ensures same { self.new ≡ self.old }
-        ensures share { share.new ≡ share.old }
-        ensures key { key_of self.new.zone ≡ key_at J.zones self.new.place }
-        ensures full { result ≡ false → IsJournalFull self.old }
-        ensures room { result ≡ true → length self.old.zone.entries < self.old.capacity }
-        ensures countable { result ≡ true → sections_at share.old self.old.place ≢ LAST_SECTION }
-    {
-        if self.journal.is_full() {
-            return false;
-        }
-        // the share's sections are entries of the journal, so there are fewer of them than can be counted
-        self.check(share);
-        true
-    }
-
     /// The zone and its journal, with their place forgotten.
     pub fn into_parts(self) -> (Zone, Journal)
         ensures zone { result.0 ≡ self.zone }
@@ -154,6 +134,7 @@ impl<J: Naming> Guarded<J> {
 }
 
 // The share's last section with the zone of a place goes into the journal, and then the zone's counts on the board.
+#[inline(always)]
 fn note(
     journal: &mut Journal,
     publisher: &mut Publisher,
@@ -171,7 +152,7 @@ fn note(
     ensures published { publisher.new.published ≡ publisher.old.published ++ zone_counts zone.now ∷ [] }
 {
     if let Some(entry) = share.last(place) {
-        journal.append(entry.copied());
+        journal.append(entry);
     }
     publisher.publish(board, &zone.counts());
 }

@@ -8,8 +8,6 @@ mod naming;
 mod opened;
 mod row;
 mod shared_zone;
-mod sharing;
-mod workers;
 
 pub use guarded::Guarded;
 pub use locked_zones::LockedZones;
@@ -17,6 +15,4 @@ pub use naming::{Earlier, Naming};
 pub use opened::OpenedZone;
 pub use row::{close_zones, open_zones, reader_rows, readers_of, share_zones};
 pub use shared_zone::{Closed, SharedZone};
-pub use sharing::run_zones;
-pub use workers::run_workers;
 pub use zp_counts::{Board, BoardReader};

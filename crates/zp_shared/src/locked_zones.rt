@@ -1,21 +1,17 @@
 //! One worker's view of a row of zones that threads share.
-ghost use Rattle.std.specs.Prelude.{ℕ, ◌≡◌, ◌≢◌, ◌<◌, length, cond, IfSome};
+ghost use Rattle.std.specs.Prelude.{ℕ, ◌≡◌, ◌≢◌, ◌<◌, length, IfSome};
 ghost use Rattle.std.specs.Sync.Mutex.{mutex_guard_value};
 ghost use mathlib.Core.List.{IsPrefix};
 ghost use Rattle.zp_counts.specs.CountBoards.{last_counts};
-ghost use Rattle.zp_model.specs.declared.refused.Refused.TheVariants.{NotLent, JournalFull};
-ghost use Rattle.zp_share.specs.Shares.{share_at};
-ghost use Rattle.zp_share.specs.ZoneShares.{is_lent};
 ghost use Rattle.zp_shared.specs.Rows.{IsRowOf, AreReadersOf, HaveSeen, board_at, seen_at, seen_by};
 
 use crate::guarded::Guarded;
 use crate::naming::{Earlier, Naming};
 use crate::shared_zone::SharedZone;
-use arrayvec::ArrayVec;
 use std::marker::{Model, PhantomData};
 use std::sync::{MutexGuard, Wait};
 use zp_counts::{Board, BoardReader};
-use zp_model::{Block, Counts, MAX_BATCH, Mark, MigrateType, Order, PageNo, Refused, Worker};
+use zp_model::{Counts, Reply, Request};
 use zp_share::{Share, Zones};
 
 /// A row of zones as one worker turns to them, with a reader of each zone's board: each request takes the lock of its zone, once, and
@@ -109,18 +105,6 @@ impl<'a, J: Naming, E: Earlier, R: Wait> LockedZones<'a, J, E, R> {
     }
 }
 
-// Why a block is not given back where the zone of another place lies under the lock.
-fn strayed(share: &Share, zone: usize, page: PageNo, order: Order) -> Refused
-    requires { zone < length share.now.zones }
-    ensures { result ≡ cond (is_lent (share_at share.now zone) page order) JournalFull NotLent }
-{
-    if share.is_lent(zone, page, order) {
-        Refused::JournalFull
-    } else {
-        Refused::NotLent
-    }
-}
-
 impl<'a, J: Naming, E: Earlier, R: Wait> Zones for LockedZones<'a, J, E, R> {
     ghost use Rattle.std.specs.Prelude.{None};
 
@@ -128,90 +112,11 @@ impl<'a, J: Naming, E: Earlier, R: Wait> Zones for LockedZones<'a, J, E, R> {
 
     ghost told = { λ z. None };
 
-    fn alloc_block(
-        &mut self,
-        share: &mut Share,
-        zone: usize,
-        order: Order,
-        kind: MigrateType,
-        mark: Mark,
-    ) -> Result<PageNo, Refused> {
+    fn section(&mut self, share: &mut Share, zone: usize, request: &Request) -> Reply {
         let Some((mut guarded, board)) = self.locked(zone) else {
-            return Err(Refused::JournalFull);
+            return share.refuse(zone, request);
         };
-        guarded.alloc_block(board, share, order, kind, mark)
-    }
-
-    fn alloc_low(
-        &mut self,
-        share: &mut Share,
-        zone: usize,
-        order: Order,
-    ) -> Result<Block, Refused> {
-        let Some((mut guarded, board)) = self.locked(zone) else {
-            return Err(Refused::JournalFull);
-        };
-        guarded.alloc_low(board, share, order)
-    }
-
-    fn free_block(
-        &mut self,
-        share: &mut Share,
-        zone: usize,
-        page: PageNo,
-        order: Order,
-    ) -> Result<(), Refused> {
-        let Some((mut guarded, board)) = self.locked(zone) else {
-            return Err(strayed(share, zone, page, order));
-        };
-        guarded.free_block(board, share, page, order)
-    }
-
-    fn post(
-        &mut self,
-        share: &mut Share,
-        zone: usize,
-        page: PageNo,
-        order: Order,
-        to: Worker,
-    ) -> Result<(), Refused> {
-        let Some((mut guarded, board)) = self.locked(zone) else {
-            return Err(strayed(share, zone, page, order));
-        };
-        guarded.post(board, share, page, order, to)
-    }
-
-    fn collect(&mut self, share: &mut Share, zone: usize) -> Result<Block, Refused> {
-        let Some((mut guarded, board)) = self.locked(zone) else {
-            return Err(Refused::JournalFull);
-        };
-        guarded.collect(board, share)
-    }
-
-    fn refill(
-        &mut self,
-        share: &mut Share,
-        zone: usize,
-        kind: MigrateType,
-        mark: Mark,
-    ) -> Result<ArrayVec<PageNo, MAX_BATCH>, Refused> {
-        let Some((mut guarded, board)) = self.locked(zone) else {
-            return Err(Refused::JournalFull);
-        };
-        guarded.refill(board, share, kind, mark)
-    }
-
-    fn drain(
-        &mut self,
-        share: &mut Share,
-        zone: usize,
-        kind: MigrateType,
-        count: usize,
-    ) -> Result<(), Refused> {
-        let Some((mut guarded, board)) = self.locked(zone) else {
-            return Err(Refused::JournalFull);
-        };
-        guarded.drain(board, share, kind, count)
+        guarded.section(board, share, request)
     }
 
     fn counts(&mut self, zone: usize) -> Counts {

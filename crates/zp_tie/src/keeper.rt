@@ -2,7 +2,7 @@
 ghost use Rattle.std.specs.Prelude.{◌≡◌, ◌+◌, IfOk};
 ghost use Rattle.zp_tie.specs.Ties.{Agrees, OthersStay};
 
-use crate::row::{Act, Begin, Change, Check, Dealt, Mine, Parted, Pin, Request, Row, Whole};
+use crate::word::{Act, Begin, BothChange, Change, Check, Dealt, Mine, Parted, Pin, Row, Whole};
 use std::alloc::{AllocError, Global};
 use std::marker::{Brand, Model};
 
@@ -114,7 +114,7 @@ impl<X, Y, P: Parted<X, Y>> Keeper<X, Y, P> {
         let row = &self.row;
         let part = row.shared.split_seat::<Whole>(&mut token.pin);
         row.shared.join_seat::<Mine<P>>(&mut self.pin, part);
-        row.shared.load::<Request<P, C>>(&mut self.pin, 0);
+        row.shared.load::<BothChange<P, C>>(&mut self.pin, 0);
         token.pin = row.shared.split_seat::<Mine<P>>(&mut self.pin);
     }
 }

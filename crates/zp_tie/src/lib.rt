@@ -5,7 +5,7 @@
 #![tactic(auto)]
 
 mod keeper;
-mod row;
+mod word;
 
 pub use keeper::{Keeper, Token};
-pub use row::{Act, Change, Parted, View};
+pub use word::{Act, Change, Parted, TieView};

@@ -4,7 +4,7 @@ use Rattle.std.proofs.lemmas.List.{length-map}
 use Rattle.zp_model.specs.Bounds.{IsCrew, AreLists}
 use Rattle.zp_trace.specs.declared.bounds.TheConstants.{MOST_LINES}
 use Rattle.zp_trace.specs.declared.line.ZoneLine.{ZoneLine}
-use Rattle.zp_trace.specs.declared.line.Command.{Command}
+use Rattle.zp_trace.specs.declared.line.CommandLine.{CommandLine}
 use Rattle.zp_trace.specs.declared.trace.Header.{Header}
 use Rattle.zp_trace.specs.declared.trace.Trace.{Trace}
 use Rattle.zp_trace.specs.declared.trace.TraceFault.{TraceFault}
@@ -31,18 +31,18 @@ abbrev pub NoListsLine : List ℕ → Type 0
 NoListsLine rest =
     (batch high : ℕ) (more : List ℕ) → AreLists batch high → rest ≡ line_text (line.Lists batch high) ++ more → ⊥
 
-abbrev pub NoCommandLine : Header → List Command → List ℕ → Type 0
+abbrev pub NoCommandLine : Header → List CommandLine → List ℕ → Type 0
 NoCommandLine h cs rest =
-    (c : Command) (more : List ℕ) → IsNextCommand h cs c → rest ≡ line_text (line.Command c) ++ more → ⊥
+    (c : CommandLine) (more : List ℕ) → IsNextCommand h cs c → rest ≡ line_text (line.CommandLine c) ++ more → ⊥
 
 -- the lines of a trace are more than zones, and more than its zones and workers
 pub zones_are_no_trace : (zs : List ZoneLine) (t : Trace) → map line.Zone zs ≡ lines_of t → ⊥
 zones_are_no_trace zs t e =
-    no_workers_yet zs t.header.zones t.header.workers (line.Lists t.header.batch t.header.high ∷ map line.Command t.commands) (e ∙ lines_split t.header t.commands)
+    no_workers_yet zs t.header.zones t.header.workers (line.Lists t.header.batch t.header.high ∷ map line.CommandLine t.commands) (e ∙ lines_split t.header t.commands)
 
 pub workers_are_no_trace : (zs : List ZoneLine) (n : ℕ) (t : Trace) → map line.Zone zs ++ (line.Workers n ∷ []) ≡ lines_of t → ⊥
 workers_are_no_trace zs n t e =
-    let after = (up_to_workers zs t.header.zones n t.header.workers [] (line.Lists t.header.batch t.header.high ∷ map line.Command t.commands) (e ∙ lines_split t.header t.commands)).2 in
+    let after = (up_to_workers zs t.header.zones n t.header.workers [] (line.Lists t.header.batch t.header.high ∷ map line.CommandLine t.commands) (e ∙ lines_split t.header t.commands)).2 in
     cc
 
 no_second : (zs : List ZoneLine) (rest : List ℕ) → NoZoneLine zs rest → (0 < length zs → NoWorkersLine rest) → NoLine (map line.Zone zs) rest
@@ -52,23 +52,23 @@ no_second zs rest zone workers (line.Workers n) more allowed e =
     workers (omega (arith, allowed.2, ap length (zones_alone zs allowed.0 allowed.1))) n more allowed.3 e
 no_second zs rest zone workers (line.Lists batch high) more allowed e =
     no_workers_yet zs allowed.0 allowed.1 [] allowed.2
-no_second zs rest zone workers (line.Command c) more allowed e = zones_are_no_trace zs allowed.0 allowed.1
+no_second zs rest zone workers (line.CommandLine c) more allowed e = zones_are_no_trace zs allowed.0 allowed.1
 
 no_third : (zs : List ZoneLine) (n : ℕ) (rest : List ℕ) → NoListsLine rest → NoLine (map line.Zone zs ++ (line.Workers n ∷ [])) rest
 no_third zs n rest none (line.Zone z) more allowed e = no_workers_yet allowed.0 zs n [] (sym allowed.1)
 no_third zs n rest none (line.Workers m) more allowed e = no_workers_yet allowed.0 zs n [] (sym allowed.1)
 no_third zs n rest none (line.Lists batch high) more allowed e = none batch high more allowed.3 e
-no_third zs n rest none (line.Command c) more allowed e = workers_are_no_trace zs n allowed.0 allowed.1
+no_third zs n rest none (line.CommandLine c) more allowed e = workers_are_no_trace zs n allowed.0 allowed.1
 
 -- a worker line may stand next only if there are not too many lines
-no_command : (h : Header) (cs : List Command) (rest : List ℕ) → (length (lines_with h cs) < MOST_LINES → NoCommandLine h cs rest) → NoLine (lines_with h cs) rest
+no_command : (h : Header) (cs : List CommandLine) (rest : List ℕ) → (length (lines_with h cs) < MOST_LINES → NoCommandLine h cs rest) → NoLine (lines_with h cs) rest
 no_command h cs rest none (line.Zone z) more allowed e =
     zones_are_no_trace allowed.0 (record { header = h; commands = cs }) (sym allowed.1)
 no_command h cs rest none (line.Workers n) more allowed e =
     zones_are_no_trace allowed.0 (record { header = h; commands = cs }) (sym allowed.1)
 no_command h cs rest none (line.Lists batch high) more allowed e =
     workers_are_no_trace allowed.0 allowed.1 (record { header = h; commands = cs }) (sym allowed.2)
-no_command h cs rest none (line.Command c) more allowed e =
+no_command h cs rest none (line.CommandLine c) more allowed e =
     let trace = same_trace allowed.0 (record { header = h; commands = cs }) (sym allowed.1) in
     none allowed.2 c more (subst (λ (t : Trace). IsNextCommand t.header t.commands c) trace allowed.3) e
 
@@ -101,7 +101,7 @@ bad_third zs workers text rest n e begins count none = record {
 }
 
 -- after a header and commands
-pub bad_command : (h : Header) (cs : List Command) (text rest : List ℕ) (n : ℕ) → text ≡ text_of (lines_with h cs) ++ rest → IsBeginning (lines_with h cs) → n ≡ length (header_of h) + length cs + 1 → (rest ≡ [] → ⊥) → (length (lines_with h cs) < MOST_LINES → NoCommandLine h cs rest) → IsBadLine text n
+pub bad_command : (h : Header) (cs : List CommandLine) (text rest : List ℕ) (n : ℕ) → text ≡ text_of (lines_with h cs) ++ rest → IsBeginning (lines_with h cs) → n ≡ length (header_of h) + length cs + 1 → (rest ≡ [] → ⊥) → (length (lines_with h cs) < MOST_LINES → NoCommandLine h cs rest) → IsBadLine text n
 bad_command h cs text rest n e begins count more none = record {
   before = lines_with h cs;
   allowed = begins;

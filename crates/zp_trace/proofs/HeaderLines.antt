@@ -1,18 +1,51 @@
--- The lines of a header: zone lines, and what stands after them.
-use Rattle.std.proofs.Common.{ℕ, ◌≡◌, ◌<◌, ◌≤◌, ◌+◌, List, [], ◌∷◌, ◌++◌, map, length, length-append, refl, sym, ap, subst, ◌∙◌, arith, append_assoc}
-use Rattle.std.proofs.lemmas.List.{map-append, append-nil}
+-- Lines that may stand one after another, and the lines of a header: zone lines, and what stands after them.
+use Rattle.std.proofs.Common.{ℕ, ◌≡◌, ◌⊎◌, inl, inr, List, [], ◌∷◌, ◌++◌, refl, sym, append_assoc, ◌≤◌, ◌+◌, map, length, length-append, ap, subst, ◌∙◌, arith}
+use Rattle.std.proofs.lemmas.List.{append-nil, map-append}
+use Rattle.std.proofs.lemmas.List.Concat.{flat_map-append}
+use Rattle.zp_trace.specs.Lines.{Line}
+use Rattle.zp_trace.specs.Spelling.{line_text, text_of}
+use Rattle.zp_trace.specs.Grammar.{IsAllowedAfter, IsBeginning, IsZoneLine, IsHeader, lines_of}
 use Rattle.std.proofs.lemmas.List.Elements.{All-from_recursion}
 use Rattle.std.specs.List.{AllByRecursion}
-use Rattle.zp_model.specs.Bounds.{IsCrew, AreLists}
 use Rattle.zp_model.specs.declared.constants.TheConstants.{MAX_ZONES}
 use Rattle.zp_trace.specs.declared.line.ZoneLine.{ZoneLine}
-use Rattle.zp_trace.specs.declared.line.Command.{Command}
+use Rattle.zp_trace.specs.declared.line.CommandLine.{CommandLine}
 use Rattle.zp_trace.specs.declared.trace.Header.{Header}
-use Rattle.zp_trace.specs.Lines.{Line}
 use Rattle.zp_trace.specs.Lines as line
-use Rattle.zp_trace.specs.Spelling.{line_text, text_of, header_of}
-use Rattle.zp_trace.specs.Grammar.{IsZoneLine, IsNextZone, IsHeader, IsBeginning, lines_of}
-use Rattle.zp_trace.proofs.Beginnings.{begin_more, text_more}
+
+-- nothing ends in something
+no_end : (before after : List Line) (l : Line) → [] ≡ before ++ (l ∷ after) → ⊥
+no_end [] after l e = cc
+no_end (m ∷ before) after l e = cc
+
+-- a line of lines with one more is the last one, or a line of the lines before
+last_or_before : (lines before after : List Line) (l m : Line) → lines ++ (l ∷ []) ≡ before ++ (m ∷ after) → ((lines ≡ before) × (l ≡ m)) ⊎ ((rest : List Line) × (lines ≡ before ++ (m ∷ rest)))
+last_or_before [] [] after l m e = inl (refl, cc)
+last_or_before [] (n ∷ before) after l m e =
+    let rest : [] ≡ before ++ (m ∷ after) = cc in absurd (no_end before after m rest)
+last_or_before (k ∷ lines) [] after l m e = inr (lines, cc)
+last_or_before (k ∷ lines) (n ∷ before) after l m e =
+    let first : k ≡ n = cc in
+    let rest : lines ++ (l ∷ []) ≡ before ++ (m ∷ after) = cc in
+    elim (last_or_before lines before after l m rest) [
+      | inl here ↦ (let same : lines ≡ before = here.0 in inl (cc, here.1))
+      | inr further ↦ (let same : lines ≡ before ++ (m ∷ further.0) = further.1 in inr (further.0, cc))
+    ]
+
+-- one line more
+begin_more : (lines : List Line) (l : Line) → IsBeginning lines → IsAllowedAfter lines l → IsBeginning (lines ++ (l ∷ []))
+begin_more lines l begins allowed before m after e = elim (last_or_before lines before after l m e) [
+  | inl here ↦ rw (here.0, here.1) at allowed
+  | inr further ↦ begins before m further.0 further.1
+]
+
+text_more : (lines : List Line) (l : Line) (after : List ℕ) → text_of (lines ++ (l ∷ [])) ++ after ≡ text_of lines ++ (line_text l ++ after)
+text_more lines l after = rw (flat_map-append line_text lines (l ∷ []), append-nil (line_text l)) (append_assoc (text_of lines) (line_text l) after)
+
+-- one line more of a text whose lines so far may stand one after another
+pub read_more : (lines new : List Line) (l : Line) (whole rest after : List ℕ) → new ≡ lines ++ (l ∷ []) → whole ≡ text_of lines ++ rest → IsBeginning lines → rest ≡ line_text l ++ after → IsAllowedAfter lines l →
+    (whole ≡ text_of new ++ after) × IsBeginning new
+read_more lines new l whole rest after more parts begins e allowed = rw more (rw (parts, e) (sym (text_more lines l after)), begin_more lines l begins allowed)
 
 -- lines of which the first is no zone's
 abbrev NoZone : List Line → Type 0
@@ -53,67 +86,35 @@ up_to_workers zs ws m n before after e =
     (same.0, cc, cc)
 
 -- the lines of a header and its commands
-abbrev pub lines_with : Header → List Command → List Line
+abbrev pub lines_with : Header → List CommandLine → List Line
 lines_with h cs = lines_of (record { header = h; commands = cs })
 
-pub lines_split : (h : Header) (cs : List Command) → lines_with h cs ≡ map line.Zone h.zones ++ (line.Workers h.workers ∷ line.Lists h.batch h.high ∷ map line.Command cs)
-lines_split h cs = append_assoc (map line.Zone h.zones) (line.Workers h.workers ∷ line.Lists h.batch h.high ∷ []) (map line.Command cs)
-
--- a header's lines, one more at a time
-pub begin_zone : (zs new : List ZoneLine) (z : ZoneLine) → new ≡ zs ++ (z ∷ []) → IsBeginning (map line.Zone zs) → IsNextZone zs z → IsBeginning (map line.Zone new)
-begin_zone zs new z more begins is =
-    subst IsBeginning (sym (map-append line.Zone zs (z ∷ [])) ∙ ap (map line.Zone) (sym more)) (begin_more (map line.Zone zs) (line.Zone z) begins (zs, refl, is))
-
-pub begin_workers : (zs : List ZoneLine) (n : ℕ) → IsBeginning (map line.Zone zs) → 0 < length zs → IsCrew n → IsBeginning (map line.Zone zs ++ (line.Workers n ∷ []))
-begin_workers zs n begins some is = begin_more (map line.Zone zs) (line.Workers n) begins (zs, refl, some, is)
-
-pub begin_header : (h : Header) → IsBeginning (map line.Zone h.zones ++ (line.Workers h.workers ∷ [])) → AreLists h.batch h.high → IsBeginning (header_of h)
-begin_header h begins is =
-    subst IsBeginning (append_assoc (map line.Zone h.zones) (line.Workers h.workers ∷ []) (line.Lists h.batch h.high ∷ [])) (begin_more (map line.Zone h.zones ++ (line.Workers h.workers ∷ [])) (line.Lists h.batch h.high) begins (h.zones, h.workers, refl, is))
-
--- and their text
-pub zone_text : (zs new : List ZoneLine) (z : ZoneLine) (whole rest after : List ℕ) → new ≡ zs ++ (z ∷ []) → whole ≡ text_of (map line.Zone zs) ++ rest → rest ≡ line_text (line.Zone z) ++ after → whole ≡ text_of (map line.Zone new) ++ after
-zone_text zs new z whole rest after more e f =
-    e ∙ ap (λ (bytes : List ℕ). text_of (map line.Zone zs) ++ bytes) f
-    ∙ sym (text_more (map line.Zone zs) (line.Zone z) after)
-    ∙ ap (λ (ls : List Line). text_of ls ++ after) (sym (map-append line.Zone zs (z ∷ [])) ∙ ap (map line.Zone) (sym more))
-
-pub workers_text : (zs : List ZoneLine) (n : ℕ) (whole rest after : List ℕ) → whole ≡ text_of (map line.Zone zs) ++ rest → rest ≡ line_text (line.Workers n) ++ after → whole ≡ text_of (map line.Zone zs ++ (line.Workers n ∷ [])) ++ after
-workers_text zs n whole rest after e f =
-    e ∙ ap (λ (bytes : List ℕ). text_of (map line.Zone zs) ++ bytes) f ∙ sym (text_more (map line.Zone zs) (line.Workers n) after)
-
-pub header_text : (h : Header) (whole rest after : List ℕ) → whole ≡ text_of (map line.Zone h.zones ++ (line.Workers h.workers ∷ [])) ++ rest → rest ≡ line_text (line.Lists h.batch h.high) ++ after → whole ≡ text_of (header_of h) ++ after
-header_text h whole rest after e f =
-    e ∙ ap (λ (bytes : List ℕ). text_of (map line.Zone h.zones ++ (line.Workers h.workers ∷ [])) ++ bytes) f
-    ∙ sym (text_more (map line.Zone h.zones ++ (line.Workers h.workers ∷ [])) (line.Lists h.batch h.high) after)
-    ∙ ap (λ (ls : List Line). text_of ls ++ after) (append_assoc (map line.Zone h.zones) (line.Workers h.workers ∷ []) (line.Lists h.batch h.high ∷ []))
+pub lines_split : (h : Header) (cs : List CommandLine) → lines_with h cs ≡ map line.Zone h.zones ++ (line.Workers h.workers ∷ line.Lists h.batch h.high ∷ map line.CommandLine cs)
+lines_split h cs = append_assoc (map line.Zone h.zones) (line.Workers h.workers ∷ line.Lists h.batch h.high ∷ []) (map line.CommandLine cs)
 
 -- zones that may stand one after another are not too many, and each is in its bounds
 zone_moved : (before : List ZoneLine) (z : ZoneLine) (lines : List Line) → map line.Zone before ++ (line.Zone z ∷ lines) ≡ map line.Zone (before ++ (z ∷ [])) ++ lines
-zone_moved before z lines =
-    sym (ap (λ (ls : List Line). ls ++ lines) (map-append line.Zone before (z ∷ [])) ∙ append_assoc (map line.Zone before) (line.Zone z ∷ []) lines)
+zone_moved before z lines = rw (map-append line.Zone before (z ∷ [])) (sym (append_assoc (map line.Zone before) (line.Zone z ∷ []) lines))
 
 zones_are : (before zs : List ZoneLine) (rest : List Line) → IsBeginning (map line.Zone before ++ (map line.Zone zs ++ rest)) → AllByRecursion IsZoneLine zs
 zones_are before [] rest begins = tt
-zones_are before (z ∷ zs) rest begins =
-    let next = begins (map line.Zone before) (line.Zone z) (map line.Zone zs ++ rest) refl in
-    (next.2.1, zones_are (before ++ (z ∷ [])) zs rest (subst IsBeginning (zone_moved before z (map line.Zone zs ++ rest)) begins))
+zones_are before (z ∷ zs) rest begins = ((begins (map line.Zone before) (line.Zone z) (map line.Zone zs ++ rest) refl).2.1, zones_are (before ++ (z ∷ [])) zs rest (rw (zone_moved before z (map line.Zone zs ++ rest)) at begins))
 
 pub zones_are_few : (before zs : List ZoneLine) (rest : List Line) → length before ≤ MAX_ZONES → IsBeginning (map line.Zone before ++ (map line.Zone zs ++ rest)) → length before + length zs ≤ MAX_ZONES
 zones_are_few before [] rest few begins = omega (arith, few)
 zones_are_few before (z ∷ zs) rest few begins =
     let next = begins (map line.Zone before) (line.Zone z) (map line.Zone zs ++ rest) refl in
     let room : length (before ++ (z ∷ [])) ≤ MAX_ZONES = omega (arith, next.2.0, ap length (zones_alone before next.0 next.1), length-append before (z ∷ [])) in
-    let more = zones_are_few (before ++ (z ∷ [])) zs rest room (subst IsBeginning (zone_moved before z (map line.Zone zs ++ rest)) begins) in
+    let more = zones_are_few (before ++ (z ∷ [])) zs rest room (rw (zone_moved before z (map line.Zone zs ++ rest)) at begins) in
     omega (arith, more, length-append before (z ∷ []))
 
 -- so what a trace begins with is a header
-pub header_is : (h : Header) (cs : List Command) → IsBeginning (lines_with h cs) → IsHeader h
+pub header_is : (h : Header) (cs : List CommandLine) → IsBeginning (lines_with h cs) → IsHeader h
 header_is h cs begins =
-    let after = line.Lists h.batch h.high ∷ map line.Command cs in
+    let after = line.Lists h.batch h.high ∷ map line.CommandLine cs in
     let whole = subst IsBeginning (lines_split h cs) begins in
     let workers = whole (map line.Zone h.zones) (line.Workers h.workers) after refl in
-    let lists = whole (map line.Zone h.zones ++ (line.Workers h.workers ∷ [])) (line.Lists h.batch h.high) (map line.Command cs) (sym (append_assoc (map line.Zone h.zones) (line.Workers h.workers ∷ []) after)) in
+    let lists = whole (map line.Zone h.zones ++ (line.Workers h.workers ∷ [])) (line.Lists h.batch h.high) (map line.CommandLine cs) (sym (append_assoc (map line.Zone h.zones) (line.Workers h.workers ∷ []) after)) in
     record {
       some = omega (arith, workers.2, ap length (zones_alone h.zones workers.0 workers.1));
       few = omega (arith, zones_are_few [] h.zones (line.Workers h.workers ∷ after) (omega arith) whole);

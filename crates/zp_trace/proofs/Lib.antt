@@ -1,11 +1,6 @@
 pub mod Numbers
-pub mod Cutting
 pub mod WordLists
-pub mod Places
-pub mod LineWords
-pub mod Beginnings
 pub mod HeaderLines
 pub mod CommandLines
 pub mod BadLines
-pub mod NextLine
 pub mod OneReading

@@ -1,17 +1,65 @@
--- Words of a line: they are what cutting their line gives, and their line ends at the first line feed.
-use Rattle.std.proofs.Common.{ℕ, ◌≡◌, ◌≢◌, ◌<◌, ◌≤◌, List, [], ◌∷◌, ◌++◌, refl, sym, ap, subst, ◌∙◌, arith, lit≤, IsTrue}
+-- Words of a line: they are what cutting their line gives, and each line's words are words.
+use Rattle.std.proofs.Common.{ℕ, ◌≡◌, ◌≢◌, ◌<◌, List, [], ◌∷◌, ◌++◌, length, false, eqb, refl, sym, ap, ◌∙◌, arith, append_assoc, length-append, ◌≤◌, subst, lit≤, IsTrue, get_or, Option, Some, None, IfNone, rules}
+use Rattle.std.specs.Borrow.{Bor}
+use Rattle.std.specs.List.{All, slice_split, AllByRecursion}
+use Rattle.std.proofs.lemmas.Bool.Decides.{nat_tests}
+use Rattle.std.proofs.lemmas.List.{map-append, length-map, get_or-map}
+use Rattle.std.proofs.lemmas.List.Elements.{All-weaker, All-from_recursion, recursion_from_All}
+use Rattle.std.proofs.lemmas.List.Splits.{slice_split_at, slice_split_none, length-slice_split, join_with_byte-slice_split}
+use Rattle.zp_trace.specs.Spelling.{space, spelled, line_feed, joined, IsWord, AreWords, zone_words, workers_words, lists_words, call_words, command_words, kind_word, mark_word}
 use Rattle.std.specs.Char.{is_ascii_alphanumeric}
 use Rattle.std.specs.Fmt.{decimal}
-use Rattle.std.specs.List.{All, AllByRecursion}
 use Rattle.std.specs.Str.Parse.{AllDigits}
-use Rattle.std.proofs.lemmas.Bool.Decides.{nat_tests}
-use Rattle.std.proofs.lemmas.List.Elements.{All-from_recursion, recursion_from_All}
-use Rattle.std.proofs.lemmas.List.Splits.{join_with_byte-slice_split}
 use Rattle.std.proofs.lemmas.Str.Parse.{digit_from_value}
 use Rattle.zp_model.specs.Naming.{IsName}
-use Rattle.zp_trace.specs.Spelling.{space, line_feed, joined, IsWord, AreWords}
-use Rattle.zp_trace.proofs.Cutting.{cut, cut_first, cut_none}
 use Rattle.zp_trace.proofs.Numbers.{digits}
+use Rattle.zp_model.specs.declared.migrate_type.MigrateType.{MigrateType}
+use Rattle.zp_model.specs.declared.migrate_type.MigrateType.TheVariants.{Unmovable, Reclaimable, Movable}
+use Rattle.zp_model.specs.declared.mark.Mark.{Mark}
+use Rattle.zp_model.specs.declared.mark.Mark.TheVariants as mark
+use Rattle.zp_model.specs.Bounds.{IsCrew, AreLists}
+use Rattle.zp_trace.specs.declared.line.ZoneLine.{ZoneLine}
+use Rattle.zp_trace.specs.declared.line.Call.{Call}
+use Rattle.zp_trace.specs.declared.line.Call.TheVariants.{Info, Alloc, Low, Free, Post, Collect, Drain}
+use Rattle.zp_trace.specs.declared.line.CommandLine.{CommandLine}
+use Rattle.zp_trace.specs.declared.trace.Header.{Header}
+use Rattle.zp_trace.specs.Grammar.{IsZoneLine, IsHeader, IsDeclared, IsCallOf, IsCommandOf}
+
+abbrev pub cut : List ℕ → List (List ℕ)
+cut line = slice_split (λ b. eqb b space) line
+
+apart : (b : ℕ) → b ≢ space → eqb b space ≡ false
+apart b h = grind (arith, nat_tests)
+
+none_is_space : (bytes : List ℕ) → All (λ b. b ≢ space) bytes → All (λ b. eqb b space ≡ false) bytes
+none_is_space bytes h = All-weaker (λ b. b ≢ space) (λ b. eqb b space ≡ false) apart bytes h
+
+-- the first word ends at the first space
+pub cut_first : (word after : List ℕ) → All (λ b. b ≢ space) word → cut (word ++ space ∷ after) ≡ word ∷ cut after
+cut_first word after h = slice_split_at (λ b. eqb b space) word space after (none_is_space word h) refl
+
+-- without a space there is one word
+pub cut_none : (word : List ℕ) → All (λ b. b ≢ space) word → cut word ≡ word ∷ []
+cut_none word h = slice_split_none (λ b. eqb b space) word (none_is_space word h)
+
+push : (words : List (Bor (List ℕ))) (word : Bor (List ℕ)) (rest : List (List ℕ)) → spelled (words ++ word ∷ []) ++ rest ≡ spelled words ++ word.now ∷ rest
+push words word rest =
+    ap (λ (ws : List (List ℕ)). ws ++ rest) (map-append (λ (w : Bor (List ℕ)). w.now) words (word ∷ [])) ∙ append_assoc (spelled words) (word.now ∷ []) rest
+
+-- one more word
+pub cut_more : (words : List (Bor (List ℕ))) (word : Bor (List ℕ)) (rest after line : List ℕ) → rest ≡ word.now ++ space ∷ after → All (λ b. b ≢ space) word.now → spelled words ++ cut rest ≡ cut line → spelled (words ++ word ∷ []) ++ cut after ≡ cut line
+cut_more words word rest after line e h so_far =
+    push words word (cut after) ∙ ap (λ (ws : List (List ℕ)). spelled words ++ ws) (sym (ap cut e ∙ cut_first word.now after h)) ∙ so_far
+
+-- the last word
+pub cut_last : (words : List (Bor (List ℕ))) (rest : Bor (List ℕ)) (line : List ℕ) → All (λ b. b ≢ space) rest.now → spelled words ++ cut rest.now ≡ cut line → spelled (words ++ rest ∷ []) ≡ cut line
+cut_last words rest line h so_far =
+    map-append (λ (w : Bor (List ℕ)). w.now) words (rest ∷ []) ∙ ap (λ (ws : List (List ℕ)). spelled words ++ ws) (sym (cut_none rest.now h)) ∙ so_far
+
+-- a line whose words so far are not all has more of them
+pub cut_full : (words : List (Bor (List ℕ))) (rest line : List ℕ) (n : ℕ) → spelled words ++ cut rest ≡ cut line → length words ≡ n → n < length (cut line)
+cut_full words rest line n so_far e =
+    omega (arith, length-slice_split (λ b. eqb b space) rest, length-append (spelled words) (cut rest), length-map words (λ (w : Bor (List ℕ)). w.now), ap length so_far)
 
 -- what holds of each element, over two lists
 all_append : (P : ℕ → Type 0) (xs ys : List ℕ) → AllByRecursion P xs → AllByRecursion P ys → AllByRecursion P (xs ++ ys)
@@ -94,3 +142,88 @@ pub words_are_line : (words others : List (List ℕ)) (rest more : List ℕ) →
 words_are_line words others rest more w v e =
     let r = first_unique line_feed (joined words) (joined others) rest more (no_line_feed words w.2) (no_line_feed others v.2) e in
     (sym (cut_joined words w) ∙ ap cut r.0 ∙ cut_joined others v, r.1)
+
+-- what holds where there is no value
+pub at_none : {T : Type 0} (r : Option T) {P : Type 0} → P → IfNone r P
+at_none None p = p
+at_none (Some x) p = tt
+
+-- and what follows from it
+pub none_weaker : {T : Type 0} (r : Option T) {P Q : Type 0} → (P → Q) → IfNone r P → IfNone r Q
+none_weaker None f p = f p
+none_weaker (Some x) f p = tt
+
+-- the word at a place, of words that are spelled so
+pub word_at : (ws : List (Bor (List ℕ))) (d : Bor (List ℕ)) (i : ℕ) (words : List (List ℕ)) → spelled ws ≡ words → i < length ws → (get_or ws i d).now ≡ get_or words i []
+word_at ws d i words e inside =
+    sym (get_or-map (λ (w : Bor (List ℕ)). w.now) ws i d [] inside) ∙ ap (λ (l : List (List ℕ)). get_or l i []) e
+
+-- words that are as many, and each of them known
+pub three : (ws : List (Bor (List ℕ))) (q : Bor (List ℕ)) → 3 ≤ length ws → length ws < 4 → {a b c : List ℕ} → (get_or ws 0 q).now ≡ a → (get_or ws 1 q).now ≡ b → (get_or ws 2 q).now ≡ c → spelled ws ≡ a ∷ b ∷ c ∷ []
+three (r ∷ s ∷ t ∷ []) q least below = λ a b c. cc
+three ws q least below = absurd (omega arith)
+
+pub four : (ws : List (Bor (List ℕ))) (q : Bor (List ℕ)) → 4 ≤ length ws → length ws < 5 → {a b c d : List ℕ} → (get_or ws 0 q).now ≡ a → (get_or ws 1 q).now ≡ b → (get_or ws 2 q).now ≡ c → (get_or ws 3 q).now ≡ d → spelled ws ≡ a ∷ b ∷ c ∷ d ∷ []
+four (r ∷ s ∷ t ∷ u ∷ []) q least below = λ a b c d. cc
+four ws q least below = absurd (omega arith)
+
+pub five : (ws : List (Bor (List ℕ))) (q : Bor (List ℕ)) → 5 ≤ length ws → length ws < 6 → {a b c d e : List ℕ} → (get_or ws 0 q).now ≡ a → (get_or ws 1 q).now ≡ b → (get_or ws 2 q).now ≡ c → (get_or ws 3 q).now ≡ d → (get_or ws 4 q).now ≡ e → spelled ws ≡ a ∷ b ∷ c ∷ d ∷ e ∷ []
+five (r ∷ s ∷ t ∷ u ∷ v ∷ []) q least below = λ a b c d e. cc
+five ws q least below = absurd (omega arith)
+
+pub six : (ws : List (Bor (List ℕ))) (q : Bor (List ℕ)) → 6 ≤ length ws → length ws < 7 → {a b c d e f : List ℕ} → (get_or ws 0 q).now ≡ a → (get_or ws 1 q).now ≡ b → (get_or ws 2 q).now ≡ c → (get_or ws 3 q).now ≡ d → (get_or ws 4 q).now ≡ e → (get_or ws 5 q).now ≡ f → spelled ws ≡ a ∷ b ∷ c ∷ d ∷ e ∷ f ∷ []
+six (r ∷ s ∷ t ∷ u ∷ v ∷ w ∷ []) q least below = λ a b c d e f. cc
+six ws q least below = absurd (omega arith)
+
+-- what a read past the end answers
+abbrev pub nowhere : Bor (List ℕ)
+nowhere = record { ref_ptr = (0, 0); now = [] }
+
+pub zone_are_words : (z : ZoneLine) → IsZoneLine z → AreWords (zone_words z)
+zone_are_words z is =
+    (omega arith, omega arith, (search rules, (name_is_word z.name is.0, (number_is_word z.base (omega (arith, is.1.1)), (number_is_word z.pages (omega (arith, is.2.1)), (number_is_word z.min (omega (arith, is.2.1, is.3)), tt))))))
+
+pub workers_are_words : (n : ℕ) → IsCrew n → AreWords (workers_words n)
+workers_are_words n is =
+    (omega arith, omega arith, (search rules, (number_is_word n (omega (arith, is.1)), tt)))
+
+pub lists_are_words : (batch high : ℕ) → AreLists batch high → AreWords (lists_words batch high)
+lists_are_words batch high is =
+    (omega arith, omega arith, (search rules, (number_is_word batch (omega (arith, is.most)), (number_is_word high (omega (arith, is.longest)), tt))))
+
+kind_is_word : (kind : MigrateType) → IsWord (kind_word kind)
+kind_is_word Unmovable = search rules
+kind_is_word Reclaimable = search rules
+kind_is_word Movable = search rules
+
+mark_is_word : (m : Mark) → IsWord (mark_word m)
+mark_is_word mark.Low = search rules
+mark_is_word mark.Min = search rules
+mark_is_word mark.Any = search rules
+
+-- a zone that is declared has a name
+declared_name : (h : Header) (zone : List ℕ) → IsHeader h → IsDeclared h zone → IsName zone
+declared_name h zone header (k, z, inside, here, same) =
+    subst IsName same (subst IsZoneLine here (header.zones k z inside)).0
+
+call_are_words : (h : Header) (call : Call) → IsHeader h → IsCallOf h call → (length (call_words call) ≤ 6) × AllByRecursion IsWord (call_words call)
+call_are_words h Info header is = (omega arith, search rules)
+call_are_words h Drain header is = (omega arith, search rules)
+call_are_words h (Alloc label order kind zone m) header is =
+    (omega arith, (search rules, (name_is_word label is.0, (number_is_word order (omega (arith, is.1)), (kind_is_word kind, (name_is_word zone (declared_name h zone header is.2), (mark_is_word m, tt)))))))
+call_are_words h (Low label order zone) header is =
+    (omega arith, (search rules, (name_is_word label is.0, (number_is_word order (omega (arith, is.1)), (name_is_word zone (declared_name h zone header is.2), tt)))))
+call_are_words h (Free label) header is = (omega arith, (search rules, (name_is_word label is, tt)))
+call_are_words h (Post label to) header is =
+    (omega arith, (search rules, (name_is_word label is.0, (number_is_word to (omega (arith, is.1, header.workers.1)), tt))))
+call_are_words h (Collect label zone) header is =
+    (omega arith, (search rules, (name_is_word label is.0, (name_is_word zone (declared_name h zone header is.1), tt))))
+
+pub command_are_words : (h : Header) (c : CommandLine) → IsHeader h → IsCommandOf h c → AreWords (command_words c)
+command_are_words h c header is =
+    let call = call_are_words h c.call header is.1 in
+    (omega arith, omega (arith, call.0), (number_is_word c.worker (omega (arith, is.0, header.workers.1)), call.1))
+
+-- a text that begins with a line
+pub front : (words : List (List ℕ)) (text more : List ℕ) → text ≡ (joined words ++ line_feed ∷ []) ++ more → text ≡ joined words ++ line_feed ∷ more
+front words text more e = e ∙ append_assoc (joined words) (line_feed ∷ []) more

@@ -7,7 +7,7 @@ use Rattle.zp_trace.specs.declared.bounds.TheConstants.{MOST_LINES}
 use Rattle.zp_trace.specs.declared.line.ZoneLine.{ZoneLine}
 use Rattle.zp_trace.specs.declared.line.Call.{Call}
 use Rattle.zp_trace.specs.declared.line.Call.TheVariants.{Info, Alloc, Low, Free, Post, Collect, Drain}
-use Rattle.zp_trace.specs.declared.line.Command.{Command}
+use Rattle.zp_trace.specs.declared.line.CommandLine.{CommandLine}
 use Rattle.zp_trace.specs.declared.trace.Header.{Header}
 use Rattle.zp_trace.specs.declared.trace.Trace.{Trace}
 use Rattle.zp_trace.specs.Lines.{Line}
@@ -47,7 +47,7 @@ IsCallOf h (Post label to) = IsName label × (to < h.workers)
 IsCallOf h (Collect label zone) = IsName label × IsDeclared h zone
 IsCallOf h Drain = Unit {0}
 
-abbrev pub IsCommandOf : Header → Command → Type 0
+abbrev pub IsCommandOf : Header → CommandLine → Type 0
 IsCommandOf h c = (c.worker < h.workers) × IsCallOf h c.call
 
 -- the label that a call binds to the block that it is answered
@@ -61,11 +61,11 @@ bound_label (Collect label zone) = Some label
 bound_label Drain = None
 
 -- the command binds this label of this worker, if it is answered a block
-abbrev pub Binds : ℕ → List ℕ → Command → Type 0
+abbrev pub Binds : ℕ → List ℕ → CommandLine → Type 0
 Binds worker label c = (c.worker ≡ worker) × (bound_label c.call ≡ Some label)
 
 -- the label that the call names a block by stands in an earlier command of the same worker that binds it
-abbrev pub HasLabel : List Command → ℕ → Call → Type 0
+abbrev pub HasLabel : List CommandLine → ℕ → Call → Type 0
 HasLabel before worker Info = Unit {0}
 HasLabel before worker (Alloc label order kind zone mark) = Unit {0}
 HasLabel before worker (Low label order zone) = Unit {0}
@@ -75,12 +75,12 @@ HasLabel before worker (Collect label zone) = Unit {0}
 HasLabel before worker Drain = Unit {0}
 
 -- a command that may stand after these in a trace of this header
-abbrev pub IsNextCommand : Header → List Command → Command → Type 0
+abbrev pub IsNextCommand : Header → List CommandLine → CommandLine → Type 0
 IsNextCommand h before c = IsCommandOf h c × HasLabel before c.worker c.call
 
 -- the lines that write a trace
 abbrev pub lines_of : Trace → List Line
-lines_of t = header_of t.header ++ map line.Command t.commands
+lines_of t = header_of t.header ++ map line.CommandLine t.commands
 
 -- the line may stand after those before it
 abbrev pub IsAllowedAfter : List Line → Line → Type 0
@@ -88,7 +88,7 @@ IsAllowedAfter before (line.Zone z) = (zones : List ZoneLine) × (before ≡ map
 IsAllowedAfter before (line.Workers n) = (zones : List ZoneLine) × (before ≡ map line.Zone zones) × (0 < length zones) × IsCrew n
 IsAllowedAfter before (line.Lists batch high) =
     (zones : List ZoneLine) × (n : ℕ) × (before ≡ map line.Zone zones ++ line.Workers n ∷ []) × AreLists batch high
-IsAllowedAfter before (line.Command c) =
+IsAllowedAfter before (line.CommandLine c) =
     (t : Trace) × (before ≡ lines_of t) × (length before < MOST_LINES) × IsNextCommand t.header t.commands c
 
 -- each line may stand after those before it

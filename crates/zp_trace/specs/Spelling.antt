@@ -12,7 +12,7 @@ use Rattle.zp_trace.specs.declared.line.ZoneLine.{ZoneLine}
 use Rattle.zp_trace.specs.declared.line.Call.{Call}
 use Rattle.zp_trace.specs.declared.line.Call.TheVariants.{Info, Alloc, Low, Free, Post, Collect, Drain}
 use Rattle.zp_trace.specs.declared.trace.Header.{Header}
-use Rattle.zp_trace.specs.declared.line.Command.{Command}
+use Rattle.zp_trace.specs.declared.line.CommandLine.{CommandLine}
 use Rattle.zp_trace.specs.Lines.{Line}
 use Rattle.zp_trace.specs.Lines as line
 
@@ -67,14 +67,14 @@ call_words (Post label to) = codes "post" ∷ label ∷ decimal to ∷ []
 call_words (Collect label zone) = codes "collect" ∷ label ∷ zone ∷ []
 call_words Drain = codes "drain" ∷ []
 
-abbrev pub command_words : Command → List (List ℕ)
+abbrev pub command_words : CommandLine → List (List ℕ)
 command_words c = decimal c.worker ∷ call_words c.call
 
 abbrev pub line_words : Line → List (List ℕ)
 line_words (line.Zone z) = zone_words z
 line_words (line.Workers n) = workers_words n
 line_words (line.Lists batch high) = lists_words batch high
-line_words (line.Command c) = command_words c
+line_words (line.CommandLine c) = command_words c
 
 abbrev pub line_text : Line → List ℕ
 line_text l = joined (line_words l) ++ line_feed ∷ []

@@ -5,11 +5,11 @@ ghost use Rattle.zp_model.specs.declared.mark.Mark.{Mark};
 ghost use Rattle.zp_trace.specs.declared.trace.Header.{Header};
 ghost use Rattle.zp_trace.specs.declared.line.Call.{Call};
 ghost use Rattle.zp_trace.specs.declared.line.Call.TheVariants.{Info, Alloc, Low, Free, Post, Collect, Drain};
-ghost use Rattle.zp_trace.specs.declared.line.Command.{Command};
+ghost use Rattle.zp_trace.specs.declared.line.CommandLine.{CommandLine};
 ghost use Rattle.zp_trace.specs.Spelling.{spelled, call_words, command_words};
 ghost use Rattle.zp_trace.specs.Grammar.{IsHeader, IsDeclared, IsCallOf, IsCommandOf};
 
-use crate::line::{Call, Command};
+use crate::line::{Call, CommandLine};
 use crate::trace::Header;
 use crate::values::{is_text, is_word, kind_of, mark_of, order_of, worker_of};
 use zp_model::Name;
@@ -167,15 +167,15 @@ fn call_of(header: &Header, words: &[&[u8]]) -> Option<Call>
 }
 
 /// The command of such words after this header.
-pub fn command_of(header: &Header, words: &[&[u8]]) -> Option<Command>
+pub fn command_of(header: &Header, words: &[&[u8]]) -> Option<CommandLine>
     requires { IsHeader header.now }
     ensures some { IfSome result (λ c. IsCommandOf header.now c × (spelled words.now ≡ command_words c)) }
-    ensures none { IfNone result ((c : Command) → IsCommandOf header.now c → spelled words.now ≡ command_words c → ⊥) }
+    ensures none { IfNone result ((c : CommandLine) → IsCommandOf header.now c → spelled words.now ≡ command_words c → ⊥) }
 {
     let [worker, call @ ..] = words else {
         return None;
     };
     let worker = worker_of(worker, header.workers)?;
     let call = call_of(header, call)?;
-    Some(Command { worker, call })
+    Some(CommandLine { worker, call })
 }

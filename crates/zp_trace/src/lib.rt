@@ -20,6 +20,6 @@ pub use bounds::MOST_LINES;
 pub use grammar_law::{
     a_good_text_has_no_bad_line, a_text_has_one_bad_line, a_text_writes_one_trace,
 };
-pub use line::{Call, Command, ZoneLine};
+pub use line::{Call, CommandLine, ZoneLine};
 pub use parser::parse_trace;
 pub use trace::{Commands, Header, Trace, TraceFault, ZoneLines};

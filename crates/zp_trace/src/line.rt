@@ -55,7 +55,7 @@ pub enum Call {
 
 /// One worker line: who asks, and for what.
 #[derive(Clone, Copy, PartialEq, Eq, Debug, Drop)]
-pub struct Command {
+pub struct CommandLine {
     pub worker: Worker,
     pub call: Call,
 }

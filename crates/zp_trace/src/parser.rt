@@ -2,7 +2,7 @@
 ghost use Rattle.std.specs.Prelude.{◌≡◌, ◌++◌, List, ℕ, map, IfSome, IfNone, IfOk, Err, All};
 ghost use Rattle.zp_model.specs.Bounds.{IsCrew, AreLists};
 ghost use Rattle.zp_trace.specs.declared.line.ZoneLine.{ZoneLine};
-ghost use Rattle.zp_trace.specs.declared.line.Command.{Command};
+ghost use Rattle.zp_trace.specs.declared.line.CommandLine.{CommandLine};
 ghost use Rattle.zp_trace.specs.Lines as line;
 ghost use Rattle.zp_trace.specs.declared.trace.TraceFault.TheVariants as fault;
 ghost use Rattle.zp_trace.specs.Spelling.{line_text, text_of, header_of};
@@ -12,7 +12,7 @@ use crate::bounds::MOST_LINES;
 use crate::calls::command_of;
 use crate::forms::{lists_of, may_follow, workers_of, zone_of};
 use crate::labels::has_label;
-use crate::line::{Command, ZoneLine};
+use crate::line::{CommandLine, ZoneLine};
 use crate::trace::{Commands, Header, Trace, TraceFault, ZoneLines};
 use crate::words::first_line;
 use std::alloc::{AllocError, Global};
@@ -94,12 +94,12 @@ fn parse_header(alloc: Global, text: &[u8]) -> Result<(Header, &[u8]), TraceFaul
 /// The worker line at the front of a text, which may stand after this header and these commands, and the text after it.
 fn command_line<'a>(
     header: &Header,
-    before: &[Command],
+    before: &[CommandLine],
     text: &'a [u8],
-) -> Option<(Command, &'a [u8])>
+) -> Option<(CommandLine, &'a [u8])>
     requires { IsHeader header.now }
-    ensures some { IfSome result (λ x. IsNextCommand header.now before.now x.0 × (text.now ≡ line_text (line.Command x.0) ++ x.1.now)) }
-    ensures none { IfNone result ((c : Command) (more : List ℕ) → IsNextCommand header.now before.now c → text.now ≡ line_text (line.Command c) ++ more → ⊥) }
+    ensures some { IfSome result (λ x. IsNextCommand header.now before.now x.0 × (text.now ≡ line_text (line.CommandLine x.0) ++ x.1.now)) }
+    ensures none { IfNone result ((c : CommandLine) (more : List ℕ) → IsNextCommand header.now before.now c → text.now ≡ line_text (line.CommandLine c) ++ more → ⊥) }
 {
     let (words, rest) = first_line(text)?;
     let command = command_of(header, &words)?;

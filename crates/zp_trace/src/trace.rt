@@ -3,7 +3,7 @@ ghost use Rattle.std.specs.Prelude.{◌≡◌, ◌<◌, ◌≤◌, ◌↔◌, []
 ghost use Rattle.zp_model.specs.declared.constants.TheConstants.{MAX_ZONES};
 ghost use Rattle.zp_trace.specs.Spelling.{header_of};
 
-use crate::line::{Command, ZoneLine};
+use crate::line::{CommandLine, ZoneLine};
 use std::alloc::{AllocError, Global};
 use std::marker::Model;
 
@@ -55,14 +55,14 @@ impl ZoneLines {
 /// The commands of a trace, in order.
 #[derive(Debug, Drop)]
 pub struct Commands {
-    commands: Vec<Command>,
+    commands: Vec<CommandLine>,
 }
 
 impl Model for Commands {
     ghost use Rattle.std.specs.Prelude.{List};
-    ghost use Rattle.zp_trace.specs.declared.line.Command.{Command};
+    ghost use Rattle.zp_trace.specs.declared.line.CommandLine.{CommandLine};
 
-    ghost Value = { List Command };
+    ghost Value = { List CommandLine };
 
     ghost view = { λ c. c.commands.items };
 }
@@ -88,19 +88,19 @@ impl Commands {
         self.commands.is_empty()
     }
 
-    pub fn as_slice(&self) -> &[Command]
+    pub fn as_slice(&self) -> &[CommandLine]
         ensures { result.now ≡ self.now }
     {
         &self.commands
     }
 
     /// Puts a command at the end. Where memory is wanting, the list stays as it was.
-    pub(crate) fn push(&mut self, command: Command) -> Result<(), AllocError>
+    pub(crate) fn push(&mut self, command: CommandLine) -> Result<(), AllocError>
         ensures ok { OnOk result (self.new ≡ self.old ++ command ∷ []) }
         ensures err { OnErr result (self.new ≡ self.old) }
     {
-        let Command { worker, call } = command;
-        self.commands.push(Command { worker, call })?;
+        let CommandLine { worker, call } = command;
+        self.commands.push(CommandLine { worker, call })?;
         Ok(())
     }
 }

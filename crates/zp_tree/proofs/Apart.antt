@@ -1,5 +1,5 @@
 -- Runs of which no page is in a block, before and after a block is set or cleared.
-use Rattle.std.proofs.Common.{ℕ, ◌+◌, ◌^◌, ◌≡◌, ◌≢◌, ◌≤◌, ◌<◌, ◌⊎◌, inl, inr, refl, sym, ◌∙◌, ap, arith, Bool, true, false, List, length, get_or, set, replicate, Option, Some, None}
+use Rattle.std.proofs.Common.{ℕ, ◌^◌, ◌≡◌, ◌≢◌, ◌<◌, ◌⊎◌, inl, inr, refl, sym, ◌∙◌, ap, arith, Bool, false, List, length, get_or, replicate, Option, Some, None}
 use Rattle.std.specs.Bool.{Decides}
 use Rattle.std.proofs.lemmas.Nat.{pow_pos}
 use Rattle.std.proofs.lemmas.Bool.{cases_eq, false≢true, false_from_ne_true, eq-eqb, eqb-true}
@@ -16,59 +16,41 @@ use Rattle.zp_tree.proofs.BlockSets.{same_page}
 abbrev is_around : List (Option ℕ) → ℕ → ℕ → Bool
 is_around s i k = is_order k (get_or s (head i k) None)
 
-covered-decides : (s : List (Option ℕ)) (i : ℕ) → Decides (is_covered s i) ((k : ℕ) × (k < length s) × (is_around s i k ≡ true))
-covered-decides s i =
-    Decides-below_or (is_around s i) (λ k. is_around s i k ≡ true) (some_below (is_around s i)) (λ k. (λ e. e, λ e. e)) refl (λ _. refl) (length s)
+covered-decides : (s : List (Option ℕ)) (i : ℕ) → Decides (is_covered s i) ((k : ℕ) × (k < length s) × Starts s (head i k) k)
+covered-decides s i = Decides-below_or (is_around s i) (λ k. Starts s (head i k) k) (some_below (is_around s i)) (λ k. order_decides k (get_or s (head i k) None)) refl (λ _. refl) (length s)
+  where
+    order_decides : (k : ℕ) (o : Option ℕ) → Decides (is_order k o) (o ≡ Some k)
+    order_decides k None = (λ e. absurd (false≢true e), λ e. absurd cc)
+    order_decides k (Some j) = (λ e. ap (λ n. Some n) (eqb-true j k e), λ e. eq-eqb j k cc)
 
 uncovered-to : (s : List (Option ℕ)) (i k : ℕ) → is_covered s i ≡ false → k < length s → Starts s (head i k) k → ⊥
-uncovered-to s i k e lt st = false≢true (sym e ∙ (covered-decides s i).1 (k, lt, is_order-from (get_or s (head i k) None) st))
-  where
-    is_order-from : (o : Option ℕ) → o ≡ Some k → is_order k o ≡ true
-    is_order-from o f = rw f (eq-eqb k k refl)
+uncovered-to s i k e lt st = false≢true (sym e ∙ (covered-decides s i).1 (k, lt, st))
 
 pub uncovered-from : (s : List (Option ℕ)) (i : ℕ) → ((k : ℕ) → k < length s → Starts s (head i k) k → ⊥) → is_covered s i ≡ false
-uncovered-from s i none =
-    false_from_ne_true _ (λ e.
-    let w = (covered-decides s i).0 e in
-    none w.0 w.1 (is_order-to w.0 (get_or s (head i w.0) None) w.2))
-  where
-    is_order-to : (k : ℕ) (o : Option ℕ) → is_order k o ≡ true → o ≡ Some k
-    is_order-to k None f = absurd (false≢true f)
-    is_order-to k (Some j) f = ap (λ n. Some n) (eqb-true j k f)
+uncovered-from s i none = false_from_ne_true _ (λ e. let w = (covered-decides s i).0 e in none w.0 w.1 w.2)
 
 -- a block of the set after a block was set is that block, or was there
 set-starts : (s : List (Option ℕ)) (p k g j : ℕ) → p < length s → Starts (with_block s p k) g j → ((g ≡ p) × (j ≡ k)) ⊎ Starts s g j
-set-starts s p k g j lt st =
-    elim (cases_eq g p) [
-      | inl e ↦
-          let d : Some k ≡ Some j = sym (get_or-set_same s p (Some k) None lt) ∙ ap (λ n. get_or (set s p (Some k)) n None) (sym e) ∙ st in
-          let f : j ≡ k = cc in
-          inl (e, f)
-      | inr ne ↦ inr (sym (get_or-set_other s p g (Some k) None ne) ∙ st)
-    ]
+set-starts s p k g j lt st = elim (cases_eq g p) [
+  | inl e ↦ let d = rw (e, get_or-set_same s p (Some k) None lt) at st in inl (e, cc)
+  | inr ne ↦ inr (sym (get_or-set_other s p g (Some k) None ne) ∙ st)
+]
 
 -- a block of the set after a block was cleared is another, and was there
-clear-starts : (s : List (Option ℕ)) (p g j : ℕ) → p < length s → Starts (without_block s p) g j → (g ≢ p) × Starts s g j
-clear-starts s p g j lt st =
-    elim (cases_eq g p) [
-      | inl e ↦
-          let d : None ≡ Some j = sym (get_or-set_same s p None None lt) ∙ ap (λ n. get_or (set s p None) n None) (sym e) ∙ st in
-          absurd (cc)
-      | inr ne ↦ (ne, sym (get_or-set_other s p g None None ne) ∙ st)
-    ]
+pub clear-starts : (s : List (Option ℕ)) (p g j : ℕ) → p < length s → Starts (without_block s p) g j → (g ≢ p) × Starts s g j
+clear-starts s p g j lt st = elim (cases_eq g p) [
+  | inl e ↦ let d = rw (e, get_or-set_same s p None None lt) at st in absurd cc
+  | inr ne ↦ (ne, sym (get_or-set_other s p g None None ne) ∙ st)
+]
 
 head_start : (m : ℕ) (s : List (Option ℕ)) (p k : ℕ) → IsBlock m (length s) p k → p < length s
-head_start m s p k b = let room : p + 2 ^ k ≤ length s = b.inside in let pos : 0 < 2 ^ k = pow_pos k in omega arith
+head_start m s p k b = omega (arith, b.inside, pow_pos k)
 
 -- a run beside the block that is set stays apart
 pub set_still_apart : (m : ℕ) (s : List (Option ℕ)) (p k h j : ℕ) → IsBlock m (length s) p k → IsApart s h j → IsBeside h j p k → IsApart (with_block s p k) h j
 set_still_apart m s p k h j b a beside i from to =
     uncovered-from (with_block s p k) i (λ o lt st. elim (set-starts s p k (head i o) o (head_start m s p k b) st) [
-      | inl e ↦
-          let lo : head i o ≤ i = head_le i o in
-          let hi : i < head i o + 2 ^ o = lt_head i o in
-          let q : 2 ^ o ≡ 2 ^ k = ap (λ n. 2 ^ n) e.1 in
-          elim beside [ inl before ↦ omega (arith, e.0) | inr behind ↦ omega (arith, e.0) ]
+      | inl e ↦ let q : 2 ^ o ≡ 2 ^ k = rw e.1 refl in omega (arith, e.0, head_le i o, lt_head i o, beside)
       | inr old ↦ uncovered-to s i o (a i from to) (omega (arith, lt, length-set s p (Some k))) old
     ])
 

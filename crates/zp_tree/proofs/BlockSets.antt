@@ -1,24 +1,22 @@
 -- The blocks of a status tree are a block set.
-use Rattle.std.proofs.Common.{ℕ, ◌+◌, ◌/◌, ◌%◌, ◌^◌, ◌≡◌, ◌≤◌, ◌<◌, inl, inr, sym, ◌∙◌, ap, subst, arith, true, List, Option}
+use Rattle.std.proofs.Common.{ℕ, ◌+◌, ◌/◌, ◌^◌, ◌≡◌, ◌≤◌, ◌<◌, inl, inr, sym, ◌∙◌, arith, true, List, Option}
 use Rattle.std.proofs.lemmas.Bool.{and_parts, and_from, leb-true, le-leb, ltb-true, lt-ltb, cases_lt}
-use Rattle.zp_model.specs.Block.{IsBlock, in_run}
+use Rattle.zp_model.specs.Block.{in_run}
 use Rattle.zp_model.specs.BlockSet.{Starts}
-use Rattle.zp_model.proofs.Heads.{head_of}
+use Rattle.zp_model.proofs.Heads.{head_of, number_same}
 use Rattle.zp_tree.specs.Layout.{rank_at}
 use Rattle.zp_tree.specs.Sound.{IsFull, IsSound}
 use Rattle.zp_tree.specs.Spelled.{IsTreeOf}
 use Rattle.zp_tree.specs.Blocks.{IsBlockSet}
-use Rattle.zp_tree.proofs.Numbering.{same_run, run_in}
+use Rattle.zp_tree.proofs.Numbering.{run_in}
 use Rattle.zp_tree.proofs.Levels.{below_full}
 
 -- no page of a block is in a smaller one
 not_smaller : (h : ℕ) (ns : List ℕ) (a k b j i : ℕ) → IsSound h ns → IsFull h ns a k → IsFull h ns b j → j < k → a ≤ i → i < a + 2 ^ k → b ≤ i → i < b + 2 ^ j → ⊥
 not_smaller h ns a k b j i x f g lt from to from_b to_b =
-    let top : a + 2 ^ k ≤ 2 ^ h = run_in h a k f.level f.inside f.aligned in
-    let u : rank_at h ns k (i / 2 ^ k) ≡ k + 1 = ap (λ n. rank_at h ns k n) (same_run a i k f.aligned from to) ∙ f.full in
-    let v : rank_at h ns j (i / 2 ^ j) ≡ j + 1 = ap (λ n. rank_at h ns j n) (same_run b i j g.aligned from_b to_b) ∙ g.full in
-    let z : rank_at h ns j (i / 2 ^ j) ≡ 0 = below_full h ns j k i x f.level (omega arith) u lt in
-    omega (arith, v, z)
+    let u : rank_at h ns k (i / 2 ^ k) ≡ k + 1 = rw (number_same a i k f.aligned from to) f.full in
+    let v : rank_at h ns j (i / 2 ^ j) ≡ j + 1 = rw (number_same b i j g.aligned from_b to_b) g.full in
+    omega (arith, v, below_full h ns j k i x f.level (omega (arith, run_in h a k f.level f.inside f.aligned)) u lt)
 
 -- blocks with a page in common start at one page
 same_block : (h : ℕ) (ns : List ℕ) (a k b j i : ℕ) → IsSound h ns → IsFull h ns a k → IsFull h ns b j → a ≤ i → i < a + 2 ^ k → b ≤ i → i < b + 2 ^ j → a ≡ b
@@ -27,17 +25,13 @@ same_block h ns a k b j i x f g from to from_b to_b =
       | inl lt ↦ absurd (not_smaller h ns a k b j i x f g lt from to from_b to_b)
       | inr ge ↦ elim (cases_lt k j) [
         | inl lt ↦ absurd (not_smaller h ns b j a k i x g f lt from_b to_b from to)
-        | inr le ↦
-            let same : j ≡ k = omega arith in
-            let P : ℕ → Type 0 = λ n. (b % 2 ^ n ≡ 0) × (i < b + 2 ^ n) in
-            let q : (b % 2 ^ k ≡ 0) × (i < b + 2 ^ k) = subst P same (g.aligned, to_b) in
-            sym (head_of a i k f.aligned from to) ∙ head_of b i k q.0 from_b q.1
+        | inr le ↦ let same : k ≡ j = omega arith in sym (head_of a i k f.aligned from to) ∙ rw same (head_of b i j g.aligned from_b to_b)
       ]
     ]
 
 pub tree_set : (m h pages : ℕ) (ns : List ℕ) (s : List (Option ℕ)) → IsTreeOf m h pages ns s → IsBlockSet m s
 tree_set m h pages ns s t = record {
-  block = λ a k y. let P : ℕ → Type 0 = λ n. IsBlock m n a k in subst P (sym t.pages_of) (t.inside a k y);
+  block = λ a k y. rw t.pages_of (t.inside a k y);
   apart = λ a k b j i y z u v.
       let p = in_run-to a k i u in
       let q = in_run-to b j i v in

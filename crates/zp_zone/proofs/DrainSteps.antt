@@ -1,15 +1,15 @@
 -- The pages of a drain that are left: one page less, and what it leaves in the end.
-use Rattle.std.proofs.Common.{ℕ, ◌+◌, ◌-◌, ◌≡◌, ◌≤◌, ◌<◌, ◌==◌, inl, inr, sym, ◌∙◌, ap, subst, arith, true, false, List, [], ◌∷◌, All, drop, get_or, length, set, Option, None}
-use Rattle.std.proofs.lemmas.Bool.{cases_eq, cases_lt, and_parts, and_right, or_parts, both_ways, not-true, eq-eqb}
+use Rattle.std.proofs.Common.{ℕ, ◌+◌, ◌-◌, ◌≡◌, ◌≤◌, ◌<◌, ◌==◌, inl, inr, sym, ◌∙◌, ap, true, false, List, [], ◌∷◌, All, drop, get_or, length, set, Option, None}
+use Rattle.std.proofs.lemmas.Bool.{cases_eq, and_parts, and_right, or_parts, both_ways, not-true, eq-eqb}
 use Rattle.std.specs.Prelude.{leb, ◌&&◌}
-use Rattle.std.proofs.lemmas.List.{drop_all, drop_more, length-set, get_or-set_same, get_or-set_other, get_or_past}
+use Rattle.std.proofs.lemmas.List.{drop_all, drop_more, get_or-set_other}
 use Rattle.std.proofs.lemmas.List.Elements.{All-nil, All-cons, All-head, All-tail, All-weaker}
 use Rattle.zp_model.specs.Rows.{stands_in}
 use Rattle.zp_model.specs.Zone.{PlainZone, Holding, holding_at, is_of}
 use Rattle.zp_model.specs.Step.{freed, drained}
 use Rattle.zp_model.specs.Run.{is_out, is_distinct}
 use Rattle.zp_laws.proofs.Held.{out-to}
-use Rattle.zp_laws.proofs.StaysOut.{freed-gone, freed-kept}
+use Rattle.zp_laws.proofs.StaysOut.{none_left_at, freed-gone, freed-kept}
 use Rattle.zp_zone.specs.NamedZone.{KeepsOutBut, KeepsOutBeside, IsFresh, AreOut}
 
 -- of a drain of the zone `before`, which is z now, these pages are left
@@ -36,19 +36,10 @@ left_next before z y w all p ps x e k =
     }
 
 -- where no block is out, none is when another comes back
-none-at : (out : List (Option Holding)) (h : ℕ) → holding_at (set out h None) h ≡ None
-none-at out h =
-    elim (cases_lt h (length out)) [
-      | inl lt ↦ get_or-set_same out h None None lt
-      | inr ge ↦
-          let n : length (set out h None) ≡ length out = length-set out h None in
-          get_or_past (set out h None) h None (omega arith)
-    ]
-
 freed-fresh : (z : PlainZone) (h k q : ℕ) → IsFresh z q → IsFresh (freed z h k) q
 freed-fresh z h k q f w j =
     elim (cases_eq (q - z.base) h) [
-      | inl same ↦ and_right _ _ (ap (λ n. is_of w j (holding_at (set z.out h None) n)) same ∙ ap (λ (o : Option Holding). is_of w j o) (none-at z.out h))
+      | inl same ↦ and_right _ _ (ap (λ n. is_of w j (holding_at (set z.out h None) n)) same ∙ ap (is_of w j) (none_left_at z.out h))
       | inr other ↦ ap (λ (o : Option Holding). leb z.base q && is_of w j o) (get_or-set_other z.out h (q - z.base) None None other) ∙ f w j
     ]
 
@@ -76,11 +67,7 @@ drained-kept z w ps a = based-kept z ps (All-weaker (λ q. is_out z w q 0 ≡ tr
 
 -- the pages left, from an index on
 pub left_here : (before z : PlainZone) (w : ℕ) (all : List ℕ) (i d : ℕ) → i < length all → IsLeft before z w all (drop i all) → IsLeft before z w all (get_or all i d ∷ drop (i + 1) all)
-left_here before z w all i d lt x = let P : List ℕ → Type 0 = λ q. IsLeft before z w all q in subst P (drop_more all i d lt) x
+left_here before z w all i d lt x = rw (drop_more all i d lt) at x
 
 pub none_left : (before z : PlainZone) (w : ℕ) (all : List ℕ) (i : ℕ) → length all ≤ i → IsLeft before z w all (drop i all) → z ≡ drained before all
 none_left before z w all i le x = sym (x.rest ∙ ap (λ q. drained z q) (drop_all i all le))
-
--- the worker and the order zero, as the code has them
-pub out_at : (z : PlainZone) (w v p k : ℕ) → v ≡ w → k ≡ 0 → is_out z w p 0 ≡ true → is_out z v p k ≡ true
-out_at z w v p k e f o = ap (λ n. is_out z v p n) f ∙ ap (λ n. is_out z n p 0) e ∙ o

@@ -1,6 +1,6 @@
 -- The pages that a refill has got: one page more, and what it is in the end.
-use Rattle.std.proofs.Common.{ℕ, suc, ◌+◌, ◌-◌, ◌≡◌, ◌≤◌, ◌<◌, ◌==◌, inl, inr, refl, sym, ◌∙◌, ap, subst, arith, true, false, List, [], ◌∷◌, ◌++◌, All, length, Option, Some, None}
-use Rattle.std.proofs.lemmas.Bool.{and_parts, and_from, or_parts, or_from, both_ways, false_from_ne_true, false≢true, not-true, not_from_false, eq-eqb, eqb-true}
+use Rattle.std.proofs.Common.{ℕ, suc, ◌+◌, ◌-◌, ◌≡◌, ◌≤◌, ◌<◌, ◌==◌, inl, inr, refl, sym, ◌∙◌, ap, arith, true, false, List, [], ◌∷◌, ◌++◌, All, length, not, Some, None}
+use Rattle.std.proofs.lemmas.Bool.{and_parts, and_from, or_parts, both_ways, false_from_ne_true, false≢true, eq-eqb}
 use Rattle.std.proofs.lemmas.List.{length-append}
 use Rattle.std.proofs.lemmas.List.Elements.{All-nil, All-cons, All-head, All-tail, All-push, All-weaker}
 use Rattle.zp_model.specs.declared.migrate_type.MigrateType.{MigrateType}
@@ -11,39 +11,26 @@ use Rattle.zp_model.specs.Rows.{stands_in}
 use Rattle.zp_model.specs.Zone.{PlainZone}
 use Rattle.zp_model.specs.Step.{Outcome, alloc, refill, refill_end, page_of}
 use Rattle.zp_model.specs.Run.{is_out, is_distinct}
+use Rattle.zp_model.proofs.RowLists.{end_others}
 use Rattle.zp_model.proofs.Settles.{stands_cases}
 use Rattle.zp_zone.specs.NamedZone.{NamedZone, KeepsOut, IsFresh, AreOut}
 
 -- a zone with its name is known by its parts
 pub zone_is : (Z Y : NamedZone) (y : PlainZone) → Y.name ≡ Z.name → Y.plain ≡ y → Y ≡ record Z { plain = y }
-zone_is Z Y y e f =
-    ap (λ n. let x : NamedZone = record { name = n; plain = Y.plain } in x) e
-    ∙ ap (λ (q : PlainZone). let x : NamedZone = record { name = Z.name; plain = q } in x) f
+zone_is Z Y y e f = λ i. record { name = e i; plain = f i }
 
--- what follows the next request of a refill
-abbrev next : Outcome → ℕ → MigrateType → Mark → List ℕ → ℕ → Option ℕ → Outcome
-next o w t m got n (Some p) = refill o.zone w t m (got ++ p ∷ []) n
-next o w t m got n None = refill_end got o
-
-refill-next : (z : PlainZone) (w : ℕ) (t : MigrateType) (m : Mark) (got : List ℕ) (n : ℕ) →
-    refill z w t m got (suc n) ≡ next (alloc z w 0 t m) w t m got n (page_of (alloc z w 0 t m).reply)
-refill-next z w t m got n =
-    let o = alloc z w 0 t m in
-    elim (page_of o.reply) as (λ r. elim r as (λ x. Outcome) [ Some p ↦ refill o.zone w t m (got ++ p ∷ []) n | None ↦ refill_end got o ] ≡ next o w t m got n r) [
-      | Some p ↦ refl
-      | None ↦ refl
-    ]
+-- what follows the next request of a refill, when it is answered so
+abbrev next : Outcome → ℕ → MigrateType → Mark → List ℕ → ℕ → Reply → Outcome
+next o w t m got n r = elim (page_of r) as (λ x. Outcome) [ Some p ↦ refill o.zone w t m (got ++ p ∷ []) n | None ↦ refill_end got o ]
 
 -- one request more, with so many left
 refill-more : (z : PlainZone) (w : ℕ) (t : MigrateType) (m : Mark) (got : List ℕ) (k n p : ℕ) → k ≡ suc n → Reply.Page p ≡ (alloc z w 0 t m).reply →
     refill z w t m got k ≡ refill (alloc z w 0 t m).zone w t m (got ++ p ∷ []) n
-refill-more z w t m got k n p s e =
-    ap (λ q. refill z w t m got q) s ∙ refill-next z w t m got n ∙ ap (λ (r : Reply). next (alloc z w 0 t m) w t m got n (page_of r)) (sym e)
+refill-more z w t m got k n p s e = rw s (ap (next (alloc z w 0 t m) w t m got n) (sym e))
 
 refill-stopped : (z : PlainZone) (w : ℕ) (t : MigrateType) (m : Mark) (got : List ℕ) (k n : ℕ) (r : Refused) → k ≡ suc n → Reply.Refused r ≡ (alloc z w 0 t m).reply →
     refill z w t m got k ≡ refill_end got (alloc z w 0 t m)
-refill-stopped z w t m got k n r s e =
-    ap (λ q. refill z w t m got q) s ∙ refill-next z w t m got n ∙ ap (λ (x : Reply). next (alloc z w 0 t m) w t m got n (page_of x)) (sym e)
+refill-stopped z w t m got k n r s e = rw s (ap (next (alloc z w 0 t m) w t m got n) (sym e))
 
 -- a refill that gets no page is answered as its first request
 pub none_got : (z : PlainZone) (w : ℕ) (t : MigrateType) (m : Mark) (count : ℕ) (r : Refused) → 1 ≤ count → Reply.Refused r ≡ (alloc z w 0 t m).reply →
@@ -54,22 +41,17 @@ none_got z w t m count r some e = refill-stopped z w t m [] count (count - 1) r 
 stands-to : (P : ℕ → Type 0) (p : ℕ) (xs : List ℕ) → All P xs → stands_in p xs ≡ true → P p
 stands-to P p [] a e = absurd (false≢true e)
 stands-to P p (x ∷ xs) a e =
-    elim (stands_cases p x xs e) [ inl same ↦ subst P (sym same) (All-head P x xs a) | inr later ↦ stands-to P p xs (All-tail P x xs a) later ]
+    elim (stands_cases p x xs e) [ inl same ↦ rw same (All-head P x xs a) | inr later ↦ stands-to P p xs (All-tail P x xs a) later ]
 
 fresh-apart : (z : PlainZone) (w p : ℕ) (pages : List ℕ) → AreOut z w pages → IsFresh z p → stands_in p pages ≡ false
 fresh-apart z w p pages a f = false_from_ne_true _ (λ e. both_ways _ (f w 0) (stands-to (λ q. is_out z w q 0 ≡ true) p pages a e))
-
-stands-push : (x p : ℕ) (xs : List ℕ) → stands_in x xs ≡ false → (x == p) ≡ false → stands_in x (xs ++ p ∷ []) ≡ false
-stands-push x p [] e n = or_from _ _ n refl
-stands-push x p (y ∷ ys) e n = let a = or_parts _ _ e in or_from _ _ a.0 (stands-push x p ys a.1 n)
 
 distinct-push : (p : ℕ) (xs : List ℕ) → is_distinct xs ≡ true → stands_in p xs ≡ false → is_distinct (xs ++ p ∷ []) ≡ true
 distinct-push p [] d s = refl
 distinct-push p (x ∷ xs) d s =
     let a = and_parts _ _ d in
     let b = or_parts _ _ s in
-    let other : (x == p) ≡ false = false_from_ne_true _ (λ e. both_ways (p == x) b.0 (eq-eqb p x (sym (eqb-true x p e)))) in
-    and_from _ _ (not_from_false _ (stands-push x p xs (not-true _ a.0) other)) (distinct-push p xs a.1 b.1)
+    and_from (not (stands_in x (xs ++ p ∷ []))) _ (rw (end_others x p xs (λ e. both_ways (p == x) b.0 (eq-eqb p x (sym e)))) a.0) (distinct-push p xs a.1 b.1)
 
 -- worker w got these pages of a refill of the zone `before`, which is z now
 pub record IsGot (before z : PlainZone) (w : ℕ) (t : MigrateType) (m : Mark) (count : ℕ) (pages : List ℕ) : Type 0 where
@@ -107,10 +89,8 @@ got_more before z y w t m count p pages x lt g =
     let left : count - length (pages ++ p ∷ []) ≡ count - length pages - 1 = omega arith in
     record {
       rest =
-          x.rest
-          ∙ refill-more z w t m pages (count - length pages) (count - length pages - 1) p (omega arith) g.reply
-          ∙ ap (λ q. refill q w t m (pages ++ p ∷ []) (count - length pages - 1)) (sym g.zone)
-          ∙ ap (λ q. refill y w t m (pages ++ p ∷ []) q) (sym left);
+          x.rest ∙ refill-more z w t m pages (count - length pages) (count - length pages - 1) p (omega arith) g.reply
+          ∙ (λ i. refill (sym g.zone i) w t m (pages ++ p ∷ []) (sym left i));
       some = omega arith;
       within = omega arith;
       out = All-push (λ q. is_out y w q 0 ≡ true) pages p (All-weaker (λ q. is_out z w q 0 ≡ true) (λ q. is_out y w q 0 ≡ true) (λ q e. g.kept w q 0 e) pages x.out) g.out;
@@ -136,18 +116,7 @@ got_stopped before z y w t m count r pages x lt e f =
     end [] o lt = absurd (omega arith)
     end (p ∷ ps) o lt = refl
 
--- what the code is given, with the worker and the order zero as it has them
-pub alloc_at : (z : PlainZone) (w v k : ℕ) (t : MigrateType) (m : Mark) → v ≡ w → k ≡ 0 → alloc z v k t m ≡ alloc z w 0 t m
-alloc_at z w v k t m e f = ap (λ n. alloc z n k t m) e ∙ ap (λ n. alloc z w n t m) f
-
-pub given : (z y : PlainZone) (w v u k p : ℕ) (t : MigrateType) (m : Mark) → v ≡ w → u ≡ w → k ≡ 0 → Reply.Page p ≡ (alloc z v k t m).reply → y ≡ (alloc z v k t m).zone →
-    is_out y u p k ≡ true → IsFresh z p → KeepsOut z y → IsGiven z y w t m p
-given z y w v u k p t m e f n r s o fresh kept =
-    let same : alloc z v k t m ≡ alloc z w 0 t m = alloc_at z w v k t m e n in
-    record {
-      reply = r ∙ ap (λ (x : Outcome). x.reply) same;
-      zone = s ∙ ap (λ (x : Outcome). x.zone) same;
-      out = ap (λ x. is_out y w p x) (sym n) ∙ ap (λ x. is_out y x p k) (sym f) ∙ o;
-      fresh = fresh;
-      kept = kept;
-    }
+-- what the code is given, with the order zero as it has it
+pub given : (z y : PlainZone) (w k p : ℕ) (t : MigrateType) (m : Mark) → k ≡ 0 → Reply.Page p ≡ (alloc z w k t m).reply → y ≡ (alloc z w k t m).zone →
+    is_out y w p k ≡ true → IsFresh z p → KeepsOut z y → IsGiven z y w t m p
+given z y w k p t m n r s o fresh kept = record { reply = rw n at r; zone = rw n at s; out = rw n at o; fresh = fresh; kept = kept }

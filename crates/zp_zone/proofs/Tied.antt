@@ -1,9 +1,9 @@
 -- A request of a seat, in the books that the zone and its seats share: what is other workers' stays, what the seat gets is said by
 -- request and reply, and the seat tells of its blocks what the zone tells.
-use Rattle.std.proofs.Common.{ℕ, ◌≡◌, ◌≢◌, ◌<◌, ◌≤◌, Bool, [], ◌∷◌, refl, sym, ◌∙◌, ap, subst, true, List, All}
-use Rattle.std.specs.List.{list_all}
+use Rattle.std.proofs.Common.{ℕ, ◌≡◌, ◌≢◌, ◌<◌, ◌≤◌, refl, sym, ◌∙◌, ap, true, List, All}
 use Rattle.std.proofs.lemmas.Bool.{and_from, le-leb, lt-ltb}
-use Rattle.std.proofs.lemmas.List.Elements.{All-head, All-tail, All-weaker}
+use Rattle.std.proofs.lemmas.List.Sums.{list_all-from_AllPass}
+use Rattle.std.proofs.lemmas.List.Elements.{All-weaker}
 use Rattle.zp_model.specs.declared.constants.TheConstants.{MAX_BATCH}
 use Rattle.zp_model.specs.declared.mark.Mark.{Mark}
 use Rattle.zp_model.specs.declared.migrate_type.MigrateType.{MigrateType}
@@ -14,7 +14,7 @@ use Rattle.zp_model.specs.Zone.{PlainZone, workers_of}
 use Rattle.zp_model.specs.Step.{step}
 use Rattle.zp_model.specs.Run.{IsHistory, may_ask, is_out, is_distinct}
 use Rattle.zp_model.specs.Lawful.{IsLawful}
-use Rattle.zp_model.specs.Books.{Books, Part, part, has_block, entered, noted}
+use Rattle.zp_model.specs.Books.{Books, part, has_block, entered, noted}
 use Rattle.zp_laws.specs.KeptBooks.{IsSamePlaces}
 use Rattle.zp_laws.proofs.BooksOthers.{request_others}
 use Rattle.zp_laws.proofs.BooksOwn.{request_noted}
@@ -26,32 +26,15 @@ use Rattle.zp_tie.specs.Ties.{Kept}
 use Rattle.zp_zone.specs.NamedZone.{NamedZone, KeepsOut, KeepsOutBut, KeepsOutBeside, IsFresh, AreOut}
 use Rattle.zp_zone.specs.Seats.{SeatState, seated, replied, has, HasPages, IsNewTo, KeepsBlocks, KeepsBlocksBut, KeepsBlocksBeside}
 
--- the books are those of the zone, and each of its workers was dealt its part
-pub record IsTiedTo (n : NamedZone) (b : Books) (parts : ℕ) : Type 0 where
-  pub plain : b.plain ≡ n.plain
-  pub dealt : parts ≡ workers_of n.plain
-
-lawful_books : (n : NamedZone) (b : Books) (dealt : ℕ) → IsTiedTo n b dealt → IsLawful n.plain → IsLawful b.plain
-lawful_books n b dealt t l = let P : PlainZone → Type 0 = λ z. IsLawful z in subst P (sym t.plain) l
-
-within_books : (n : NamedZone) (b : Books) (dealt w : ℕ) → IsTiedTo n b dealt → w < dealt → w < workers_of b.plain
-within_books n b dealt w t lt = let P : ℕ → Type 0 = λ m. w < m in subst P (t.dealt ∙ sym (ap workers_of t.plain)) lt
-
-pub others_stay : (n : NamedZone) (b : Books) (dealt w : ℕ) (r : Request) → IsTiedTo n b dealt → IsLawful n.plain → w < dealt → may_ask b.plain w r ≡ true →
-    (u : ℕ) → u ≢ w → part u (entered w r b) ≡ part u b
-others_stay n b dealt w r t l lt e u ne = request_others u w r b (lawful_books n b dealt t l) (within_books n b dealt w t lt) e ne
-
-pub places_stay : (n : NamedZone) (b : Books) (dealt : ℕ) (s : SeatState) (r : Request) → IsTiedTo n b dealt → IsLawful n.plain → s.worker < dealt → s.part ≡ part s.worker b →
-    may_ask b.plain s.worker r ≡ true → IsSamePlaces s.part (part s.worker (entered s.worker r b))
-places_stay n b dealt s r t l lt a e =
-    let P : Part → Type 0 = λ x. IsSamePlaces x (part s.worker (entered s.worker r b)) in
-    subst P (sym a) (places_kept s.worker s.worker r b (lawful_books n b dealt t l) (within_books n b dealt s.worker t lt) e)
-
-history_entered : (n : NamedZone) (b : Books) (dealt w : ℕ) (r : Request) → IsTiedTo n b dealt → IsHistory n.plain b.entries → w < dealt → may_ask b.plain w r ≡ true →
-    IsHistory (entered w r b).plain (entered w r b).entries
-history_entered n b dealt w r t h lt e =
-    let P : PlainZone → Type 0 = λ z. IsHistory z b.entries in
-    history_more b.plain b.entries w r (subst P (sym t.plain) h) (within_books n b dealt w t lt, e)
+-- a seat's request that may be made leaves what is other workers', and the places of the seat's part
+pub entering : (n : NamedZone) (b : Books) (dealt : ℕ) (s : SeatState) (r : Request) → b.plain ≡ n.plain → dealt ≡ workers_of n.plain → IsLawful n.plain →
+    (s.part ≡ part s.worker b → may_ask b.plain s.worker r ≡ true) →
+    (s.worker < dealt → s.part ≡ part s.worker b → (u : ℕ) → u ≢ s.worker → part u (entered s.worker r b) ≡ part u b)
+    × (s.worker < dealt → s.part ≡ part s.worker b → IsSamePlaces s.part (part s.worker (entered s.worker r b)))
+entering n b dealt s r p d l may = (
+  λ lt agree u ne. request_others u s.worker r b (rw p l) (rw (p, ← d) lt) (may agree) ne,
+  λ lt agree. rw agree (places_kept s.worker s.worker r b (rw p l) (rw (p, ← d) lt) (may agree)),
+)
 
 -- the books stay those of the zone, and their entries its history, when the request is entered and the zone makes its step
 pub tied_after : (k j : Kept Books) (n m : NamedZone) (w v : ℕ) (r : Request) → k.whole.plain ≡ n.plain → k.dealt ≡ workers_of n.plain → IsHistory n.plain k.whole.entries →
@@ -60,11 +43,10 @@ pub tied_after : (k j : Kept Books) (n m : NamedZone) (w v : ℕ) (r : Request) 
     (j.whole.plain ≡ m.plain) × (j.dealt ≡ workers_of m.plain) × IsHistory m.plain j.whole.entries
 tied_after k j n m w v r p d h lt may e f g =
     let left : (step k.whole.plain w r).zone ≡ m.plain = (λ i. (step (p i) (sym e i) r).zone) ∙ sym (ap (λ (x : NamedZone). x.plain) g) in
-    let P : Kept Books → Type 0 = λ x. IsHistory m.plain x.whole.entries in
-    let Q : PlainZone → Type 0 = λ z. IsHistory z (entered w r k.whole).entries in (
+    let workers : k.dealt ≡ workers_of k.whole.plain = rw p d in (
       ap (λ (x : Kept Books). x.whole.plain) f ∙ left,
-      ap (λ (x : Kept Books). x.dealt) f ∙ d ∙ sym (ap workers_of p) ∙ sym (step-same k.whole.plain w r).workers ∙ ap workers_of left,
-      subst P (sym f) (subst Q left (history_entered n k.whole k.dealt w r (record { plain = p; dealt = d }) h lt may)),
+      ap (λ (x : Kept Books). x.dealt) f ∙ workers ∙ sym (step-same k.whole.plain w r).workers ∙ ap workers_of left,
+      rw (f, ← left) (history_more k.whole.plain k.whole.entries w r (rw p h) (rw (← workers) lt, may)),
     )
 
 -- the seat, when its request is answered so
@@ -102,21 +84,11 @@ blocks_stay_but page s t b d y z m k p j ne e = has_after s t b d y z p j m ∙ 
 pub blocks_stay_beside : (pages : List ℕ) (s t : SeatState) (b d : Books) (y z : PlainZone) → IsMoment s t b d y z → KeepsOutBeside pages y z → KeepsBlocksBeside pages s t
 blocks_stay_beside pages s t b d y z m k p j o e = has_after s t b d y z p j m ∙ k s.worker p j o (sym (has_before s t b d y z p j m) ∙ e)
 
-pub new_before : (s t : SeatState) (b d : Books) (y z : PlainZone) (p : ℕ) → IsMoment s t b d y z → IsFresh y p → IsNewTo s p
-new_before s t b d y z p m f k = has_before s t b d y z p k m ∙ f s.worker k
-
 pub new_after : (s t : SeatState) (b d : Books) (y z : PlainZone) (p : ℕ) → IsMoment s t b d y z → IsFresh z p → IsNewTo t p
 new_after s t b d y z p m f k = has_after s t b d y z p k m ∙ f s.worker k
 
-pub all_new_before : (s t : SeatState) (b d : Books) (y z : PlainZone) (ps : List ℕ) → IsMoment s t b d y z → All (IsFresh y) ps → All (IsNewTo s) ps
-all_new_before s t b d y z ps m a = All-weaker (IsFresh y) (IsNewTo s) (λ p f. new_before s t b d y z p m f) ps a
-
 pub all_new_after : (s t : SeatState) (b d : Books) (y z : PlainZone) (ps : List ℕ) → IsMoment s t b d y z → All (IsFresh z) ps → All (IsNewTo t) ps
 all_new_after s t b d y z ps m a = All-weaker (IsFresh z) (IsNewTo t) (λ p f. new_after s t b d y z p m f) ps a
-
-pub pages_after : (s t : SeatState) (b d : Books) (y z : PlainZone) (ps : List ℕ) → IsMoment s t b d y z → AreOut z s.worker ps → HasPages t ps
-pages_after s t b d y z ps m a =
-    All-weaker (λ p. is_out z s.worker p 0 ≡ true) (λ p. has t p 0 ≡ true) (λ p o. has_after s t b d y z p 0 m ∙ o) ps a
 
 pub pages_before : (s : SeatState) (b : Books) (y : PlainZone) (ps : List ℕ) → s.part ≡ part s.worker b → b.plain ≡ y → HasPages s ps → AreOut y s.worker ps
 pages_before s b y ps a e h =
@@ -126,12 +98,7 @@ pages_before s b y ps a e h =
 pub moment : (s t : SeatState) (b : Books) (n m : NamedZone) (v : ℕ) (r : Request) → b.plain ≡ n.plain → s.part ≡ part s.worker b → v ≡ s.worker →
     t ≡ seated s (entered s.worker r b) → m ≡ record n { plain = (step n.plain v r).zone } → IsMoment s t b (entered s.worker r b) n.plain m.plain
 moment s t b n m v r p a e h g =
-    record {
-      before = a;
-      after = h;
-      plain_before = p;
-      plain_after = (λ i. (step (p i) (sym e i) r).zone) ∙ sym (ap (λ (x : NamedZone). x.plain) g);
-    }
+    record { before = a; after = h; plain_before = p; plain_after = (λ i. (step (p i) (sym e i) r).zone) ∙ sym (ap (λ (x : NamedZone). x.plain) g) }
 
 -- which requests a seat may make, by what it has
 pub may_free : (s : SeatState) (b : Books) (p k : ℕ) → s.part ≡ part s.worker b → has s p k ≡ true → may_ask b.plain s.worker (Free p k) ≡ true
@@ -140,15 +107,10 @@ may_free s b p k a h = sym (has_out s b p k a) ∙ h
 pub may_post : (s : SeatState) (b : Books) (y : PlainZone) (p k to : ℕ) → s.part ≡ part s.worker b → b.plain ≡ y → has s p k ≡ true → to < workers_of y →
     may_ask b.plain s.worker (Post p k to) ≡ true
 may_post s b y p k to a e h lt =
-    let P : PlainZone → Type 0 = λ z. to < workers_of z in
-    and_from _ _ (may_free s b p k a h) (lt-ltb to (workers_of b.plain) (subst P (sym e) lt))
+    and_from _ _ (may_free s b p k a h) (lt-ltb to (workers_of b.plain) (rw e lt))
 
 pub may_refill : (z : PlainZone) (w n : ℕ) (t : MigrateType) (m : Mark) → 1 ≤ n → n ≤ MAX_BATCH → may_ask z w (Refill t m n) ≡ true
 may_refill z w n t m some most = and_from _ _ (le-leb 1 n some) (le-leb n MAX_BATCH most)
 
-all_pass : (f : ℕ → Bool) (ps : List ℕ) → All (λ p. f p ≡ true) ps → list_all f ps ≡ true
-all_pass f [] a = refl
-all_pass f (p ∷ ps) a = and_from _ _ (All-head (λ q. f q ≡ true) p ps a) (all_pass f ps (All-tail (λ q. f q ≡ true) p ps a))
-
 pub may_drain : (s : SeatState) (b : Books) (t : MigrateType) (ps : List ℕ) → s.part ≡ part s.worker b → HasPages s ps → is_distinct ps ≡ true → may_ask b.plain s.worker (Drain t ps) ≡ true
-may_drain s b t ps a h d = and_from _ _ (all_pass (λ p. is_out b.plain s.worker p 0) ps (pages_before s b b.plain ps a refl h)) d
+may_drain s b t ps a h d = and_from _ _ (list_all-from_AllPass (λ p. is_out b.plain s.worker p 0) ps (pages_before s b b.plain ps a refl h)) d

@@ -1,5 +1,5 @@
-pub mod Streams
 pub mod NamedZone
 pub mod Making
 pub mod Kept
 pub mod Seats
+pub mod Asking

@@ -1,29 +1,27 @@
 //! A zone and its seats: its making, and what it tells.
 //!
 //! In Linux: `struct zone`.
-ghost use Rattle.std.specs.Prelude.{◌≡◌, ◌<◌, ◌≤◌, ◌+◌, ◌-◌, ℕ, All, [], length, IfOk, IfErr, IfSome, IsSome, OnOk, OnErr, ◌↔◌};
+ghost use Rattle.std.specs.Prelude.{◌≡◌, ◌<◌, ◌≤◌, ◌+◌, ◌-◌, ℕ, All, [], length, IfOk, IfErr, IfSome, IsSome, OnOk, ◌↔◌};
 ghost use Rattle.zp_model.specs.declared.constants.TheConstants.{LARGEST_ORDER};
 ghost use Rattle.zp_model.specs.Block.{size};
 ghost use Rattle.zp_model.specs.Zone.{zone_opening, pages_of, posted_pages, workers_of};
 ghost use Rattle.zp_model.specs.Mark.{level_of};
-ghost use Rattle.zp_model.specs.Info.{counts_of, info_line};
+ghost use Rattle.zp_model.specs.Info.{counts_of};
 ghost use Rattle.zp_model.specs.Run.{IsHistory, is_out};
 ghost use Rattle.zp_model.specs.Lawful.{IsLawful};
 ghost use Rattle.zp_model.specs.Naming.{IsName};
 ghost use Rattle.zp_zone.specs.NamedZone.{IsPageOf, IsToldOf};
 ghost use Rattle.zp_zone.specs.Seats.{IsSeatOf, IsUnused, Agrees, books, has, seats_of};
 ghost use Rattle.zp_zone.specs.Making.{wanted, IsGood, IsWhy};
-ghost use Rattle.zp_zone.specs.Streams.{IsWritten, IsBegun};
 
+mod asking;
 mod batches;
 mod requests;
 
 use crate::books::{Books, Opens, Part, Parts};
 use crate::config::ZoneConfig;
-use crate::info::write_counts;
 use crate::page::ZonePage;
 use crate::seat::{Seat, seats};
-use crate::streams::{WriteFault, Writer};
 use crate::untied_zone::UntiedZone;
 use std::alloc::Global;
 use std::marker::Model;
@@ -151,15 +149,5 @@ impl Zone {
         ensures within { size self.now.plain.area.free + result ≤ pages_of self.now.plain }
     {
         self.untied.posted_pages()
-    }
-
-    /// Writes the zone's info line.
-    pub fn write_info<W: Writer>(&self, writer: &mut W) -> Result<(), WriteFault>
-        ensures ok { OnOk result (IsWritten (W.contents writer.old) (W.contents writer.new) (info_line self.now.name (counts_of self.now.plain.area.largest self.now.plain.area.free))) }
-        ensures calm { OnOk result (W.failures writer.new ≡ W.failures writer.old) }
-        ensures err { OnErr result (IsBegun (W.contents writer.old) (W.contents writer.new) (info_line self.now.name (counts_of self.now.plain.area.largest self.now.plain.area.free))) }
-        ensures failed { OnErr result (W.failures writer.old < W.failures writer.new) }
-    {
-        write_counts(writer, self.untied.name(), &self.untied.counts())
     }
 }

@@ -9,7 +9,8 @@ use arrayvec::ArrayVec;
 use std::process::Abort;
 use std::test::*;
 use zp_model::{Counts, Level, Mark, MigrateType, Order, Refused};
-use zp_zone::{Seat, WriteFault, Writer, Zone, ZoneConfig, write_counts};
+use zp_text::{WriteFault, Writer, write_counts};
+use zp_zone::{Seat, Zone, ZoneConfig};
 
 fn config(name: &str, base: u32, pages: u32, min: u32) -> ZoneConfig<'_> {
     ZoneConfig {

@@ -11,29 +11,29 @@ const RECLAIMABLE: MigrateType = MigrateType::Reclaimable;
 
 const MOVABLE: MigrateType = MigrateType::Movable;
 
-const NOT_LENT: Said = Said::Refused(Refused::NotLent);
+const NOT_LENT: Replied = Replied::Refused(Refused::NotLent);
 
 /// A single page for this type.
 fn takes(kind: MigrateType, page: u32) -> Told {
-    (Step::Alloc(0, kind, Mark::Low), Said::Page(page))
+    (Step::Alloc(0, kind, Mark::Low), Replied::Page(page))
 }
 
 /// The same, held to the least mark.
-fn takes_at_min(said: Said) -> Told {
+fn takes_at_min(said: Replied) -> Told {
     (Step::Alloc(0, MOVABLE, Mark::Min), said)
 }
 
 fn gives(page: u32) -> Told {
-    (Step::Free(page, 0), Said::Done)
+    (Step::Free(page, 0), Replied::Done)
 }
 
 fn puts(page: u32) -> Told {
-    (Step::Put(page), Said::Done)
+    (Step::Put(page), Replied::Done)
 }
 
 /// What is left: free pages, those on the list for Movable, and the sections made.
 fn leaves(free: u32, cached: usize, sections: u64) -> Told {
-    (Step::Look, Said::Left(free, [0, 0, cached], sections))
+    (Step::Look, Replied::Left(free, [0, 0, cached], sections))
 }
 
 /// The first page of an empty list brings three others with it; a page given back comes again, and cannot be given back twice.
@@ -66,7 +66,7 @@ fn a_full_list_gives_back_a_batch(rt: HostRuntime) -> Result<(), Fail> {
         leaves(4092, 2, 3),
         takes(MOVABLE, 3074),
         leaves(4092, 1, 3),
-        (Step::DrainAll, Said::Drained(1)),
+        (Step::DrainAll, Replied::Drained(1)),
         leaves(4093, 0, 4),
     ];
     expect(&rt, (4096, 0), (4, 6), &steps)
@@ -76,12 +76,12 @@ fn a_full_list_gives_back_a_batch(rt: HostRuntime) -> Result<(), Fail> {
 #[test]
 fn a_refill_that_is_stopped_gives_what_it_got(rt: HostRuntime) -> Result<(), Fail> {
     let steps = [
-        (Step::Alloc(2, MOVABLE, Mark::Any), Said::Page(0)),
-        takes_at_min(Said::Page(4)),
+        (Step::Alloc(2, MOVABLE, Mark::Any), Replied::Page(0)),
+        takes_at_min(Replied::Page(4)),
         leaves(2, 1, 2),
-        takes_at_min(Said::Page(5)),
+        takes_at_min(Replied::Page(5)),
         leaves(2, 0, 2),
-        takes_at_min(Said::Refused(Refused::BelowMark)),
+        takes_at_min(Replied::Refused(Refused::BelowMark)),
         leaves(2, 0, 3),
     ];
     expect(&rt, (8, 2), (4, 6), &steps)
@@ -91,10 +91,10 @@ fn a_refill_that_is_stopped_gives_what_it_got(rt: HostRuntime) -> Result<(), Fai
 #[test]
 fn a_refill_that_gets_one_page_leaves_an_empty_list(rt: HostRuntime) -> Result<(), Fail> {
     let steps = [
-        (Step::Alloc(2, MOVABLE, Mark::Any), Said::Page(0)),
-        takes_at_min(Said::Page(4)),
+        (Step::Alloc(2, MOVABLE, Mark::Any), Replied::Page(0)),
+        takes_at_min(Replied::Page(4)),
         leaves(3, 0, 2),
-        takes_at_min(Said::Refused(Refused::BelowMark)),
+        takes_at_min(Replied::Refused(Refused::BelowMark)),
         leaves(3, 0, 3),
     ];
     expect(&rt, (8, 3), (4, 6), &steps)
@@ -103,9 +103,9 @@ fn a_refill_that_gets_one_page_leaves_an_empty_list(rt: HostRuntime) -> Result<(
 /// At no mark the pages of the zone end the refill, and the next one finds no block. What is on the list is held to no mark.
 #[test]
 fn a_refill_takes_the_last_pages_of_a_zone(rt: HostRuntime) -> Result<(), Fail> {
-    let none = Said::Refused(Refused::NoBlock);
+    let none = Replied::Refused(Refused::NoBlock);
     let steps = [
-        (Step::Alloc(0, MOVABLE, Mark::Any), Said::Page(2)),
+        (Step::Alloc(0, MOVABLE, Mark::Any), Replied::Page(2)),
         leaves(0, 2, 1),
         takes(MOVABLE, 0),
         takes(MOVABLE, 1),
@@ -128,7 +128,7 @@ fn a_list_full_before_and_after_gives_back_twice(rt: HostRuntime) -> Result<(), 
         puts(3073),
         puts(3074),
         puts(3075),
-        (Step::Put(3076), Said::Refused(Refused::ListFull)),
+        (Step::Put(3076), Replied::Refused(Refused::ListFull)),
         leaves(4091, 4, 5),
         gives(3076),
         leaves(4093, 3, 7),
@@ -156,7 +156,7 @@ fn the_longest_list_gives_back_the_largest_batch(rt: HostRuntime) -> Result<(), 
         gives(3107),
         leaves(4034, 33, 4),
         takes(MOVABLE, 3107),
-        (Step::DrainAll, Said::Drained(32)),
+        (Step::DrainAll, Replied::Drained(32)),
         leaves(4066, 0, 5),
     ] {
         steps.push(step)?;
@@ -186,7 +186,7 @@ fn a_list_takes_lent_pages_up_to_its_room(rt: HostRuntime) -> Result<(), Fail> {
     let steps = [
         takes(RECLAIMABLE, 0),
         takes(RECLAIMABLE, 1),
-        (Step::Alloc(1, RECLAIMABLE, Mark::Any), Said::Page(2)),
+        (Step::Alloc(1, RECLAIMABLE, Mark::Any), Replied::Page(2)),
         puts(0),
         (Step::Put(0), NOT_LENT),
         (Step::Free(0, 0), NOT_LENT),
@@ -194,10 +194,10 @@ fn a_list_takes_lent_pages_up_to_its_room(rt: HostRuntime) -> Result<(), Fail> {
         (Step::Put(2), NOT_LENT),
         (Step::Put(15), NOT_LENT),
         (Step::Put(16), NOT_LENT),
-        (Step::Look, Said::Left(12, [0, 2, 0], 3)),
-        (Step::Take(RECLAIMABLE), Said::Page(1)),
-        (Step::Take(RECLAIMABLE), Said::Page(0)),
-        (Step::Take(RECLAIMABLE), Said::Empty),
+        (Step::Look, Replied::Left(12, [0, 2, 0], 3)),
+        (Step::Take(RECLAIMABLE), Replied::Page(1)),
+        (Step::Take(RECLAIMABLE), Replied::Page(0)),
+        (Step::Take(RECLAIMABLE), Replied::Empty),
     ];
     expect(&rt, (16, 0), (1, 2), &steps)
 }
@@ -207,7 +207,7 @@ fn a_list_takes_lent_pages_up_to_its_room(rt: HostRuntime) -> Result<(), Fail> {
 fn no_lists_have_no_room(rt: HostRuntime) -> Result<(), Fail> {
     let steps = [
         takes(MOVABLE, 0),
-        (Step::Put(0), Said::Refused(Refused::ListFull)),
+        (Step::Put(0), Replied::Refused(Refused::ListFull)),
         gives(0),
         leaves(16, 0, 2),
     ];
@@ -217,14 +217,14 @@ fn no_lists_have_no_room(rt: HostRuntime) -> Result<(), Fail> {
 /// The lowest block is lent, and given back with its order alone. A refused request is a section too.
 #[test]
 fn the_lowest_block_is_lent(rt: HostRuntime) -> Result<(), Fail> {
-    let below = Said::Refused(Refused::BelowMark);
+    let below = Replied::Refused(Refused::BelowMark);
     let steps = [
-        (Step::Low(2), Said::Page(0)),
+        (Step::Low(2), Replied::Page(0)),
         (Step::Free(0, 0), NOT_LENT),
-        (Step::Low(3), Said::Refused(Refused::NoBlock)),
+        (Step::Low(3), Replied::Refused(Refused::NoBlock)),
         (Step::Alloc(2, MOVABLE, Mark::Min), below),
         leaves(4, 0, 3),
-        (Step::Free(0, 2), Said::Done),
+        (Step::Free(0, 2), Replied::Done),
         (Step::Free(0, 2), NOT_LENT),
         leaves(8, 0, 4),
     ];
@@ -239,16 +239,16 @@ fn a_page_goes_to_the_list_of_the_type_it_was_lent_for(rt: HostRuntime) -> Resul
         takes(MOVABLE, 0),
         takes(UNMOVABLE, 512),
         gives(0),
-        (Step::Look, Said::Left(1022, [0, 0, 1], 2)),
+        (Step::Look, Replied::Left(1022, [0, 0, 1], 2)),
         takes(UNMOVABLE, 513),
-        (Step::Look, Said::Left(1021, [0, 0, 1], 3)),
+        (Step::Look, Replied::Left(1021, [0, 0, 1], 3)),
         gives(512),
-        (Step::Look, Said::Left(1021, [1, 0, 1], 3)),
+        (Step::Look, Replied::Left(1021, [1, 0, 1], 3)),
         takes(MOVABLE, 0),
-        (Step::Look, Said::Left(1021, [1, 0, 0], 3)),
+        (Step::Look, Replied::Left(1021, [1, 0, 0], 3)),
         takes(MOVABLE, 768),
         takes(UNMOVABLE, 512),
-        (Step::Look, Said::Left(1020, [0, 0, 0], 4)),
+        (Step::Look, Replied::Left(1020, [0, 0, 0], 4)),
     ];
     expect(&rt, (1024, 0), (1, 3), &steps)
 }
@@ -260,7 +260,7 @@ fn a_page_of_a_pageblock_claimed_back_keeps_its_list(rt: HostRuntime) -> Result<
         takes(UNMOVABLE, 0),
         takes(MOVABLE, 512),
         gives(0),
-        (Step::Look, Said::Left(1022, [1, 0, 0], 2)),
+        (Step::Look, Replied::Left(1022, [1, 0, 0], 2)),
         takes(MOVABLE, 513),
         takes(UNMOVABLE, 0),
         leaves(1021, 0, 3),

@@ -26,7 +26,7 @@ pub(super) enum Step {
 
 /// What is answered, in numbers.
 #[derive(Clone, Copy, PartialEq, Eq, Debug, Drop)]
-pub(super) enum Said {
+pub(super) enum Replied {
     Page(u32),
     Done,
     Empty,
@@ -37,7 +37,7 @@ pub(super) enum Said {
 }
 
 /// A step and its answer.
-pub(super) type Told = (Step, Said);
+pub(super) type Told = (Step, Replied);
 
 /// A row of one zone, and the share of its one worker.
 #[derive(Drop)]
@@ -68,49 +68,49 @@ fn hand_with(alloc: Global, pages: u32, min: u32, lists: ListConfig) -> Result<H
     })
 }
 
-fn allocated(hand: &mut Hand, order: Order, kind: MigrateType, mark: Mark) -> Said {
+fn allocated(hand: &mut Hand, order: Order, kind: MigrateType, mark: Mark) -> Replied {
     match alloc(&mut hand.share, &mut hand.zones, order, kind, 0, mark) {
-        Ok(lent) => Said::Page(lent.page.number()),
-        Err(refused) => Said::Refused(refused),
+        Ok(lent) => Replied::Page(lent.page.number()),
+        Err(refused) => Replied::Refused(refused),
     }
 }
 
-fn lowest(hand: &mut Hand, order: Order) -> Said {
+fn lowest(hand: &mut Hand, order: Order) -> Replied {
     match hand.zones.alloc_low(&mut hand.share, 0, order) {
-        Ok(block) => Said::Page(block.page.number()),
-        Err(refused) => Said::Refused(refused),
+        Ok(block) => Replied::Page(block.page.number()),
+        Err(refused) => Replied::Refused(refused),
     }
 }
 
-fn freed(hand: &mut Hand, page: PageNo, order: Order) -> Said {
+fn freed(hand: &mut Hand, page: PageNo, order: Order) -> Replied {
     match free(&mut hand.share, &mut hand.zones, 0, page, order) {
-        Ok(()) => Said::Done,
-        Err(refused) => Said::Refused(refused),
+        Ok(()) => Replied::Done,
+        Err(refused) => Replied::Refused(refused),
     }
 }
 
-fn put(hand: &mut Hand, page: PageNo) -> Said {
+fn put(hand: &mut Hand, page: PageNo) -> Replied {
     match hand.share.put_cached(0, page) {
-        Ok(()) => Said::Done,
-        Err(refused) => Said::Refused(refused),
+        Ok(()) => Replied::Done,
+        Err(refused) => Replied::Refused(refused),
     }
 }
 
-fn taken(hand: &mut Hand, kind: MigrateType) -> Said {
+fn taken(hand: &mut Hand, kind: MigrateType) -> Replied {
     match hand.share.take_cached(0, kind) {
-        Some(page) => Said::Page(page.number()),
-        None => Said::Empty,
+        Some(page) => Replied::Page(page.number()),
+        None => Replied::Empty,
     }
 }
 
-fn drained(hand: &mut Hand) -> Said {
+fn drained(hand: &mut Hand) -> Replied {
     match drain_all(&mut hand.share, &mut hand.zones) {
-        Ok(pages) => Said::Drained(pages),
-        Err(refused) => Said::Refused(refused),
+        Ok(pages) => Replied::Drained(pages),
+        Err(refused) => Replied::Refused(refused),
     }
 }
 
-fn left(hand: &Hand) -> Said {
+fn left(hand: &Hand) -> Replied {
     let share = &hand.share;
     let cached = [
         share.cached_len(0, MigrateType::Unmovable),
@@ -118,13 +118,13 @@ fn left(hand: &Hand) -> Said {
         share.cached_len(0, MigrateType::Movable),
     ];
     match hand.zones.as_slice().first() {
-        Some(zone) => Said::Left(zone.counts().free, cached, share.sections(0)),
-        None => Said::Empty,
+        Some(zone) => Replied::Left(zone.counts().free, cached, share.sections(0)),
+        None => Replied::Empty,
     }
 }
 
 /// The answer to a step, where there is such an order.
-fn carry_out(hand: &mut Hand, step: Step) -> Option<Said> {
+fn carry_out(hand: &mut Hand, step: Step) -> Option<Replied> {
     let said = match step {
         Step::Alloc(order, kind, mark) => allocated(hand, Order::new(order)?, kind, mark),
         Step::Low(order) => lowest(hand, Order::new(order)?),

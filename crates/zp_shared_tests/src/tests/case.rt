@@ -8,8 +8,8 @@ use std::sync::Wait;
 use std::test::*;
 use std::thread::Threads;
 use std::time::Clock;
-use zp_desk::Reply;
 use zp_journal::Journal;
+use zp_office::CommandReply;
 use zp_zone::Zone;
 
 /// What a worker is told: the page of a block, with its order where it was collected; the number of a refusal; the free pages of the
@@ -32,18 +32,18 @@ pub(super) const FULL: Told = Refused(30);
 
 pub(super) const NOT_LENT: Told = Refused(20);
 
-fn in_short(reply: &Reply) -> Told {
+fn in_short(reply: &CommandReply) -> Told {
     match reply {
-        Reply::Page(page) => Page(page.number()),
-        Reply::Block(block) => Block(block.page.number(), block.order.number()),
-        Reply::Freed => Freed,
-        Reply::Posted => Posted,
-        Reply::Drained(pages) => Drained(*pages),
-        Reply::Info(row) => match (row.as_slice().first(), row.as_slice().last()) {
+        CommandReply::Page(page) => Page(page.number()),
+        CommandReply::Block(block) => Block(block.page.number(), block.order.number()),
+        CommandReply::Freed => Freed,
+        CommandReply::Posted => Posted,
+        CommandReply::Drained(pages) => Drained(*pages),
+        CommandReply::Info(row) => match (row.as_slice().first(), row.as_slice().last()) {
             (Some(first), Some(last)) => Free(first.free, last.free),
             _ => Free(0, 0),
         },
-        Reply::Refused(refused) => Refused(refused.number()),
+        CommandReply::Refused(refused) => Refused(refused.number()),
     }
 }
 
@@ -77,7 +77,7 @@ pub(super) fn expect_case<R: Abort + Clock + Sync + Threads + Wait>(
     }
 }
 
-fn expect_replies(rt: &impl Abort, replies: &[Reply], expected: &[Told]) {
+fn expect_replies(rt: &impl Abort, replies: &[CommandReply], expected: &[Told]) {
     assert_eq!(rt; replies.len(), expected.len());
     for (place, (reply, expected)) in replies.iter().zip(expected).enumerate() {
         assert_eq!(rt; in_short(reply), *expected, "command {place}");

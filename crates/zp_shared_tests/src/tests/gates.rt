@@ -3,8 +3,8 @@
 use super::rows::opened_trace;
 use std::cell::Cell;
 use std::test::*;
-use zp_desk::{Gate, work};
 use zp_model::Worker;
+use zp_office::{Gate, work};
 use zp_share::PlainZones;
 
 /// Notes how often it was called, and whether a call came out of its place: before and after each command in turn, counted from 1.

@@ -4,8 +4,8 @@ use crossbeam_utils::atomic::AtomicCell;
 use std::sync::Wait;
 use std::time::{Clock, Duration};
 use std::{mem, thread};
-use zp_desk::Gate;
 use zp_model::Worker;
+use zp_office::Gate;
 use zp_shared::{Naming, SharedZone};
 
 #[derive(Clone, Copy, Drop)]

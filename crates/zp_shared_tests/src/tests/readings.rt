@@ -6,8 +6,8 @@ use super::plan::{AT_ONCE, Plan};
 use super::rows::run_trace;
 use std::alloc::Global;
 use std::test::*;
-use zp_desk::Reply;
 use zp_model::Counts;
+use zp_office::CommandReply;
 
 /// A reader reads before and after a section of its worker; the other's first reading comes after that. The section is of one zone,
 /// whose board alone has new counts.
@@ -74,10 +74,10 @@ fn counts_with(rest: u32) -> Counts {
 }
 
 /// Whether each reading is of counts that the zone had, with no more free pages than the reading before it.
-fn are_in_order(readings: &[Reply]) -> bool {
+fn are_in_order(readings: &[CommandReply]) -> bool {
     let mut rest = 1024;
     for reading in readings {
-        let Reply::Info(row) = reading else {
+        let CommandReply::Info(row) = reading else {
             return false;
         };
         let Some(counts) = row.as_slice().first() else {

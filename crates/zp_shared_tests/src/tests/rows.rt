@@ -4,9 +4,9 @@ ghost use Rattle.std.specs.List.{AllZip};
 ghost use Rattle.zp_journal.specs.declared.journal.TheConstants.{LONGEST_JOURNAL};
 ghost use Rattle.zp_zone.specs.Seats.{ZoneState};
 ghost use Rattle.zp_share.specs.Shares.{key_of};
-ghost use Rattle.zp_desk.specs.Desks.{IsReady};
+ghost use Rattle.zp_office.specs.Desks.{IsReady};
 ghost use Rattle.zp_shared.specs.Rows.{IsRowOf, opened_board, opened_key};
-ghost use Rattle.zp_shared.specs.Runs.{IsLentTo};
+ghost use Rattle.zp_office.specs.Runs.{IsLentTo};
 
 use super::plan::{Plan, Turns};
 use std::alloc::Global;
@@ -14,13 +14,11 @@ use std::marker::Brand;
 use std::sync::Wait;
 use std::thread::Threads;
 use std::time::Clock;
-use zp_crew::opened_desks;
-use zp_desk::Desk;
 use zp_journal::{Journal, LONGEST_JOURNAL};
 use zp_model::Refused;
+use zp_office::{Desk, opened_desks, run_workers};
 use zp_shared::{
-    BoardReader, Naming, OpenedZone, SharedZone, close_zones, open_zones, reader_rows, run_workers,
-    share_zones,
+    BoardReader, Naming, OpenedZone, SharedZone, close_zones, open_zones, reader_rows, share_zones,
 };
 use zp_trace::parse_trace;
 use zp_zone::Zone;

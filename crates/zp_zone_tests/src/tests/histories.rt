@@ -99,11 +99,7 @@ fn reply(said: Said<'_>) -> Option<Reply> {
 
 fn entry(asked: &Asked<'_>) -> Option<Entry> {
     let (worker, ask, said) = *asked;
-    Some(Entry {
-        worker: Worker::new(worker)?,
-        request: request(ask)?,
-        reply: reply(said)?,
-    })
+    Entry::new(Worker::new(worker)?, &request(ask)?, &reply(said)?)
 }
 
 /// The history as a journal.
@@ -114,7 +110,7 @@ fn journal_of(rt: &impl AllocGlobal, asked: &[Asked<'_>]) -> Result<Journal, Fai
         if journal.is_full() {
             return Err(Fail::from("the history is short"));
         }
-        journal.append(entry);
+        journal.append(&entry);
     }
     Ok(journal)
 }

@@ -1,6 +1,6 @@
 use Rattle.std.proofs.Common.{arith, sym, ◌∙◌}
 use Rattle.zp_model.specs.declared.migrate_type.MigrateType.TheVariants.{Unmovable}
-use Rattle.zp_buddy.proofs.FirstFound.{first_drop}
+use Rattle.zp_buddy.proofs.Choosing.{first_drop}
 use Rattle.zp_buddy.proofs.choice.half_free_of.Goals as goal
 
 pub returns-in-Some : goal.returns-in-Some

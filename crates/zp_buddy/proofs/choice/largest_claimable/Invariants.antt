@@ -1,5 +1,5 @@
 use Rattle.zp_model.specs.declared.constants.TheConstants.{LARGEST_ORDER}
-use Rattle.zp_buddy.proofs.Claimable.{IsLargestBelow}
+use Rattle.zp_buddy.proofs.Choosing.{IsLargestBelow}
 use Rattle.zp_buddy.proofs.choice.largest_claimable.Given as goal
 
 -- it is the largest one in the pageblocks so far

@@ -1,14 +1,13 @@
-use Rattle.std.proofs.Common.{◌-◌, ◌≡◌}
+use Rattle.std.proofs.Common.{◌-◌}
 use Rattle.zp_model.specs.declared.constants.TheConstants.{LARGEST_ORDER}
 use Rattle.zp_area.specs.Given.{IsClearRun}
-use Rattle.zp_buddy.proofs.Joining.{IsJoining}
+use Rattle.zp_buddy.proofs.JoinBlocks.{IsJoining}
 use Rattle.zp_buddy.proofs.join.join.Given as goal
 
 -- the block that came back has grown to the one of order `joined` at `head`
 abbrev pub invariant-joins : goal.invariant-joins
 invariant-joins l = record {
-  joining : IsJoining LARGEST_ORDER l.fn.at l.fn.order l.head l.joined l.initial.area.rows.states l.area.rows.states l.initial.area.rows.lists l.area.rows.lists;
-  kinds : l.area.kinds ≡ l.initial.area.kinds;
+  joining : IsJoining LARGEST_ORDER l.fn.at l.fn.order l.head l.joined l.initial.area l.area;
   clear : IsClearRun LARGEST_ORDER l.area.rows.states l.area.rows.lists l.head l.joined;
 }
 

@@ -2,7 +2,8 @@ use Rattle.std.proofs.Common.{ℕ, ◌≡◌, length, sym, ◌∙◌, ap, subst,
 use Rattle.zp_model.specs.declared.constants.TheConstants.{LARGEST_ORDER}
 use Rattle.zp_model.specs.Block.{IsBlock}
 use Rattle.zp_area.specs.Blocks.{Blocks}
-use Rattle.zp_buddy.proofs.SplitBlocks.{starts_block, taken_block}
+use Rattle.zp_buddy.proofs.SplitBlocks.{taken_block}
+use Rattle.zp_buddy.proofs.Settled.{starts_block}
 use Rattle.zp_buddy.proofs.split.take_block.Goals as goal
 
 pub split-requires-clause-block : goal.split-requires-clause-block

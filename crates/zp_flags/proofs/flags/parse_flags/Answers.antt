@@ -2,8 +2,7 @@ use Rattle.std.proofs.Common.{◌≡◌, ◌≢◌, ◌∙◌, ap, ap₂, [], co
 use Rattle.std.proofs.lemmas.List.Elements.{All-map}
 use Rattle.clap.specs.declared.error.ErrorKind.TheVariants.{OutOfMemory}
 use Rattle.clap.specs.Words.{App, IsAmong, app_of, kind_of, rule_of, with_rule, new_app, fault_of, is_simple, is_simple_and_free, count_of, matches_of}
-use Rattle.zp_flags.proofs.OneWord.{command, rule, Serial, Journal, command_simple, command_free, set_up}
-use Rattle.zp_flags.proofs.CommandLine.{good_flags, bad_flags}
+use Rattle.zp_flags.proofs.CommandLine.{command, rule, Serial, Journal, command_simple, command_free, set_up, good_flags, bad_flags}
 use Rattle.zp_flags.proofs.flags.parse_flags.Given.{Over}
 use Rattle.zp_flags.proofs.flags.parse_flags.Goals as goal
 use Rattle.zp_flags.proofs.flags.parse_flags.Goals.{After-try_get_matches_from}

@@ -5,7 +5,8 @@ use Rattle.zp_model.specs.Zone.{PlainZone, workers_of, zone_opening}
 use Rattle.zp_zone.specs.Seats.{ZoneState}
 use Rattle.zp_journal.specs.Asking.{AreSeatsOf}
 use Rattle.zp_journal.proofs.Repeating.{seats_made}
-use Rattle.zp_journal.proofs.Replayed.{replayed_more, first_illegal, written_back}
+use Rattle.zp_journal.proofs.Replayed.{replayed_more, first_illegal}
+use Rattle.zp_model.proofs.RowLists.{written_back}
 use Rattle.zp_journal.proofs.replay.replay_journal.Goals as goal
 
 pub loop-number-init : goal.loop-number-init

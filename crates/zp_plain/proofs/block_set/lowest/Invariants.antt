@@ -2,7 +2,7 @@ use Rattle.std.proofs.Common.{◌≡◌, ◌-◌, length}
 use Rattle.std.specs.List.{range_with_len}
 use Rattle.zp_model.specs.declared.constants.TheConstants.{LARGEST_ORDER}
 use Rattle.zp_model.specs.BlockSet.{first_of, lowest, max_blocks}
-use Rattle.zp_plain.proofs.Lowest.{look}
+use Rattle.zp_plain.proofs.Looking.{look}
 use Rattle.zp_plain.proofs.block_set.lowest.Given as goal
 
 -- the block is looked for from the page on

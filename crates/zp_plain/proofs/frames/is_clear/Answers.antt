@@ -1,8 +1,7 @@
-use Rattle.zp_plain.proofs.Clearing.{clear_by_pages, clear_pages}
 use Rattle.zp_plain.proofs.frames.is_clear.Goals as goal
 
 pub returns-then-is_block : goal.returns-then-is_block
 returns-then-is_block c = (
-  λ t. clear_by_pages _ _ _ _ _ (c.is_block.ensures.0 c.if-is_block.true) (c.is_clear_run.ensures.0 t),
-  λ x. c.is_clear_run.ensures.1 (clear_pages _ _ _ _ _ x),
+  λ t. let x = c.is_clear_run.ensures.0 t in record { block = c.is_block.ensures.0 c.if-is_block.true; free = λ i lo hi. (x i lo hi).0; aside = λ r i lo hi. (x i lo hi).1 r },
+  λ x. c.is_clear_run.ensures.1 (λ i lo hi. (x.free i lo hi, λ r. x.aside r i lo hi)),
 )

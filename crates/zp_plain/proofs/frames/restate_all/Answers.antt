@@ -1,4 +1,4 @@
-use Rattle.std.proofs.Common.{◌≡◌, ◌≢◌, ◌<◌, length, arith, sym, ◌∙◌, ap, get_or, get_or-set_same, get_or-set_other, length-set, below_more, None}
+use Rattle.std.proofs.Common.{◌≡◌, length, arith, sym, ◌∙◌, ap, get_or, get_or-set_same, get_or-set_other, length-set, below_more, None}
 use Rattle.std.specs.List.{find}
 use Rattle.std.proofs.lemmas.List.{get_or_default}
 use Rattle.std.proofs.lemmas.List.FromFn.{fill_by_all}
@@ -8,30 +8,22 @@ use Rattle.zp_model.specs.Block.{is_max}
 use Rattle.zp_model.specs.BlockSet.{max_blocks, orders_from}
 use Rattle.zp_model.specs.Rows.{state_at}
 use Rattle.zp_model.specs.Frames.{restate, restated}
-use Rattle.zp_plain.proofs.Noted.{max_block}
+use Rattle.zp_plain.proofs.Looking.{max_block}
 use Rattle.zp_plain.proofs.frames.restate_all.Goals as goal
 
 pub pages-preserved : goal.pages-preserved
 pages-preserved c =
-    let n : length c.pages.notes.items ≡ length c.args.notes.now.items = c.pages.invariant.pages in
-    let lt : c.pages.i < length c.args.free.now = omega arith in
+    let n = c.pages.invariant.pages in
     let block : c.block_at.result ≡ get_or (max_blocks LARGEST_ORDER c.args.free.now) c.pages.i None =
-    c.block_at.ensures ∙ ap (λ h. find (is_max LARGEST_ORDER c.args.free.now h) (orders_from LARGEST_ORDER 0)) c.at.ensures ∙ sym (max_block LARGEST_ORDER c.args.free.now c.pages.i lt) in
+    c.block_at.ensures ∙ ap (λ h. find (is_max LARGEST_ORDER c.args.free.now h) (orders_from LARGEST_ORDER 0)) c.at.ensures ∙ sym (max_block LARGEST_ORDER c.args.free.now c.pages.i (omega arith)) in
     let note : c.index.result.now ≡ state_at c.args.notes.now.items c.pages.i =
     c.index.ensures ∙ get_or_default c.pages.notes.items c.pages.i _ Tail (omega arith) ∙ c.pages.invariant.left c.pages.i (omega arith) in
-    let new : c.restate.result ≡ restate (get_or (max_blocks LARGEST_ORDER c.args.free.now) c.pages.i None) (state_at c.args.notes.now.items c.pages.i) =
-    c.restate.ensures ∙ ap (λ o. restate o c.index.result.now) block ∙ ap (λ s. restate (get_or (max_blocks LARGEST_ORDER c.args.free.now) c.pages.i None) s) note in
     record {
       pages = length-set _ _ _ ∙ n;
       done =
-          below_more _ _
-          (λ q lt.
-          let ne : q ≢ c.pages.i = omega arith in
-          get_or-set_other c.pages.notes.items c.pages.i q c.restate.result Tail ne ∙ c.pages.invariant.done q lt)
-          (get_or-set_same c.pages.notes.items c.pages.i c.restate.result Tail (omega arith) ∙ new);
-      left = λ q le.
-          let ne : q ≢ c.pages.i = omega arith in
-          get_or-set_other c.pages.notes.items c.pages.i q c.restate.result Tail ne ∙ c.pages.invariant.left q (omega arith);
+          below_more _ _ (λ q lt. get_or-set_other c.pages.notes.items c.pages.i q c.restate.result Tail (omega arith) ∙ c.pages.invariant.done q lt)
+          (get_or-set_same c.pages.notes.items c.pages.i c.restate.result Tail (omega arith) ∙ rw (block, note) at c.restate.ensures);
+      left = λ q le. get_or-set_other c.pages.notes.items c.pages.i q c.restate.result Tail (omega arith) ∙ c.pages.invariant.left q (omega arith);
     }
 
 pub returns : goal.returns

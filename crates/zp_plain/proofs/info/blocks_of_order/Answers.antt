@@ -1,9 +1,9 @@
-use Rattle.std.proofs.Common.{ℕ, ◌≡◌, ◌≤◌, ◌+◌, ◌-◌, arith, sym, ◌∙◌, ap, Bool, List, length}
+use Rattle.std.proofs.Common.{ℕ, ◌≡◌, ◌-◌, arith, sym, ◌∙◌, ap, Bool, List, length}
 use Rattle.std.specs.List.{range_with_len, count_by}
 use Rattle.zp_model.specs.declared.constants.TheConstants.{LARGEST_ORDER}
 use Rattle.zp_model.specs.Block.{is_max}
 use Rattle.zp_model.specs.Info.{blocks_of_order}
-use Rattle.zp_plain.proofs.Counting.{count_hit, count_miss}
+use Rattle.zp_plain.proofs.Looking.{count_step, count_end}
 use Rattle.zp_plain.proofs.info.blocks_of_order.Goals as goal
 use Rattle.zp_plain.proofs.info.blocks_of_order.Goals.{then-is_max, else-is_max}
 
@@ -20,26 +20,15 @@ heads-init c = record {
 pub heads-preserved : goal.heads-preserved
 heads-preserved c =
     let p : ℕ → Bool = λ h. is_max LARGEST_ORDER c.args.set.now h c.args.order in
-    let e : ℕ = length c.args.set.now in
-    let same : p c.heads.i ≡ c.is_max.result = ap p (sym c.at.ensures) ∙ sym c.is_max.ensures in
-    let within : c.heads.blocks ≤ c.heads.i = c.heads.invariant.within in
-    let old : c.heads.blocks + count_by p (range_with_len c.heads.i (e - c.heads.i)) ≡ blocks_of_order LARGEST_ORDER c.args.set.now c.args.order = c.heads.invariant.counted in
+    let step = count_step p c.heads.i (length c.args.set.now) c.is_max.result (omega arith) (ap p (sym c.at.ensures) ∙ sym c.is_max.ensures) in
     elim c.if-is_max.branch [
       | then-is_max w ↦
-          let h = count_hit p c.heads.i e (omega arith) (same ∙ w.if-is_max.true) in
-          let n : c.if-is_max.blocks ≡ c.heads.blocks + 1 = w.blocks-is in
-          record { within = omega arith; counted = omega (arith, h, old, n) }
+          let h = rw w.if-is_max.true at step in
+          record { within = omega (arith, c.heads.invariant.within, w.blocks-is); counted = omega (arith, h, c.heads.invariant.counted, w.blocks-is) }
       | else-is_max w ↦
-          let h = count_miss p c.heads.i e (omega arith) (same ∙ w.if-is_max.false) in
-          let n : c.if-is_max.blocks ≡ c.heads.blocks = w.blocks-is in
-          record { within = omega arith; counted = omega (arith, h, old, n) }
+          let h = rw w.if-is_max.false at step in
+          record { within = omega (arith, c.heads.invariant.within, w.blocks-is); counted = omega (arith, h, c.heads.invariant.counted, w.blocks-is) }
     ]
 
 pub returns : goal.returns
-returns c =
-    let p : ℕ → Bool = λ h. is_max LARGEST_ORDER c.args.set.now h c.args.order in
-    let e : ℕ = length c.args.set.now in
-    let last : e - c.heads.i ≡ 0 = omega arith in
-    let old : c.heads.blocks + count_by p (range_with_len c.heads.i (e - c.heads.i)) ≡ blocks_of_order LARGEST_ORDER c.args.set.now c.args.order = c.heads.invariant.counted in
-    let none : count_by p (range_with_len c.heads.i (e - c.heads.i)) ≡ 0 = ap (λ n. count_by p (range_with_len c.heads.i n)) last in
-    omega (arith, old, none)
+returns c = omega (arith, c.heads.invariant.counted, count_end (λ h. is_max LARGEST_ORDER c.args.set.now h c.args.order) c.heads.i (length c.args.set.now) (omega arith))

@@ -1,7 +1,8 @@
 use Rattle.std.proofs.Common.{◌≡◌, ◌<◌, ◌+◌, ◌∙◌, ◌++◌, ◌∷◌, [], append_assoc, ap, sym, subst, length, take, get_or, length-append, arith}
 use Rattle.std.specs.List.{AllZip}
 use Rattle.zp_replay.specs.Judging.{IsJudged}
-use Rattle.zp_replay.proofs.Histories.{entries_judged, entries_more, judged_more}
+use Rattle.zp_replay.specs.Serving.{entries_judged}
+use Rattle.zp_replay.proofs.Histories.{entries_more, judged_more}
 use Rattle.zp_replay.proofs.journals.judge.Goals as goal
 
 pub loop-journal-preserved : goal.loop-journal-preserved

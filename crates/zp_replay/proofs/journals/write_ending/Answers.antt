@@ -1,9 +1,7 @@
 use Rattle.std.proofs.Common.{[], Bool, cond, ap, sym}
 use Rattle.std.specs.List.{flat_map}
-use Rattle.zp_zone.proofs.Written.{begun-then}
+use Rattle.zp_text.proofs.Written.{begun-then, begun-longer, begun-same, on_err}
 use Rattle.zp_replay.specs.Judging.{judged_text}
-use Rattle.zp_replay.proofs.Beginnings.{begun-longer, begun-same}
-use Rattle.zp_replay.proofs.Outputs.{on_err}
 use Rattle.zp_replay.proofs.journals.write_ending.Goals as goal
 
 pub returns-in_err-write_verdicts-clause-err : goal.returns-in_err-write_verdicts-clause-err

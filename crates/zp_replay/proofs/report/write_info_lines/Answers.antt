@@ -1,14 +1,11 @@
 use Rattle.std.proofs.Common.{◌<◌, ◌∙◌, get_or, length, ap, arith}
 use Rattle.std.specs.List.{flat_map, zip}
-use Rattle.std.proofs.lemmas.List.{take_all}
+use Rattle.std.proofs.lemmas.List.{take_all, length-map}
 use Rattle.std.proofs.lemmas.Slice.Zip.{length-zip}
-use Rattle.std.proofs.lemmas.List.{length-map}
 use Rattle.zp_model.specs.Info.{info_line}
 use Rattle.zp_zone.specs.Seats.{ZoneState}
-use Rattle.zp_zone.proofs.Written.{written-same}
-use Rattle.zp_replay.proofs.Beginnings.{begun-same}
+use Rattle.zp_text.proofs.Written.{written-same, begun-same, begun_item, on_err, written_item}
 use Rattle.zp_replay.proofs.Infos.{line_of, names, no_counts, pair_place, pair_there}
-use Rattle.zp_replay.proofs.Outputs.{on_err, begun_item, written_item}
 use Rattle.zp_replay.proofs.report.write_info_lines.Goals as goal
 
 pub returns-in_err-write_counts-clause-err : goal.returns-in_err-write_counts-clause-err

@@ -1,6 +1,6 @@
 use Rattle.std.proofs.Common.{◌≡◌, take}
 use Rattle.std.specs.List.{flat_map, zip}
-use Rattle.zp_zone.specs.Streams.{IsWritten}
+use Rattle.zp_text.specs.Streams.{IsWritten}
 use Rattle.zp_replay.proofs.Infos.{line_of, names}
 use Rattle.zp_replay.proofs.report.write_info_lines.Given as goal
 

@@ -1,7 +1,7 @@
 use Rattle.std.proofs.Common.{◌<◌, length, ◌∙◌, arith}
 use Rattle.zp_replay.specs.Replies.{info_of}
 use Rattle.zp_replay.proofs.Infos.{named_place, named_there}
-use Rattle.zp_replay.proofs.Outputs.{on_err, begun_item, written_item}
+use Rattle.zp_text.proofs.Written.{on_err, begun_item, written_item}
 use Rattle.zp_replay.proofs.report.write_infos.Goals as goal
 
 pub returns-in_err-write_info-clause-err : goal.returns-in_err-write_info-clause-err

@@ -1,6 +1,6 @@
 use Rattle.std.proofs.Common.{◌≡◌, map, take}
 use Rattle.std.specs.List.{flat_map}
-use Rattle.zp_zone.specs.Streams.{IsWritten}
+use Rattle.zp_text.specs.Streams.{IsWritten}
 use Rattle.zp_share.specs.Shares.{named_zone}
 use Rattle.zp_replay.specs.Replies.{info_of}
 use Rattle.zp_replay.proofs.report.write_infos.Given as goal

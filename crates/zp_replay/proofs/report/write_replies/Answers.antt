@@ -1,10 +1,9 @@
 use Rattle.std.proofs.Common.{◌≡◌, ◌<◌, ◌∙◌, length, refl, arith, rules}
 use Rattle.std.proofs.lemmas.List.{length-set}
-use Rattle.zp_crew.specs.Offices.{workers_in}
-use Rattle.zp_zone.proofs.Written.{written-same}
+use Rattle.zp_office.specs.Offices.{workers_in}
+use Rattle.zp_text.proofs.Written.{written-same, begun-same, begun_item, on_err, written_item}
 use Rattle.zp_replay.specs.Output.{turn_text}
-use Rattle.zp_replay.proofs.Beginnings.{begun-same}
-use Rattle.zp_replay.proofs.Outputs.{on_err, begun_item, written_item, number_here}
+use Rattle.zp_replay.proofs.Outputs.{number_here}
 use Rattle.zp_replay.proofs.Replying.{counted_more, none_counted, turn_is, turn-lt, turn_place, turns_end}
 use Rattle.zp_replay.proofs.report.write_replies.Goals as goal
 

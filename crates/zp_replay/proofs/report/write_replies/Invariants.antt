@@ -1,7 +1,7 @@
 use Rattle.std.proofs.Common.{◌≡◌, length, take}
 use Rattle.std.specs.List.{flat_map, range_with_len}
-use Rattle.zp_zone.specs.Streams.{IsWritten}
-use Rattle.zp_crew.specs.Offices.{workers_in}
+use Rattle.zp_text.specs.Streams.{IsWritten}
+use Rattle.zp_office.specs.Offices.{workers_in}
 use Rattle.zp_replay.specs.Output.{turn_text}
 use Rattle.zp_replay.proofs.Replying.{AreCounted}
 use Rattle.zp_replay.proofs.report.write_replies.Given as goal

@@ -1,7 +1,6 @@
 use Rattle.std.proofs.Common.{◌<◌, ◌≤◌, length, rules}
 use Rattle.std.proofs.lemmas.Result.{on_err_weaker, on_ok_weaker}
-use Rattle.zp_zone.proofs.Written.{written-same}
-use Rattle.zp_replay.proofs.Beginnings.{begun-same}
+use Rattle.zp_text.proofs.Written.{written-same, begun-same}
 use Rattle.zp_replay.proofs.Replying.{names_are, none_is, told_is}
 use Rattle.zp_replay.proofs.report.write_reply_at.Goals as goal
 

@@ -1,15 +1,18 @@
-use Rattle.std.proofs.Common.{◌≡◌, length, take}
+use Rattle.std.proofs.Common.{◌≡◌, length, take, map}
 use Rattle.std.specs.List.{flat_map, range_with_len}
-use Rattle.zp_zone.specs.Streams.{IsWritten}
+use Rattle.zp_text.specs.Streams.{IsWritten}
 use Rattle.zp_share.specs.Gathering.{gathered}
+use Rattle.zp_share.specs.Shares.{named_zone, plain}
+use Rattle.zp_office.specs.Crews.{crew_of}
 use Rattle.zp_replay.specs.Output.{total_of}
 use Rattle.zp_replay.proofs.report.write_total_lines.Given as goal
 
--- the crew is as it was and its totals are known; the lines of the zones so far were written, and no call failed
+-- zones and shares are as they were and the totals are known; the lines of the zones so far were written, and no call failed
 abbrev pub invariant-loop-number : goal.invariant-loop-number
 invariant-loop-number g l = record {
-  crew : l.crew ≡ l.fn.crew;
-  totals : l.totals.items ≡ gathered l.crew.zones l.crew.shares;
-  written : IsWritten (g.W.Writer.contents l.fn.writer) (g.W.Writer.contents l.writer) (flat_map (total_of l.fn.crew) (take l.number (range_with_len 0 (length l.fn.crew.zones))));
+  zones : l.zones ≡ l.fn.zones;
+  shares : l.shares ≡ l.fn.shares;
+  totals : l.totals.items ≡ gathered (map named_zone l.zones) (map plain l.shares);
+  written : IsWritten (g.W.Writer.contents l.fn.writer) (g.W.Writer.contents l.writer) (flat_map (total_of (crew_of l.fn.zones l.fn.shares)) (take l.number (range_with_len 0 (length (map named_zone l.fn.zones)))));
   calm : g.W.Writer.failures l.writer ≡ g.W.Writer.failures l.fn.writer;
 }

@@ -1,5 +1,5 @@
 use Rattle.std.proofs.Common.{◌∙◌, ap, length}
-use Rattle.zp_crew.specs.Offices.{OfficeState, workers_in}
+use Rattle.zp_office.specs.Offices.{OfficeState, workers_in}
 use Rattle.zp_replay.proofs.ServedOffices.{opened_length, order_length}
 use Rattle.zp_replay.proofs.serial.serve_in_order.Goals as goal
 

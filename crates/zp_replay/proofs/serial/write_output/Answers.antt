@@ -1,6 +1,5 @@
-use Rattle.zp_zone.proofs.Written.{written-same}
-use Rattle.zp_replay.proofs.Beginnings.{begun-same}
-use Rattle.zp_replay.proofs.Outputting.{output_is}
+use Rattle.zp_text.proofs.Written.{written-same, begun-same}
+use Rattle.zp_replay.proofs.Outputs.{output_is}
 use Rattle.zp_replay.proofs.serial.write_output.Goals as goal
 
 pub returns-in_err-write_report-clause-begun : goal.returns-in_err-write_report-clause-begun

@@ -1,20 +1,25 @@
-use Rattle.std.proofs.Common.{◌≡◌, ◌-◌, arith, rules}
+use Rattle.std.proofs.Common.{◌≡◌, ◌-◌, refl, ap, arith, rules, Ok, Err}
 use Rattle.zp_model.specs.declared.refused.Refused.TheVariants.{JournalFull}
+use Rattle.zp_share.specs.Commands.{goes_down}
 use Rattle.zp_share.specs.Shares.{world}
-use Rattle.zp_share.proofs.Lending.{down_ok, down_below, down_lowest, down_full, goes_on}
+use Rattle.zp_share.proofs.Lending.{stops, down_below, goes_on}
 use Rattle.zp_share.proofs.commands.+alloc.Goals as goal
 use Rattle.zp_share.proofs.commands.+alloc.Goals.{then-zone-eq0, else-zone-eq0}
 
 pub returns-in-Ok-clause-told : goal.returns-in-Ok-clause-told
-returns-in-Ok-clause-told g n c = λ rows e. down_ok _ _ _ _ _ _ _ _ (c.in-Ok.ensures.told rows e)
+returns-in-Ok-clause-told g n c =
+    λ rows e. stops c.args.order c.args.kind c.args.mark c.args.zone (world rows c.args.share.now) (Ok c.in-Ok.page) _ _ c.alloc_in.new.share (c.in-Ok.ensures.told rows e) (λ ne. refl) refl
 
 pub returns-in-Err-clause-told : goal.returns-in-Err-clause-told
 returns-in-Err-clause-told g n c =
     λ rows e.
+    stops c.args.order c.args.kind c.args.mark c.args.zone (world rows c.args.share.now) (Err c.in-Err.refused) _ _ c.alloc_in.new.share (c.in-Err.ensures.told rows e)
+    (λ ne.
     elim c.if-zone-eq0.branch [
-      | then-zone-eq0 w ↦ down_lowest c.args.order c.args.kind c.args.mark c.args.zone (world rows c.args.share.now) c.in-Err.refused _ c.alloc_in.new.share w.if-zone-eq0.true (c.in-Err.ensures.told rows e)
-      | else-zone-eq0 w ↦ (let full : c.in-Err.refused ≡ JournalFull = search rules in down_full c.args.order c.args.kind c.args.mark c.args.zone (world rows c.args.share.now) c.in-Err.refused _ c.alloc_in.new.share full (c.in-Err.ensures.told rows e))
-    ]
+      | then-zone-eq0 w ↦ absurd (ne w.if-zone-eq0.true)
+      | else-zone-eq0 w ↦ let full : c.in-Err.refused ≡ JournalFull = search rules in ap (λ r. goes_down (Err r)) full
+    ])
+    refl
 
 pub returns-in-Err-2-clause-told : goal.returns-in-Err-2-clause-told
 returns-in-Err-2-clause-told g n c =

@@ -1,8 +1,7 @@
 use Rattle.std.proofs.Common.{◌∙◌, subst, sym, ap, rules}
 use Rattle.zp_share.specs.Shares.{IsShareOf}
 use Rattle.zp_share.proofs.Carrying.{moved_fits}
-use Rattle.zp_share.proofs.Lending.{front_ok, from_list, from_refill}
-use Rattle.zp_share.proofs.LentBlocks.{filled_before, filled_now, taken_asked}
+use Rattle.zp_share.proofs.Lending.{front_ok, from_list, from_refill, filled_before, filled_now, taken_asked}
 use Rattle.zp_share.proofs.commands.alloc_in.Goals as goal
 use Rattle.zp_share.proofs.commands.alloc_in.Goals.{then-cached_len-eq0+in_ok-refill, else-cached_len-eq0}
 
@@ -21,7 +20,7 @@ returns-clause-told g c =
     elim c.if-cached_len-eq0.branch [
       | then-cached_len-eq0+in_ok-refill w ↦
           from_refill rows c.args.share.now c.take_cached.new.self c.if-cached_len-eq0.share w.refill.new.share c.args.zone c.args.order c.cached_len.result c.args.kind c.args.mark
-          w.in_ok-refill.field-0.items c.ok_or.result _ _
+          w.in_ok-refill.field-0 c.ok_or.result _ _
           (sym c.is_listed.ensures ∙ c.if-not-is_listed.false) c.cached_len.ensures.same w.if-cached_len-eq0.true (w.in_ok-refill.ensures.told rows e) (ap g.Z.Zones.told w.zones-is) w.share-is
           c.take_cached.ensures.others c.take_cached.ensures.after (front_ok _ c.take_cached.result c.ok_or.result c.ok_or.ensures.value c.take_cached.ensures.answer)
       | else-cached_len-eq0 w ↦
@@ -36,8 +35,8 @@ returns-clause-asked g c =
     (search rules)
     (elim c.if-cached_len-eq0.branch [
       | then-cached_len-eq0+in_ok-refill w ↦
-          filled_now c.args.share.now c.if-cached_len-eq0.share c.args.zone c.args.share.now.batch c.args.kind c.args.mark w.in_ok-refill.field-0.items c.requires.zone c.cached_len.ensures.share
-          (w.share-is ∙ w.in_ok-refill.ensures.share) w.in_ok-refill.ensures.fresh w.in_ok-refill.ensures.some
+          filled_now c.args.share.now c.if-cached_len-eq0.share c.args.zone c.args.share.now.batch c.args.kind c.args.mark w.in_ok-refill.field-0 c.requires.zone c.cached_len.ensures.share
+          (w.share-is ∙ w.in_ok-refill.ensures.share) w.in_ok-refill.ensures.reply.fresh w.in_ok-refill.ensures.reply.some
       | else-cached_len-eq0 w ↦ filled_before c.args.share.now c.if-cached_len-eq0.share c.args.zone c.cached_len.result c.args.kind w.share-is c.cached_len.ensures.same w.if-cached_len-eq0.false
     ])
     c.take_cached.ensures.share c.take_cached.ensures.others c.take_cached.ensures.after c.take_cached.ensures.answer c.ok_or.ensures.value

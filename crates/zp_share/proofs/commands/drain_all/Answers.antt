@@ -21,12 +21,6 @@ loop-zone-preserved g c =
       lists_then c.args.share.now c.loop-zone.share c.drain_zone.new.share x.7 c.drain_zone.ensures.lists,
     )
 
-pub returns-in_err-drained-clause-lent : goal.returns-in_err-drained-clause-lent
-returns-in_err-drained-clause-lent g c = same_lent_then c.args.share.now c.loop-zone.share c.drain_zone.new.share c.loop-zone.invariant.6 c.drain_zone.ensures.lent
-
-pub returns-in_err-drained-clause-lists : goal.returns-in_err-drained-clause-lists
-returns-in_err-drained-clause-lists g c = lists_then c.args.share.now c.loop-zone.share c.drain_zone.new.share c.loop-zone.invariant.7 c.drain_zone.ensures.lists
-
 pub returns-in_err-drained-clause-told : goal.returns-in_err-drained-clause-told
 returns-in_err-drained-clause-told g c =
     λ rows e.

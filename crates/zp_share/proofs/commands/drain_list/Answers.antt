@@ -1,5 +1,5 @@
 use Rattle.std.proofs.Common.{rules}
-use Rattle.zp_share.proofs.Draining.{same_lent_drained, drained_list}
+use Rattle.zp_share.proofs.DrainingAll.{same_lent_drained, drained_list}
 use Rattle.zp_share.proofs.commands.drain_list.Goals as goal
 
 pub returns-clause-lent : goal.returns-clause-lent

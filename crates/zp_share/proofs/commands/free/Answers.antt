@@ -1,13 +1,9 @@
 use Rattle.std.specs.Prelude.{IfErr}
-use Rattle.std.proofs.Common.{◌≡◌, ◌<◌, ◌∙◌, arith, length, sym, subst, Some, Ok, Err, true, rules}
-use Rattle.zp_share.specs.Commands.{free_in, is_listed}
-use Rattle.zp_share.specs.PlainShares.{lent_kind}
-use Rattle.zp_share.specs.ZoneShares.{cached_of, plain_share, use_in}
-use Rattle.std.proofs.lemmas.Bool.{and_parts, eqb-true}
-use Rattle.zp_share.specs.Shares.{IsDone, HasSameLent, share_at, plain, world}
+use Rattle.std.proofs.Common.{◌≡◌, ◌∙◌, sym, subst, Err, rules}
+use Rattle.zp_share.specs.Shares.{HasSameLent}
 use Rattle.zp_share.proofs.Carrying.{moved_fits}
 use Rattle.zp_share.proofs.DrainingAll.{same_lent_then}
-use Rattle.zp_share.proofs.Freeing.{put_room_ok, put_gone, freed, not_put, not_put_lent}
+use Rattle.zp_share.proofs.Freeing.{put_gone, freed, not_put_lent}
 use Rattle.zp_share.proofs.commands.free.Goals as goal
 
 pub drain_full-requires-2-clause-fits : goal.drain_full-requires-2-clause-fits
@@ -26,15 +22,6 @@ returns-clause-told g c =
     c.in_ok-put_cached.field-0 c.drain_full-2.result _ _ c.in-Some.ensures.kind (sym c.is_listed.ensures ∙ c.if-not-is_listed.false) (c.in_ok-drain_full.ensures.told rows e)
     c.in_ok-put_cached.ensures.answer c.put_cached.ensures.others c.put_cached.ensures.after c.drain_full-2.ensures.told
 
-pub returns-in_err-put_cached-clause-told : goal.returns-in_err-put_cached-clause-told
-returns-in_err-put_cached-clause-told g c =
-    λ rows e.
-    let is : c.from_residual-in_err-put_cached.result ≡ Err c.in_err-put_cached.field-0.0 = search rules in
-    subst (λ r. IsDone (free_in (world rows c.args.share.now) c.args.zone c.args.page c.args.order) r (g.Z.Zones.told c.drain_full.new.zones) c.put_cached.new.self) (sym is)
-    (not_put rows c.args.share.now c.drain_full.new.share c.put_cached.new.self c.args.zone c.args.page c.args.order c.in-Some.kind c.in_ok-drain_full.field-0 c.in_err-put_cached.field-0.0 _
-    c.in-Some.ensures.kind (sym c.is_listed.ensures ∙ c.if-not-is_listed.false) (c.in_ok-drain_full.ensures.told rows e)
-    c.in_err-put_cached.ensures.answer c.put_cached.ensures.others c.put_cached.ensures.after)
-
 pub returns-in_err-put_cached-clause-left : goal.returns-in_err-put_cached-clause-left
 returns-in_err-put_cached-clause-left g c =
     let is : c.from_residual-in_err-put_cached.result ≡ Err c.in_err-put_cached.field-0.0 = search rules in
@@ -43,15 +30,3 @@ returns-in_err-put_cached-clause-left g c =
     (not_put_lent c.drain_full.new.share c.put_cached.new.self c.args.zone c.args.page c.drain_full.new.share.high_len c.in_err-put_cached.field-0.0 (search rules) c.in_err-put_cached.ensures.answer
     c.put_cached.ensures.others c.put_cached.ensures.after) in
     subst (λ r. IfErr r (λ e. HasSameLent c.args.share.now c.put_cached.new.self)) (sym is) same
-
-pub returns-in_err-put_cached-clause-only : goal.returns-in_err-put_cached-clause-only
-returns-in_err-put_cached-clause-only g c =
-    let listed : is_listed (plain c.args.share.now) c.args.order ≡ true = sym c.is_listed.ensures ∙ c.if-not-is_listed.false in
-    let single : c.args.order ≡ 0 = eqb-true c.args.order 0 (and_parts _ _ listed).0 in
-    let room : length (cached_of (share_at c.drain_full.new.share c.args.zone) c.in-Some.kind) < c.drain_full.new.share.high_len =
-    omega (arith, c.in_ok-drain_full.ensures.room, c.drain_full.ensures.same.high_len) in
-    let kept : Some c.in-Some.kind ≡ lent_kind (use_in (share_at c.drain_full.new.share c.args.zone) c.args.page) c.args.order =
-    c.in-Some.ensures.kind ∙ sym (c.drain_full.ensures.kinds c.args.page c.args.order) in
-    let never : Err c.in_err-put_cached.field-0.0 ≡ Ok tt =
-    c.in_err-put_cached.ensures.answer ∙ put_room_ok (plain_share (share_at c.drain_full.new.share c.args.zone)) c.args.page c.args.order c.drain_full.new.share.high_len c.in-Some.kind kept single room in
-    absurd (cc)

@@ -1,23 +1,8 @@
-use Rattle.std.proofs.Common.{◌<◌, length, get_or, sym, ◌∙◌, ap, subst, set}
+use Rattle.std.proofs.Common.{get_or, ◌∙◌, ap, subst, set}
 use Rattle.std.proofs.lemmas.List.{set-get_or}
 use Rattle.std.proofs.lemmas.List.Elements.{All-more}
-use Rattle.zp_share.specs.Shares.{share_at}
 use Rattle.zp_share.specs.Gathering.{IsOneOf}
 use Rattle.zp_share.proofs.gathering.check_all.Goals as goal
-
-pub check-requires-clause-place : goal.check-requires-clause-place
-check-requires-clause-place c =
-    let i = c.loop-share.share-index in
-    let r = c.share-item.result in
-    subst (λ l. c.args.place < length (get_or l i r).zones) (sym c.loop-share.invariant.shares) (c.requires.place i r c.loop-share-test.true)
-
-pub check-requires-clause-seat : goal.check-requires-clause-seat
-check-requires-clause-seat c =
-    let i = c.loop-share.share-index in
-    let r = c.share-item.result in
-    ap (λ l. (share_at (get_or l i r) c.args.place).seat.tie) c.loop-share.invariant.shares
-    ∙ c.requires.fits i r c.loop-share-test.true
-    ∙ ap (λ z. z.tie) (sym c.loop-share.invariant.zone)
 
 pub loop-share-preserved : goal.loop-share-preserved
 loop-share-preserved c =

@@ -1,18 +1,12 @@
-use Rattle.std.proofs.Common.{ℕ, ◌≡◌, ◌<◌, All, length, map, get_or, set, sym, ◌∙◌, ap, subst, arith, below_more}
+use Rattle.std.proofs.Common.{ℕ, ◌≡◌, All, map, get_or, set, sym, ◌∙◌, ap, subst, below_more}
 use Rattle.std.proofs.lemmas.List.{set-get_or}
-use Rattle.std.proofs.lemmas.List.FromFn.{length-map-range_with_len}
 use Rattle.zp_zone.specs.Seats.{IsSeatOf}
 use Rattle.zp_share.specs.declared.gathering.Totals.{Totals}
 use Rattle.zp_share.specs.Commands.{zone_at}
 use Rattle.zp_share.specs.Shares.{ShareState, named_zone, plain, share_at}
 use Rattle.zp_share.specs.Gathering.{AddsUp, IsCrewOf, owns_at, totals_of}
-use Rattle.zp_share.proofs.Gathered.{all_placed, all_fitted, named-is, totals_more}
+use Rattle.zp_share.proofs.Gathered.{all_fitted, named-is, totals_more}
 use Rattle.zp_share.proofs.gathering.gather.Goals as goal
-
-pub gather_zone-requires-clause-place : goal.gather_zone-requires-clause-place
-gather_zone-requires-clause-place c =
-    let i = c.loop-place.place in
-    subst (λ l. All (λ (s : ShareState). i < length s.zones) l) (sym c.loop-place.invariant.shares) (all_placed c.args.zones.now c.args.shares.now i c.loop-place-test.true c.requires.fits)
 
 pub gather_zone-requires-clause-fits : goal.gather_zone-requires-clause-fits
 gather_zone-requires-clause-fits c =
@@ -28,11 +22,6 @@ gather_zone-requires-clause-crew c =
     let r = c.index-zones-place.result in
     subst (λ l. IsCrewOf l (get_or c.loop-place.zones i r)) (sym c.loop-place.invariant.shares)
     (subst (λ zs. IsCrewOf c.args.shares.now (get_or zs i r)) (sym c.loop-place.invariant.zones) (c.requires.crew i r c.loop-place-test.true))
-
-pub push-requires : goal.push-requires
-push-requires c =
-    let n : length c.loop-place.totals.items ≡ c.loop-place.place = ap length c.loop-place.invariant.totals ∙ length-map-range_with_len _ 0 c.loop-place.place in
-    (omega arith, omega (arith, n, c.loop-place-test.true, c.requires.few))
 
 pub loop-place-preserved : goal.loop-place-preserved
 loop-place-preserved c =

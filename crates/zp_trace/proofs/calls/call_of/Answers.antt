@@ -6,7 +6,7 @@ use Rattle.zp_trace.specs.declared.line.Call.TheVariants.{Info, Alloc, Low, Free
 use Rattle.zp_trace.specs.declared.trace.Header.{Header}
 use Rattle.zp_trace.specs.Spelling.{spelled, call_words}
 use Rattle.zp_trace.specs.Grammar.{IsCallOf}
-use Rattle.zp_trace.proofs.Places.{none_weaker}
+use Rattle.zp_trace.proofs.WordLists.{none_weaker}
 use Rattle.zp_trace.proofs.calls.call_of.Goals as goal
 
 -- words of none of the calls are of no call

@@ -4,20 +4,16 @@ use Rattle.zp_trace.specs.declared.line.Call.TheVariants.{Low}
 use Rattle.zp_trace.specs.declared.trace.Header.{Header}
 use Rattle.zp_trace.specs.Spelling.{spelled, call_words}
 use Rattle.zp_trace.specs.Grammar.{IsCallOf}
-use Rattle.zp_trace.proofs.Places.{at_none, word_at, four, nowhere}
+use Rattle.zp_trace.proofs.WordLists.{at_none, word_at, four, nowhere}
 use Rattle.zp_trace.proofs.calls.low_of.Goals as goal
 
 -- no low has these words
 abbrev NoLow : Header → List (List ℕ) → Type 0
-NoLow h words =
-    (label : List ℕ) (order : ℕ) (zone : List ℕ) → IsCallOf h (Low label order zone) → words ≡ call_words (Low label order zone) → ⊥
+NoLow h words = (label : List ℕ) (order : ℕ) (zone : List ℕ) → IsCallOf h (Low label order zone) → words ≡ call_words (Low label order zone) → ⊥
 
 pub returns-in_err-zone-clause-none : goal.returns-in_err-zone-clause-none
 returns-in_err-zone-clause-none c =
-    let none : NoLow c.args.header.now (spelled c.args.words.now) = λ label order zone is e.
-    c.in_err-zone.ensures.none zone is.2 (word_at c.args.words.now _ 3 (call_words (Low label order zone)) e (omega arith))
-    in
-    at_none _ none
+    at_none _ {P = NoLow c.args.header.now (spelled c.args.words.now)} (λ label order zone is e. c.in_err-zone.ensures.none zone is.2 (word_at c.args.words.now _ 3 (call_words (Low label order zone)) e (omega arith)))
 
 pub returns-clause-some : goal.returns-clause-some
 returns-clause-some c =

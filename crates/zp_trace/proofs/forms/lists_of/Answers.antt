@@ -2,7 +2,7 @@ use Rattle.std.proofs.Common.{ℕ, arith, subst}
 use Rattle.zp_trace.specs.Spelling.{lists_words}
 use Rattle.zp_model.specs.Bounds.{AreLists}
 use Rattle.zp_trace.proofs.Numbers.{same_number}
-use Rattle.zp_trace.proofs.Places.{word_at}
+use Rattle.zp_trace.proofs.WordLists.{word_at}
 use Rattle.zp_trace.proofs.forms.lists_of.Goals as goal
 
 pub returns-else-may_be_lists-clause-none : goal.returns-else-may_be_lists-clause-none

@@ -5,7 +5,7 @@ use Rattle.zp_model.specs.Naming.{IsName}
 use Rattle.zp_trace.specs.Spelling.{spelled, zone_words}
 use Rattle.zp_trace.specs.Grammar.{IsZoneLine}
 use Rattle.zp_trace.proofs.Numbers.{same_number}
-use Rattle.zp_trace.proofs.Places.{at_none, word_at, five, nowhere}
+use Rattle.zp_trace.proofs.WordLists.{at_none, word_at, five, nowhere}
 use Rattle.zp_trace.proofs.forms.zone_of.Goals as goal
 
 -- no zone line has these words
@@ -14,19 +14,14 @@ NoZone words = (z : ZoneLine) → IsZoneLine z → words ≡ zone_words z → �
 
 pub returns-in_err-pages-clause-none : goal.returns-in_err-pages-clause-none
 returns-in_err-pages-clause-none c =
-    let none : NoZone (spelled c.args.words.now) = λ z is e.
-    c.in_err-pages.ensures.none z.pages is.2 (word_at c.args.words.now _ 3 (zone_words z) e (omega arith))
-    in
-    at_none _ none
+    at_none _ {P = NoZone (spelled c.args.words.now)} (λ z is e. c.in_err-pages.ensures.none z.pages is.2 (word_at c.args.words.now _ 3 (zone_words z) e (omega arith)))
 
 pub returns-in_err-min-clause-none : goal.returns-in_err-min-clause-none
 returns-in_err-min-clause-none c =
-    let none : NoZone (spelled c.args.words.now) = λ z is e.
+    at_none _ {P = NoZone (spelled c.args.words.now)} (λ z is e.
     let pages_word = word_at c.args.words.now _ 3 (zone_words z) e (omega arith) in
     let pages = same_number (decimal z.pages) z.pages c.in_ok-pages.pages (omega (arith, is.2.1)) (omega (arith, c.in_ok-pages.ensures.some.0.1)) refl (sym pages_word ∙ c.in_ok-pages.ensures.some.1) in
-    c.in_err-min.ensures.none z.min (omega (arith, is.3, pages)) (word_at c.args.words.now _ 4 (zone_words z) e (omega arith))
-    in
-    at_none _ none
+    c.in_err-min.ensures.none z.min (omega (arith, is.3, pages)) (word_at c.args.words.now _ 4 (zone_words z) e (omega arith)))
 
 pub returns-clause-some : goal.returns-clause-some
 returns-clause-some c =

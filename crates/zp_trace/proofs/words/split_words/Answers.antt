@@ -2,7 +2,7 @@ use Rattle.std.proofs.Common.{List, ℕ, ◌++◌, ap, ◌∙◌, arith}
 use Rattle.std.proofs.lemmas.Bool.Decides.{nat_tests}
 use Rattle.std.specs.Borrow.{Bor}
 use Rattle.zp_trace.specs.Spelling.{spelled}
-use Rattle.zp_trace.proofs.Cutting.{cut, cut_more, cut_last, cut_full}
+use Rattle.zp_trace.proofs.WordLists.{cut, cut_more, cut_last, cut_full}
 use Rattle.zp_trace.proofs.words.split_words.Goals as goal
 
 pub returns-then-is_full-clause-none : goal.returns-then-is_full-clause-none

@@ -2,8 +2,6 @@ use Rattle.std.proofs.Common.{rules, ℕ, ◌≡◌, ◌+◌, ◌/◌, refl, ◌
 use Rattle.std.specs.Int.{div_ceil}
 use Rattle.zp_model.specs.declared.constants.TheConstants.{LARGEST_ORDER}
 use Rattle.zp_model.specs.declared.migrate_type.MigrateType.TheVariants.{Movable}
-use Rattle.zp_area.specs.Blocks.{no_blocks}
-use Rattle.zp_area.proofs.Keeping.{kept_by}
 use Rattle.zp_area.proofs.NoBlocks.{kept_empty, blank_area}
 use Rattle.zp_area.proofs.area.FreeArea.new.Goals as goal
 
@@ -14,12 +12,12 @@ pub invariant_of-result : goal.invariant_of-result
 invariant_of-result c =
     let e = c.div_ceil-pageblocks.ensures ∙ round_up c.args.pages in
     let k = c.in_ok-kinds.ensures.items_if_clones_equal (λ y e. search rules) ∙ ap (λ q. replicate q Movable) e in
-    kept_by LARGEST_ORDER _ (no_blocks LARGEST_ORDER c.args.pages c.args.side) _ _ _ _ _ _
-    (blank_area LARGEST_ORDER c.args.pages c.args.side _ _ _ _ c.in_ok-table.ensures.table refl c.in_ok-lists.ensures.lists k)
-    c.in_ok-tree.ensures.empty
-    refl
-    (c.in_ok-free_in.ensures.items_if_clones_equal (λ y e. search rules) ∙ ap (λ q. replicate q 0) e)
-    (kept_empty LARGEST_ORDER c.args.pages c.args.side 11 c.requires.pages c.requires.side)
+    rw (
+      blank_area LARGEST_ORDER c.args.pages c.args.side _ _ _ _ c.in_ok-table.ensures.table refl c.in_ok-lists.ensures.lists k,
+      c.in_ok-tree.ensures.empty,
+      c.in_ok-free_in.ensures.items_if_clones_equal (λ y e. search rules),
+      e,
+    ) (kept_empty LARGEST_ORDER c.args.pages c.args.side 11 c.requires.pages c.requires.side)
 
 pub returns : goal.returns
 returns c =

@@ -1,28 +1,20 @@
-use Rattle.std.proofs.Common.{rules, ◌≡◌, ◌<◌, refl, sym, ◌∙◌, subst, length}
+use Rattle.std.proofs.Common.{rules, ◌≡◌, sym, ◌∙◌}
 use Rattle.std.proofs.lemmas.List.{get_or_default}
 use Rattle.zp_model.specs.declared.constants.TheConstants.{LARGEST_ORDER}
 use Rattle.zp_model.specs.declared.migrate_type.MigrateType.TheVariants.{Movable}
 use Rattle.zp_area.specs.Blocks.{Blocks}
-use Rattle.zp_area.specs.Retyped.{retyped}
-use Rattle.zp_area.proofs.Keeping.{kept_by}
 use Rattle.zp_area.proofs.Retyping.{kept_retyped, retyped_by, retyped_same}
 use Rattle.zp_area.proofs.area.FreeArea.retype.Goals as goal
 
 pub invariant_of-self : goal.invariant_of-self
 invariant_of-self c =
     let a : Blocks = record { rows = c.self.inside.lists; kinds = c.self.inside.kinds.items } in
-    kept_by LARGEST_ORDER _ (retyped LARGEST_ORDER a c.args.pageblock c.args.kind) _ _ _ _ _ _
-    (retyped_by LARGEST_ORDER a c.args.pageblock c.args.kind c.retype.new.lists _ c.retype.ensures.states c.retype.ensures.kinds c.retype.ensures.lists)
-    refl refl refl
-    (kept_retyped LARGEST_ORDER a _ _ _ _ _ c.self.invariant)
+    rw (retyped_by LARGEST_ORDER a c.args.pageblock c.args.kind c.retype.new.lists _ c.retype.ensures.states c.retype.ensures.kinds c.retype.ensures.lists)
+    (kept_retyped LARGEST_ORDER a _ _ _ c.args.pageblock c.args.kind c.self.invariant)
 
 pub returns-else-ne-clause-after : goal.returns-else-ne-clause-after
 returns-else-ne-clause-after c =
     let a : Blocks = record { rows = c.self.inside.lists; kinds = c.self.inside.kinds.items } in
     let e : c.index.result.now ≡ c.args.kind = search rules in
-    let P : Blocks → Type 0 = λ q. c.args.pageblock < length q.kinds in
-    let lt : c.args.pageblock < length a.kinds = subst P (sym c.self.view_is) c.requires in
-    let Q : Blocks → Type 0 = λ q. q ≡ retyped LARGEST_ORDER q c.args.pageblock c.args.kind in
-    subst Q c.self.view_is
-    (sym (retyped_same LARGEST_ORDER a c.args.pageblock c.args.kind c.self.invariant.one
-    (sym e ∙ c.index.ensures ∙ get_or_default c.self.inside.kinds.items c.args.pageblock c.index.result.now Movable lt)))
+    rw (← c.self.view_is) (sym (retyped_same LARGEST_ORDER a c.args.pageblock c.args.kind c.self.invariant.one
+    (sym e ∙ c.index.ensures ∙ get_or_default c.self.inside.kinds.items c.args.pageblock c.index.result.now Movable (rw (← c.self.view_is) at c.requires))))

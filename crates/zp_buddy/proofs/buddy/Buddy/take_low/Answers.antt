@@ -1,80 +1,52 @@
-use Rattle.std.proofs.Common.{◌≡◌, ◌≤◌, ◌-◌, ◌^◌, length, arith, refl, ap, sym, ◌∙◌}
+use Rattle.std.proofs.Common.{length, arith, ap, sym, ◌∙◌}
 use Rattle.zp_model.specs.declared.constants.TheConstants.{LARGEST_ORDER}
-use Rattle.zp_model.specs.Block.{without}
-use Rattle.zp_model.specs.BlockSet.{cover}
 use Rattle.zp_model.specs.Area.{pageblocks_of}
-use Rattle.zp_model.specs.Frames.{Frames, with_area}
-use Rattle.zp_model.specs.Take.{leave}
-use Rattle.zp_laws.proofs.Areas.{free-leave}
-use Rattle.zp_area.specs.Blocks.{block_set}
-use Rattle.zp_buddy.specs.Choices.{frames_in}
-use Rattle.zp_buddy.proofs.Taking.{low_none, low_after_none, low_some, low_after_some, block_run, IsLessFree, less_free, left_leave, may_return, still_may, clear_head}
+use Rattle.zp_model.specs.Take.{take_low_after, take_low_answer}
+use Rattle.zp_buddy.proofs.Taking.{clear_head, fewer, frames_stay, lowest_at, may_return, run_left, still_may}
 use Rattle.zp_buddy.proofs.buddy.Buddy.take_low.Goals as goal
 
 pub returns-in_err-head-clause-answer : goal.returns-in_err-head-clause-answer
+unfolding take_low_answer
 returns-in_err-head-clause-answer c =
-    c.from_residual.ensures ∙ low_none LARGEST_ORDER c.args.self.now c.self.inside.area c.args.order c.self.invariant.sound c.self.view_is c.in_err-head.ensures.answer
+    rw (c.from_residual.ensures, ← c.self.view_is, lowest_at LARGEST_ORDER c.self.inside.area c.args.order c.self.invariant.sound, ← c.in_err-head.ensures.answer)
 
 pub returns-in_err-head-clause-after : goal.returns-in_err-head-clause-after
+unfolding take_low_after take_low_answer
 returns-in_err-head-clause-after c =
-    low_after_none LARGEST_ORDER c.args.self.now c.self.inside.area c.args.order c.self.invariant.sound c.self.view_is c.in_err-head.ensures.answer
+    let a = c.self.inside.area in
+    rw (← c.self.view_is, lowest_at LARGEST_ORDER a c.args.order c.self.invariant.sound, ← c.in_err-head.ensures.answer) (frames_stay LARGEST_ORDER a c.self.invariant.sound)
 
 pub overflow_sub-self : goal.overflow_sub-self
 overflow_sub-self c =
-    let a = c.self.inside.area in
-    let n = c.take_block.new.area in
-    let h = c.in_ok-head.head in
-    let e : cover (block_set n) ≡ without (cover (block_set a)) h c.args.order =
-    ap (λ (q : Frames). q.area.free) c.take_block.ensures.after ∙ free-leave (frames_in LARGEST_ORDER a).area h c.args.order in
-    let run = block_run LARGEST_ORDER a h c.in_ok-head.found c.args.order c.self.invariant.sound c.in_ok-head.ensures.found.0 c.in_ok-head.ensures.found.1 in
-    let x : IsLessFree a c.self.inside.free c.args.order n = less_free LARGEST_ORDER a n c.self.inside.free h c.args.order c.self.invariant.counted run e in
-    let p : c.pages-pages.result ≡ 2 ^ c.args.order = c.pages-pages.ensures.pages in
-    let m : 2 ^ c.args.order ≤ c.self.inside.free = x.enough in
-    omega arith
+    let x = run_left c.take_block.new.area c.in_ok-head.head c.in_ok-head.found c.args.order c.self.invariant c.in_ok-head.ensures.found.0 c.in_ok-head.ensures.found.1 c.take_block.ensures.after in
+    omega (arith, fewer x, c.pages-pages.ensures.pages)
 
 pub invariant_of-self : goal.invariant_of-self
 invariant_of-self c =
-    let a = c.self.inside.area in
-    let n = c.take_block.new.area in
-    let h = c.in_ok-head.head in
-    let e : cover (block_set n) ≡ without (cover (block_set a)) h c.args.order =
-    ap (λ (q : Frames). q.area.free) c.take_block.ensures.after ∙ free-leave (frames_in LARGEST_ORDER a).area h c.args.order in
-    let run = block_run LARGEST_ORDER a h c.in_ok-head.found c.args.order c.self.invariant.sound c.in_ok-head.ensures.found.0 c.in_ok-head.ensures.found.1 in
-    let x : IsLessFree a c.self.inside.free c.args.order n = less_free LARGEST_ORDER a n c.self.inside.free h c.args.order c.self.invariant.counted run e in
-    let p : c.pages-pages.result ≡ 2 ^ c.args.order = c.pages-pages.ensures.pages in
+    let x = run_left c.take_block.new.area c.in_ok-head.head c.in_ok-head.found c.args.order c.self.invariant c.in_ok-head.ensures.found.0 c.in_ok-head.ensures.found.1 c.take_block.ensures.after in
     record {
       sound = c.take_block.ensures.sound;
       typed = ap length c.take_block.ensures.kinds ∙ c.self.invariant.typed ∙ ap (pageblocks_of LARGEST_ORDER) (sym c.take_block.ensures.pages);
-      counted = ap (λ q. c.self.inside.free - q) p ∙ x.counted;
+      counted = omega (arith, fewer x, c.pages-pages.ensures.pages);
     }
 
 pub returns-clause-answer : goal.returns-clause-answer
-returns-clause-answer c =
-    low_some LARGEST_ORDER c.args.self.now c.self.inside.area c.args.order (c.in_ok-head.head, c.in_ok-head.found) c.self.invariant.sound c.self.view_is c.in_ok-head.ensures.answer
+unfolding take_low_answer
+returns-clause-answer c = rw (← c.self.view_is, lowest_at LARGEST_ORDER c.self.inside.area c.args.order c.self.invariant.sound, ← c.in_ok-head.ensures.answer)
 
 pub returns-clause-after : goal.returns-clause-after
+unfolding take_low_after take_low_answer
 returns-clause-after c =
-    c.take_block.ensures.after
-    ∙ ap (λ (f : Frames). with_area f (leave f.area c.in_ok-head.head c.args.order)) c.self.view_is
-    ∙ low_after_some LARGEST_ORDER c.args.self.now c.self.inside.area c.args.order (c.in_ok-head.head, c.in_ok-head.found) c.self.invariant.sound c.self.view_is c.in_ok-head.ensures.answer
+    rw (← c.self.view_is, lowest_at LARGEST_ORDER c.self.inside.area c.args.order c.self.invariant.sound, ← c.in_ok-head.ensures.answer) c.take_block.ensures.after
 
 pub returns-clause-clear : goal.returns-clause-clear
 returns-clause-clear c =
-    let a = c.self.inside.area in
-    let n = c.take_block.new.area in
-    let h = c.in_ok-head.head in
-    let run = block_run LARGEST_ORDER a h c.in_ok-head.found c.args.order c.self.invariant.sound c.in_ok-head.ensures.found.0 c.in_ok-head.ensures.found.1 in
-    let left = left_leave c.args.self.now (frames_in LARGEST_ORDER n) h c.args.order
-    (c.take_block.ensures.after ∙ ap (λ (f : Frames). with_area f (leave f.area h c.args.order)) c.self.view_is) in
-    may_return LARGEST_ORDER c.args.self.now (frames_in LARGEST_ORDER n) a h c.args.order c.self.invariant.sound c.self.view_is run left
+    may_return (run_left c.take_block.new.area c.in_ok-head.head c.in_ok-head.found c.args.order c.self.invariant c.in_ok-head.ensures.found.0 c.in_ok-head.ensures.found.1 c.take_block.ensures.after)
 
 pub returns-clause-kept : goal.returns-clause-kept
 returns-clause-kept c =
-    let n = c.take_block.new.area in
-    let h = c.in_ok-head.head in
-    let left = left_leave c.args.self.now (frames_in LARGEST_ORDER n) h c.args.order
-    (c.take_block.ensures.after ∙ ap (λ (f : Frames). with_area f (leave f.area h c.args.order)) c.self.view_is) in
-    still_may c.args.self.now (frames_in LARGEST_ORDER n) h c.args.order left
+    rw (← c.self.view_is)
+    (still_may (run_left c.take_block.new.area c.in_ok-head.head c.in_ok-head.found c.args.order c.self.invariant c.in_ok-head.ensures.found.0 c.in_ok-head.ensures.found.1 c.take_block.ensures.after))
 
 pub returns-clause-head : goal.returns-clause-head
-returns-clause-head c = clear_head LARGEST_ORDER (frames_in LARGEST_ORDER c.take_block.new.area) c.take_block.new.area c.in_ok-head.head c.args.order refl (returns-clause-clear c)
+returns-clause-head c = clear_head LARGEST_ORDER c.take_block.new.area c.in_ok-head.head c.args.order (returns-clause-clear c)

@@ -1,69 +1,37 @@
-use Rattle.std.proofs.Common.{◌≡◌, ◌<◌, ℕ, arith, ap, sym, ◌∙◌, subst, length, List, refl}
-use Rattle.zp_table.specs.declared.entry.PageEntry.{PageEntry}
-use Rattle.zp_table.specs.Entries.{with_links_at}
-use Rattle.zp_links.specs.Linked.{MayStand}
-use Rattle.zp_links.proofs.Writes.{linked_in, remove_linked, remove_value, length-back, length-forward}
+use Rattle.std.proofs.Common.{◌-◌, set, refl}
+use Rattle.zp_model.specs.Rows.{list_at, with_list, without_page}
+use Rattle.zp_links.proofs.Writes.{Spell, linked_in, removed_from, length-back, length-forward}
 use Rattle.zp_links.proofs.Telling.{within, next_stands, previous_stands, row_in}
 use Rattle.zp_links.proofs.Moving.{taken_off}
+use Rattle.zp_links.proofs.lists.Lists.remove.Goals.{After-set_links}
 use Rattle.zp_links.proofs.lists.Lists.remove.Goals as goal
 
 pub entry-entry-requires : goal.entry-entry-requires
 entry-entry-requires c = within _ _ _ (linked_in _ _ _ c.self.view_is c.self.invariant) c.args.list c.args.at c.requires
 
 pub set_back_or_last-requires : goal.set_back_or_last-requires
-set_back_or_last-requires c =
-    let P : PageEntry → Type 0 = λ e. MayStand e.forward (length c.self.inside.table) in
-    subst P (sym c.entry-entry.ensures) (next_stands _ _ _ (linked_in _ _ _ c.self.view_is c.self.invariant) c.args.list c.args.at c.requires)
+set_back_or_last-requires c = rw c.entry-entry.ensures (next_stands _ _ _ (linked_in _ _ _ c.self.view_is c.self.invariant) c.args.list c.args.at c.requires)
 
 pub set_forward_or_first-requires : goal.set_forward_or_first-requires
 set_forward_or_first-requires c =
-    let t = c.self.inside.table in
-    let P : PageEntry → Type 0 = λ e. MayStand e.back (length t) in
-    let m : MayStand c.entry-entry.result.back (length t) =
-    subst P (sym c.entry-entry.ensures) (previous_stands _ _ _ (linked_in _ _ _ c.self.view_is c.self.invariant) c.args.list c.args.at c.requires) in
-    let n : length c.set_back_or_last.new.table ≡ length t = ap (λ (q : List PageEntry). length q) c.set_back_or_last.ensures.table ∙ length-back t _ _ in
-    let N : ℕ → Type 0 = λ k. MayStand c.entry-entry.result.back k in
-    subst N (sym n) m
+    rw (c.set_back_or_last.ensures.table, length-back, c.entry-entry.ensures) (previous_stands _ _ _ (linked_in _ _ _ c.self.view_is c.self.invariant) c.args.list c.args.at c.requires)
 
 pub set_links-requires : goal.set_links-requires
 set_links-requires c =
-    let t = c.self.inside.table in
-    let l : c.args.at < length t = within _ _ _ (linked_in _ _ _ c.self.view_is c.self.invariant) c.args.list c.args.at c.requires in
-    let n : length c.set_forward_or_first.new.table ≡ length t =
-    ap (λ (q : List PageEntry). length q) c.set_forward_or_first.ensures.table ∙ length-forward _ _ _ ∙ ap (λ (q : List PageEntry). length q) c.set_back_or_last.ensures.table ∙ length-back t _ _ in
-    omega arith
+    rw (c.set_forward_or_first.ensures.table, length-forward, c.set_back_or_last.ensures.table, length-back) (within _ _ _ (linked_in _ _ _ c.self.view_is c.self.invariant) c.args.list c.args.at c.requires)
+
+wrote : (c : After-set_links) → Spell c.set_links.new.self (set c.self.inside.ends.items c.args.list (record { first = c.set_forward_or_first.new.first; last = c.set_back_or_last.new.last; len = c.index_mut-ends.result.now.len - 1 }))
+    (with_list c.args.self.now c.args.list (without_page c.args.at (list_at c.args.self.now.lists c.args.list)))
+wrote c =
+    removed_from c.args.self.now c.args.list c.args.at c.self.inside.table _ c.self.inside.ends.items c.index_mut-ends.result.now _ c.self.view_is c.self.invariant c.requires c.index_mut-ends.ensures.value
+    (rw (c.set_links.ensures, c.set_forward_or_first.ensures.table, c.set_back_or_last.ensures.table, c.none-nowhere.ensures, c.entry-entry.ensures) refl)
+    (rw c.entry-entry.ensures at c.set_forward_or_first.ensures.first) (rw c.entry-entry.ensures at c.set_back_or_last.ensures.last) refl
 
 pub invariant_of-self : goal.invariant_of-self
-invariant_of-self c =
-    remove_linked c.args.self.now c.args.list c.args.at c.self.inside.table _ _ c.set_links.new.self c.self.inside.ends.items c.entry-entry.result c.index_mut-ends.result.now _ (record {
-      view = c.self.view_is;
-      linked = c.self.invariant;
-      on = c.requires;
-      entry = c.entry-entry.ensures;
-      first = c.set_back_or_last.ensures.table;
-      second = c.set_forward_or_first.ensures.table;
-      third = c.set_links.ensures ∙ ap (λ o. with_links_at c.set_forward_or_first.new.table c.args.at o o) c.none-nowhere.ensures;
-      read = c.index_mut-ends.ensures.value;
-      front = c.set_forward_or_first.ensures.first;
-      back = c.set_back_or_last.ensures.last;
-      count = refl;
-    })
+invariant_of-self c = (wrote (goal.at.invariant_of-self c).After-set_links).0
 
 pub returns-clause-after : goal.returns-clause-after
-returns-clause-after c =
-    remove_value c.args.self.now c.args.list c.args.at c.self.inside.table _ _ c.set_links.new.self c.self.inside.ends.items c.entry-entry.result c.index_mut-ends.result.now _ (record {
-      view = c.self.view_is;
-      linked = c.self.invariant;
-      on = c.requires;
-      entry = c.entry-entry.ensures;
-      first = c.set_back_or_last.ensures.table;
-      second = c.set_forward_or_first.ensures.table;
-      third = c.set_links.ensures ∙ ap (λ o. with_links_at c.set_forward_or_first.new.table c.args.at o o) c.none-nowhere.ensures;
-      read = c.index_mut-ends.ensures.value;
-      front = c.set_forward_or_first.ensures.first;
-      back = c.set_back_or_last.ensures.last;
-      count = refl;
-    })
+returns-clause-after c = (wrote (goal.at.returns-clause-after c).After-set_links).1
 
 pub returns-clause-loose : goal.returns-clause-loose
 returns-clause-loose c =

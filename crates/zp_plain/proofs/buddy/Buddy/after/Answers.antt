@@ -2,7 +2,7 @@ use Rattle.std.proofs.Common.{◌≡◌, true, ap, sym, subst, ◌∙◌, IfSome
 use Rattle.zp_model.specs.Rows.{after, stands_in}
 use Rattle.zp_model.specs.Area.{free_list}
 use Rattle.zp_model.specs.Frames.{Frames}
-use Rattle.zp_plain.proofs.Walking.{after_stands}
+use Rattle.zp_plain.proofs.Looking.{after_stands}
 use Rattle.zp_plain.proofs.buddy.Buddy.after.Goals as goal
 
 pub returns-clause-on : goal.returns-clause-on

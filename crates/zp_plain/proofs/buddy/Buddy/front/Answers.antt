@@ -2,7 +2,7 @@ use Rattle.std.proofs.Common.{◌≡◌, true, ap, sym, subst, ◌∙◌, IfSome
 use Rattle.zp_model.specs.Rows.{front, stands_in}
 use Rattle.zp_model.specs.Area.{free_list}
 use Rattle.zp_model.specs.Frames.{Frames}
-use Rattle.zp_plain.proofs.Walking.{front_stands}
+use Rattle.zp_plain.proofs.Looking.{front_stands}
 use Rattle.zp_plain.proofs.buddy.Buddy.front.Goals as goal
 
 pub returns-clause-on : goal.returns-clause-on

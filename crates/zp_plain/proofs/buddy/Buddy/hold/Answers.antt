@@ -1,7 +1,7 @@
 use Rattle.std.proofs.Common.{ℕ, ◌≡◌, ◌<◌, false, length, sym, ◌∙◌, ap, subst, set}
 use Rattle.zp_model.specs.Block.{has}
 use Rattle.zp_model.specs.Frames.{Frames, IsClear, IsFramed}
-use Rattle.zp_plain.proofs.Kept.{kept_held}
+use Rattle.zp_plain.proofs.Framed.{kept_held}
 use Rattle.zp_plain.proofs.buddy.Buddy.hold.Goals as goal
 
 pub invariant_of-self : goal.invariant_of-self

@@ -4,7 +4,7 @@ use Rattle.zp_model.specs.Area.{Area}
 use Rattle.zp_model.specs.Take.{leave}
 use Rattle.zp_model.proofs.Covers.{length-without}
 use Rattle.zp_plain.specs.Sound.{IsSoundArea}
-use Rattle.zp_plain.proofs.Areas.{table_of, settled_as, sound_leave}
+use Rattle.zp_plain.proofs.SoundAreas.{table_of, settled_as, sound_leave}
 use Rattle.zp_plain.proofs.take.PlainArea.leave.Goals as goal
 
 pub settle-requires : goal.settle-requires
@@ -16,13 +16,10 @@ after : (c : goal.After-settle) →
     (let a : Area = record { largest = LARGEST_ORDER; free = c.remove_run.new.set.items; kinds = c.self.inside.kinds.items; lists = c.settle.new.lists.items } in a)
     ≡ leave (record { largest = LARGEST_ORDER; free = c.self.inside.free.items; kinds = c.self.inside.kinds.items; lists = c.self.inside.lists.items }) c.args.head c.args.order
 unfolding leave
-after c =
-    ap (λ q. let a : Area = record { largest = LARGEST_ORDER; free = q; kinds = c.self.inside.kinds.items; lists = c.settle.new.lists.items } in a) c.remove_run.ensures
-    ∙ settled_as LARGEST_ORDER _ _ _ _ _ _ (c.deref.ensures.value ∙ c.remove_run.ensures) c.deref-2.ensures.value c.settle.ensures
+after c = rw c.remove_run.ensures (settled_as LARGEST_ORDER _ _ _ _ _ _ (c.deref.ensures.value ∙ c.remove_run.ensures) c.deref-2.ensures.value c.settle.ensures)
 
 pub returns : goal.returns
 returns c = after c ∙ ap (λ a. leave a c.args.head c.args.order) c.self.view_is
 
 pub invariant_of-self : goal.invariant_of-self
-invariant_of-self c =
-    let P : Area → Type 0 = λ a. IsSoundArea a in subst P (sym (after c)) (sound_leave _ c.args.head c.args.order c.self.invariant)
+invariant_of-self c = subst IsSoundArea (sym (after c)) (sound_leave _ c.args.head c.args.order c.self.invariant)

@@ -3,7 +3,7 @@ use Rattle.zp_model.specs.declared.constants.TheConstants.{LARGEST_ORDER}
 use Rattle.zp_model.specs.Area.{Area}
 use Rattle.zp_model.specs.Take.{retype}
 use Rattle.zp_plain.specs.Sound.{IsSoundArea}
-use Rattle.zp_plain.proofs.Areas.{table_of, settled_as, sound_retype}
+use Rattle.zp_plain.proofs.SoundAreas.{table_of, settled_as, sound_retype}
 use Rattle.zp_plain.proofs.take.PlainArea.retype.Goals as goal
 
 pub settle-requires : goal.settle-requires
@@ -21,5 +21,4 @@ pub returns : goal.returns
 returns c = after c ∙ ap (λ a. retype a c.args.pageblock c.args.kind) c.self.view_is
 
 pub invariant_of-self : goal.invariant_of-self
-invariant_of-self c =
-    let P : Area → Type 0 = λ a. IsSoundArea a in subst P (sym (after c)) (sound_retype _ c.args.pageblock c.args.kind c.self.invariant)
+invariant_of-self c = subst IsSoundArea (sym (after c)) (sound_retype _ c.args.pageblock c.args.kind c.self.invariant)

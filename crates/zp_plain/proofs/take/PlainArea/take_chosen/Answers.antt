@@ -1,16 +1,11 @@
-use Rattle.std.proofs.Common.{◌≡◌, ◌/◌, length, Bool, arith, sym, ◌∙◌, ap, cond}
-use Rattle.zp_model.specs.declared.constants.TheConstants.{LARGEST_ORDER}
-use Rattle.zp_model.specs.Area.{Area, pageblocks_of, pageblock_pages}
+use Rattle.std.proofs.Common.{◌/◌, Bool, arith, sym, ◌∙◌, ap, cond}
+use Rattle.zp_model.specs.Area.{Area, pageblock_pages}
 use Rattle.zp_model.specs.Take.{leave, retype, taken}
 use Rattle.zp_plain.proofs.take.PlainArea.take_chosen.Goals as goal
 use Rattle.zp_plain.proofs.take.PlainArea.take_chosen.Goals.{then-claims, else-claims}
 
 pub retype-requires : goal.retype-requires
-retype-requires c =
-    let t : length c.args.self.now.kinds ≡ pageblocks_of LARGEST_ORDER (length c.args.self.now.free) =
-    c.marks-marks.ensures.sound.typed ∙ ap (λ m. pageblocks_of m (length c.args.self.now.free)) c.marks-marks.ensures.largest in
-    let e : c.pageblock.result ≡ c.args.chosen.head / pageblock_pages LARGEST_ORDER = c.pageblock.ensures in
-    omega arith
+retype-requires c = omega (arith, rw c.marks-marks.ensures.largest at c.marks-marks.ensures.sound.typed, c.pageblock.ensures)
 
 pub returns : goal.returns
 unfolding taken

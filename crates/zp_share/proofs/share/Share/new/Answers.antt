@@ -1,6 +1,6 @@
 use Rattle.zp_model.specs.declared.constants.TheConstants.{MAX_ZONES}
 use Rattle.zp_share.specs.Shares.{no_seat}
-use Rattle.zp_share.proofs.Opened.{opened_fit, opened_short, first_worker}
+use Rattle.zp_share.proofs.Closing.{opened_fit, opened_short, first_worker}
 use Rattle.zp_share.proofs.share.Share.new.Goals as goal
 
 pub invariant_of-result : goal.invariant_of-result

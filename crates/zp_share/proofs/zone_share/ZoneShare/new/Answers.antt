@@ -1,6 +1,6 @@
 use Rattle.std.proofs.Common.{[], ◌∷◌}
 use Rattle.zp_share.specs.declared.zone_share.ZoneShare.TheInside.{Inside}
-use Rattle.zp_share.proofs.Opened.{opening_whole}
+use Rattle.zp_share.proofs.Closing.{opening_whole}
 use Rattle.zp_share.proofs.zone_share.ZoneShare.new.Goals as goal
 
 pub invariant_of-result : goal.invariant_of-result

@@ -1,10 +1,7 @@
-use Rattle.std.proofs.Common.{arith, ap, sym, subst, length, ◌≡◌, ◌∷◌}
+use Rattle.std.proofs.Common.{◌≡◌, ◌∷◌}
 use Rattle.std.specs.Prelude.{slice_set}
-use Rattle.zp_share.specs.ZoneShares.{HasAtMost, cached_of}
-use Rattle.zp_model.specs.MigrateType.{type_number}
-use Rattle.zp_share.proofs.Lengths.{set_most}
-use Rattle.zp_share.proofs.Closing.{share_of}
-use Rattle.zp_share.proofs.Taking.{front_was, front_place, taken_whole, lent_now}
+use Rattle.zp_share.specs.ZoneShares.{cached_of}
+use Rattle.zp_share.proofs.Closing.{share_of, front_was, front_place, taken_whole, lent_now}
 use Rattle.zp_share.proofs.zone_share.ZoneShare.take_cached.Goals as goal
 
 was : (c : goal.After-zero) → cached_of (share_of c.self.inside) c.args.kind ≡ c.in_ok-page.page ∷ c.pop_front.new.self
@@ -26,9 +23,3 @@ returns-clause-lent c =
     (front_place c.self.inside c.args.kind c.in_ok-page.page c.pop_front.new.self c.self.invariant
     (front_was c.self.inside c.args.kind c.number.result c.in_ok-page.page c.index-self-number.result c.pop_front.new.self c.self.invariant c.number.ensures.number c.in_ok-page.ensures.answer c.in_ok-page.ensures.after))
     c.zero.ensures c.set.ensures
-
-pub returns-clause-lists : goal.returns-clause-lists
-returns-clause-lists c =
-    λ n f u.
-    let most : HasAtMost n (share_of c.self.inside) = subst (HasAtMost n) (sym c.self.view_is) f in
-    set_most c.self.inside.cached c.number.result (type_number u) n c.pop_front.new.self (omega (arith, most c.args.kind, ap length (front_was c.self.inside c.args.kind c.number.result c.in_ok-page.page c.index-self-number.result c.pop_front.new.self c.self.invariant c.number.ensures.number c.in_ok-page.ensures.answer c.in_ok-page.ensures.after))) (most u)

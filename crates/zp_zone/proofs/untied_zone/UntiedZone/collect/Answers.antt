@@ -1,14 +1,16 @@
-use Rattle.std.proofs.Common.{ℕ, ◌+◌, ◌-◌, ◌^◌, ◌≡◌, ◌<◌, length, set, ap, sym, subst, ◌∙◌, arith}
+use Rattle.zp_model.specs.Run.{is_out}
+use Rattle.std.proofs.Common.{subst, true, ℕ, ◌+◌, ◌^◌, ◌≡◌, ◌<◌, set, ap, sym, ◌∙◌, arith}
 use Rattle.zp_model.specs.declared.block.Block.{Block}
 use Rattle.zp_model.specs.declared.request.Request.TheVariants as request
 use Rattle.zp_model.specs.declared.state.State.TheVariants.{Out, Posted}
 use Rattle.zp_model.specs.Frames.{Frames}
-use Rattle.zp_model.specs.Rows.{list_at, state_at, front, rest, IsLoose}
+use Rattle.zp_model.specs.Rows.{list_at, state_at, front, rest}
 use Rattle.zp_model.specs.Zone.{workers_of, posted_pages}
-use Rattle.zp_zone.specs.NamedZone.{NamedZone}
-use Rattle.zp_zone.specs.Kept.{plain_of, IsKept}
-use Rattle.zp_zone.proofs.Callers.{lawful_in, reply_in, after_in, collected_out, collected_fresh, collected_others}
-use Rattle.zp_zone.proofs.CollectSteps.{IsFront, none_left, front_noted, front_block, collected_frames, plain-collected, collected_reply, pages_left, collected_kept}
+use Rattle.zp_laws.proofs.StaysOut.{collect-kept, collect-handed}
+use Rattle.zp_zone.specs.NamedZone.{KeepsOut, NamedZone}
+use Rattle.zp_zone.specs.Kept.{plain_of}
+use Rattle.zp_zone.proofs.Callers.{lawful_in, reply_in, after_in}
+use Rattle.zp_zone.proofs.PostSteps.{IsFront, none_left, front_noted, front_block, collected_frames, plain-collected, collected_reply, pages_left, collected_kept}
 use Rattle.zp_zone.proofs.untied_zone.UntiedZone.collect.Goals.{After-side_pop_front, After-pages-pages}
 use Rattle.zp_zone.proofs.untied_zone.UntiedZone.collect.Goals as goal
 
@@ -26,15 +28,14 @@ after : (c : After-side_pop_front) → c.side_pop_front.new.self ≡ popped c.se
 after c = c.side_pop_front.ensures.after ∙ ap (popped c.self.inside.buddy) (number c)
 
 workers : (c : After-side_pop_front) → c.args.receiver < workers_of (plain_of c.self.inside.buddy c.self.inside.base c.self.inside.min)
-workers c = let P : NamedZone → Type 0 = λ z. c.args.receiver < workers_of z.plain in subst P (sym c.self.view_is) c.requires.receiver
+workers c = rw (← c.self.view_is) at c.requires.receiver
 
 -- nothing is posted to the worker
 pub invariant_of-self : goal.invariant_of-self
 invariant_of-self c =
     let b = (goal.at.invariant_of-self c).After-side_pop_front in
     let stays : c.side_pop_front.new.self ≡ c.self.inside.buddy = none_left _ _ _ (sym c.in_default.is ∙ answer b) (after b) in
-    let P : Frames → Type 0 = λ f. IsKept c.self.inside.name f c.self.inside.base c.self.inside.min c.self.inside.posted in
-    subst P (sym stays) c.self.invariant
+    rw stays c.self.invariant
 
 -- what is in front is noted as posted
 pub unreachable-requires : goal.unreachable-requires
@@ -51,9 +52,7 @@ in_front c answer after =
     let f : Frames = c.self.inside.buddy in
     let noted : state_at f.states c.in-Some.head ≡ Posted c.in-Posted.order c.in-Posted.kind c.in-Posted.field-2 =
     sym (ap (λ (g : Frames). state_at g.states c.in-Some.head) after) ∙ sym c.holding.ensures ∙ c.in-Posted.is in
-    let L : Frames → Type 0 = λ g. IsLoose g.sides c.in-Some.head in
-    let H : Frames → Type 0 = λ g. c.in-Some.head < length g.states in
-    front_block f c.args.receiver _ _ _ _ c.self.invariant.aside (sym c.in-Some.is ∙ answer) noted (subst H after c.in-Some.ensures.head.0) (subst L after c.in-Some.ensures.loose)
+    front_block f c.args.receiver _ _ _ _ c.self.invariant.aside (sym c.in-Some.is ∙ answer) noted (rw after at c.in-Some.ensures.head.0) (rw after at c.in-Some.ensures.loose)
 
 -- the frames that hold the block, in the words of the definitions
 left : (c : After-pages-pages) → c.side_pop_front.new.self ≡ popped c.self.inside.buddy c.args.receiver →
@@ -77,10 +76,8 @@ invariant_of-self-2 c =
     let b = (goal.at.invariant_of-self-2 c).After-side_pop_front in
     let d = (goal.at.invariant_of-self-2 c).After-pages-pages in
     let f : Frames = c.self.inside.buddy in
-    let P : ℕ → Type 0 = λ n. IsKept c.self.inside.name c.hold.new.self c.self.inside.base c.self.inside.min (c.self.inside.posted - n) in
-    let Q : Frames → Type 0 = λ g. IsKept c.self.inside.name g c.self.inside.base c.self.inside.min (c.self.inside.posted - 2 ^ c.in-Posted.order) in
-    subst P (sym c.pages-pages.ensures.pages)
-    (subst Q (sym (left d (after b))) (collected_kept c.self.inside.name f c.self.inside.base c.self.inside.min _ _ _ _ c.self.invariant (in_front d (answer b) (after b)) (workers b)))
+    rw (c.pages-pages.ensures.pages, left d (after b))
+    (collected_kept c.self.inside.name f c.self.inside.base c.self.inside.min _ _ _ _ c.self.invariant (in_front d (answer b) (after b)) (workers b))
 
 pub returns-clause-reply : goal.returns-clause-reply
 returns-clause-reply c =
@@ -89,7 +86,7 @@ returns-clause-reply c =
     let f : Frames = c.self.inside.buddy in
     let page : c.new-page.result ≡ c.self.inside.base + c.in-Some.head = c.new-page.ensures ∙ ap (λ n. c.self.inside.base + n) c.number-2.ensures.same in
     reply_in c.args.self.now c.self.inside.name (plain_of f c.self.inside.base c.self.inside.min) c.args.receiver request.Collect _ c.self.view_is
-    (collected_reply f _ _ _ _ _ _ _ (in_front d (answer b) (after b)) page)
+    (collected_reply f _ _ _ _ _ _ (in_front d (answer b) (after b)) _ page)
 
 pub returns-clause-after : goal.returns-clause-after
 returns-clause-after c =
@@ -105,13 +102,13 @@ answered c = record { page = c.new-page.result; order = c.in-Posted.order; kind 
 
 pub returns-clause-out : goal.returns-clause-out
 returns-clause-out c =
-    collected_out c.args.self.now.plain _ c.args.receiver (answered c) (lawful_in _ _ _ c.self.view_is c.self.invariant.lawful) c.requires.receiver
-    (ap (λ (n : NamedZone). n.plain) (returns-clause-after c)) (returns-clause-reply c)
+    subst (λ z. is_out z c.args.receiver c.new-page.result c.in-Posted.order ≡ true) (sym (ap (λ (n : NamedZone). n.plain) (returns-clause-after c)))
+    (collect-handed c.args.self.now.plain c.args.receiver (lawful_in _ _ _ c.self.view_is c.self.invariant.lawful) c.requires.receiver (answered c) (returns-clause-reply c)).out
 
 pub returns-clause-fresh : goal.returns-clause-fresh
 returns-clause-fresh c =
-    collected_fresh c.args.self.now.plain c.args.receiver (answered c) (lawful_in _ _ _ c.self.view_is c.self.invariant.lawful) c.requires.receiver (returns-clause-reply c)
+    (collect-handed c.args.self.now.plain c.args.receiver (lawful_in _ _ _ c.self.view_is c.self.invariant.lawful) c.requires.receiver (answered c) (returns-clause-reply c)).fresh
 
 pub returns-clause-kept : goal.returns-clause-kept
 returns-clause-kept c =
-    collected_others c.args.self.now.plain _ c.args.receiver (lawful_in _ _ _ c.self.view_is c.self.invariant.lawful) c.requires.receiver (ap (λ (n : NamedZone). n.plain) (returns-clause-after c))
+    subst (KeepsOut c.args.self.now.plain) (sym (ap (λ (n : NamedZone). n.plain) (returns-clause-after c))) (collect-kept c.args.self.now.plain c.args.receiver (lawful_in _ _ _ c.self.view_is c.self.invariant.lawful) c.requires.receiver)

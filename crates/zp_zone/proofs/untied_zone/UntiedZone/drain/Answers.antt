@@ -1,11 +1,11 @@
-use Rattle.std.proofs.Common.{ℕ, ◌≡◌, ◌<◌, ◌+◌, ◌-◌, ◌∷◌, arith, refl, ap, sym, subst, ◌∙◌, All, drop, length, true}
+use Rattle.std.proofs.Common.{◌≡◌, ◌+◌, ◌-◌, ◌∷◌, arith, ap, ◌∙◌, drop, true}
 use Rattle.std.proofs.lemmas.List.Elements.{All-head}
 use Rattle.zp_model.specs.declared.request.Request.TheVariants as request
 use Rattle.zp_model.specs.Step.{freed, drained}
 use Rattle.zp_model.specs.Run.{is_out}
 use Rattle.zp_model.specs.Zone.{PlainZone}
-use Rattle.zp_zone.specs.NamedZone.{NamedZone, KeepsOutBeside, IsFresh}
-use Rattle.zp_zone.proofs.DrainSteps.{IsLeft, left_here, left_next, none_left, out_at, drained-gone, drained-kept}
+use Rattle.zp_zone.specs.NamedZone.{NamedZone}
+use Rattle.zp_zone.proofs.DrainSteps.{IsLeft, left_here, left_next, none_left, drained-gone, drained-kept}
 use Rattle.zp_zone.proofs.Callers.{workers_stay}
 use Rattle.zp_zone.proofs.untied_zone.UntiedZone.drain.Goals.{After-index-pages-place, After-pages}
 use Rattle.zp_zone.proofs.untied_zone.UntiedZone.drain.Goals as goal
@@ -13,16 +13,12 @@ use Rattle.zp_zone.proofs.untied_zone.UntiedZone.drain.Goals as goal
 -- the page that is given back, and those after it
 left : (c : After-index-pages-place) → IsLeft c.args.self.now.plain c.pages.self.plain c.args.worker c.args.pages.now (c.index-pages-place.result ∷ drop (c.pages.place + 1) c.args.pages.now)
 left c =
-    let P : ℕ → Type 0 = λ p. IsLeft c.args.self.now.plain c.pages.self.plain c.args.worker c.args.pages.now (p ∷ drop (c.pages.place + 1) c.args.pages.now) in
-    let at : c.pages.place < length c.args.pages.now = omega arith in
-    subst P (sym c.index-pages-place.is) (left_here _ _ _ c.args.pages.now c.pages.place c.index-pages-place.result at c.pages.invariant.left)
+    rw c.index-pages-place.is (left_here _ _ _ c.args.pages.now c.pages.place c.index-pages-place.result (omega arith) c.pages.invariant.left)
 
 pub free-requires-clause-out : goal.free-requires-clause-out
 free-requires-clause-out c =
     let d = (goal.at.free-requires-clause-out c).After-index-pages-place in
-    let o : is_out c.pages.self.plain c.args.worker c.index-pages-place.result 0 ≡ true =
-    All-head (λ q. is_out c.pages.self.plain c.args.worker q 0 ≡ true) _ _ (left d).out in
-    out_at c.pages.self.plain c.args.worker c.args.worker c.index-pages-place.result c.zero.result refl c.zero.ensures o
+    ap (is_out c.pages.self.plain c.args.worker c.index-pages-place.result) c.zero.ensures ∙ All-head (λ q. is_out c.pages.self.plain c.args.worker q 0 ≡ true) _ _ (left d).out
 
 pub pages-preserved : goal.pages-preserved
 pages-preserved c =
@@ -44,10 +40,8 @@ done c = none_left _ _ _ c.args.pages.now c.pages.place (omega arith) c.pages.in
 
 pub returns-clause-gone : goal.returns-clause-gone
 returns-clause-gone c =
-    let P : PlainZone → Type 0 = λ z. All (IsFresh z) c.args.pages.now in
-    subst P (sym (done c)) (drained-gone c.args.self.now.plain c.args.pages.now)
+    rw (done c) (drained-gone c.args.self.now.plain c.args.pages.now)
 
 pub returns-clause-kept : goal.returns-clause-kept
 returns-clause-kept c =
-    let P : PlainZone → Type 0 = λ z. KeepsOutBeside c.args.pages.now c.args.self.now.plain z in
-    subst P (sym (done c)) (drained-kept c.args.self.now.plain c.args.worker c.args.pages.now c.requires.out)
+    rw (done c) (drained-kept c.args.self.now.plain c.args.worker c.args.pages.now c.requires.out)

@@ -1,18 +1,17 @@
-use Rattle.std.proofs.Common.{ℕ, ◌-◌, ◌+◌, ◌^◌, ◌≡◌, ◌≤◌, ◌<◌, ◌++◌, [], ◌∷◌, false, set, ap, sym, subst, ◌∙◌, arith}
+use Rattle.zp_laws.proofs.Held.{out-to}
+use Rattle.zp_laws.proofs.StaysOut.{handed_on-gone, handed_on-kept}
+use Rattle.std.proofs.Common.{subst, ℕ, ◌-◌, ◌+◌, ◌^◌, ◌≡◌, ◌<◌, ◌++◌, [], ◌∷◌, false, set, ap, sym, ◌∙◌, arith}
 use Rattle.zp_model.specs.declared.request.Request.TheVariants as request
 use Rattle.zp_model.specs.Block.{has}
 use Rattle.zp_model.specs.Frames.{Frames}
 use Rattle.zp_model.specs.Rows.{list_at, state_at}
-use Rattle.zp_model.specs.declared.constants.TheConstants.{MAX_PAGES}
 use Rattle.zp_model.specs.Zone.{workers_of, holding_at}
 use Rattle.zp_model.specs.Step.{handed_on, step}
-use Rattle.zp_zone.specs.NamedZone.{NamedZone}
+use Rattle.zp_zone.specs.NamedZone.{KeepsOutBut, IsFresh, NamedZone}
 use Rattle.zp_zone.specs.Kept.{plain_of, IsKept}
-use Rattle.zp_zone.proofs.Allocated.{IsAsked}
-use Rattle.zp_zone.proofs.Callers.{after_in, posted_gone, posted_others}
-use Rattle.zp_zone.proofs.Freed.{held_used, holding_in}
-use Rattle.zp_zone.proofs.PostedFew.{posted_few}
-use Rattle.zp_zone.proofs.PostSteps.{IsNotedOut, noted_out, posted_frames, plain-posted, posted_kept}
+use Rattle.zp_zone.proofs.BlockSteps.{IsAsked, held_used, holding_in}
+use Rattle.zp_zone.proofs.Callers.{after_in}
+use Rattle.zp_zone.proofs.PostSteps.{posted_few, IsNotedOut, noted_out, posted_frames, plain-posted, posted_kept}
 use Rattle.zp_zone.proofs.untied_zone.UntiedZone.post.Goals.{In-Out, After-side_push_back}
 use Rattle.zp_zone.proofs.untied_zone.UntiedZone.post.Goals as goal
 
@@ -41,9 +40,7 @@ noted : (c : After-side_push_back) → IsNotedOut c.self.inside.buddy c.self.ins
 noted c =
     let f : Frames = c.self.inside.buddy in
     let held = holding_in c.args.self.now c.self.inside.name f c.self.inside.base c.self.inside.min c.args.worker c.args.page c.args.order c.self.view_is c.requires.out in
-    let P : ℕ → Type 0 = λ h. IsNotedOut f c.self.inside.base c.self.inside.min c.args.worker h c.args.order c.in-Out.kind in
-    subst P (sym (place c))
-    (noted_out f _ _ _ _ _ _ _ _ held (ap (state_at f.states) (sym (place c)) ∙ sym c.holding.ensures ∙ c.in-Out.is))
+    rw (place c) (noted_out f _ _ _ _ _ _ _ _ held (ap (state_at f.states) (sym (place c)) ∙ sym c.holding.ensures ∙ c.in-Out.is))
 
 -- the frames that hold the block, in the words of the definitions
 left : (c : After-side_push_back) → c.side_push_back.new.self ≡ posted_frames c.self.inside.buddy c.args.to c.at-at.result c.args.order c.in-Out.kind
@@ -54,24 +51,18 @@ left c =
     ∙ ap (λ (f : Frames). push f c.args.to) c.hold.ensures.after
 
 workers : (c : After-side_push_back) → c.args.to < workers_of (plain_of c.self.inside.buddy c.self.inside.base c.self.inside.min)
-workers c = let P : NamedZone → Type 0 = λ z. c.args.to < workers_of z.plain in subst P (sym c.self.view_is) c.requires.to
+workers c = rw (← c.self.view_is) at c.requires.to
 
 kept : (c : After-side_push_back) → IsKept c.self.inside.name c.side_push_back.new.self c.self.inside.base c.self.inside.min (c.self.inside.posted + 2 ^ c.args.order)
-kept c =
-    let P : Frames → Type 0 = λ f. IsKept c.self.inside.name f c.self.inside.base c.self.inside.min (c.self.inside.posted + 2 ^ c.args.order) in
-    subst P (sym (left c)) (posted_kept _ _ _ _ _ _ _ _ _ c.self.invariant c.pages-pages.ensures.framed (noted c) (workers c))
+kept c = rw (left c) (posted_kept _ _ _ _ _ _ _ _ _ c.self.invariant c.pages-pages.ensures.framed (noted c) (workers c))
 
 pub overflow_add-self : goal.overflow_add-self
 overflow_add-self c =
     let b = (goal.at.overflow_add-self c).After-side_push_back in
-    let p : c.pages-pages-2.result ≡ 2 ^ c.args.order = c.pages-pages-2.ensures.pages in
-    let few : c.self.inside.posted + 2 ^ c.args.order ≤ MAX_PAGES = posted_few _ _ _ _ _ (kept b) in
-    omega arith
+    omega (arith, c.pages-pages-2.ensures.pages, posted_few _ _ _ _ _ (kept b))
 
 pub invariant_of-self : goal.invariant_of-self
-invariant_of-self c =
-    let P : ℕ → Type 0 = λ n. IsKept c.self.inside.name c.side_push_back.new.self c.self.inside.base c.self.inside.min (c.self.inside.posted + n) in
-    subst P (sym c.pages-pages-2.ensures.pages) (kept (goal.at.invariant_of-self c).After-side_push_back)
+invariant_of-self c = rw c.pages-pages-2.ensures.pages (kept (goal.at.invariant_of-self c).After-side_push_back)
 
 pub returns-clause-after : goal.returns-clause-after
 returns-clause-after c =
@@ -86,7 +77,10 @@ returns-clause-after c =
     after_in c.args.self.now _ z _ c.args.worker (request.Post c.args.page c.args.order c.args.to) c.self.view_is same
 
 pub returns-clause-gone : goal.returns-clause-gone
-returns-clause-gone c = posted_gone c.args.self.now.plain _ c.args.worker _ c.args.order c.args.to (ap (λ (n : NamedZone). n.plain) (returns-clause-after c))
+returns-clause-gone c =
+    subst (λ z. IsFresh z c.args.page) (sym (ap (λ (n : NamedZone). n.plain) (returns-clause-after c))) (handed_on-gone c.args.self.now.plain c.args.page c.args.to)
 
 pub returns-clause-kept : goal.returns-clause-kept
-returns-clause-kept c = posted_others c.args.self.now.plain _ c.args.worker _ c.args.order c.args.to c.requires.out (ap (λ (n : NamedZone). n.plain) (returns-clause-after c))
+returns-clause-kept c =
+    subst (KeepsOutBut c.args.page c.args.self.now.plain) (sym (ap (λ (n : NamedZone). n.plain) (returns-clause-after c)))
+    (handed_on-kept c.args.self.now.plain c.args.page c.args.to _ (out-to c.args.self.now.plain c.args.worker c.args.page c.args.order c.requires.out).0)

@@ -1,4 +1,4 @@
-use Rattle.zp_zone.proofs.PostedFew.{within_in}
+use Rattle.zp_zone.proofs.PostSteps.{within_in}
 use Rattle.zp_zone.proofs.untied_zone.UntiedZone.posted_pages.Goals as goal
 
 pub returns-clause-within : goal.returns-clause-within

@@ -1,10 +1,10 @@
-use Rattle.std.proofs.Common.{ℕ, List, ◌≡◌, ◌<◌, ◌≤◌, arith, refl, ap, sym, subst, ◌∙◌, length, [], ◌∷◌, ◌++◌}
+use Rattle.std.proofs.Common.{ℕ, List, ◌≡◌, ◌<◌, ◌≤◌, arith, ap, sym, ◌∙◌, length, [], ◌∷◌, ◌++◌}
 use Rattle.std.proofs.lemmas.Result.{err_from_is_err_and}
 use Rattle.zp_model.specs.declared.request.Request.TheVariants as request
 use Rattle.zp_model.specs.declared.request.Reply.TheVariants as Reply
 use Rattle.zp_model.specs.Step.{Outcome, alloc, refill}
 use Rattle.zp_zone.specs.NamedZone.{NamedZone, pages_reply}
-use Rattle.zp_zone.proofs.RefillSteps.{IsGot, alloc_at, given, got_first, got_more, got_all, got_stopped, none_got, zone_is}
+use Rattle.zp_zone.proofs.RefillSteps.{given, got_first, got_more, got_all, got_stopped, none_got, zone_is}
 use Rattle.zp_zone.proofs.Callers.{workers_stay}
 use Rattle.zp_zone.proofs.untied_zone.UntiedZone.refill.Goals.{else-pages-test, then-pages-test+in_default}
 use Rattle.zp_zone.proofs.untied_zone.UntiedZone.refill.Goals as goal
@@ -20,12 +20,11 @@ returns-in_err-first-clause-reply c =
 pub pages-init : goal.pages-init
 pages-init c =
     let a = c.in_ok-first.ensures in
-    let G : List ℕ → Type 0 = λ q. IsGot c.args.self.now.plain c.alloc.new.self.plain c.args.worker c.args.kind c.args.mark c.args.count q in
-    let g = given _ _ c.args.worker _ _ _ _ _ _ refl refl c.zero.ensures a.reply (ap (λ (n : NamedZone). n.plain) a.after) a.out a.fresh a.kept in
+    let g = given _ _ c.args.worker _ _ _ _ c.zero.ensures a.reply (ap (λ (n : NamedZone). n.plain) a.after) a.out a.fresh a.kept in
     let one : c.push.new.self.items ≡ c.in_ok-first.first ∷ [] = c.push.ensures.items ∙ ap (λ (q : List ℕ). q ++ c.in_ok-first.first ∷ []) c.new-pages.ensures in
     record {
       name = ap (λ (n : NamedZone). n.name) a.after;
-      got = subst G (sym one) (got_first _ _ _ _ _ _ _ c.requires.some g);
+      got = rw one (got_first _ _ _ _ _ _ _ c.requires.some g);
       worker = workers_stay c.args.self.now.plain c.alloc.new.self.plain c.args.worker c.args.worker (request.Alloc c.zero.result c.args.kind c.args.mark) (ap (λ (n : NamedZone). n.plain) a.after) c.requires.worker;
     }
 
@@ -33,12 +32,11 @@ pub pages-preserved : goal.pages-preserved
 pages-preserved c =
     let i = c.pages.invariant in
     let a = c.in-Ok.ensures in
-    let G : List ℕ → Type 0 = λ q. IsGot c.args.self.now.plain c.alloc-in-pages.new.self.plain c.args.worker c.args.kind c.args.mark c.args.count q in
     let lt : length c.pages.pages.items < c.args.count = omega (arith, c.pages-test.true, c.len.ensures.value, c.from.ensures) in
-    let g = given _ _ c.args.worker _ _ _ _ _ _ refl refl c.zero-in-pages.ensures a.reply (ap (λ (n : NamedZone). n.plain) a.after) a.out a.fresh a.kept in
+    let g = given _ _ c.args.worker _ _ _ _ c.zero-in-pages.ensures a.reply (ap (λ (n : NamedZone). n.plain) a.after) a.out a.fresh a.kept in
     record {
       name = ap (λ (n : NamedZone). n.name) a.after ∙ i.name;
-      got = subst G (sym c.push-in-pages.ensures.items) (got_more _ _ _ _ _ _ _ _ _ i.got lt g);
+      got = rw c.push-in-pages.ensures.items (got_more _ _ _ _ _ _ _ _ _ i.got lt g);
       worker = workers_stay c.pages.self.plain c.alloc-in-pages.new.self.plain c.args.worker c.args.worker (request.Alloc c.zero-in-pages.result c.args.kind c.args.mark) (ap (λ (n : NamedZone). n.plain) a.after) i.worker;
     }
 
@@ -53,7 +51,7 @@ done c =
       | then-pages-test+in_default w ↦
           let lt : length c.pages.pages.items < c.args.count = omega (arith, w.pages-test.true, c.len.ensures.value, c.from.ensures) in
           let a = w.alloc-in-pages.ensures in
-          let same = alloc_at c.pages.self.plain c.args.worker c.args.worker w.zero-in-pages.result c.args.kind c.args.mark refl w.zero-in-pages.ensures in
+          let same = ap (λ k. alloc c.pages.self.plain c.args.worker k c.args.kind c.args.mark) w.zero-in-pages.ensures in
           let left = ap (λ (n : NamedZone). n.plain) w.self-is ∙ ap (λ (n : NamedZone). n.plain) a.after ∙ ap (λ (o : Outcome). o.zone) same in
           got_stopped _ _ _ _ _ _ _ w.in_default.field-0 _ i.got lt (w.in_default.ensures.reply ∙ ap (λ (o : Outcome). o.reply) same) left
     ]

@@ -1,16 +1,13 @@
-use Rattle.std.proofs.Common.{refl}
+use Rattle.std.proofs.Common.{rules, refl}
 use Rattle.zp_model.specs.declared.request.Request.TheVariants as request
 use Rattle.zp_model.specs.declared.request.Reply.TheVariants as reply
-use Rattle.zp_zone.proofs.Tied.{others_stay, places_stay, tied_after, seat_replied, moment, all_new_after, blocks_stay_beside, may_drain}
+use Rattle.zp_zone.proofs.Tied.{entering, tied_after, seat_replied, moment, all_new_after, blocks_stay_beside, may_drain}
 use Rattle.zp_zone.proofs.zone.Zone.drain.Goals as goal
 
-pub enter-requires-clause-others : goal.enter-requires-clause-others
-enter-requires-clause-others c =
-    λ lt agree. others_stay c.self.inside.untied c.self.inside.keeper.whole _ _ (request.Drain c.args.kind c.args.pages.now) (record { plain = c.self.invariant.0; dealt = c.self.invariant.1 }) c.lawful.ensures lt (may_drain c.args.seat.now c.self.inside.keeper.whole c.args.kind c.args.pages.now agree c.requires.has c.requires.distinct)
-
-pub enter-requires-clause-places : goal.enter-requires-clause-places
-enter-requires-clause-places c =
-    λ lt agree. places_stay c.self.inside.untied c.self.inside.keeper.whole _ c.args.seat.now (request.Drain c.args.kind c.args.pages.now) (record { plain = c.self.invariant.0; dealt = c.self.invariant.1 }) c.lawful.ensures lt agree (may_drain c.args.seat.now c.self.inside.keeper.whole c.args.kind c.args.pages.now agree c.requires.has c.requires.distinct)
+pub enter-requires : goal.enter-requires
+enter-requires c =
+    let e = entering c.self.inside.untied c.self.inside.keeper.whole _ c.args.seat.now (request.Drain c.args.kind c.args.pages.now) c.self.invariant.0 c.self.invariant.1 c.lawful.ensures (λ agree. (may_drain c.args.seat.now c.self.inside.keeper.whole c.args.kind c.args.pages.now agree c.requires.has c.requires.distinct)) in
+    record { tie = search rules; others = e.0; places = e.1 }
 
 pub invariant_of-self : goal.invariant_of-self
 invariant_of-self c =

@@ -1,17 +1,14 @@
-use Rattle.std.proofs.Common.{refl, ap, ◌∙◌}
+use Rattle.std.proofs.Common.{rules, refl, ap, ◌∙◌}
 use Rattle.zp_model.specs.declared.request.Request.TheVariants as request
 use Rattle.zp_model.specs.declared.request.Reply.TheVariants as reply
 use Rattle.zp_zone.specs.Seats.{ZoneState}
-use Rattle.zp_zone.proofs.Tied.{others_stay, places_stay, tied_after, seat_replied, moment, new_after, blocks_stay_but, may_post}
+use Rattle.zp_zone.proofs.Tied.{entering, tied_after, seat_replied, moment, new_after, blocks_stay_but, may_post}
 use Rattle.zp_zone.proofs.zone.Zone.post.Goals as goal
 
-pub enter-requires-clause-others : goal.enter-requires-clause-others
-enter-requires-clause-others c =
-    λ lt agree. others_stay c.self.inside.untied c.self.inside.keeper.whole _ _ (request.Post c.args.page c.args.order c.args.to) (record { plain = c.self.invariant.0; dealt = c.self.invariant.1 }) c.lawful.ensures lt (may_post c.args.seat.now c.self.inside.keeper.whole c.args.self.now.plain c.args.page c.args.order c.args.to agree (c.self.invariant.0 ∙ ap (λ (z : ZoneState). z.plain) c.self.view_is) c.requires.has c.requires.to)
-
-pub enter-requires-clause-places : goal.enter-requires-clause-places
-enter-requires-clause-places c =
-    λ lt agree. places_stay c.self.inside.untied c.self.inside.keeper.whole _ c.args.seat.now (request.Post c.args.page c.args.order c.args.to) (record { plain = c.self.invariant.0; dealt = c.self.invariant.1 }) c.lawful.ensures lt agree (may_post c.args.seat.now c.self.inside.keeper.whole c.args.self.now.plain c.args.page c.args.order c.args.to agree (c.self.invariant.0 ∙ ap (λ (z : ZoneState). z.plain) c.self.view_is) c.requires.has c.requires.to)
+pub enter-requires : goal.enter-requires
+enter-requires c =
+    let e = entering c.self.inside.untied c.self.inside.keeper.whole _ c.args.seat.now (request.Post c.args.page c.args.order c.args.to) c.self.invariant.0 c.self.invariant.1 c.lawful.ensures (λ agree. (may_post c.args.seat.now c.self.inside.keeper.whole c.args.self.now.plain c.args.page c.args.order c.args.to agree (c.self.invariant.0 ∙ ap (λ (z : ZoneState). z.plain) c.self.view_is) c.requires.has c.requires.to)) in
+    record { tie = search rules; others = e.0; places = e.1 }
 
 pub invariant_of-self : goal.invariant_of-self
 invariant_of-self c =

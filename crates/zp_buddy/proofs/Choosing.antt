@@ -1,0 +1,230 @@
+-- What the looks at the free lists and at the pageblocks find is what the choice of a block asks for.
+use Rattle.std.proofs.Common.{ℕ, suc, zero, ◌+◌, ◌-◌, ◌/◌, ◌≡◌, ◌≢◌, ◌≤◌, ◌<◌, inl, inr, refl, sym, ◌∙◌, ap, arith, Bool, true, false, leb, max, not, ◌||◌, ◌&&◌, List, [], ◌∷◌, ◌++◌, length, drop, reverse, get_or, get_or-take, drop-cons, Option, Some, None, IfSome}
+use Rattle.std.specs.List.{find, range_with_len, slice_index_or}
+use Rattle.std.specs.Option.{option_or}
+use Rattle.std.proofs.lemmas.Bool.{cases_Bool, cases_eq, eq-eqb, cases_lt, leb-true, le-leb, false≢true, both_ways}
+use Rattle.std.proofs.lemmas.List.{reverse-append}
+use Rattle.zp_model.specs.declared.migrate_type.MigrateType.{MigrateType}
+use Rattle.zp_model.specs.declared.migrate_type.MigrateType.TheVariants.{Movable}
+use Rattle.zp_model.specs.BlockSet.{Starts, cover, first_of, larger, orders_from}
+use Rattle.zp_model.specs.MigrateType.{foreign, same_type}
+use Rattle.zp_model.specs.Rows.{front, stands_in}
+use Rattle.zp_model.specs.Area.{Area, list_number, lists_count, free_list, kind_at, pageblock_pages, size_in}
+use Rattle.zp_model.specs.Choose.{own, claim, borrow, least_movable_claim, claim_pages, is_claimable}
+use Rattle.zp_model.specs.Frames.{Frames}
+use Rattle.zp_model.proofs.Settles.{stands_cases, stands_later}
+use Rattle.zp_area.specs.Blocks.{Blocks, block_set, free_list_of}
+use Rattle.zp_area.specs.OneSet.{IsOneSet}
+use Rattle.zp_area.proofs.Listing.{listed_starts, here_from}
+use Rattle.zp_buddy.specs.Choices.{area_in, frames_in, front_of_order, is_half_free, half_free_of_order, claimable_of_order, IsInClaimable, IsLargestClaimable, IsFoundAs}
+use Rattle.zp_buddy.specs.declared.choice.FreeBlock.{FreeBlock}
+use Rattle.zp_buddy.proofs.Settled.{find_never}
+use Rattle.zp_model.proofs.TypeNumbers.{list_number_below}
+
+first_same : {Y : Type 0} → (f g : ℕ → Option Y) (a n : ℕ) → ((i : ℕ) → a ≤ i → i < a + n → f i ≡ g i) → first_of f (range_with_len a n) ≡ first_of g (range_with_len a n)
+first_same f g a zero e = refl
+first_same f g a (suc n) e = rw (e a (omega arith) (omega arith), first_same f g (a + 1) n (λ i p q. e i (omega arith) (omega arith)))
+
+-- and with the last number first
+first-append : {X Y : Type 0} → (f : X → Option Y) (xs ys : List X) → first_of f (xs ++ ys) ≡ option_or (first_of f xs) (first_of f ys)
+first-append f [] ys = refl
+first-append f (x ∷ xs) ys = rw (first-append f xs ys) (regroup (f x) (first_of f xs) (first_of f ys))
+  where
+    regroup : {Y : Type 0} → (a b c : Option Y) → option_or a (option_or b c) ≡ option_or (option_or a b) c
+    regroup a b c = grind arith
+
+back-suc : {Y : Type 0} → (f : ℕ → Option Y) (a n : ℕ) →
+    first_of f (reverse (range_with_len a (suc n))) ≡ option_or (first_of f (reverse (range_with_len (a + 1) n))) (option_or (f a) None)
+back-suc f a n = rw (reverse-append (a ∷ []) (range_with_len (a + 1) n)) (first-append f (reverse (range_with_len (a + 1) n)) (a ∷ []))
+
+back_none : {Y : Type 0} → (f : ℕ → Option Y) (a n : ℕ) → ((i : ℕ) → a ≤ i → i < a + n → f i ≡ None) → first_of f (reverse (range_with_len a n)) ≡ None
+back_none f a zero e = refl
+back_none f a (suc n) e = rw (back-suc f a n, back_none f (a + 1) n (λ i p q. e i (omega arith) (omega arith)), e a (omega arith) (omega arith))
+
+back_some : {Y : Type 0} → (f : ℕ → Option Y) (a n j : ℕ) (h : Y) → a ≤ j → j < a + n → f j ≡ Some h → ((i : ℕ) → j < i → i < a + n → f i ≡ None) →
+    first_of f (reverse (range_with_len a n)) ≡ Some h
+back_some f a zero j h p q e none = absurd (omega arith)
+back_some f a (suc n) j h p q e none =
+    elim (cases_eq a j) [
+      | inl same ↦ rw (back-suc f a n, back_none f (a + 1) n (λ i x y. none i (omega arith) (omega arith)), same, e)
+      | inr ne ↦ rw (back-suc f a n, back_some f (a + 1) n j h (omega arith) (omega arith) e (λ i x y. none i x (omega arith)))
+    ]
+
+-- a place from i on that answers, where it is the one at i
+pub first_drop : {X Y : Type 0} → (f : X → Option Y) (xs : List X) (i : ℕ) (d : X) (y : Y) → i < length xs → f (get_or xs i d) ≡ Some y → first_of f (drop i xs) ≡ Some y
+first_drop f xs i d y lt e = rw (drop-cons xs i d lt, e)
+
+-- what is found stands on the list and passes, and where nothing is found nothing on it does
+found_at : (p : ℕ → Bool) (xs : List ℕ) (h : ℕ) → find p xs ≡ Some h → (stands_in h xs ≡ true) × (p h ≡ true)
+found_at p [] h e = cc
+found_at p (x ∷ xs) h e =
+    elim (cases_Bool (p x)) [
+      | inl t ↦ let f : Some x ≡ Some h = rw t at e in let s : x ≡ h = cc in (rw (eq-eqb h x (sym s)), rw (← s) t)
+      | inr n ↦ let r = found_at p xs h (rw n at e) in (stands_later h x xs r.0, r.1)
+    ]
+
+none_passes : (p : ℕ → Bool) (xs : List ℕ) (h : ℕ) → find p xs ≡ None → stands_in h xs ≡ true → p h ≡ true → ⊥
+none_passes p [] h e on t = false≢true on
+none_passes p (x ∷ xs) h e on t =
+    elim (cases_Bool (p x)) [
+      | inl u ↦ let f : Some x ≡ None = rw u at e in cc
+      | inr n ↦ elim (stands_cases h x xs on) [ inl same ↦ both_ways (p h) (rw same n) t | inr later ↦ none_passes p xs h (rw n at e) later t ]
+    ]
+
+-- the free lists of the area are those of its blocks
+lists_in : (m : ℕ) (a : Blocks) (o : ℕ) → o ≤ m → ◌≡◌ {A = MigrateType → List ℕ} (λ t. free_list (area_in m a) o t) (λ t. free_list_of a o t)
+lists_in m a o le = λ i t. get_or-take (lists_count m) a.rows.lists (list_number o t) [] (list_number_below m o t le) i
+
+pub list_of_frames : (m : ℕ) (a : Blocks) (f : Frames) (o : ℕ) (t : MigrateType) → frames_in m a ≡ f → o ≤ m → free_list_of a o t ≡ free_list f.area o t
+list_of_frames m a f o t e le = rw (← e) (sym (get_or-take (lists_count m) a.rows.lists (list_number o t) [] (list_number_below m o t le)))
+
+pub own_fronts : (m : ℕ) (a : Blocks) (k : ℕ) (t : MigrateType) → first_of (front_of_order a (t ∷ [])) (orders_from m k) ≡ own (area_in m a) k t
+unfolding own
+own_fronts m a k t = first_same _ _ k (m + 1 - k) (λ o p q. only (front (free_list_of a o t)) ∙ ap (λ (g : MigrateType → List ℕ). front (g t)) (sym (lists_in m a o (omega arith))))
+  where
+    only : (o : Option ℕ) → option_or o None ≡ o
+    only o = grind arith
+
+pub borrow_fronts : (m : ℕ) (a : Blocks) (k : ℕ) (t : MigrateType) → first_of (front_of_order a (foreign t)) (orders_from m k) ≡ borrow (area_in m a) k t
+unfolding borrow
+borrow_fronts m a k t = first_same _ _ k (m + 1 - k) (λ o p q. ap (λ (g : MigrateType → List ℕ). first_of (λ f. front (g f)) (foreign t)) (sym (lists_in m a o (omega arith))))
+
+-- what is first among the foreign types is of another type than the request's, and where there is none, there is none of any other type
+found_foreign : (t : MigrateType) (g : MigrateType → Option ℕ) (h : ℕ) → first_of g (foreign t) ≡ Some h → (f : MigrateType) × (f ≢ t) × (g f ≡ Some h)
+found_foreign t g h e = grind arith
+
+none_foreign : (t : MigrateType) (g : MigrateType → Option ℕ) → first_of g (foreign t) ≡ None → (f : MigrateType) → f ≢ t → g f ≡ None
+none_foreign t g e f ne = grind arith
+
+-- the largest order of a block that may be claimed for t, among the first n pageblocks
+abbrev pub IsLargestBelow : ℕ → Blocks → MigrateType → ℕ → Option ℕ → Type 0
+IsLargestBelow m a t n None = (h j : ℕ) → IsInClaimable m a t h j → h / pageblock_pages m < n → ⊥
+IsLargestBelow m a t n (Some o) = ((h : ℕ) × IsInClaimable m a t h o) × ((h j : ℕ) → IsInClaimable m a t h j → h / pageblock_pages m < n → j ≤ o)
+
+module _ (m : ℕ) (a : Blocks) (t : MigrateType) (n : ℕ) where
+  -- a pageblock that may not be claimed adds nothing
+  pub largest_same : (o : Option ℕ) → IsLargestBelow m a t n o → ((h j : ℕ) → IsInClaimable m a t h j → h / pageblock_pages m ≡ n → ⊥) → IsLargestBelow m a t (n + 1) o
+  largest_same None x out = λ h j y lt. elim (cases_eq (h / pageblock_pages m) n) [ inl same ↦ out h j y same | inr ne ↦ x h j y (omega arith) ]
+  largest_same (Some o) x out = (
+    x.0,
+    λ h j y lt. elim (cases_eq (h / pageblock_pages m) n) [ inl same ↦ absurd (out h j y same) | inr ne ↦ x.1 h j y (omega arith) ],
+  )
+
+  -- one of the request's own type, and one with too few free pages
+  pub out_by_type : slice_index_or a.kinds n Movable ≡ t → (h j : ℕ) → IsInClaimable m a t h j → h / pageblock_pages m ≡ n → ⊥
+  out_by_type e h j x there = x.other (rw there e)
+
+  pub out_by_pages : size_in m (cover (block_set a)) n < claim_pages m → (h j : ℕ) → IsInClaimable m a t h j → h / pageblock_pages m ≡ n → ⊥
+  out_by_pages few h j x there = omega (arith, rw there at (leb-true (claim_pages m) _ x.enough))
+
+  -- one that may be claimed adds the largest order of its blocks
+  pub largest_more : (o p : Option ℕ) → IsLargestBelow m a t n o → slice_index_or a.kinds n Movable ≢ t → claim_pages m ≤ size_in m (cover (block_set a)) n →
+      IfSome p (λ k. (h : ℕ) × Starts (block_set a) h k × (h / pageblock_pages m ≡ n)) →
+      ((h k : ℕ) → Starts (block_set a) h k → h / pageblock_pages m ≡ n → (j : ℕ) × (p ≡ Some j) × (k ≤ j)) → IsLargestBelow m a t (n + 1) (larger o p)
+  largest_more o None x other enough held most =
+      rw (stays o) (largest_same o x (λ h j z e. let w = most h j z.starts e in let none : None ≡ Some w.0 = w.1 in cc))
+    where
+      stays : (o : Option ℕ) → larger o None ≡ o
+      stays o = grind arith
+  largest_more o (Some k) x other enough held most = go o x
+    where
+      here : IsInClaimable m a t held.0 k
+      here = record { starts = held.1; other = rw held.2 other; enough = rw held.2 (le-leb _ _ enough) }
+
+      there : (h j : ℕ) → IsInClaimable m a t h j → h / pageblock_pages m ≡ n → j ≤ k
+      there h j z e =
+          let w = most h j z.starts e in
+          let some : Some k ≡ Some w.0 = w.1 in
+          let same : k ≡ w.0 = cc in
+          omega (arith, w.2)
+
+      go : (o : Option ℕ) → IsLargestBelow m a t n o → IsLargestBelow m a t (n + 1) (larger o (Some k))
+      go None x = ((held.0, here), λ h j z lt. elim (cases_eq (h / pageblock_pages m) n) [ inl same ↦ there h j z same | inr ne ↦ absurd (x h j z (omega arith)) ])
+      go (Some o) x = (
+        elim (cases_lt o k) [
+          | inl lt ↦ let e : max o k ≡ k = omega arith in rw e (held.0, here)
+          | inr ge ↦ let e : max o k ≡ o = omega arith in rw e x.0
+        ],
+        λ h j z lt. elim (cases_eq (h / pageblock_pages m) n) [ inl same ↦ omega (arith, there h j z same) | inr ne ↦ omega (arith, x.1 h j z (omega arith)) ],
+      )
+
+-- where a claim by a block of this order is possible at all, the free pages of its pageblock decide
+claim_half_free : (m : ℕ) (a : Blocks) (t : MigrateType) (o : ℕ) → o ≤ m →
+    (leb (least_movable_claim m) o || not (same_type t Movable)) ≡ true → half_free_of_order m a (foreign t) o ≡ claimable_of_order (area_in m a) t o
+claim_half_free m a t o le may =
+    ap (λ (p : ℕ → Bool). first_of (λ f. find p (free_list_of a o f)) (foreign t)) (λ i h. sym may i && is_half_free m a h)
+    ∙ ap (λ (g : MigrateType → List ℕ). first_of (λ f. find (is_claimable (area_in m a) t o) (g f)) (foreign t)) (sym (lists_in m a o le))
+
+-- and where it is not, none may be claimed
+claim_never : (a : Area) (t : MigrateType) (o : ℕ) → (leb (least_movable_claim a.largest) o || not (same_type t Movable)) ≡ false → claimable_of_order a t o ≡ None
+claim_never a t o may =
+    never (λ f. find (is_claimable a t o) (free_list a o f)) (foreign t)
+    (λ f. find_never (is_claimable a t o) (free_list a o f) (λ h. ap (λ b. b && leb (claim_pages a.largest) (size_in a.largest a.free (h / pageblock_pages a.largest))) may))
+  where
+    never : {X Y : Type 0} → (f : X → Option Y) (xs : List X) → ((x : X) → f x ≡ None) → first_of f xs ≡ None
+    never f [] e = refl
+    never f (x ∷ xs) e = rw (e x) (never f xs e)
+
+-- no block may be claimed where none of any order may
+claim_none : (a : Area) (k : ℕ) (t : MigrateType) → ((o : ℕ) → k ≤ o → o ≤ a.largest → claimable_of_order a t o ≡ None) → claim a k t ≡ None
+unfolding claim
+claim_none a k t none = back_none (claimable_of_order a t) k (a.largest + 1 - k) (λ o p q. none o p (omega arith))
+
+module _ (m : ℕ) (a : Blocks) (t : MigrateType) (one : IsOneSet m a) where
+  -- a block on a foreign list in whose pageblock half of the pages are free
+  half_free_in : (o h : ℕ) → o ≤ m → half_free_of_order m a (foreign t) o ≡ Some h → IsInClaimable m a t h o
+  half_free_in o h le e =
+      let w = found_foreign t (λ f. find (is_half_free m a) (free_list_of a o f)) h e in
+      let found = found_at (is_half_free m a) (free_list_of a o w.0) h w.2 in
+      let here = listed_starts m a h o w.0 one le found.0 in
+      record { starts = here.0; other = rw here.1 w.1; enough = found.1 }
+
+  half_free_none : (o h : ℕ) → o ≤ m → half_free_of_order m a (foreign t) o ≡ None → IsInClaimable m a t h o → ⊥
+  half_free_none o h le e y =
+      let f : MigrateType = kind_at m a.kinds h in
+      none_passes (is_half_free m a) (free_list_of a o f) h (none_foreign t (λ g. find (is_half_free m a) (free_list_of a o g)) e f y.other)
+      ((one.listed (list_number o f) (list_number_below m o f le)).from h (here_from m (block_set a) a.kinds (list_number o f) h o refl y.starts)) y.enough
+
+  -- no block of this order may be claimed where none is in a pageblock that may be
+  order_unclaimed : (o : ℕ) → o ≤ m → ((h : ℕ) → IsInClaimable m a t h o → ⊥) → claimable_of_order (area_in m a) t o ≡ None
+  order_unclaimed o le none =
+      elim (cases_Bool (leb (least_movable_claim m) o || not (same_type t Movable))) [
+        | inl may ↦ sym (claim_half_free m a t o le may) ∙ by_find (half_free_of_order m a (foreign t) o) refl
+        | inr never ↦ claim_never (area_in m a) t o never
+      ]
+    where
+      by_find : (r : Option ℕ) → half_free_of_order m a (foreign t) o ≡ r → r ≡ None
+      by_find None e = refl
+      by_find (Some h) e = absurd (none h (half_free_in o h le e))
+
+  pub nothing_claimed : (k : ℕ) → IsLargestClaimable m a t None → claim (area_in m a) k t ≡ None
+  nothing_claimed k none = claim_none (area_in m a) k t (λ o p q. order_unclaimed o q (λ h. none h o))
+
+  -- the largest order is less than the one asked for
+  pub too_small : (k n : ℕ) → IsLargestClaimable m a t (Some n) → n < k → claim (area_in m a) k t ≡ None
+  too_small k n y lt = claim_none (area_in m a) k t (λ o p q. order_unclaimed o q (λ h z. omega (arith, y.1 h o z)))
+
+  -- no block of the largest order, and so none of a smaller one, may be claimed for this type at all
+  pub may_not : (k n : ℕ) → IsLargestClaimable m a t (Some n) → (leb (least_movable_claim m) n || not (same_type t Movable)) ≡ false → claim (area_in m a) k t ≡ None
+  may_not k n y never =
+      claim_none (area_in m a) k t (λ o p q. elim (cases_lt n o) [
+        | inl lt ↦ order_unclaimed o q (λ h z. omega (arith, y.1 h o z))
+        | inr ge ↦ claim_never (area_in m a) t o (smaller (leb (least_movable_claim m) o) (leb (least_movable_claim m) n) _ (λ e. le-leb (least_movable_claim m) n (omega (arith, leb-true (least_movable_claim m) o e))) never)
+      ])
+    where
+      smaller : (p q r : Bool) → (p ≡ true → q ≡ true) → (q || r) ≡ false → (p || r) ≡ false
+      smaller p q r f e = grind arith
+
+  -- the first block of the largest order that may be claimed is the one that is claimed
+  claimed_largest : (k n : ℕ) (r : Option ℕ) → IsLargestClaimable m a t (Some n) → n ≤ m → k ≤ n →
+      (leb (least_movable_claim m) n || not (same_type t Movable)) ≡ true → half_free_of_order m a (foreign t) n ≡ r → claim (area_in m a) k t ≡ r
+  unfolding claim
+  claimed_largest k n None y le up may e = absurd (half_free_none n y.0.0 le e y.0.1)
+  claimed_largest k n (Some h) y le up may e =
+      back_some (claimable_of_order (area_in m a) t) k (m + 1 - k) n h up (omega arith) (sym (claim_half_free m a t n le may) ∙ e)
+      (λ o p q. order_unclaimed o (omega arith) (λ g z. omega (arith, y.1 g o z)))
+
+  pub claimed_found : (k n : ℕ) (r : Option FreeBlock) → IsLargestClaimable m a t (Some n) → n ≤ m → k ≤ n →
+      (leb (least_movable_claim m) n || not (same_type t Movable)) ≡ true → IsFoundAs a n (half_free_of_order m a (foreign t) n) r → IsFoundAs a k (claim (area_in m a) k t) r
+  claimed_found k n None y le up may e = claimed_largest k n None y le up may e
+  claimed_found k n (Some b) y le up may e = (claimed_largest k n (Some b.head) y le up may e.0, record { enough = omega (arith, e.1.enough); starts = e.1.starts })

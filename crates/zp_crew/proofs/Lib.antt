@@ -1,6 +1,0 @@
-pub mod Seating
-pub mod Workers
-pub mod Turns
-pub mod Commands
-pub mod Leaving
-pub mod OpenedDesks

@@ -1,3 +1,0 @@
-pub mod Crews
-pub mod Opening
-pub mod Offices

@@ -1,0 +1,192 @@
+//! Entries of a journal: what a worker asked of a zone, and what it was answered.
+ghost use Rattle.std.specs.Prelude.{◌≡◌, ◌↔◌, IsSome, IfSome, IsTrue, false};
+ghost use Rattle.zp_model.specs.Entries.{HasOneList, answered_of, asked_of, has_pages, pages_of};
+
+use crate::{Block, Mark, MigrateType, Order, PageList, PageNo, Refused, Reply, Request, Worker};
+use std::marker::Model;
+
+/// A request, without the pages of a drain.
+#[derive(Clone, Copy, Debug, Drop)]
+pub enum Asked {
+    Alloc(Order, MigrateType, Mark),
+    AllocLow(Order),
+    Free(PageNo, Order),
+    Post(PageNo, Order, Worker),
+    Collect,
+    Refill(MigrateType, Mark, u8),
+    Drain(MigrateType),
+}
+
+/// A reply, without the pages of a refill.
+#[derive(Clone, Copy, Debug, Drop)]
+pub enum Answered {
+    Page(PageNo),
+    Block(Block),
+    Freed,
+    Posted,
+    Pages,
+    Drained,
+    Refused(Refused),
+}
+
+/// One request that a worker made of a zone, with its reply. It is a few bytes, and room for one list of pages, which is written
+/// only where the entry has one: an entry is written over where it lies.
+#[derive(Debug, Drop)]
+pub struct Entry {
+    worker: Worker,
+    asked: Asked,
+    answered: Answered,
+    pages: PageList,
+}
+
+impl Model for Entry {
+    ghost use Rattle.zp_model.specs.Entries.{Entry, entry_of_parts};
+
+    ghost Value = { Entry };
+
+    ghost view = { λ e. entry_of_parts e.worker e.asked e.answered e.pages };
+}
+
+impl Entry {
+    ghost use Rattle.zp_model.specs.Entries.{blank_entry};
+
+    /// An entry to be written over.
+    pub fn blank() -> Entry
+        ensures { result ≡ blank_entry }
+    {
+        Entry {
+            worker: Worker::first(),
+            asked: Asked::Collect,
+            answered: Answered::Freed,
+            pages: PageList::new(),
+        }
+    }
+
+    /// The entry of a worker's request that was answered so. None where both have a list of pages, which no zone answers.
+    pub fn new(worker: Worker, request: &Request, reply: &Reply) -> Option<Entry>
+        ensures when { IsSome result ↔ HasOneList request.now reply.now }
+        ensures entry { IfSome result (λ e. e ≡ record { worker = worker; request = request.now; reply = reply.now }) }
+    {
+        if has_two_lists(request, reply) {
+            return None;
+        }
+        let mut entry = Entry::blank();
+        entry.set(worker, request, reply);
+        Some(entry)
+    }
+
+    /// Becomes the entry of a worker's request that was answered so.
+    pub fn set(&mut self, worker: Worker, request: &Request, reply: &Reply)
+        requires { HasOneList request.now reply.now }
+        ensures { self.new ≡ record { worker = worker; request = request.now; reply = reply.now } }
+    {
+        self.worker = worker;
+        self.asked = asked_of(request);
+        self.answered = answered_of(reply);
+        set_pages(&mut self.pages, request, reply);
+    }
+
+    /// Becomes the same as another entry.
+    pub fn copy(&mut self, other: &Entry)
+        ensures { self.new ≡ other.now }
+    {
+        self.worker = other.worker;
+        self.asked = other.asked;
+        self.answered = other.answered;
+        if has_pages(&other.asked, &other.answered) {
+            self.pages.set(other.pages.as_slice());
+        }
+    }
+
+    pub fn worker(&self) -> Worker
+        ensures { result ≡ self.now.worker }
+    {
+        self.worker
+    }
+
+    /// What was asked.
+    pub fn request(&self) -> Request
+        ensures { result ≡ self.now.request }
+    {
+        match self.asked {
+            Asked::Alloc(order, kind, mark) => Request::Alloc(order, kind, mark),
+            Asked::AllocLow(order) => Request::AllocLow(order),
+            Asked::Free(page, order) => Request::Free(page, order),
+            Asked::Post(page, order, to) => Request::Post(page, order, to),
+            Asked::Collect => Request::Collect,
+            Asked::Refill(kind, mark, count) => Request::Refill(kind, mark, count),
+            Asked::Drain(kind) => Request::Drain(kind, self.pages.copied()),
+        }
+    }
+
+    /// What was answered.
+    pub fn reply(&self) -> Reply
+        ensures { result ≡ self.now.reply }
+    {
+        match self.answered {
+            Answered::Page(page) => Reply::Page(page),
+            Answered::Block(block) => Reply::Block(block),
+            Answered::Freed => Reply::Freed,
+            Answered::Posted => Reply::Posted,
+            Answered::Pages => Reply::Pages(self.pages.copied()),
+            Answered::Drained => Reply::Drained,
+            Answered::Refused(refused) => Reply::Refused(refused),
+        }
+    }
+}
+
+/// Whether both have a list of pages.
+fn has_two_lists(request: &Request, reply: &Reply) -> bool
+    ensures two { IsTrue result → HasOneList request.now reply.now → ⊥ }
+    ensures one { result ≡ false → HasOneList request.now reply.now }
+{
+    matches!((request, reply), (Request::Drain(_, _), Reply::Pages(_)))
+}
+
+/// Whether an entry has a list of pages.
+fn has_pages(asked: &Asked, answered: &Answered) -> bool
+    ensures { result ≡ has_pages asked.now answered.now }
+{
+    matches!(asked, Asked::Drain(_)) || matches!(answered, Answered::Pages)
+}
+
+/// A request without its list.
+fn asked_of(request: &Request) -> Asked
+    ensures { result ≡ asked_of request.now }
+{
+    match request {
+        Request::Alloc(order, kind, mark) => Asked::Alloc(*order, *kind, *mark),
+        Request::AllocLow(order) => Asked::AllocLow(*order),
+        Request::Free(page, order) => Asked::Free(*page, *order),
+        Request::Post(page, order, to) => Asked::Post(*page, *order, *to),
+        Request::Collect => Asked::Collect,
+        Request::Refill(kind, mark, count) => Asked::Refill(*kind, *mark, *count),
+        Request::Drain(kind, _) => Asked::Drain(*kind),
+    }
+}
+
+/// A reply without its list.
+fn answered_of(reply: &Reply) -> Answered
+    ensures { result ≡ answered_of reply.now }
+{
+    match reply {
+        Reply::Page(page) => Answered::Page(*page),
+        Reply::Block(block) => Answered::Block(*block),
+        Reply::Freed => Answered::Freed,
+        Reply::Posted => Answered::Posted,
+        Reply::Pages(_) => Answered::Pages,
+        Reply::Drained => Answered::Drained,
+        Reply::Refused(refused) => Answered::Refused(*refused),
+    }
+}
+
+/// The list becomes that of the request or of the reply, where one of them has a list.
+fn set_pages(pages: &mut PageList, request: &Request, reply: &Reply)
+    ensures { pages.new ≡ pages_of request.now reply.now pages.old }
+{
+    if let Request::Drain(_, given) = request {
+        pages.set(given.as_slice());
+    } else if let Reply::Pages(got) = reply {
+        pages.set(got.as_slice());
+    }
+}

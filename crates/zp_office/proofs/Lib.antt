@@ -1,0 +1,13 @@
+pub mod Scripts
+pub mod CarriedOut
+pub mod Placing
+pub mod Bound
+pub mod Declared
+pub mod Makings
+pub mod Seating
+pub mod DeskNumbers
+pub mod Turns
+pub mod Commands
+pub mod Leaving
+pub mod OpenedDesks
+pub mod Running

@@ -1,0 +1,13 @@
+use Rattle.std.proofs.Common.{◌≡◌, List, length, map, Some}
+use Rattle.std.specs.List.{range_with_len}
+use Rattle.zp_zone.specs.NamedZone.{NamedZone}
+use Rattle.zp_office.specs.Desks.{counts_at}
+use Rattle.zp_office.proofs.carrying_out.counts_in.Given as goal
+
+-- the counts of the zones before this one
+abbrev pub invariant-loop-zone : goal.invariant-loop-zone
+invariant-loop-zone g l = record {
+  keys : g.Z.Zones.keys l.zones ≡ g.Z.Zones.keys l.fn.zones;
+  count : length l.row ≡ l.zone;
+  told : (rows : List NamedZone) → g.Z.Zones.told l.fn.zones ≡ Some rows → (l.row ≡ map (counts_at rows) (range_with_len 0 l.zone)) × (g.Z.Zones.told l.zones ≡ Some rows);
+}

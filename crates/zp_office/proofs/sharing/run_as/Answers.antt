@@ -1,0 +1,12 @@
+use Rattle.std.proofs.Common.{◌≡◌, ◌∙◌, ap, sym, length, arith}
+use Rattle.std.proofs.lemmas.List.{length-map}
+use Rattle.zp_shared.specs.Rows.{opened_key}
+use Rattle.zp_shared.proofs.Places.{row_length}
+use Rattle.zp_office.proofs.sharing.run_as.Goals as goal
+
+pub close_zones-requires-clause-room : goal.close_zones-requires-clause-room
+close_zones-requires-clause-room g c =
+    let row = c.in_ok-row.row.items in
+    let opened = c.args.opened.items in
+    let many : length row ≡ length opened = row_length g.J.Naming.zones row c.in_ok-row.ensures.row ∙ ap length (sym c.requires.keys) ∙ length-map opened opened_key in
+    (omega (arith, many, c.requires.room.0), omega (arith, many, c.requires.room.1))

@@ -1,0 +1,6 @@
+pub mod Desks
+pub mod Scripts
+pub mod Crews
+pub mod Opening
+pub mod Offices
+pub mod Runs

@@ -1,0 +1,85 @@
+//! The making of a script.
+ghost use Rattle.std.specs.Prelude.{◌≡◌, ◌==◌, ◌≤◌, All, IfOk, count_by, length};
+ghost use Rattle.zp_trace.specs.declared.bounds.TheConstants.{MOST_LINES};
+ghost use Rattle.zp_trace.specs.Grammar.{IsBeginning, lines_of};
+ghost use Rattle.zp_office.specs.Desks.{HasSlotBelow};
+ghost use Rattle.zp_office.specs.Scripts.{NamesBelow, calls_of, names_of, script_of, scripted};
+
+use crate::command::Command;
+use crate::places::{number_of, slot_of};
+use std::alloc::{AllocError, Global};
+use zp_model::Worker;
+use zp_trace::{Call, Trace, ZoneLine};
+
+/// The commands of a worker in a trace, in order. Each label of the worker is a slot: the place of the worker's first command that
+/// binds it. Each zone is the place of its line.
+pub fn script_of(alloc: Global, trace: &Trace, worker: Worker) -> Result<Vec<Command>, AllocError>
+    requires { IsBeginning (lines_of trace.now) }
+    ensures script { IfOk result (λ s. s.items ≡ script_of trace.now worker) }
+    ensures count { IfOk result (λ s. length s.items ≡ count_by (λ c. c.worker == worker) trace.now.commands) }
+    ensures few { IfOk result (λ s. length s.items ≤ MOST_LINES) }
+    ensures slots { IfOk result (λ s. All (HasSlotBelow (length s.items)) s.items) }
+    ensures names { IfOk result (λ s. All (NamesBelow (length trace.now.header.zones) trace.now.header.workers) s.items) }
+{
+    let zones = trace.header.zones.as_slice();
+    let calls = calls_of(alloc, trace.commands.as_slice(), worker)?;
+    let mut script = Vec::with_capacity(alloc, calls.len())?;
+    for call in &calls {
+        script.push_reserved(scripted(zones, &calls, call));
+    }
+    Ok(script)
+}
+
+/// The calls of a worker, in order.
+fn calls_of(
+    alloc: Global,
+    commands: &[zp_trace::CommandLine],
+    worker: Worker,
+) -> Result<Vec<Call>, AllocError>
+    ensures { IfOk result (λ calls. calls.items ≡ calls_of commands.now worker) }
+{
+    commands
+        .iter()
+        .filter(|command| command.worker == worker)
+        .map(|command| command.call)
+        .collect(alloc)
+}
+
+/// A call of a worker that makes these calls, as its desk carries it out.
+fn scripted(zones: &[ZoneLine], calls: &[Call], call: &Call) -> Command
+    ensures { result ≡ scripted (names_of zones.now) calls.now call.now }
+{
+    match *call {
+        Call::Info => Command::Info,
+        Call::Alloc {
+            label,
+            order,
+            kind,
+            zone,
+            mark,
+        } => Command::Alloc {
+            slot: slot_of(calls, label),
+            order,
+            kind,
+            zone: number_of(zones, zone),
+            mark,
+        },
+        Call::Low { label, order, zone } => Command::Low {
+            slot: slot_of(calls, label),
+            order,
+            zone: number_of(zones, zone),
+        },
+        Call::Free { label } => Command::Free {
+            slot: slot_of(calls, label),
+        },
+        Call::Post { label, to } => Command::Post {
+            slot: slot_of(calls, label),
+            to,
+        },
+        Call::Collect { label, zone } => Command::Collect {
+            slot: slot_of(calls, label),
+            zone: number_of(zones, zone),
+        },
+        Call::Drain => Command::Drain,
+    }
+}

@@ -1,0 +1,105 @@
+-- Looking through orders, pages and lists, and what is found.
+use Rattle.std.proofs.Common.{ℕ, suc, zero, ◌+◌, ◌-◌, ◌≡◌, ◌≤◌, ◌<◌, refl, sym, ◌∙◌, ap, arith, inl, inr, Bool, true, cond, [], ◌∷◌, ◌++◌, reverse, Option, Some, None, List, length, get_or, IfSome}
+use Rattle.std.specs.List.{range_with_len, find, count_by}
+use Rattle.std.specs.Option.{option_or}
+use Rattle.std.proofs.lemmas.List.{reverse-append}
+use Rattle.std.proofs.lemmas.List.Sums.{sum_by-cons}
+use Rattle.std.proofs.lemmas.Bool.{cases_eq, false_from_ne_true, eq-eqb, ne_eqb}
+use Rattle.zp_model.specs.BlockSet.{orders_from, first_of, block_if, lowest, max_blocks}
+use Rattle.std.specs.Prelude.{leb}
+use Rattle.std.proofs.lemmas.List.FromFn.{get_or-map-range_with_len, length-map-range_with_len}
+use Rattle.zp_model.specs.Block.{is_max}
+use Rattle.zp_model.specs.Area.{Area}
+use Rattle.zp_model.specs.Take.{leave, take_low_answer, take_low_after}
+use Rattle.zp_model.specs.Rows.{stands_in, front, after}
+use Rattle.zp_model.proofs.Settles.{stands_first, stands_later}
+
+-- the numbers from i on, below e; those of orders_from m k are below m + 1
+pub range_here : (i e : ℕ) → i < e → range_with_len i (e - i) ≡ i ∷ range_with_len (i + 1) (e - (i + 1))
+range_here i e lt = let s : e - i ≡ suc (e - (i + 1)) = omega arith in rw s refl
+
+pub range_none : (i e : ℕ) → e ≤ i → range_with_len i (e - i) ≡ []
+range_none i e le = let s : e - i ≡ 0 = omega arith in rw s refl
+
+-- the numbers of a range, the last first
+range-snoc : (a n : ℕ) → range_with_len a (suc n) ≡ range_with_len a n ++ (a + n) ∷ []
+range-snoc a zero = let s : a ≡ a + 0 = omega arith in ap (λ q. q ∷ []) s
+range-snoc a (suc n) = let s : (a + 1) + n ≡ a + suc n = omega arith in rw (range-snoc (a + 1) n, s) refl
+
+-- the answers of those from k on below `left`, the last first
+pub back_left : (f : ℕ → Option ℕ) (k left m : ℕ) → m ≡ left - 1 → k < left →
+    first_of f (reverse (range_with_len k (left - k))) ≡ option_or (f m) (first_of f (reverse (range_with_len k (left - 1 - k))))
+back_left f k left m e lt =
+    let s : left - k ≡ suc (left - 1 - k) = omega arith in
+    let t : k + (left - 1 - k) ≡ m = omega arith in
+    rw (s, range-snoc k (left - 1 - k), reverse-append (range_with_len k (left - 1 - k)) ((k + (left - 1 - k)) ∷ []), t) refl
+
+pub first_only : (o : Option ℕ) → option_or o None ≡ o
+first_only None = refl
+first_only (Some y) = refl
+
+-- what is found of the one number that passes
+pub find_only : (p : ℕ → Bool) (a n k : ℕ) → a ≤ k → k < a + n → p k ≡ true → ((i : ℕ) → p i ≡ true → i ≡ k) → find p (range_with_len a n) ≡ Some k
+find_only p a zero k le lt e f = absurd (omega arith)
+find_only p a (suc n) k le lt e f = elim (cases_eq k a) [
+  | inl same ↦ rw (rw same at e, same) refl
+  | inr ne ↦ rw (false_from_ne_true (p a) (λ t. ne (sym (f a t)))) (find_only p (a + 1) n k (omega arith) (omega arith) e f)
+]
+
+-- how many numbers of a range pass a test, one after another
+pub count_step : (p : ℕ → Bool) (i e : ℕ) (b : Bool) → i < e → p i ≡ b → count_by p (range_with_len i (e - i)) ≡ cond b 1 0 + count_by p (range_with_len (i + 1) (e - (i + 1)))
+count_step p i e b lt t = rw (range_here i e lt, ← t) (sum_by-cons (λ x. cond (p x) 1 0) i (range_with_len (i + 1) (e - (i + 1))))
+
+pub count_end : (p : ℕ → Bool) (i e : ℕ) → e ≤ i → count_by p (range_with_len i (e - i)) ≡ 0
+count_end p i e le = rw (range_none i e le) refl
+
+pub max_block : (m : ℕ) (u : List Bool) (h : ℕ) → h < length u → get_or (max_blocks m u) h None ≡ find (is_max m u h) (orders_from m 0)
+unfolding max_blocks
+max_block m u h lt = get_or-map-range_with_len (λ g. find (is_max m u g) (orders_from m 0)) 0 (length u) h h None lt (omega arith)
+
+-- the look at a page
+abbrev pub look : ℕ → List Bool → ℕ → ℕ → Option (ℕ × ℕ)
+look m u k h = block_if (λ g j. leb k j) h (get_or (max_blocks m u) h None)
+
+pub look_at : (m : ℕ) (u : List Bool) (k h : ℕ) → h < length u → look m u k h ≡ block_if (λ g j. leb k j) h (find (is_max m u h) (orders_from m 0))
+look_at m u k h lt = ap (λ (o : Option ℕ). block_if (λ g j. leb k j) h o) (max_block m u h lt)
+
+pub lowest_all : (m : ℕ) (u : List Bool) (k : ℕ) → lowest (max_blocks m u) k ≡ first_of (look m u k) (range_with_len 0 (length u - 0))
+unfolding lowest max_blocks
+lowest_all m u k =
+    let n : length (max_blocks m u) ≡ length u - 0 = length-map-range_with_len (λ h. find (is_max m u h) (orders_from m 0)) 0 (length u) ∙ omega arith in
+    ap (λ q. first_of (look m u k) (range_with_len 0 q)) n
+
+-- what taking it answers and leaves
+pub low_none : (a : Area) (k : ℕ) → lowest (max_blocks a.largest a.free) k ≡ None → (None ≡ take_low_answer a k) × (a ≡ take_low_after a k)
+unfolding take_low_answer take_low_after
+low_none a k e = rw e (refl, refl)
+
+pub low_some : (a : Area) (k : ℕ) (b : ℕ × ℕ) → lowest (max_blocks a.largest a.free) k ≡ Some b → (Some b.0 ≡ take_low_answer a k) × (leave a b.0 k ≡ take_low_after a k)
+unfolding take_low_answer take_low_after
+low_some a k b e = rw e (refl, refl)
+
+-- what was answered tells what is left
+pub after_none : (a b : Area) (k : ℕ) → None ≡ take_low_answer a k → b ≡ take_low_after a k → b ≡ a
+unfolding take_low_after
+after_none a b k e f = f ∙ rw (← e) refl
+
+pub after_some : (a b : Area) (h k : ℕ) → Some h ≡ take_low_answer a k → b ≡ take_low_after a k → b ≡ leave a h k
+unfolding take_low_after
+after_some a b h k e f = f ∙ rw (← e) refl
+
+pub front_stands : (xs : List ℕ) → IfSome (front xs) (λ p. stands_in p xs ≡ true)
+front_stands [] = tt
+front_stands (x ∷ xs) = stands_first x xs
+
+later : (x : ℕ) (o : Option ℕ) (xs : List ℕ) → IfSome o (λ p. stands_in p xs ≡ true) → IfSome o (λ p. stands_in p (x ∷ xs) ≡ true)
+later x None xs n = tt
+later x (Some p) xs n = stands_later p x xs n
+
+pub after_stands : (p : ℕ) (xs : List ℕ) → IfSome (after p xs) (λ q. stands_in q xs ≡ true)
+after_stands p [] = tt
+after_stands p (x ∷ xs) =
+    elim (cases_eq x p) [
+      | inl same ↦ rw (eq-eqb x p same) (later x (front xs) xs (front_stands xs))
+      | inr ne ↦ rw (ne_eqb x p ne) (later x (after p xs) xs (after_stands p xs))
+    ]

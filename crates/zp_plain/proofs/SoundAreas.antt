@@ -1,0 +1,98 @@
+-- Areas that are opened, changed and settled are sound.
+use Rattle.std.proofs.Common.{ℕ, ◌≡◌, ◌≤◌, refl, sym, ◌∙◌, ap, arith, Bool, List, length, length-set, ◌+◌, ◌-◌, ◌/◌, ◌%◌, ◌^◌, ◌<◌, ◌==◌, inl, inr, true, [], replicate}
+use Rattle.zp_model.specs.declared.constants.TheConstants.{MAX_PAGES}
+use Rattle.zp_model.specs.declared.migrate_type.MigrateType.{MigrateType}
+use Rattle.zp_model.specs.Area.{Area, pageblocks_of, settle, lists_count, opening, pageblock_pages}
+use Rattle.zp_model.specs.Take.{give, leave, retype}
+use Rattle.zp_model.specs.Lawful.{IsListedArea}
+use Rattle.zp_model.proofs.Covers.{length-with, length-without}
+use Rattle.zp_laws.proofs.Settling.{belongs_below, opening_lists}
+use Rattle.zp_laws.proofs.Areas.{free-give, kinds-give, lists-give, free-leave, kinds-leave, lists-leave, free-retype, kinds-retype, lists-retype, largest-give, largest-leave, largest-retype}
+use Rattle.zp_plain.specs.Sound.{IsSoundArea, IsTable}
+use Rattle.std.specs.Int.{div_ceil}
+use Rattle.std.specs.List.{IsDistinct}
+use Rattle.std.proofs.lemmas.Nat.{shr_split, pow_pos, mod_below}
+use Rattle.std.proofs.lemmas.Bool.{cases_lt, cases_eq, false≢true}
+use Rattle.std.proofs.lemmas.List.{get_or-replicate, get_or_past, length-replicate}
+use Rattle.zp_model.specs.declared.migrate_type.MigrateType.TheVariants.{Movable}
+use Rattle.zp_model.specs.declared.state.State.TheVariants.{Tail}
+use Rattle.zp_model.specs.Rows.{list_at, stands_in}
+use Rattle.zp_model.specs.Frames.{IsFramed, with_area}
+use Rattle.zp_model.proofs.Heads.{number_within}
+use Rattle.zp_laws.proofs.Opening.{free-opening, largest-opening, kinds-opening}
+use Rattle.zp_plain.proofs.Framed.{framed_with}
+
+-- as many marks and types as before, over the lists of a sound area
+pub table_of : (u : List Bool) (ks : List MigrateType) (a : Area) → IsSoundArea a → length u ≡ length a.free → length ks ≡ length a.kinds → IsTable a.largest u ks a.lists
+table_of u ks a x n m = record {
+  small = omega (arith, x.small);
+  typed = rw (m, n) x.typed;
+  table = x.lists.table;
+  distinct = x.lists.distinct;
+  inside = λ r p lt e. omega (arith, belongs_below a.largest a.free a.kinds r p (sym (x.lists.held r p lt) ∙ e));
+}
+
+-- the fields after a settling are the settled area
+pub settled_as : (m : ℕ) (u v : List Bool) (ks js : List MigrateType) (ls xs : List (List ℕ)) → v ≡ u → js ≡ ks → xs ≡ (settle (record { largest = m; free = v; kinds = js; lists = ls })).lists →
+    (let a : Area = record { largest = m; free = u; kinds = ks; lists = xs } in a) ≡ settle (record { largest = m; free = u; kinds = ks; lists = ls })
+unfolding settle
+settled_as m u v ks js ls xs e f g = rw (g, e, f) refl
+
+sound_as : (a b : Area) → IsSoundArea a → b.largest ≡ a.largest → length b.free ≡ length a.free → length b.kinds ≡ length a.kinds → IsListedArea b → IsSoundArea b
+sound_as a b x top n m l = record { small = omega (arith, x.small); typed = rw (m, top, n) x.typed; lists = l }
+
+pub sound_give : (a : Area) (h k : ℕ) → IsSoundArea a → IsSoundArea (give a h k)
+sound_give a h k x =
+    sound_as a (give a h k) x (largest-give a h k) (ap length (free-give a h k) ∙ length-with a.free h k) (ap length (kinds-give a h k)) (lists-give a h k x.lists)
+
+pub sound_leave : (a : Area) (h k : ℕ) → IsSoundArea a → IsSoundArea (leave a h k)
+sound_leave a h k x =
+    sound_as a (leave a h k) x (largest-leave a h k) (ap length (free-leave a h k) ∙ length-without a.free h k) (ap length (kinds-leave a h k)) (lists-leave a h k x.lists)
+
+pub sound_retype : (a : Area) (b : ℕ) (t : MigrateType) → IsSoundArea a → IsSoundArea (retype a b t)
+sound_retype a b t x =
+    sound_as a (retype a b t) x (largest-retype a b t) (ap length (free-retype a b t)) (ap length (kinds-retype a b t) ∙ length-set a.kinds b t) (lists-retype a b t x.lists)
+
+-- how many pageblocks n pages take up, as code reckons it
+pub round_up : (m n : ℕ) → div_ceil n (pageblock_pages m) ≡ pageblocks_of m n
+round_up m n =
+    let s = shr_split n m in
+    let r : n % 2 ^ m < 2 ^ m = mod_below n (2 ^ m) (pow_pos m) in
+    elim (cases_eq (n % 2 ^ m) 0) [
+      | inl even ↦ omega (arith, number_within (n / 2 ^ m) m (n + (2 ^ m - 1)) (omega arith) (omega arith))
+      | inr some ↦ omega (arith, number_within (n / 2 ^ m + 1) m (n + (2 ^ m - 1)) (omega arith) (omega arith))
+    ]
+
+none_at : (n r : ℕ) → list_at (replicate n []) r ≡ []
+none_at n r = elim (cases_lt r n) [
+  | inl lt ↦ get_or-replicate n r [] [] lt
+  | inr ge ↦ get_or_past (replicate n []) r [] (omega (arith, length-replicate {A = List ℕ} n []))
+]
+
+none_on : (n r p : ℕ) → stands_in p (list_at (replicate n []) r) ≡ true → ⊥
+none_on n r p e = false≢true (rw (none_at n r) at e)
+
+distinct-nil : IsDistinct (λ x y. x == y) []
+unfolding IsDistinct
+distinct-nil = tt
+
+pub table_none : (m pages : ℕ) → pages ≤ MAX_PAGES → IsTable m (replicate pages true) (replicate (pageblocks_of m pages) Movable) (replicate (lists_count m) [])
+table_none m pages le = record {
+  small = omega (arith, length-replicate pages true);
+  typed = rw (length-replicate (pageblocks_of m pages) Movable, length-replicate pages true) refl;
+  table = length-replicate {A = List ℕ} (lists_count m) [];
+  distinct = λ r lt. rw (none_at (lists_count m) r) distinct-nil;
+  inside = λ r p lt e. absurd (none_on (lists_count m) r p e);
+}
+
+pub sound_opening : (m pages : ℕ) → pages ≤ MAX_PAGES → IsSoundArea (opening m pages)
+sound_opening m pages le =
+    let n : length (opening m pages).free ≡ pages = ap length (free-opening m pages) ∙ length-replicate pages true in
+    record { small = omega arith; typed = rw (kinds-opening m pages, largest-opening m pages, n) (length-replicate (pageblocks_of m pages) Movable); lists = opening_lists m pages }
+
+-- the frames of the opening, whose notes are restated
+pub framed_opening : (m pages side : ℕ) → IsFramed (with_area (record { area = opening m pages; states = replicate pages Tail; sides = replicate side [] }) (opening m pages))
+framed_opening m pages side =
+    framed_with (record { area = opening m pages; states = replicate pages Tail; sides = replicate side [] }) (opening m pages)
+    (rw (free-opening m pages) (length-replicate pages true ∙ sym (length-replicate pages Tail)))
+    (rw (kinds-opening m pages, largest-opening m pages, length-replicate pages Tail) (length-replicate (pageblocks_of m pages) Movable)) (λ r p e. absurd (none_on side r p e))

@@ -1,0 +1,153 @@
+//! The sections of a share with the lent zone at a place of the row: each is one request on the zone, and the same change in the
+//! share.
+ghost use Rattle.std.specs.Prelude.{◌≡◌, ◌<◌, ◌≤◌, length, []};
+ghost use Rattle.zp_model.specs.Zone.{workers_of};
+ghost use Rattle.zp_model.specs.declared.request.Request.TheVariants as request;
+ghost use Rattle.zp_model.specs.declared.request.Reply.TheVariants as reply;
+ghost use Rattle.zp_zone.specs.NamedZone.{page_reply, block_reply};
+ghost use Rattle.zp_zone.specs.Seats.{IsSeatOf};
+ghost use Rattle.zp_share.specs.PlainShares.{back};
+ghost use Rattle.zp_share.specs.Sections.{IsAsked, MayAsk, done_reply, list_reply};
+ghost use Rattle.zp_share.specs.ZoneShares.{cached_of};
+ghost use Rattle.zp_share.specs.Shares.{share_at, with_zone_share};
+
+use super::Share;
+use crate::answered;
+use zp_model::{
+    Block, Mark, MigrateType, Order, PageList, PageNo, Refused, Reply, Request, Worker,
+};
+use zp_zone::Zone;
+
+impl Share {
+    /// One request to the zone, and the same change in the share. Refused 20 where the block that it names is not lent, 30 at the
+    /// last number of sections, and as the zone refuses it.
+    #[inline(always)]
+    pub fn section(&mut self, zone: &mut Zone, place: usize, request: &Request) -> Reply
+        requires place { place < length self.old.zones }
+        requires seat { IsSeatOf zone.old (share_at self.old place).seat }
+        requires may { MayAsk (workers_of zone.old.plain) self.old.batch request.now (share_at self.old place) }
+        ensures section { IsAsked request.now result zone.old zone.new (share_at self.old place) (share_at self.new place) }
+        ensures others { self.new ≡ with_zone_share place (share_at self.new place) self.old }
+    {
+        self.zones[place].section(zone, request)
+    }
+
+    /// A block of this order for this type, held to this mark, which is then lent: its first page. Refused 10, 11 or 30.
+    pub fn alloc_block(
+        &mut self,
+        zone: &mut Zone,
+        place: usize,
+        order: Order,
+        kind: MigrateType,
+        mark: Mark,
+    ) -> Result<PageNo, Refused>
+        requires place { place < length self.old.zones }
+        requires seat { IsSeatOf zone.old (share_at self.old place).seat }
+        ensures section { IsAsked (request.Alloc order kind mark) (page_reply result) zone.old zone.new (share_at self.old place) (share_at self.new place) }
+        ensures others { self.new ≡ with_zone_share place (share_at self.new place) self.old }
+    {
+        let request = Request::Alloc(order, kind, mark);
+        answered!(self.section(zone, place, &request), Reply::Page(page) => page)
+    }
+
+    /// The lowest block of this order, which is then lent. Refused 11 or 30.
+    pub fn alloc_low(
+        &mut self,
+        zone: &mut Zone,
+        place: usize,
+        order: Order,
+    ) -> Result<Block, Refused>
+        requires place { place < length self.old.zones }
+        requires seat { IsSeatOf zone.old (share_at self.old place).seat }
+        ensures section { IsAsked (request.AllocLow order) (block_reply result) zone.old zone.new (share_at self.old place) (share_at self.new place) }
+        ensures others { self.new ≡ with_zone_share place (share_at self.new place) self.old }
+    {
+        let request = Request::AllocLow(order);
+        answered!(self.section(zone, place, &request), Reply::Block(block) => block)
+    }
+
+    /// Gives back a lent block. Refused 20 where it is not lent with this order, and 30.
+    pub fn free_block(
+        &mut self,
+        zone: &mut Zone,
+        place: usize,
+        page: PageNo,
+        order: Order,
+    ) -> Result<(), Refused>
+        requires place { place < length self.old.zones }
+        requires seat { IsSeatOf zone.old (share_at self.old place).seat }
+        ensures section { IsAsked (request.Free page order) (done_reply reply.Freed result) zone.old zone.new (share_at self.old place) (share_at self.new place) }
+        ensures others { self.new ≡ with_zone_share place (share_at self.new place) self.old }
+    {
+        let request = Request::Free(page, order);
+        answered!(self.section(zone, place, &request), Reply::Freed => ())
+    }
+
+    /// Posts a lent block to a worker. Refused as `free_block` is.
+    pub fn post(
+        &mut self,
+        zone: &mut Zone,
+        place: usize,
+        page: PageNo,
+        order: Order,
+        to: Worker,
+    ) -> Result<(), Refused>
+        requires place { place < length self.old.zones }
+        requires seat { IsSeatOf zone.old (share_at self.old place).seat }
+        requires to { to < workers_of zone.old.plain }
+        ensures section { IsAsked (request.Post page order to) (done_reply reply.Posted result) zone.old zone.new (share_at self.old place) (share_at self.new place) }
+        ensures others { self.new ≡ with_zone_share place (share_at self.new place) self.old }
+    {
+        let request = Request::Post(page, order, to);
+        answered!(self.section(zone, place, &request), Reply::Posted => ())
+    }
+
+    /// The block in front of those posted to the worker, which is then lent. Refused 12 or 30.
+    pub fn collect(&mut self, zone: &mut Zone, place: usize) -> Result<Block, Refused>
+        requires place { place < length self.old.zones }
+        requires seat { IsSeatOf zone.old (share_at self.old place).seat }
+        ensures section { IsAsked request.Collect (block_reply result) zone.old zone.new (share_at self.old place) (share_at self.new place) }
+        ensures others { self.new ≡ with_zone_share place (share_at self.new place) self.old }
+    {
+        answered!(self.section(zone, place, &Request::Collect), Reply::Block(block) => block)
+    }
+
+    /// Fills an empty list with up to a batch of pages of its type, the one taken first in front: the pages. Refused 10 or 11
+    /// where none is got, and 30.
+    pub fn refill(
+        &mut self,
+        zone: &mut Zone,
+        place: usize,
+        kind: MigrateType,
+        mark: Mark,
+    ) -> Result<PageList, Refused>
+        requires place { place < length self.old.zones }
+        requires seat { IsSeatOf zone.old (share_at self.old place).seat }
+        requires empty { cached_of (share_at self.old place) kind ≡ [] }
+        requires some { 1 ≤ self.old.batch }
+        ensures section { IsAsked (request.Refill kind mark self.old.batch) (list_reply result) zone.old zone.new (share_at self.old place) (share_at self.new place) }
+        ensures others { self.new ≡ with_zone_share place (share_at self.new place) self.old }
+    {
+        let request = Request::Refill(kind, mark, self.lists.batch());
+        answered!(self.section(zone, place, &request), Reply::Pages(pages) => pages)
+    }
+
+    /// Gives back `count` pages from the back of the list of this type, the last one first. Refused 30.
+    pub fn drain(
+        &mut self,
+        zone: &mut Zone,
+        place: usize,
+        kind: MigrateType,
+        count: usize,
+    ) -> Result<(), Refused>
+        requires place { place < length self.old.zones }
+        requires seat { IsSeatOf zone.old (share_at self.old place).seat }
+        requires some { 1 ≤ count }
+        requires within { count ≤ length (cached_of (share_at self.old place) kind) }
+        ensures section { IsAsked (request.Drain kind (back count (cached_of (share_at self.old place) kind))) (done_reply reply.Drained result) zone.old zone.new (share_at self.old place) (share_at self.new place) }
+        ensures others { self.new ≡ with_zone_share place (share_at self.new place) self.old }
+    {
+        let request = Request::Drain(kind, self.back(place, kind, count));
+        answered!(self.section(zone, place, &request), Reply::Drained => ())
+    }
+}

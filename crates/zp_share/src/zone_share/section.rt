@@ -1,0 +1,74 @@
+//! One section of a share with the lent zone: a request on the zone, whatever is asked, and the same change in the share.
+ghost use Rattle.std.specs.Prelude.{ℕ, ◌≡◌, ◌≤◌};
+ghost use Rattle.zp_model.specs.declared.constants.TheConstants.{MAX_BATCH};
+ghost use Rattle.zp_model.specs.Zone.{workers_of};
+ghost use Rattle.zp_zone.specs.Seats.{IsSeatOf};
+ghost use Rattle.zp_share.specs.PlainShares.{lends_for, lists_after};
+ghost use Rattle.zp_share.specs.Sections.{HaveRoom, IsAsked, MayAsk};
+ghost use Rattle.zp_share.specs.ZoneShares.{HasAtMost, IsShare, RefillsAtMost, plain_share};
+
+use super::ZoneShare;
+use crate::page_stack::PageStack;
+use zp_model::{Refused, Reply, Request, TYPES};
+use zp_zone::Zone;
+
+impl ZoneShare {
+    /// Whether the block that a request names, if it names one, is lent.
+    #[inline(always)]
+    pub fn lends_for(&self, request: &Request) -> bool
+        ensures lent { result ≡ lends_for request.now (plain_share self.now) }
+        ensures share { IsShare self.now }
+    {
+        // the invariant is at hand where a field is
+        let _ = &self.seat;
+        match request {
+            Request::Free(page, order) => self.is_lent(*page, *order),
+            Request::Post(page, order, _) => self.is_lent(*page, *order),
+            _ => true,
+        }
+    }
+
+    /// One request to the zone, and the same change in the share. Refused 20 where the block that it names is not lent, and 30
+    /// at the last number of sections.
+    #[inline(always)]
+    pub fn section(&mut self, zone: &mut Zone, request: &Request) -> Reply
+        requires seat { IsSeatOf zone.old self.old.seat }
+        requires may { MayAsk (workers_of zone.old.plain) MAX_BATCH request.now self.old }
+        ensures section { IsAsked request.now result zone.old zone.new self.old self.new }
+        ensures lists { (n : ℕ) → RefillsAtMost n request.now → HasAtMost n self.old → HasAtMost n self.new }
+    {
+        if !self.lends_for(request) {
+            return Reply::Refused(Refused::NotLent);
+        }
+        if self.sections.are_full() {
+            return Reply::Refused(Refused::JournalFull);
+        }
+        let worker = self.seat.worker();
+        let reply = zone.ask(&mut self.seat, request);
+        self.uses.note(request, &reply);
+        note_lists(&mut self.cached, request, &reply);
+        self.sections.add(worker, request, &reply);
+        reply
+    }
+}
+
+/// A refill's pages are put on in front, and those of a drain leave the back.
+#[inline(always)]
+fn note_lists(lists: &mut [PageStack; TYPES], request: &Request, reply: &Reply)
+    requires { HaveRoom request.now reply.now lists.old }
+    ensures { lists.new ≡ lists_after request.now reply.now lists.old }
+{
+    match request {
+        Request::Refill(kind, _, _) => {
+            if let Reply::Pages(pages) = reply {
+                lists[kind.number()].push_all_front(pages.as_slice());
+            }
+        }
+        Request::Drain(kind, pages) => {
+            if let Reply::Drained = reply {
+                lists[kind.number()].drop_back(pages.as_slice().len());
+            }
+        }
+        _ => {}
+    }
+}

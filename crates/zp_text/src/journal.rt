@@ -1,0 +1,28 @@
+//! A journal's lines.
+ghost use Rattle.std.specs.Prelude.{◌≡◌, ◌<◌, ◌≤◌, length, OnOk, OnErr};
+ghost use Rattle.zp_text.specs.Streams.{IsWritten, IsBegun};
+ghost use Rattle.zp_text.specs.JournalText.{journal_text};
+
+use crate::line::entry_line;
+use crate::streams::{WriteFault, Writer, write_all};
+use zp_journal::Journal;
+use zp_model::LONGEST_NAME;
+
+/// Writes the line of each entry of the zone of this name, the oldest first, numbered from 1.
+pub fn write_journal<W: Writer>(
+    writer: &mut W,
+    name: &str,
+    journal: &Journal,
+) -> Result<(), WriteFault>
+    requires { length name.now ≤ LONGEST_NAME }
+    ensures ok { OnOk result (IsWritten (W.contents writer.old) (W.contents writer.new) (journal_text name.now journal.now.entries)) }
+    ensures calm { OnOk result (W.failures writer.new ≡ W.failures writer.old) }
+    ensures err { OnErr result (IsBegun (W.contents writer.old) (W.contents writer.new) (journal_text name.now journal.now.entries)) }
+    ensures failed { OnErr result (W.failures writer.old < W.failures writer.new) }
+{
+    for at in 0..journal.len() {
+        let line = entry_line(name, at + 1, journal.entry(at + 1));
+        write_all(writer, line.as_bytes())?;
+    }
+    Ok(())
+}
