@@ -16,6 +16,8 @@ use zp_model::{
 
 impl UntiedZone {
     /// A block of this order for this type, held to this mark: its first page. Refused 10 or 11.
+    // (in line: one call less for each block)
+    #[inline(always)]
     pub fn alloc(
         &mut self,
         worker: Worker,
