@@ -14,7 +14,7 @@ ghost use Rattle.zp_zone.specs.NamedZone.{IsPageOf, IsToldOf};
 ghost use Rattle.zp_zone.specs.Making.{wanted, IsGood, IsWhy};
 
 mod batches;
-mod requests;
+mod blocks;
 
 use crate::config::{ZoneConfig, checked_name};
 use crate::page::ZonePage;

@@ -16,7 +16,7 @@ ghost use Rattle.zp_zone.specs.Making.{wanted, IsGood, IsWhy};
 
 mod asking;
 mod batches;
-mod requests;
+mod blocks;
 
 use crate::books::{Books, Opens, Part, Parts};
 use crate::config::ZoneConfig;

@@ -1,4 +1,4 @@
-//! The requests of a zone's workers, without their seats. Each is one step of the plain zone.
+//! The requests of one block, without seats. Each is one step of the plain zone.
 //!
 //! In Linux: `rmqueue`, `__free_pages_ok` and `zone_watermark_ok`; what is posted and collected is this allocator's own.
 ghost use Rattle.std.specs.Prelude.{◌≡◌, ◌<◌, ◌≤◌, IfOk, IsTrue};

@@ -1,4 +1,4 @@
-//! The requests of a zone's workers, each by its seat. Each is one step of the plain zone and one entry, and the seat's part of
+//! The requests of one block, each by its seat. Each is one step of the plain zone and one entry, and the seat's part of
 //! the books changes in the same step.
 ghost use Rattle.std.specs.Prelude.{◌≡◌, ◌<◌, IfOk, IsTrue};
 ghost use Rattle.zp_model.specs.declared.request.Request.TheVariants as request;
