@@ -48,7 +48,7 @@ pub now_added : (m : ℕ) (a : Blocks) (h k r : ℕ) (v w : Rows) → v ≡ with
 now_added m a h k r v w ev ew er = rw (ew, ev, er)
 
 module _ {m : ℕ} {a : Blocks} {h k : ℕ} (x : IsComing m a h k) where
-  coming_new : IsNew m (block_set a) h k
+  pub coming_new : IsNew m (block_set a) h k
   coming_new = record { block = rw (blocks_length a.rows.states) x.block; clear = λ i lo hi on. false≢true (sym (x.clear i lo hi).0 ∙ on) }
 
   -- a further list has none of its pages

@@ -11,7 +11,7 @@ use Rattle.zp_model.specs.declared.state.State.{State}
 use Rattle.zp_model.specs.Block.{IsBlock}
 use Rattle.zp_model.specs.BlockSet.{is_order}
 use Rattle.zp_model.specs.Rows.{list_at}
-use Rattle.zp_model.specs.Area.{pageblock_pages, list_number, lists_count}
+use Rattle.zp_model.specs.Area.{pageblock_pages, kind_at, list_number, lists_count}
 use Rattle.zp_model.proofs.Heads.{number_lt}
 use Rattle.zp_area.specs.NotedBlocks.{free_order, blocks_of}
 use Rattle.zp_area.specs.Blocks.{Blocks, block_set, count_of, list_of_block}
@@ -40,15 +40,21 @@ orders_set m counts s t k n lt each here there j le =
       | inr ne ↦ get_or-set_other counts k j n 0 ne ∙ each j le ∙ sym (there j ne)
     ]
 
--- the list that the code finds for a block: t is what is read of the types at its pageblock b
+-- the type that the code reads at a block's pageblock b
+pub kind_found : (m : ℕ) (a : Blocks) (h k b : ℕ) (t : MigrateType) → IsOneSet m a → IsBlock m (length a.rows.states) h k → b ≡ h / pageblock_pages m → t ≡ slice_index_or a.kinds b t → t ≡ kind_at m a.kinds h
+kind_found m a h k b t one block eb et =
+    let lt : b < length a.kinds = rw (one.typed, eb) (number_lt (length a.rows.states) h m (head_below m _ h k block)) in
+    et ∙ get_or_default a.kinds b t Movable lt ∙ ap (λ q. slice_index_or a.kinds q Movable) eb
+
+-- the list that it finds for the block then
 pub list_found : (m : ℕ) (a : Blocks) (h k r b : ℕ) (t : MigrateType) → IsOneSet m a → IsBlock m (length a.rows.states) h k → b ≡ h / pageblock_pages m →
     t ≡ slice_index_or a.kinds b t → r ≡ list_number k t → r ≡ list_of_block m a h k
-list_found m a h k r b t one block eb et er =
-    let lt : b < length a.kinds = rw (one.typed, eb) (number_lt (length a.rows.states) h m (head_below m _ h k block)) in
-    er ∙ ap (λ q. list_number k q) (et ∙ get_or_default a.kinds b t Movable lt ∙ ap (λ q. slice_index_or a.kinds q Movable) eb)
+list_found m a h k r b t one block eb et er = er ∙ ap (λ q. list_number k q) (kind_found m a h k b t one block eb et)
 
--- the number that the code reads at its pageblock
+-- there is a number for its pageblock, and it is what the code reads there
+pub counted_there : (m : ℕ) (states : List State) (free_in : List ℕ) (h k : ℕ) → IsCounted m states free_in → IsBlock m (length states) h k → h / pageblock_pages m < length free_in
+counted_there m states free_in h k x block = rw x.blocks (number_lt (length states) h m (head_below m _ h k block))
+
 pub read_at : (m : ℕ) (states : List State) (free_in : List ℕ) (h k b d : ℕ) → IsCounted m states free_in → IsBlock m (length states) h k → b ≡ h / pageblock_pages m →
     d ≡ slice_index_or free_in b d → d ≡ slice_index free_in (h / pageblock_pages m)
-read_at m states free_in h k b d x block eb ed =
-    ed ∙ ap (λ q. slice_index_or free_in q d) eb ∙ get_or_default free_in _ d 0 (rw x.blocks (number_lt (length states) h m (head_below m _ h k block)))
+read_at m states free_in h k b d x block eb ed = ed ∙ ap (λ q. slice_index_or free_in q d) eb ∙ get_or_default free_in _ d 0 (counted_there m states free_in h k x block)

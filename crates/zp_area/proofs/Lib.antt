@@ -6,6 +6,8 @@ pub mod PageblockPages
 pub mod Keeping
 pub mod Adding
 pub mod Removing
+pub mod Splitting
+pub mod Growing
 pub mod Holding
 pub mod NoBlocks
 pub mod RelistedBy

@@ -5,3 +5,4 @@ pub mod Moved
 pub mod Blocks
 pub mod Retyped
 pub mod OneSet
+pub mod Chains

@@ -11,13 +11,15 @@ ghost use Rattle.zp_model.specs.Frames.{IsNote};
 ghost use Rattle.zp_model.specs.Area.{list_number, lists_count, size_in};
 ghost use Rattle.zp_tree.specs.Blocks.{IsBeside};
 ghost use Rattle.zp_area.specs.Given.{IsClearRun};
-ghost use Rattle.zp_area.specs.Blocks.{block_set, count_of, free_list_of, side_list_of, no_blocks, added, removed, noted, side_pushed, side_popped};
+ghost use Rattle.zp_area.specs.Blocks.{block_set, count_of, free_list_of, side_list_of, no_blocks, added, noted, side_pushed, side_popped};
+ghost use Rattle.zp_area.specs.Chains.{split_off, IsJoinedUp};
 ghost use Rattle.zp_area.specs.Retyped.{retyped};
 ghost use Rattle.zp_area.specs.OneSet.{IsOneSet};
 
 use crate::free_lists::list_of;
 use crate::linked_page::LinkedPage;
 use crate::retypes::retype;
+use crate::{joins, splits};
 use std::alloc::{AllocError, Global};
 use std::marker::Model;
 use zp_links::Lists;
@@ -113,23 +115,41 @@ impl FreeArea {
         self.free_in[pageblock] += order.pages();
     }
 
-    /// Takes a block out of the set. No list is searched.
-    #[inline(always)]
-    pub fn remove(&mut self, at: PageAt, order: Order)
-        requires { Starts (block_set self.old) at order }
-        ensures after { self.new ≡ removed LARGEST_ORDER self.old at order }
-
-        // What the calls after it can rest on.
-        ensures clear { IsClearRun LARGEST_ORDER self.new.rows.states self.new.rows.lists at order }
-        ensures still_clear { (h k : ℕ) → IsClearRun LARGEST_ORDER self.old.rows.states self.old.rows.lists h k → IsClearRun LARGEST_ORDER self.new.rows.states self.new.rows.lists h k }
+    /// Takes a block of order `from` out of the set, and its high halves down to order `to` into it, the largest first. Its low part
+    /// of order `to` is in no block then.
+    pub fn split_off(&mut self, at: PageAt, from: Order, to: Order)
+        requires block { Starts (block_set self.old) at from }
+        requires down { to ≤ from }
+        ensures { self.new ≡ split_off LARGEST_ORDER self.old at from to }
     {
-        let pageblock = at.pageblock();
-        let list = list_of(order, self.kinds[pageblock]);
-        self.lists.remove(list, at);
-        self.lists.set_state(at, State::Tail);
-        self.tree.clear(at, order);
-        self.counts[order.index()] -= 1;
-        self.free_in[pageblock] -= order.pages();
+        splits::split_off(
+            &mut self.lists,
+            &self.kinds,
+            &mut self.tree,
+            &mut self.counts,
+            &mut self.free_in,
+            at,
+            from,
+            to,
+        );
+    }
+
+    /// Takes a block into the set, joined with its buddies as long as they are in the set: each leaves it, and what the block has
+    /// grown to comes.
+    pub fn join_up(&mut self, at: PageAt, order: Order)
+        requires block { IsBlock LARGEST_ORDER (length self.old.rows.states) at order }
+        requires clear { IsClearRun LARGEST_ORDER self.old.rows.states self.old.rows.lists at order }
+        ensures { (d : ℕ) × IsJoinedUp d LARGEST_ORDER self.old at order self.new }
+    {
+        joins::join_up(
+            &mut self.lists,
+            &self.kinds,
+            &mut self.tree,
+            &mut self.counts,
+            &mut self.free_in,
+            at,
+            order,
+        );
     }
 
     /// Gives a pageblock a type. Where it is another one, its blocks go to the lists of the type, the highest in front.
@@ -147,7 +167,7 @@ impl FreeArea {
     pub fn is_free(&self, at: PageAt, order: Order) -> bool
         ensures { IsTrue result ↔ (state_at self.now.rows.states at ≡ Free order) }
     {
-        at.index() < self.lists.pages() && self.lists.state(at) == State::Free(order)
+        joins::is_free(&self.lists, at, order)
     }
 
     /// How many blocks of an order there are.

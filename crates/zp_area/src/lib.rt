@@ -1,13 +1,16 @@
 //! The free area: one set of free blocks, kept as page entries, lists by order and type, a status tree and counts, which all
-//! tell of the same blocks. Which blocks are split or joined is not its concern.
+//! tell of the same blocks. Which block is split, and how far, is not its concern; a block that comes back is joined with each
+//! free buddy in turn.
 //!
 //! In Linux: `struct free_area`, with `add_to_free_list`, `del_page_from_free_list` and `move_freepages_block`.
 #![tactic(auto)]
 
 mod area;
 mod free_lists;
+mod joins;
 mod linked_page;
 mod retypes;
+mod splits;
 
 pub use area::FreeArea;
 pub use linked_page::LinkedPage;

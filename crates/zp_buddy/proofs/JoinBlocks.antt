@@ -1,5 +1,5 @@
 -- A run that comes back: its free buddies leave the free area to join it, and what is left is as the definition of a giving back says.
-use Rattle.std.proofs.Common.{ℕ, ◌+◌, ◌-◌, ◌*◌, ◌/◌, ◌%◌, ◌^◌, ◌≡◌, ◌≤◌, ◌<◌, ◌==◌, ◌≢◌, ◌⊎◌, inl, inr, refl, sym, ◌∙◌, ap, arith, Bool, true, not, ◌&&◌, List, [], ◌∷◌, length, get_or-set_same, get_or-set_other, length-set, None}
+use Rattle.std.proofs.Common.{ℕ, suc, zero, ◌+◌, ◌-◌, ◌*◌, ◌/◌, ◌%◌, ◌^◌, ◌≡◌, ◌≤◌, ◌<◌, ◌==◌, ◌≢◌, ◌⊎◌, inl, inr, refl, sym, ◌∙◌, ap, arith, Bool, true, not, ◌&&◌, List, [], ◌∷◌, length, get_or-set_same, get_or-set_other, length-set, None}
 use Rattle.std.specs.List.{filter}
 use Rattle.std.proofs.lemmas.Nat.{pow_pos}
 use Rattle.std.proofs.lemmas.Bool.{cases_eq, not-true, and_parts, and_from, eq-eqb, ne_eqb, false≢true, both_ways}
@@ -23,7 +23,7 @@ use Rattle.zp_model.proofs.Covers.{cover-join, has_below, length-with, with-deci
 use Rattle.zp_model.proofs.Settles.{filter_all}
 use Rattle.zp_laws.proofs.Counting.{in_run-no, in_run-yes, same_tests, size-without, without-with_run}
 use Rattle.zp_area.specs.Blocks.{Blocks, block_set, added, noted, removed, list_of_block}
-use Rattle.zp_area.specs.Given.{IsClearRun}
+use Rattle.zp_area.specs.Chains.{IsJoinedUp}
 use Rattle.zp_area.specs.NotedBlocks.{free_order, blocks_of}
 use Rattle.zp_area.proofs.Filters.{filter_same, filter_twice, stands_filter-to}
 use Rattle.zp_model.proofs.TypeNumbers.{number_below, list_number_below}
@@ -49,22 +49,6 @@ outside-to b j x e = past b j x (λ lo hi. both_ways (in_run b j x) (not-true (i
 
 outside-from : (b j x : ℕ) → (x < b) ⊎ (b + 2 ^ j ≤ x) → is_outside b j x ≡ true
 outside-from b j x w = rw (in_run-no b j x w) refl
-
--- there is one buddy
-buddy_unique : (b j c d e f : ℕ) → IsBuddy b j c d → IsBuddy b j e f → c ≡ e
-buddy_unique b j c d e f x y =
-    let pos : 0 < 2 ^ j = pow_pos j in
-    let dx : head b (j + 1) ≡ d = head_of d b (j + 1) x.double (omega (arith, two j)) (omega (arith, two j)) in
-    let dy : head b (j + 1) ≡ f = head_of f b (j + 1) y.double (omega (arith, two j)) (omega (arith, two j)) in
-    omega arith
-
--- where there is a buddy that isn't a free block, the joining stops
-pub stops : (b j c d : ℕ) (s : List State) → IsBuddy b j c d → (state_at s c ≡ Free j → ⊥) → (e f : ℕ) → IsBuddy b j e f → state_at s e ≡ Free j → ⊥
-stops b j c d s x none e f y w = none (rw (buddy_unique b j e f c d y x) at w)
-
--- two halves that are clear make a clear double
-pub clear_double : (m : ℕ) (s : List State) (l : List (List ℕ)) (b j c d : ℕ) → IsBuddy b j c d → IsClearRun m s l b j → IsClearRun m s l c j → IsClearRun m s l d (j + 1)
-clear_double m s l b j c d y one other i lo hi = elim (run_cases b j i) [ inl w ↦ one i w.0 w.1 | inr out ↦ other i (omega (arith, two j)) (omega (arith, two j)) ]
 
 -- what stays past the double is what stays past the run and isn't the buddy
 outside_both : (b j c d x : ℕ) → IsBuddy b j c d → (c ≤ x → x < c + 2 ^ j → x ≡ c) → (is_outside b j x && not (x == c)) ≡ is_outside d (j + 1) x
@@ -129,7 +113,7 @@ module _ {m h k b j : ℕ} {f a : Blocks} (z : IsJoining m h k b j f a) where
   head_in = rw z.at (head_le h j, lt_head h j)
 
   -- what has grown is a block of the zone
-  pub grown_block : IsBlock m (length a.rows.states) b j
+  grown_block : IsBlock m (length a.rows.states) b j
   grown_block =
       let pos : 0 < 2 ^ j = pow_pos j in
       let inside : h + 2 ^ k ≤ length f.rows.states = z.back.block.inside in
@@ -143,7 +127,7 @@ module _ {m h k b j : ℕ} {f a : Blocks} (z : IsJoining m h k b j f a) where
       }
 
   -- a free buddy leaves the area
-  pub joining_more : (c d : ℕ) → IsBuddy b j c d → j < m → state_at a.rows.states c ≡ Free j → IsJoining m h k d (j + 1) f (removed m a c j)
+  joining_more : (c d : ℕ) → IsBuddy b j c d → j < m → state_at a.rows.states c ≡ Free j → IsJoining m h k d (j + 1) f (removed m a c j)
   joining_more c d y lt free =
       let x = z.back in
       let pos : 0 < 2 ^ j = pow_pos j in
@@ -329,7 +313,7 @@ pub record IsGiven (m h k : ℕ) (a n : Blocks) : Type 0 where
   pub size : size (cover (block_set n)) ≡ size (cover (block_set a)) + 2 ^ k
   pub after : frames_in m n ≡ given (frames_in m a) h k
 
-pub given_added : (m h k g j : ℕ) (a b : Blocks) → IsSound m a.rows.states a.kinds a.rows.lists → IsClear (frames_in m a) h k → IsJoining m h k g j (noted a h Tail) b →
+given_added : (m h k g j : ℕ) (a b : Blocks) → IsSound m a.rows.states a.kinds a.rows.lists → IsClear (frames_in m a) h k → IsJoining m h k g j (noted a h Tail) b →
     ((c d : ℕ) → j < m → IsBuddy g j c d → state_at b.rows.states c ≡ Free j → ⊥) → IsGiven m h k a (added m b g j)
 unfolding give
 given_added m h k g j a b x clear z stop =
@@ -345,6 +329,11 @@ given_added m h k g j a b x clear z stop =
       size = ap size y.free ∙ size-without (with_run u h k) h k (omega (arith, length-with u h k)) back.0 ∙ ap (λ q. size q + 2 ^ k) back.1;
       after = ap (λ q. frames_of m (added m b g j).rows.states q (added m b g j).rows.lists) z.kinds ∙ settled_frames y;
     }
+
+-- the run is joined with buddies, and what it has grown to is added
+pub given_joined : (i m h k g j : ℕ) (a b n : Blocks) → IsSound m a.rows.states a.kinds a.rows.lists → IsClear (frames_in m a) h k → IsJoining m h k g j (noted a h Tail) b → IsJoinedUp i m b g j n → IsGiven m h k a n
+given_joined zero m h k g j a b n x clear z w = rw w.0 (given_added m h k g j a b x clear z (λ c d lt y f. w.1 c d (record { order = lt; buddy = y; free = f })))
+given_joined (suc i) m h k g j a b n x clear z w = given_joined i m h k w.1 (j + 1) a (removed m b w.0 j) n x clear (joining_more z w.0 w.1 w.2.buddy w.2.order w.2.free) w.3
 
 -- the head of a clear block is a page of the zone
 pub clear_below : (m h k : ℕ) (a : Blocks) → IsClear (frames_in m a) h k → h < length a.rows.states

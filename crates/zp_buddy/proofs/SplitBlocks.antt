@@ -1,10 +1,8 @@
 -- A block that leaves the free area and is split: its high halves come back, and what is left is as the definition of a leaving says.
-use Rattle.std.proofs.Common.{ℕ, suc, zero, ◌+◌, ◌*◌, ◌/◌, ◌%◌, ◌^◌, ◌≡◌, ◌≤◌, ◌<◌, ◌≢◌, ◌⊎◌, ◌==◌, inl, inr, sym, ◌∙◌, ap, refl, arith, true, not, List, [], ◌∷◌, length, get_or-set_same, get_or-set_other, length-set}
-use Rattle.std.proofs.Math.Nat.{add-mod_right, pow-le-pow_right}
+use Rattle.std.proofs.Common.{ℕ, suc, zero, ◌+◌, ◌-◌, ◌*◌, ◌/◌, ◌^◌, ◌≡◌, ◌≤◌, ◌<◌, ◌≢◌, ◌⊎◌, ◌==◌, inl, inr, sym, ◌∙◌, ap, refl, arith, true, not, List, [], ◌∷◌, length, get_or-set_same, get_or-set_other, length-set}
 use Rattle.std.proofs.lemmas.Nat.{pow_pos, pow_below}
 use Rattle.std.proofs.lemmas.Bool.{and_parts, both_ways, cases_lt, cases_eq, eq-eqb, ne_eqb, not-true}
 use Rattle.std.proofs.lemmas.List.{length-map}
-use Rattle.zp_model.specs.declared.constants.TheConstants.{MAX_PAGES}
 use Rattle.zp_model.specs.declared.migrate_type.MigrateType.{MigrateType}
 use Rattle.zp_model.specs.declared.state.State.{State}
 use Rattle.zp_model.specs.declared.state.State.TheVariants.{Free, Tail}
@@ -15,48 +13,46 @@ use Rattle.zp_model.specs.MigrateType.{type_number, types_count}
 use Rattle.zp_model.specs.Rows.{Rows, list_at, state_at, without_page}
 use Rattle.zp_model.specs.Area.{kind_at, list_number, lists_count, settled}
 use Rattle.zp_model.specs.Take.{leave}
-use Rattle.zp_model.proofs.Heads.{two, aligned_down, head_room}
 use Rattle.zp_model.proofs.Normal.{IsNormal}
 use Rattle.zp_model.proofs.Pages.{In}
 use Rattle.zp_model.proofs.Split.{High, AfterSplit, high_lies}
 use Rattle.zp_model.proofs.Covers.{cover-split}
 use Rattle.zp_laws.proofs.Counting.{has-without_any}
-use Rattle.zp_area.specs.Blocks.{Blocks, block_set, added, removed}
-use Rattle.zp_area.specs.Given.{IsClearRun}
+use Rattle.zp_area.specs.Blocks.{Blocks, block_set, added, removed, list_of_block}
+use Rattle.zp_area.specs.Chains.{halves_added, split_off}
 use Rattle.zp_area.specs.NotedBlocks.{free_order, blocks_of}
 use Rattle.zp_model.proofs.TypeNumbers.{number_below, list_number_below}
 use Rattle.zp_area.proofs.NotedBlocks.{starts-to, starts-from}
 use Rattle.zp_buddy.specs.Choices.{frames_in}
-use Rattle.zp_buddy.specs.HighHalves.{IsSplit}
 use Rattle.zp_buddy.specs.Sound.{IsSound}
 use Rattle.zp_buddy.proofs.Settled.{IsRestated, IsSettled, kind_inside, removed_list, restated_same, settled_filter, settled_frames, settled_front, settled_sound, starts_block, starts_row}
 use Rattle.zp_model.specs.Lawful.{Here}
 
--- the high half of a block is one
-pub half_block : (m n h k j : ℕ) → IsBlock m n h k → j < k → IsBlock m n (h + 2 ^ j) j
-half_block m n h k j x lt =
-    let al : h % 2 ^ j ≡ 0 = aligned_down j k h (omega arith) x.aligned in
-    let le : 2 ^ (j + 1) ≤ 2 ^ k = pow-le-pow_right (omega arith) (omega arith) in
-    record { order = omega arith; aligned = add-mod_right h (2 ^ j) ∙ al; inside = omega (arith, two j) }
+-- s' and l' are s and l with the high halves of (h, o) down to order k, each free and in front of its list
+record IsSplit (h k o : ℕ) (t : MigrateType) (s s' : List State) (l l' : List (List ℕ)) : Type 0 where
+  high : (j : ℕ) → k ≤ j → j < o → state_at s' (h + 2 ^ j) ≡ Free j
+  other : (g : ℕ) → ((j : ℕ) → k ≤ j → j < o → g ≡ h + 2 ^ j → ⊥) → state_at s' g ≡ state_at s g
+  listed : (j : ℕ) → k ≤ j → j < o → list_at l' (list_number j t) ≡ (h + 2 ^ j) ∷ list_at l (list_number j t)
+  unlisted : (r : ℕ) → ((j : ℕ) → k ≤ j → j < o → r ≡ list_number j t → ⊥) → list_at l' r ≡ list_at l r
+  pages : length s' ≡ length s
+  table : length l' ≡ length l
 
--- the high half of a block of pages that a zone can have begins at one too
-pub half_below : (m n h k j : ℕ) → m ≤ 16 → IsBlock m n h k → h < MAX_PAGES → j < k → h + 2 ^ j < MAX_PAGES
-half_below m n h k j most x lt less =
-    let order : k ≤ m = x.order in
-    omega (arith, head_room h k 16 (omega arith) x.aligned, pow_below j k less)
-
--- the halves of a clear run are clear
-pub clear_low : (m : ℕ) (s : List State) (l : List (List ℕ)) (h j e : ℕ) → j + 1 ≡ e → IsClearRun m s l h e → IsClearRun m s l h j
-clear_low m s l h j e up x i lo hi = x i lo (omega (arith, two j, ap (λ n. 2 ^ n) up))
-
-pub clear_high : (m : ℕ) (s : List State) (l : List (List ℕ)) (h j e : ℕ) → j + 1 ≡ e → IsClearRun m s l h e → IsClearRun m s l (h + 2 ^ j) j
-clear_high m s l h j e up x i lo hi = x i (omega arith) (omega (arith, two j, ap (λ n. 2 ^ n) up))
+-- no half is added yet
+split_none : (h o : ℕ) (t : MigrateType) (s : List State) (l : List (List ℕ)) → IsSplit h o o t s s l l
+split_none h o t s l = record {
+  high = λ j lo hi. absurd (omega arith);
+  other = λ g f. refl;
+  listed = λ j lo hi. absurd (omega arith);
+  unlisted = λ r f. refl;
+  pages = refl;
+  table = refl;
+}
 
 -- the high half of order j is added to those of the orders above
-pub split_added : (m : ℕ) (a : Blocks) (h j o e : ℕ) (s : List State) (l : List (List ℕ)) (kinds : List MigrateType) →
-    IsSplit h e o (kind_at m kinds h) s a.rows.states l a.rows.lists → a.kinds ≡ kinds → j + 1 ≡ e → e ≤ o → IsBlock m (length s) h o → lists_count m ≤ length l →
+split_added : (m : ℕ) (a : Blocks) (h j o : ℕ) (s : List State) (l : List (List ℕ)) (kinds : List MigrateType) →
+    IsSplit h (j + 1) o (kind_at m kinds h) s a.rows.states l a.rows.lists → a.kinds ≡ kinds → j + 1 ≤ o → IsBlock m (length s) h o → lists_count m ≤ length l →
     IsSplit h j o (kind_at m kinds h) s (added m a (h + 2 ^ j) j).rows.states l (added m a (h + 2 ^ j) j).rows.lists
-split_added m a h j o e s l kinds x ek up le block table =
+split_added m a h j o s l kinds x ek le block table =
     let t : MigrateType = kind_at m kinds h in
     let g : ℕ = h + 2 ^ j in
     let q : ℕ = list_number j t in
@@ -79,6 +75,14 @@ split_added m a h j o e s l kinds x ek up le block table =
       pages = length-set a.rows.states g (Free j) ∙ x.pages;
       table = length-set a.rows.lists q v ∙ x.table;
     })
+
+-- all halves are added
+split_halves : (d m : ℕ) (a : Blocks) (h k o : ℕ) (s : List State) (l : List (List ℕ)) (kinds : List MigrateType) → IsSplit h (k + d) o (kind_at m kinds h) s a.rows.states l a.rows.lists → a.kinds ≡ kinds → k + d ≤ o →
+    IsBlock m (length s) h o → lists_count m ≤ length l → IsSplit h k o (kind_at m kinds h) s (halves_added m a h k d).rows.states l (halves_added m a h k d).rows.lists × ((halves_added m a h k d).kinds ≡ kinds)
+split_halves zero m a h k o s l kinds x ek le block table = let here : k + 0 ≡ k = omega arith in (rw here at x, ek)
+split_halves (suc d) m a h k o s l kinds x ek le block table =
+    let up : k + suc d ≡ k + d + 1 = omega arith in
+    split_halves d m (added m a (h + 2 ^ (k + d)) (k + d)) h k o s l kinds (split_added m a h (k + d) o s l kinds (rw up at x) ek (omega arith) block table) ek (omega arith) block table
 
 -- which high half begins at g, or that none does
 find_high : (h k o g : ℕ) → ((i : ℕ) × High h k o g i) ⊎ ((i : ℕ) → High h k o g i → ⊥)
@@ -229,11 +233,25 @@ module _ {m h k o : ℕ} {a : Blocks} {w : Rows} (x : IsTaken m h k o a w) where
         table = x.split.table ∙ length-set a.rows.lists _ _;
       }
 
--- what is left when the halves are added
-pub taken_block : (m : ℕ) (a r n : Blocks) (h k o : ℕ) → IsSound m a.rows.states a.kinds a.rows.lists → Starts (block_set a) h o → k ≤ o → r ≡ removed m a h o →
-    IsSplit h k o (kind_at m r.kinds h) r.rows.states n.rows.states r.rows.lists n.rows.lists → n.kinds ≡ r.kinds →
-    IsSound m n.rows.states n.kinds n.rows.lists × (frames_in m n ≡ with_area (frames_in m a) (leave (frames_in m a).area h k))
+-- what the taking leaves of a
+pub record IsLeft (m h k : ℕ) (a n : Blocks) : Type 0 where
+  pub sound : IsSound m n.rows.states n.kinds n.rows.lists
+  pub pages : length n.rows.states ≡ length a.rows.states
+  pub kinds : n.kinds ≡ a.kinds
+  pub after : frames_in m n ≡ with_area (frames_in m a) (leave (frames_in m a).area h k)
+
+pub left_split : (m : ℕ) (a : Blocks) (h k o : ℕ) → IsSound m a.rows.states a.kinds a.rows.lists → Starts (block_set a) h o → k ≤ o → IsLeft m h k a (split_off m a h o k)
 unfolding leave
-taken_block m a r n h k o x s le er split ek =
-    let y : IsTaken m h k o a n.rows = record { sound = x; starts = s; down = le; split = rw er at split } in
-    (rw (ek, er) (settled_sound (taken y)), rw (ek, er) (settled_frames (taken y)))
+left_split m a h k o x s le =
+    let r : Blocks = removed m a h o in
+    let down : k + (o - k) ≡ o = omega arith in
+    let block : IsBlock m (length r.rows.states) h o = rw (length-set a.rows.states h Tail) (starts_block m a h o x s) in
+    let w = split_halves (o - k) m r h k o r.rows.states r.rows.lists a.kinds (rw down (split_none h o (kind_at m a.kinds h) r.rows.states r.rows.lists)) refl (omega arith) block
+    (rw (length-set a.rows.lists (list_of_block m a h o) (without_page h (list_at a.rows.lists (list_of_block m a h o)))) x.table) in
+    let y : IsTaken m h k o a (split_off m a h o k).rows = record { sound = x; starts = s; down = le; split = w.0 } in
+    record {
+      sound = rw w.1 (settled_sound (taken y));
+      pages = w.0.pages ∙ length-set a.rows.states h Tail;
+      kinds = w.1;
+      after = rw w.1 (settled_frames (taken y));
+    }

@@ -1,5 +1,4 @@
 pub mod Sound
-pub mod HighHalves
 pub mod Opened
 pub mod Choices
 pub mod Held

@@ -1,6 +1,6 @@
-//! Joining a block that comes back with its free buddies.
+//! Giving a block back to the free area.
 //!
-//! In Linux: `__free_one_page`, with `page_is_buddy`.
+//! In Linux: `__free_one_page`.
 ghost use Rattle.std.specs.Prelude.{◌≡◌, ◌+◌, ◌^◌, length};
 ghost use Rattle.zp_model.specs.declared.constants.TheConstants.{LARGEST_ORDER};
 ghost use Rattle.zp_model.specs.Block.{size};
@@ -11,7 +11,7 @@ ghost use Rattle.zp_area.specs.Blocks.{block_set};
 ghost use Rattle.zp_buddy.specs.Choices.{frames_in};
 
 use zp_area::FreeArea;
-use zp_model::{LARGEST_ORDER, Order, PageAt, State};
+use zp_model::{Order, PageAt, State};
 
 /// Joins a block that comes back with its free buddies as far as that goes, and adds the joined block.
 pub fn join(area: &mut FreeArea, at: PageAt, order: Order)
@@ -24,16 +24,5 @@ pub fn join(area: &mut FreeArea, at: PageAt, order: Order)
     ensures after { frames_in LARGEST_ORDER area.new ≡ given (frames_in LARGEST_ORDER area.old) at order }
 {
     area.hold(at, State::Tail);
-    let mut head = at;
-    let mut joined = order;
-    'joins: while joined.number() < LARGEST_ORDER {
-        let buddy = head.buddy(joined);
-        if !area.is_free(buddy, joined) {
-            break;
-        }
-        area.remove(buddy, joined);
-        head = PageAt::at(head.number().min(buddy.number()));
-        joined = joined.higher();
-    }
-    area.add(head, joined);
+    area.join_up(at, order);
 }

@@ -28,15 +28,44 @@ same_start p i k o ok a b e =
 abbrev pub Spells : ℕ → List ℕ → List (Option ℕ) → Type 0
 Spells h ns s = (i o : ℕ) → IsFull h ns i o ↔ Starts s i o
 
--- the node of level k around p, at which no other block starts, gets rank v, which stands for a block or for none; nothing is in it, and no block is above it
+-- the blocks of the set lie in the zone
+abbrev pub AreIn : ℕ → ℕ → List (Option ℕ) → Type 0
+AreIn m pages s = (i o : ℕ) → Starts s i o → IsBlock m pages i o
+
+-- the node of level k around p, at which no other block starts, gets rank v, which stands for a block that starts there or for none
+pub write_spells : (h : ℕ) (ns : List ℕ) (s : List (Option ℕ)) (p k v : ℕ) (q : Option ℕ) → length ns ≡ 2 ^ h + 2 ^ h → Spells h ns s → k ≤ h → p < 2 ^ h → p < length s → p % 2 ^ k ≡ 0 →
+    ((v ≡ k + 1) × (q ≡ Some k)) ⊎ ((v ≢ k + 1) × (q ≡ None)) → ((o : ℕ) → Starts s p o → o ≡ k) → Spells h (written h ns p k v) (set s p q)
+write_spells h ns s p k v q size blocks level page start aligned kind once i o = (
+  λ g. elim (same_or o (i / 2 ^ o) k (p / 2 ^ k)) [
+    | inl y ↦
+        let e = same_start p i k o y.0 aligned g.aligned y.1 in
+        let r = full_here h ns p k v i o size level page y.0 y.1 in
+        elim kind [ inl w ↦ rw (e, get_or-set_same s p q None start, w.1, y.0) refl | inr w ↦ absurd (w.0 (omega (arith, r, g.full, y.0))) ]
+    | inr ne ↦
+        let old = (blocks i o).0 ((full_kept h ns p k v i o level page ne).1 g) in
+        get_or-set_other s p i q None (λ e. let ok = once o (rw e at old) in ne ok (rw (e, ok) refl)) ∙ old
+  ],
+  λ g. elim (cases_eq i p) [
+    | inl e ↦
+        let d = rw (e, get_or-set_same s p q None start) at g in
+        elim kind [
+          | inl w ↦
+              let ok : o ≡ k = cc in
+              rw (e, ok) (record { level = level; aligned = aligned; inside = page; full = full_here h ns p k v p k size level page refl refl ∙ w.0 })
+          | inr w ↦ absurd cc
+        ]
+    | inr ne ↦
+        let old = (blocks i o).1 (sym (get_or-set_other s p i q None ne) ∙ g) in
+        (full_kept h ns p k v i o level page (λ y r. ne (same_start p i k o y aligned old.aligned r))).0 old
+  ],
+)
+
+-- the same where nothing is in the node, and no block is above it
 module _ (m h pages : ℕ) (ns : List ℕ) (s : List (Option ℕ)) (p k v : ℕ) (q : Option ℕ) (t : IsTreeOf m h pages ns s) (b : IsBlock m pages p k)
     (kind : ((v ≡ k + 1) × (q ≡ Some k)) ⊎ ((v ≡ 0) × (q ≡ None))) (once : (o : ℕ) → Starts s p o → o ≡ k) (open_up : IsOpen h ns p (k + 1))
     (empty : (i : ℕ) → i + 1 ≡ k → (rank_at h ns i (2 * (p / 2 ^ k)) ≡ 0) × (rank_at h ns i (2 * (p / 2 ^ k) + 1) ≡ 0)) where
   level : (k ≤ h) × (p < 2 ^ h)
   level = order_level h pages p k t.room b.inside
-
-  start : p < length s
-  start = omega (arith, b.inside, pow_pos k, t.pages_of)
 
   free_above : k < h → rank_at h ns (k + 1) (p / 2 ^ (k + 1)) ≢ k + 2
   free_above l e = open_free h ns p (k + 1) (k + 1) open_up (omega arith) (omega arith) level.1 (omega (arith, e))
@@ -61,30 +90,8 @@ module _ (m h pages : ℕ) (ns : List ℕ) (s : List (Option ℕ)) (p k v : ℕ)
   still_open o le g = open_up o le ((full_kept h ns p k v (head p o) o level.0 level.1 (λ y _. omega arith)).1 g)
 
   spells : Spells h (written h ns p k v) (set s p q)
-  spells i o = (
-    λ g. elim (same_or o (i / 2 ^ o) k (p / 2 ^ k)) [
-      | inl y ↦
-          let e = same_start p i k o y.0 b.aligned g.aligned y.1 in
-          let r = full_here h ns p k v i o t.sound.size level.0 level.1 y.0 y.1 in
-          elim kind [ inl w ↦ rw (e, get_or-set_same s p q None start, w.1, y.0) refl | inr w ↦ absurd (omega (arith, r, g.full, w.0)) ]
-      | inr ne ↦
-          let old = (t.blocks i o).0 ((full_kept h ns p k v i o level.0 level.1 ne).1 g) in
-          get_or-set_other s p i q None (λ e. let ok = once o (rw e at old) in ne ok (rw (e, ok) refl)) ∙ old
-    ],
-    λ g. elim (cases_eq i p) [
-      | inl e ↦
-          let d = rw (e, get_or-set_same s p q None start) at g in
-          elim kind [
-            | inl w ↦
-                let ok : o ≡ k = cc in
-                rw (e, ok) (record { level = level.0; aligned = b.aligned; inside = level.1; full = full_here h ns p k v p k t.sound.size level.0 level.1 refl refl ∙ w.0 })
-            | inr w ↦ absurd cc
-          ]
-      | inr ne ↦
-          let old = (t.blocks i o).1 (sym (get_or-set_other s p i q None ne) ∙ g) in
-          (full_kept h ns p k v i o level.0 level.1 (λ y r. ne (same_start p i k o y b.aligned old.aligned r))).0 old
-    ],
-  )
+  spells =
+      write_spells h ns s p k v q t.sound.size t.blocks level.0 level.1 (omega (arith, b.inside, pow_pos k, t.pages_of)) b.aligned (elim kind [ inl w ↦ inl w | inr w ↦ inr (omega (arith, w.0), w.1) ]) once
 
 pub set_up : (m h pages : ℕ) (ns ms : List ℕ) (s : List (Option ℕ)) (p k l n v : ℕ) → IsTreeOf m h pages ns s → IsBlock m pages p k → IsApart s p k → l ≡ k → n ≡ node_at h l (p / 2 ^ l) → v ≡ k + 1 → ms ≡ slice_set ns n v →
     IsRaised h ms p k (k + 1) × Spells h ms (with_block s p k)
@@ -144,20 +151,28 @@ clear_up m h pages ns ms s p k l n v t st lk e z w =
       spells m h pages ns s p k 0 None t b (inr (refl, refl)) once up bare,
     )
 
-pub changed_tree : (m h pages : ℕ) (ns ms ks : List ℕ) (s : List (Option ℕ)) (p k : ℕ) (q : Option ℕ) → IsTreeOf m h pages ns s → IsBlock m pages p k → ((o : ℕ) → q ≡ Some o → o ≡ k) → Spells h ms (set s p q) → IsSound h ks → HasSameBlocks h ms ks →
-    IsTreeOf m h pages ks (set s p q)
-changed_tree m h pages ns ms ks s p k q t b only u x same = record {
+-- a tree whose blocks are those of another set of the same pages
+pub tree_anew : (m h pages : ℕ) (ns ms ks : List ℕ) (s z : List (Option ℕ)) → IsTreeOf m h pages ns s → length z ≡ length s → AreIn m pages z → Spells h ms z → IsSound h ks → HasSameBlocks h ms ks → IsTreeOf m h pages ks z
+tree_anew m h pages ns ms ks s z t n inside u x same = record {
   height = t.height;
   bounds = t.bounds;
   room = t.room;
-  pages_of = length-set s p q ∙ t.pages_of;
+  pages_of = n ∙ t.pages_of;
   sound = x;
-  inside = λ i o g. elim (cases_eq i p) [
-    | inl e ↦ rw (e, only o (rw (e, get_or-set_same s p q None (omega (arith, b.inside, pow_pos k, t.pages_of))) at g)) b
-    | inr ne ↦ t.inside i o (sym (get_or-set_other s p i q None ne) ∙ g)
-  ];
+  inside = inside;
   blocks = λ i o. (λ f. (u i o).0 ((same i o).1 f), λ g. (same i o).0 ((u i o).1 g));
 }
+
+pub set_in : (m pages : ℕ) (s : List (Option ℕ)) (p : ℕ) (q : Option ℕ) → AreIn m pages s → p < length s → ((o : ℕ) → q ≡ Some o → IsBlock m pages p o) → AreIn m pages (set s p q)
+set_in m pages s p q old lt new i o g = elim (cases_eq i p) [
+  | inl e ↦ rw e (new o (sym (get_or-set_same s p q None lt) ∙ rw e at g))
+  | inr ne ↦ old i o (sym (get_or-set_other s p i q None ne) ∙ g)
+]
+
+pub changed_tree : (m h pages : ℕ) (ns ms ks : List ℕ) (s : List (Option ℕ)) (p k : ℕ) (q : Option ℕ) → IsTreeOf m h pages ns s → IsBlock m pages p k → ((o : ℕ) → q ≡ Some o → o ≡ k) → Spells h ms (set s p q) → IsSound h ks → HasSameBlocks h ms ks →
+    IsTreeOf m h pages ks (set s p q)
+changed_tree m h pages ns ms ks s p k q t b only u x same =
+    tree_anew m h pages ns ms ks s (set s p q) t (length-set s p q) (set_in m pages s p q t.inside (omega (arith, b.inside, pow_pos k, t.pages_of)) (λ o e. rw (only o e) b)) u x same
 
 pub block_in : (m h pages : ℕ) (ns : List ℕ) (s : List (Option ℕ)) (p k : ℕ) → IsTreeOf m h pages ns s → IsBlock m (length s) p k → IsBlock m pages p k
 block_in m h pages ns s p k t b = rw t.pages_of at b

@@ -1,5 +1,5 @@
 -- The first block that a walk finds is the lowest.
-use Rattle.std.proofs.Common.{ℕ, ◌+◌, ◌≡◌, ◌≤◌, ◌<◌, refl, sym, arith, false, List, length, get_or, leb, rules, Option, Some, None, IfSome}
+use Rattle.std.proofs.Common.{ℕ, ◌≡◌, ◌≤◌, ◌<◌, refl, sym, arith, false, List, length, get_or, leb, rules, Option, Some, None, IfSome}
 use Rattle.std.proofs.lemmas.Nat.{pow_pos}
 use Rattle.std.proofs.lemmas.Bool.{leb-true, le-leb, false_from_ne_true}
 use Rattle.zp_model.specs.BlockSet.{Starts, block_if, lowest}

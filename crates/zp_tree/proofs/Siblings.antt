@@ -27,7 +27,7 @@ best_beside h ns j p = elim (halves p j) [
 ]
 
 -- the sibling is another node of the same level
-sibling_lt : (h j p : ℕ) → j < h → p < 2 ^ h → sibling (p / 2 ^ j) < 2 ^ (h - j)
+pub sibling_lt : (h j p : ℕ) → j < h → p < 2 ^ h → sibling (p / 2 ^ j) < 2 ^ (h - j)
 sibling_lt h j p lt b = omega (arith, sibling_is (p / 2 ^ j), around_lt h j p (omega arith) b, two_of h j lt)
 
 -- around a node that was written, the one above and the one beside stay

@@ -1,6 +1,6 @@
 -- Sets of blocks that share no page (Knowlton 1965): when a list of the kind of `zp_model`'s `BlockSet` is one, and what one block more or
 -- less makes of it.
-use Rattle.std.specs.Prelude.{ℕ, ◌+◌, ◌^◌, ◌≡◌, ◌≤◌, ◌<◌, ◌⊎◌, true, false, List, length, Option, None, Some, slice_set}
+use Rattle.std.specs.Prelude.{ℕ, suc, zero, ◌+◌, ◌-◌, ◌^◌, ◌≡◌, ◌≤◌, ◌<◌, ◌⊎◌, true, false, List, length, Option, None, Some, slice_set}
 use Rattle.zp_model.specs.Block.{IsBlock, in_run}
 use Rattle.zp_model.specs.BlockSet.{Starts, is_covered}
 
@@ -23,3 +23,19 @@ with_block s h k = slice_set s h (Some k)
 
 abbrev pub without_block : List (Option ℕ) → ℕ → List (Option ℕ)
 without_block s h = slice_set s h None
+
+-- the set with the halves of the block of order k + 1 at h in its place, and with that block in the place of its halves
+abbrev pub with_halves : List (Option ℕ) → ℕ → ℕ → List (Option ℕ)
+with_halves s h k = with_block (with_block s h k) (h + 2 ^ k) k
+
+abbrev pub with_double : List (Option ℕ) → ℕ → ℕ → List (Option ℕ)
+with_double s h k = with_block (without_block s (h + 2 ^ k)) h (k + 1)
+
+-- the set with d high halves of blocks at h, the last of order k
+abbrev pub high_halves : List (Option ℕ) → ℕ → ℕ → ℕ → List (Option ℕ)
+high_halves s h k zero = s
+high_halves s h k (suc d) = high_halves (with_block s (h + 2 ^ (k + d)) (k + d)) h k d
+
+-- the set with the high halves of the block (h, o) down to order k in its place: its low part of order k is in no block
+abbrev pub split_set : List (Option ℕ) → ℕ → ℕ → ℕ → List (Option ℕ)
+split_set s h o k = high_halves (without_block s h) h k (o - k)

@@ -1,0 +1,179 @@
+-- A block that comes back and grows: what is kept beside the lists, buddy by buddy.
+use Rattle.std.proofs.Common.{ℕ, suc, ◌+◌, ◌-◌, ◌/◌, ◌^◌, ◌≡◌, ◌≢◌, ◌≤◌, ◌<◌, ◌⊎◌, inl, inr, refl, sym, ◌∙◌, ap, arith, List, length, set, get_or, get_or-set_same, get_or-set_other, length-set, Option, Some, None}
+use Rattle.std.specs.List.{slice_index}
+use Rattle.std.proofs.lemmas.Nat.{pow_pos}
+use Rattle.std.proofs.lemmas.List.{map-set, set-get_or, set-set, set_comm}
+use Rattle.zp_model.specs.declared.migrate_type.MigrateType.{MigrateType}
+use Rattle.zp_model.specs.declared.state.State.TheVariants.{Tail}
+use Rattle.zp_model.specs.Block.{head, IsBlock, IsBuddy}
+use Rattle.zp_model.specs.BlockSet.{Starts}
+use Rattle.zp_model.specs.Area.{pageblock_pages, kind_at}
+use Rattle.zp_model.proofs.Heads.{two, head_of, number_around}
+use Rattle.zp_tree.specs.Blocks.{with_block, with_double}
+use Rattle.zp_area.specs.Given.{IsClearRun}
+use Rattle.zp_area.specs.NotedBlocks.{free_order}
+use Rattle.zp_area.specs.Blocks.{Blocks, block_set, added, removed}
+use Rattle.zp_area.specs.Chains.{IsJoinable, IsJoinedUp}
+use Rattle.zp_area.specs.OneSet.{IsKept}
+use Rattle.zp_area.proofs.NotedBlocks.{starts-from}
+use Rattle.zp_area.proofs.OneBlock.{new_none}
+use Rattle.zp_area.proofs.Keeping.{blocks_length}
+use Rattle.zp_area.proofs.Adding.{IsComing, coming_new, kept_added}
+use Rattle.zp_area.proofs.Removing.{clear_removed, clear_still, kept_removed}
+use Rattle.zp_area.proofs.Splitting.{kept_set}
+
+-- the block (h, k), which comes back to a, has grown to (g, j): b is a without the buddies, and the tree has what has grown; of the pages
+-- of the pageblock those are counted that are in blocks of b
+pub record IsGrowing (m : ℕ) (a b : Blocks) (tree : List (Option ℕ)) (counts free_in : List ℕ) (h k g j : ℕ) : Type 0 where
+  pub kinds : b.kinds ≡ a.kinds
+  pub orders : length counts ≡ m + 1
+  pub number : g / pageblock_pages m ≡ h / pageblock_pages m
+  pub most : 2 ^ j ≤ slice_index free_in (h / pageblock_pages m) + 2 ^ k
+  pub kept : IsKept m b (block_set b) counts (set free_in (h / pageblock_pages m) (slice_index free_in (h / pageblock_pages m) + 2 ^ k - 2 ^ j))
+  pub same : tree ≡ with_block (block_set b) g j
+  pub block : IsBlock m (length b.rows.states) g j
+  pub clear : IsClearRun m b.rows.states b.rows.lists g j
+  pub after : (n : Blocks) (i : ℕ) → IsJoinedUp i m b g j n → (e : ℕ) × IsJoinedUp e m a h k n
+
+pub grow_begins : (m : ℕ) (a : Blocks) (t : List (Option ℕ)) (counts free_in : List ℕ) (h k : ℕ) → IsKept m a t counts free_in → IsBlock m (length a.rows.states) h k → IsClearRun m a.rows.states a.rows.lists h k →
+    length counts ≡ m + 1 → IsGrowing m a a (with_block t h k) counts free_in h k h k
+grow_begins m a t counts free_in h k x b clear all =
+    let p : ℕ = h / pageblock_pages m in
+    let same : slice_index free_in p + 2 ^ k - 2 ^ k ≡ slice_index free_in p = omega arith in
+    record {
+      kinds = refl;
+      orders = all;
+      number = refl;
+      most = omega arith;
+      kept = rw (same, set-get_or free_in p 0) (kept_set m a t counts free_in x);
+      same = ap (λ q. set q h (Some k)) x.same;
+      block = b;
+      clear = clear;
+      after = λ n i w. (i, w);
+    }
+
+-- there is one buddy
+pub buddy_unique : (b j c d e f : ℕ) → IsBuddy b j c d → IsBuddy b j e f → c ≡ e
+buddy_unique b j c d e f x y =
+    let pos : 0 < 2 ^ j = pow_pos j in
+    let dx : head b (j + 1) ≡ d = head_of d b (j + 1) x.double (omega (arith, two j)) (omega (arith, two j)) in
+    let dy : head b (j + 1) ≡ f = head_of f b (j + 1) y.double (omega (arith, two j)) (omega (arith, two j)) in
+    omega arith
+
+module _ {m : ℕ} {a b : Blocks} {tree : List (Option ℕ)} {counts free_in : List ℕ} {h k g j : ℕ} (x : IsGrowing m a b tree counts free_in h k g j) where
+  pub grown_coming : IsComing m b g j
+  grown_coming = record { one = x.kept.one; block = x.block; clear = x.clear }
+
+  -- no block of b starts where the grown block does
+  none_here : get_or (block_set b) g None ≡ None
+  none_here = no_block (get_or (block_set b) g None) (new_none m (block_set b) g j x.kept.one.blocks (coming_new grown_coming))
+    where
+      no_block : (o : Option ℕ) → ((i : ℕ) → o ≡ Some i → ⊥) → o ≡ None
+      no_block o f = grind arith
+
+  -- the tree is over the pages
+  pub tree_length : length tree ≡ length b.rows.states
+  tree_length = rw x.same (length-set (block_set b) g (Some j) ∙ blocks_length b.rows.states)
+
+  -- the type of the pageblock is that of the grown block's
+  pub grown_kind : (t : MigrateType) → t ≡ kind_at m a.kinds h → t ≡ kind_at m b.kinds g
+  grown_kind t e = rw (x.number, x.kinds) e
+
+  -- a free buddy leaves, and the block doubles
+  module _ {c d : ℕ} (y : IsJoinable m b g j c d) where
+    pub buddy_starts : Starts (block_set b) c j
+    buddy_starts = starts-from b.rows.states c j y.free
+
+    pub buddy_block : IsBlock m (length b.rows.states) c j
+    buddy_block = rw (← blocks_length b.rows.states) (x.kept.one.blocks.block c j buddy_starts)
+
+    pub double_block : IsBlock m (length b.rows.states) d (j + 1)
+    double_block = record { order = omega (arith, y.order); aligned = y.buddy.double; inside = let q = y.buddy.halves in omega (arith, two j, x.block.inside, buddy_block.inside) }
+
+    double_number : d / pageblock_pages m ≡ h / pageblock_pages m
+    double_number =
+        let q = y.buddy.halves in
+        sym (number_around d g (j + 1) m (omega (arith, y.order)) y.buddy.double (omega (arith, two j)) (omega (arith, two j, pow_pos j))) ∙ x.number
+
+    buddy_number : c / pageblock_pages m ≡ h / pageblock_pages m
+    buddy_number =
+        let q = y.buddy.halves in
+        number_around d c (j + 1) m (omega (arith, y.order)) y.buddy.double (omega (arith, two j)) (omega (arith, two j, pow_pos j)) ∙ double_number
+
+    pub buddy_kind : (t : MigrateType) → t ≡ kind_at m a.kinds h → t ≡ kind_at m b.kinds c
+    buddy_kind t e = rw (buddy_number, x.kinds) e
+
+    -- in the tree the two are the halves of the double
+    pub tree_halves : Starts tree d j × Starts tree (d + 2 ^ j) j
+    tree_halves =
+        let apart : c ≢ g = λ e. let q = y.buddy.halves in omega (arith, e, pow_pos j) in
+        let at_g : Starts tree g j = rw x.same (get_or-set_same (block_set b) g (Some j) None (omega (arith, blocks_length b.rows.states, x.block.inside, pow_pos j))) in
+        let at_c : Starts tree c j = rw x.same (get_or-set_other (block_set b) g c (Some j) None apart ∙ buddy_starts) in
+        elim y.buddy.halves [ inl e ↦ (rw (← e.0) at_g, rw (← e.1) at_c) | inr e ↦ (rw (← e.0) at_c, rw (← e.1) at_g) ]
+
+    doubled : with_double tree d j ≡ with_block (block_set (removed m b c j)) d (j + 1)
+    doubled =
+        let s : List (Option ℕ) = block_set b in
+        let pos : 0 < 2 ^ j = pow_pos j in
+        ap (λ q. with_double q d j) x.same
+        ∙ elim y.buddy.halves [
+          | inl e ↦
+              ap (λ q. set (set (set s g (Some j)) q None) d (Some (j + 1))) (sym e.1)
+              ∙ ap (λ q. set q d (Some (j + 1))) (set_comm s g c (Some j) None (λ f. omega (arith, e.0, e.1, f)))
+              ∙ ap (λ q. set (set (set s c None) q (Some j)) d (Some (j + 1))) e.0
+              ∙ set-set (set s c None) d (Some j) (Some (j + 1))
+          | inr e ↦
+              ap (λ q. set (set (set s g (Some j)) q None) d (Some (j + 1))) (sym e.1)
+              ∙ ap (λ q. set q d (Some (j + 1))) (set-set s g (Some j) None ∙ ap (λ q. set s g q) (sym none_here) ∙ set-get_or s g None)
+              ∙ sym (set-set s d None (Some (j + 1)))
+              ∙ ap (λ q. set (set s q None) d (Some (j + 1))) (sym e.0)
+        ]
+        ∙ ap (λ q. set q d (Some (j + 1))) (sym (map-set free_order b.rows.states c Tail))
+
+    double_clear : IsClearRun m (removed m b c j).rows.states (removed m b c j).rows.lists d (j + 1)
+    double_clear i lo hi = elim (halves_cases i lo hi) [
+      | inl w ↦ clear_still m b c j x.kept.one buddy_starts g j x.clear i w.0 w.1
+      | inr w ↦ clear_removed m b c j x.kept.one buddy_starts i w.0 w.1
+    ]
+      where
+        run_cases : (e n i : ℕ) → ((e ≤ i) × (i < e + 2 ^ n)) ⊎ ((i < e) ⊎ (e + 2 ^ n ≤ i))
+        run_cases e n i = grind arith
+
+        halves_cases : (i : ℕ) → d ≤ i → i < d + 2 ^ (j + 1) → ((g ≤ i) × (i < g + 2 ^ j)) ⊎ ((c ≤ i) × (i < c + 2 ^ j))
+        halves_cases i lo hi = let q = y.buddy.halves in elim (run_cases g j i) [ inl w ↦ inl w | inr out ↦ inr (omega (arith, two j), omega (arith, two j)) ]
+
+    pub grow_goes : h / pageblock_pages m < length free_in → IsGrowing m a (removed m b c j) (with_double tree d j) (set counts j (slice_index counts j - 1)) free_in h k d (j + 1)
+    grow_goes lt =
+        let p : ℕ = h / pageblock_pages m in
+        let v : ℕ = slice_index free_in (h / pageblock_pages m) in
+        let was : List ℕ = set free_in p (v + 2 ^ k - 2 ^ j) in
+        let z = kept_removed m b c j x.kept.one buddy_starts (block_set b) counts was x.kept (omega (arith, x.orders, y.order)) in
+        let had : slice_index was p ≡ v + 2 ^ k - 2 ^ j = get_or-set_same free_in p (v + 2 ^ k - 2 ^ j) 0 lt in
+        let most : 2 ^ j ≤ slice_index was p = rw buddy_number at z.most in
+        let free : set free_in p (v + 2 ^ k - 2 ^ (j + 1)) ≡ set was (c / pageblock_pages m) (slice_index was (c / pageblock_pages m) - 2 ^ j) =
+        sym (set-set free_in p (v + 2 ^ k - 2 ^ j) (v + 2 ^ k - 2 ^ (j + 1))) ∙ ap (λ q. set was p q) (omega (arith, had, x.most, two j)) ∙ ap (λ q. set was q (slice_index was q - 2 ^ j)) (sym buddy_number) in
+        record {
+          kinds = x.kinds;
+          orders = length-set counts j _ ∙ x.orders;
+          number = double_number;
+          most = omega (arith, had, most, x.most, two j);
+          kept = rw free (kept_set m _ _ _ _ z.kept);
+          same = doubled;
+          block = rw (length-set b.rows.states c Tail) double_block;
+          clear = double_clear;
+          after = λ n i r. x.after n (suc i) (c, d, y, r);
+        }
+
+  -- the grown block has no free buddy, and is added
+  pub grow_ends : ((c d : ℕ) → IsJoinable m b g j c d → ⊥) → h / pageblock_pages m < length free_in →
+      IsKept m (added m b g j) tree (set counts j (slice_index counts j + 1)) (set free_in (h / pageblock_pages m) (slice_index free_in (h / pageblock_pages m) + 2 ^ k)) ×
+      ((e : ℕ) × IsJoinedUp e m a h k (added m b g j))
+  grow_ends stop lt =
+      let p : ℕ = h / pageblock_pages m in
+      let v : ℕ = slice_index free_in (h / pageblock_pages m) in
+      let was : List ℕ = set free_in p (v + 2 ^ k - 2 ^ j) in
+      let z = kept_added grown_coming (block_set b) counts was x.kept (omega (arith, x.orders, x.block.order)) in
+      let had : slice_index was p ≡ v + 2 ^ k - 2 ^ j = get_or-set_same free_in p (v + 2 ^ k - 2 ^ j) 0 lt in
+      let free : set free_in p (v + 2 ^ k) ≡ set was (g / pageblock_pages m) (slice_index was (g / pageblock_pages m) + 2 ^ j) =
+      sym (set-set free_in p (v + 2 ^ k - 2 ^ j) (v + 2 ^ k)) ∙ ap (λ q. set was p q) (omega (arith, had, x.most)) ∙ ap (λ q. set was q (slice_index was q + 2 ^ j)) (sym x.number) in
+      (rw (x.same, free) z.kept, x.after (added m b g j) 0 (refl, stop))

@@ -1,0 +1,59 @@
+//! Joining a block that comes back with its free buddies, as one change of what is kept beside the lists.
+//!
+//! In Linux: `__free_one_page`, with `page_is_buddy`.
+ghost use Rattle.std.specs.Prelude.{◌≡◌, ◌↔◌, ℕ, length, IsTrue};
+ghost use Rattle.zp_model.specs.declared.constants.TheConstants.{LARGEST_ORDER};
+ghost use Rattle.zp_model.specs.declared.state.State.TheVariants.{Free};
+ghost use Rattle.zp_model.specs.Block.{IsBlock};
+ghost use Rattle.zp_model.specs.Rows.{state_at};
+ghost use Rattle.zp_area.specs.Chains.{IsJoinedUp};
+ghost use Rattle.zp_area.specs.Given.{IsClearRun};
+ghost use Rattle.zp_area.specs.OneSet.{IsKept};
+
+use crate::splits::{put_in, take_out};
+use zp_links::Lists;
+use zp_model::{LARGEST_ORDER, MigrateType, ORDERS, Order, PageAt, State};
+use zp_tree::OrderTree;
+
+/// Whether a block of this order starts at a page.
+pub fn is_free(lists: &Lists, at: PageAt, order: Order) -> bool
+    ensures { IsTrue result ↔ (state_at lists.now.states at ≡ Free order) }
+{
+    at.index() < lists.pages() && lists.state(at) == State::Free(order)
+}
+
+/// Takes a block into the set, joined with its buddies as long as they are free. It stands in the tree from the first, and
+/// doubles there with each buddy that leaves its list; its head comes on a list last.
+pub fn join_up(
+    lists: &mut Lists,
+    kinds: &Vec<MigrateType>,
+    tree: &mut OrderTree,
+    counts: &mut [u32; ORDERS],
+    free_in: &mut Vec<u32>,
+    at: PageAt,
+    order: Order,
+)
+    requires kept { IsKept LARGEST_ORDER (record { rows = lists.old; kinds = kinds.now.items }) tree.old counts.old free_in.old.items }
+    requires block { IsBlock LARGEST_ORDER (length lists.old.states) at order }
+    requires clear { IsClearRun LARGEST_ORDER lists.old.states lists.old.lists at order }
+    ensures kept { IsKept LARGEST_ORDER (record { rows = lists.new; kinds = kinds.now.items }) tree.new counts.new free_in.new.items }
+    ensures after { (d : ℕ) × IsJoinedUp d LARGEST_ORDER (record { rows = lists.old; kinds = kinds.now.items }) at order (record { rows = lists.new; kinds = kinds.now.items }) }
+{
+    let pageblock = at.pageblock();
+    let kind = kinds[pageblock];
+    free_in[pageblock] += order.pages();
+    tree.set(at, order);
+    let mut head = at;
+    let mut joined = order;
+    'joins: while joined.number() < LARGEST_ORDER {
+        let buddy = head.buddy(joined);
+        if !is_free(lists, buddy, joined) {
+            break;
+        }
+        take_out(lists, counts, kind, buddy, joined);
+        head = PageAt::at(head.number().min(buddy.number()));
+        tree.double(head, joined);
+        joined = joined.higher();
+    }
+    put_in(lists, counts, kind, head, joined);
+}
