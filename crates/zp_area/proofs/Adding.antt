@@ -1,8 +1,8 @@
 -- Taking a block into the set.
-use Rattle.std.proofs.Common.{ℕ, ◌+◌, ◌-◌, ◌/◌, ◌^◌, ◌≡◌, ◌≤◌, ◌<◌, ◌==◌, ◌||◌, inl, inr, refl, sym, ◌∙◌, ap, arith, List, [], ◌∷◌, length, set, get_or, get_or-set_same, get_or-set_other, length-set, Option, None, Some}
+use Rattle.std.proofs.Common.{ℕ, ◌+◌, ◌-◌, ◌/◌, ◌^◌, ◌≡◌, ◌≤◌, ◌<◌, ◌||◌, inl, inr, sym, ◌∙◌, ap, arith, List, [], ◌∷◌, length, set, get_or-set_same, get_or-set_other, length-set, Option}
 use Rattle.std.specs.List.{slice_index}
 use Rattle.std.proofs.lemmas.Nat.{pow_pos}
-use Rattle.std.proofs.lemmas.Bool.{cases_eq, cases_lt, eq-eqb, ne_eqb, false≢true, both_ways, false_from_ne_true}
+use Rattle.std.proofs.lemmas.Bool.{cases_eq, cases_lt, false≢true, both_ways, false_from_ne_true}
 use Rattle.std.proofs.lemmas.List.{map-set, get_or-drop}
 use Rattle.zp_model.specs.declared.state.State.TheVariants.{Free}
 use Rattle.zp_model.specs.MigrateType.{types_count}
@@ -12,14 +12,14 @@ use Rattle.zp_model.specs.Rows.{Rows, list_at, stands_in, with_list, with_state,
 use Rattle.zp_model.specs.Area.{pageblock_pages, lists_count}
 use Rattle.zp_model.proofs.Covers.{has-cover, length-cover}
 use Rattle.zp_tree.specs.Blocks.{IsApart, IsBeside, with_block}
-use Rattle.zp_laws.proofs.Counting.{in_run-no, one_if, has-with_any}
-use Rattle.zp_area.specs.Blocks.{Blocks, block_set, count_of, list_of_block, added}
+use Rattle.zp_laws.proofs.Counting.{in_run-no, has-with_any}
+use Rattle.zp_area.specs.Blocks.{Blocks, block_set, list_of_block, added}
 use Rattle.zp_area.specs.Given.{IsClearRun}
 use Rattle.zp_area.specs.NotedBlocks.{free_order}
 use Rattle.zp_area.specs.OneSet.{IsOneSet, IsKept}
-use Rattle.zp_area.proofs.Keeping.{aside_same, blocks_length, count-le, orders_set}
+use Rattle.zp_area.proofs.Keeping.{aside_same, blocks_length}
 use Rattle.zp_area.proofs.Listing.{listed_with, listed_with_other}
-use Rattle.zp_area.proofs.OneBlock.{IsNew, cover-with, count-with, head_below, new_none, with-here, with-set}
+use Rattle.zp_area.proofs.OneBlock.{IsNew, cover-with, head_below, new_none, with-here, with-set}
 use Rattle.zp_area.proofs.PageblockPages.{counted_more}
 use Rattle.zp_model.proofs.TypeNumbers.{list_number_below}
 use Rattle.zp_model.proofs.Pages.{in_run-to}
@@ -36,10 +36,9 @@ pub coming_by : (m : ℕ) (a b : Blocks) (h k : ℕ) → a ≡ b → IsOneSet m 
 coming_by m a b h k e one block clear = record { one = one; block = rw e block; clear = rw e clear }
 
 -- the numbers with the block still fit
-pub record IsMoreKept (m : ℕ) (a : Blocks) (tree : List (Option ℕ)) (counts free_in : List ℕ) (h k : ℕ) : Type 0 where
-  pub count : slice_index counts k < 2 ^ 32 - 1
+pub record IsMoreKept (m : ℕ) (a : Blocks) (tree : List (Option ℕ)) (free_in : List ℕ) (h k : ℕ) : Type 0 where
   pub fits : slice_index free_in (h / pageblock_pages m) + 2 ^ k ≤ pageblock_pages m
-  pub kept : IsKept m (added m a h k) (with_block tree h k) (set counts k (slice_index counts k + 1))
+  pub kept : IsKept m (added m a h k) (with_block tree h k)
       (set free_in (h / pageblock_pages m) (slice_index free_in (h / pageblock_pages m) + 2 ^ k))
 
 -- the rows after it, in the words of the code
@@ -104,30 +103,18 @@ module _ {m : ℕ} {a : Blocks} {h k : ℕ} (x : IsComing m a h k) where
         added_has p ∙ rw (x.one.aside r p ge was) (false_from_ne_true _ (λ run. let w = in_run-to h k p run in coming_off r p ge w.0 w.1 was));
   }
 
-  pub kept_added : (tree : List (Option ℕ)) (counts free_in : List ℕ) → IsKept m a tree counts free_in → k < length counts → IsMoreKept m a tree counts free_in h k
-  kept_added tree counts free_in y room =
-      let s : List (Option ℕ) = block_set a in
-      let lt : h < length (block_set a) = head_below m _ h k coming_new.block in
-      let each : (j : ℕ) → count_of (block_set (added m a h k)) j ≡ count_of s j + one_if (k == j) =
-      λ j. rw added_set (count-with s h k j lt (no_block (get_or s h None) (new_none m s h k x.one.blocks coming_new))) in
-      let here : count_of (block_set (added m a h k)) k ≡ count_of (block_set a) k + 1 = each k ∙ rw (eq-eqb k k refl) refl in
+  pub kept_added : (tree : List (Option ℕ)) (free_in : List ℕ) → IsKept m a tree free_in → IsMoreKept m a tree free_in h k
+  kept_added tree free_in y =
       let more = counted_more m a.rows.states (added m a h k).rows.states free_in h k y.each x.one.blocks (length-set a.rows.states h (Free k)) coming_new added_set in
       record {
-        count = omega (arith, y.orders k x.block.order, count-le m a k x.one);
         fits = more.fits;
         kept = record {
           one = one_added;
           few = rw (length-set a.rows.lists (list_of_block m a h k) (h ∷ list_at a.rows.lists (list_of_block m a h k))) y.few;
           same = rw (y.same, added_set);
-          orders =
-              orders_set m counts s (block_set (added m a h k)) k (slice_index counts k + 1) room y.orders (omega (arith, y.orders k x.block.order))
-              (λ j ne. each j ∙ rw (ne_eqb k j (λ e. ne (sym e))) (omega arith));
           each = more.each;
         };
       }
-    where
-      no_block : (o : Option ℕ) → ((j : ℕ) → o ≡ Some j → ⊥) → o ≡ None
-      no_block o f = grind arith
 
   -- the block is one of the set, and a run beside it is as clear as it was
   pub added_starts : Starts (block_set (added m a h k)) h k

@@ -24,28 +24,26 @@ use Rattle.zp_area.proofs.Splitting.{kept_set}
 
 -- the block (h, k), which comes back to a, has grown to (g, j): b is a without the buddies, and the tree has what has grown; of the pages
 -- of the pageblock those are counted that are in blocks of b
-pub record IsGrowing (m : ℕ) (a b : Blocks) (tree : List (Option ℕ)) (counts free_in : List ℕ) (h k g j : ℕ) : Type 0 where
+pub record IsGrowing (m : ℕ) (a b : Blocks) (tree : List (Option ℕ)) (free_in : List ℕ) (h k g j : ℕ) : Type 0 where
   pub kinds : b.kinds ≡ a.kinds
-  pub orders : length counts ≡ m + 1
   pub number : g / pageblock_pages m ≡ h / pageblock_pages m
   pub most : 2 ^ j ≤ slice_index free_in (h / pageblock_pages m) + 2 ^ k
-  pub kept : IsKept m b (block_set b) counts (set free_in (h / pageblock_pages m) (slice_index free_in (h / pageblock_pages m) + 2 ^ k - 2 ^ j))
+  pub kept : IsKept m b (block_set b) (set free_in (h / pageblock_pages m) (slice_index free_in (h / pageblock_pages m) + 2 ^ k - 2 ^ j))
   pub same : tree ≡ with_block (block_set b) g j
   pub block : IsBlock m (length b.rows.states) g j
   pub clear : IsClearRun m b.rows.states b.rows.lists g j
   pub after : (n : Blocks) (i : ℕ) → IsJoinedUp i m b g j n → (e : ℕ) × IsJoinedUp e m a h k n
 
-pub grow_begins : (m : ℕ) (a : Blocks) (t : List (Option ℕ)) (counts free_in : List ℕ) (h k : ℕ) → IsKept m a t counts free_in → IsBlock m (length a.rows.states) h k → IsClearRun m a.rows.states a.rows.lists h k →
-    length counts ≡ m + 1 → IsGrowing m a a (with_block t h k) counts free_in h k h k
-grow_begins m a t counts free_in h k x b clear all =
+pub grow_begins : (m : ℕ) (a : Blocks) (t : List (Option ℕ)) (free_in : List ℕ) (h k : ℕ) → IsKept m a t free_in → IsBlock m (length a.rows.states) h k → IsClearRun m a.rows.states a.rows.lists h k →
+    IsGrowing m a a (with_block t h k) free_in h k h k
+grow_begins m a t free_in h k x b clear =
     let p : ℕ = h / pageblock_pages m in
     let same : slice_index free_in p + 2 ^ k - 2 ^ k ≡ slice_index free_in p = omega arith in
     record {
       kinds = refl;
-      orders = all;
       number = refl;
       most = omega arith;
-      kept = rw (same, set-get_or free_in p 0) (kept_set m a t counts free_in x);
+      kept = rw (same, set-get_or free_in p 0) (kept_set m a t free_in x);
       same = ap (λ q. set q h (Some k)) x.same;
       block = b;
       clear = clear;
@@ -60,7 +58,7 @@ buddy_unique b j c d e f x y =
     let dy : head b (j + 1) ≡ f = head_of f b (j + 1) y.double (omega (arith, two j)) (omega (arith, two j)) in
     omega arith
 
-module _ {m : ℕ} {a b : Blocks} {tree : List (Option ℕ)} {counts free_in : List ℕ} {h k g j : ℕ} (x : IsGrowing m a b tree counts free_in h k g j) where
+module _ {m : ℕ} {a b : Blocks} {tree : List (Option ℕ)} {free_in : List ℕ} {h k g j : ℕ} (x : IsGrowing m a b tree free_in h k g j) where
   pub grown_coming : IsComing m b g j
   grown_coming = record { one = x.kept.one; block = x.block; clear = x.clear }
 
@@ -142,22 +140,21 @@ module _ {m : ℕ} {a b : Blocks} {tree : List (Option ℕ)} {counts free_in : L
         halves_cases : (i : ℕ) → d ≤ i → i < d + 2 ^ (j + 1) → ((g ≤ i) × (i < g + 2 ^ j)) ⊎ ((c ≤ i) × (i < c + 2 ^ j))
         halves_cases i lo hi = let q = y.buddy.halves in elim (run_cases g j i) [ inl w ↦ inl w | inr out ↦ inr (omega (arith, two j), omega (arith, two j)) ]
 
-    pub grow_goes : h / pageblock_pages m < length free_in → IsGrowing m a (removed m b c j) (with_double tree d j) (set counts j (slice_index counts j - 1)) free_in h k d (j + 1)
+    pub grow_goes : h / pageblock_pages m < length free_in → IsGrowing m a (removed m b c j) (with_double tree d j) free_in h k d (j + 1)
     grow_goes lt =
         let p : ℕ = h / pageblock_pages m in
         let v : ℕ = slice_index free_in (h / pageblock_pages m) in
         let was : List ℕ = set free_in p (v + 2 ^ k - 2 ^ j) in
-        let z = kept_removed m b c j x.kept.one buddy_starts (block_set b) counts was x.kept (omega (arith, x.orders, y.order)) in
+        let z = kept_removed m b c j x.kept.one buddy_starts (block_set b) was x.kept in
         let had : slice_index was p ≡ v + 2 ^ k - 2 ^ j = get_or-set_same free_in p (v + 2 ^ k - 2 ^ j) 0 lt in
         let most : 2 ^ j ≤ slice_index was p = rw buddy_number at z.most in
         let free : set free_in p (v + 2 ^ k - 2 ^ (j + 1)) ≡ set was (c / pageblock_pages m) (slice_index was (c / pageblock_pages m) - 2 ^ j) =
         sym (set-set free_in p (v + 2 ^ k - 2 ^ j) (v + 2 ^ k - 2 ^ (j + 1))) ∙ ap (λ q. set was p q) (omega (arith, had, x.most, two j)) ∙ ap (λ q. set was q (slice_index was q - 2 ^ j)) (sym buddy_number) in
         record {
           kinds = x.kinds;
-          orders = length-set counts j _ ∙ x.orders;
           number = double_number;
           most = omega (arith, had, most, x.most, two j);
-          kept = rw free (kept_set m _ _ _ _ z.kept);
+          kept = rw free (kept_set m _ _ _ z.kept);
           same = doubled;
           block = rw (length-set b.rows.states c Tail) double_block;
           clear = double_clear;
@@ -166,13 +163,13 @@ module _ {m : ℕ} {a b : Blocks} {tree : List (Option ℕ)} {counts free_in : L
 
   -- the grown block has no free buddy, and is added
   pub grow_ends : ((c d : ℕ) → IsJoinable m b g j c d → ⊥) → h / pageblock_pages m < length free_in →
-      IsKept m (added m b g j) tree (set counts j (slice_index counts j + 1)) (set free_in (h / pageblock_pages m) (slice_index free_in (h / pageblock_pages m) + 2 ^ k)) ×
+      IsKept m (added m b g j) tree (set free_in (h / pageblock_pages m) (slice_index free_in (h / pageblock_pages m) + 2 ^ k)) ×
       ((e : ℕ) × IsJoinedUp e m a h k (added m b g j))
   grow_ends stop lt =
       let p : ℕ = h / pageblock_pages m in
       let v : ℕ = slice_index free_in (h / pageblock_pages m) in
       let was : List ℕ = set free_in p (v + 2 ^ k - 2 ^ j) in
-      let z = kept_added grown_coming (block_set b) counts was x.kept (omega (arith, x.orders, x.block.order)) in
+      let z = kept_added grown_coming (block_set b) was x.kept in
       let had : slice_index was p ≡ v + 2 ^ k - 2 ^ j = get_or-set_same free_in p (v + 2 ^ k - 2 ^ j) 0 lt in
       let free : set free_in p (v + 2 ^ k) ≡ set was (g / pageblock_pages m) (slice_index was (g / pageblock_pages m) + 2 ^ j) =
       sym (set-set free_in p (v + 2 ^ k - 2 ^ j) (v + 2 ^ k)) ∙ ap (λ q. set was p q) (omega (arith, had, x.most)) ∙ ap (λ q. set was q (slice_index was q + 2 ^ j)) (sym x.number) in

@@ -1,7 +1,6 @@
 -- What is kept beside a set of blocks, in other words for the same.
-use Rattle.std.proofs.Common.{ℕ, ◌+◌, ◌/◌, ◌≡◌, ◌≢◌, ◌≤◌, ◌<◌, inl, inr, sym, ◌∙◌, ap, arith, List, [], drop, length, set, get_or-set_same, get_or-set_other, Option}
+use Rattle.std.proofs.Common.{ℕ, ◌+◌, ◌/◌, ◌≡◌, ◌≤◌, ◌<◌, sym, ◌∙◌, ap, arith, List, [], drop, length, set, get_or-set_other}
 use Rattle.std.specs.List.{slice_index, slice_index_or}
-use Rattle.std.proofs.lemmas.Bool.{cases_eq}
 use Rattle.std.proofs.lemmas.List.{get_or_default, get_or-drop, length-map}
 use Rattle.std.proofs.lemmas.List.Sums.{count_by-le-length}
 use Rattle.zp_model.specs.declared.constants.TheConstants.{MAX_PAGES}
@@ -30,15 +29,6 @@ aside_same m l n r xs lt =
 -- there are no more blocks of an order than pages
 pub count-le : (m : ℕ) (a : Blocks) (k : ℕ) → IsOneSet m a → count_of (block_set a) k ≤ MAX_PAGES
 count-le m a k x = omega (arith, count_by-le-length (is_order k) (blocks_of a.rows.states), blocks_length a.rows.states)
-
--- the number of one order changes
-pub orders_set : (m : ℕ) (counts : List ℕ) (s t : List (Option ℕ)) (k n : ℕ) → k < length counts → ((j : ℕ) → j ≤ m → slice_index counts j ≡ count_of s j) →
-    n ≡ count_of t k → ((j : ℕ) → j ≢ k → count_of t j ≡ count_of s j) → (j : ℕ) → j ≤ m → slice_index (set counts k n) j ≡ count_of t j
-orders_set m counts s t k n lt each here there j le =
-    elim (cases_eq j k) [
-      | inl same ↦ rw same (get_or-set_same counts k n 0 lt ∙ here)
-      | inr ne ↦ get_or-set_other counts k j n 0 ne ∙ each j le ∙ sym (there j ne)
-    ]
 
 -- the type that the code reads at a block's pageblock b
 pub kind_found : (m : ℕ) (a : Blocks) (h k b : ℕ) (t : MigrateType) → IsOneSet m a → IsBlock m (length a.rows.states) h k → b ≡ h / pageblock_pages m → t ≡ slice_index_or a.kinds b t → t ≡ kind_at m a.kinds h

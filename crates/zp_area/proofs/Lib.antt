@@ -7,6 +7,7 @@ pub mod Keeping
 pub mod Adding
 pub mod Removing
 pub mod Splitting
+pub mod CountedLists
 pub mod Growing
 pub mod Holding
 pub mod NoBlocks

@@ -3,13 +3,12 @@ use Rattle.std.proofs.Common.{ℕ, zero, suc, ◌+◌, ◌*◌, ◌/◌, ◌^◌
 use Rattle.std.specs.List.{IsDistinct}
 use Rattle.std.proofs.lemmas.Bool.{cases_lt, false≢true, false_from_ne_true}
 use Rattle.std.proofs.lemmas.List.{get_or-replicate, get_or_past, length-replicate}
-use Rattle.std.proofs.lemmas.List.Folds.{sum_by-replicate}
 use Rattle.zp_model.specs.declared.constants.TheConstants.{MAX_PAGES}
 use Rattle.zp_model.specs.declared.migrate_type.MigrateType.{MigrateType}
 use Rattle.zp_model.specs.declared.state.State.TheVariants.{Tail}
 use Rattle.zp_model.specs.MigrateType.{types_count}
 use Rattle.zp_model.specs.Block.{has}
-use Rattle.zp_model.specs.BlockSet.{is_order, cover}
+use Rattle.zp_model.specs.BlockSet.{cover}
 use Rattle.zp_model.specs.Rows.{Rows}
 use Rattle.zp_model.specs.Area.{pageblock_pages, lists_count, pageblocks_of, size_in}
 use Rattle.zp_table.specs.declared.entry.PageEntry.{PageEntry}
@@ -17,7 +16,7 @@ use Rattle.zp_table.specs.Entries.{blank}
 use Rattle.zp_tree.proofs.Opening.{no_start}
 use Rattle.zp_links.specs.Linked.{states_of}
 use Rattle.zp_area.specs.NotedBlocks.{blocks_of}
-use Rattle.zp_laws.proofs.Counting.{one_if, count-none}
+use Rattle.zp_laws.proofs.Counting.{count-none}
 use Rattle.zp_area.specs.Blocks.{Blocks, block_set, no_blocks}
 use Rattle.zp_area.specs.OneSet.{IsKept}
 use Rattle.zp_area.proofs.OneBlock.{covered_around}
@@ -30,9 +29,9 @@ tails_free : (n : ℕ) → blocks_of (replicate n Tail) ≡ replicate n None
 tails_free zero = refl
 tails_free (suc n) = ap (λ (q : List (Option ℕ)). None ∷ q) (tails_free n)
 
-pub kept_empty : (m n side d : ℕ) → n ≤ MAX_PAGES → side < 2 ^ 32 → IsKept m (no_blocks m n side) (replicate n None) (replicate d 0) (replicate (pageblocks_of m n) 0)
+pub kept_empty : (m n side : ℕ) → n ≤ MAX_PAGES → side < 2 ^ 32 → IsKept m (no_blocks m n side) (replicate n None) (replicate (pageblocks_of m n) 0)
 unfolding IsDistinct size_in
-kept_empty m n side d le lt =
+kept_empty m n side le lt =
     let e : block_set (no_blocks m n side) ≡ replicate n None = tails_free n in
     let lists : length (no_blocks m n side).rows.lists ≡ lists_count m + side = length-replicate (lists_count m + side) [] in
     let none : (i : ℕ) → has (cover (replicate n None)) i ≡ true → ⊥ = λ i on. let w = covered_around (replicate n None) i on in no_start n w.0 w.1 w.2.starts in
@@ -48,7 +47,6 @@ kept_empty m n side d le lt =
       };
       few = omega arith;
       same = sym e;
-      orders = λ k _. replicate_at d k 0 ∙ sym (rw e (sum_by-replicate (λ o. one_if (is_order k o)) n None ∙ omega arith));
       each = record {
         blocks = length-replicate (pageblocks_of m n) 0 ∙ ap (pageblocks_of m) (sym (length-replicate n Tail));
         each = λ b. replicate_at (pageblocks_of m n) b 0

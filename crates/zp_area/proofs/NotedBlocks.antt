@@ -1,7 +1,6 @@
 -- The blocks that the notes of the pages tell, and the lists by their numbers.
 use Rattle.std.proofs.Common.{List, None, Some, [], ap, arith, drop, false, get_or, get_or-take, length, length-take-le, map, sym, take, ℕ, ◌+◌, ◌-◌, ◌<◌, ◌∙◌, ◌≡◌, ◌≤◌}
 use Rattle.std.proofs.Math.ListN.{get_or-map}
-use Rattle.std.proofs.lemmas.Bool.Decides.{nat_tests}
 use Rattle.std.proofs.lemmas.List.{ext_get_or, get_or-drop, length-drop, length-map}
 use Rattle.std.proofs.lemmas.List.FromFn.{fill_by_all}
 use Rattle.std.specs.List.{range_with_len}

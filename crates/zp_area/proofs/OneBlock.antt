@@ -1,17 +1,15 @@
--- A set of blocks with one block more or one block less: its blocks, its pages, and how many it has of each order.
-use Rattle.std.proofs.Common.{ℕ, ◌+◌, ◌^◌, ◌≡◌, ◌≢◌, ◌≤◌, ◌<◌, ◌==◌, ◌⊎◌, inl, inr, refl, sym, ◌∙◌, ap, arith, List, length, get_or, get_or-set_same, get_or-set_other, length-set, Option, None, Some}
+-- A set of blocks with one block more or one block less: its blocks and its pages.
+use Rattle.std.proofs.Common.{ℕ, ◌+◌, ◌^◌, ◌≡◌, ◌≢◌, ◌≤◌, ◌<◌, ◌⊎◌, inl, inr, refl, sym, ◌∙◌, arith, List, length, get_or-set_same, get_or-set_other, length-set, Option, None, Some}
 use Rattle.std.proofs.Math.Bool.{or-true}
 use Rattle.std.proofs.lemmas.Nat.{pow_pos}
 use Rattle.std.proofs.lemmas.Bool.{cases_eq, and_parts, and_from, or_cases, not-true, both_ways, false_from_ne_true}
-use Rattle.std.proofs.lemmas.List.Sums.{sum_by-set}
 use Rattle.zp_model.specs.Block.{IsBlock, head, in_run, with_run, without}
-use Rattle.zp_model.specs.BlockSet.{Starts, is_order, cover}
+use Rattle.zp_model.specs.BlockSet.{Starts, cover}
 use Rattle.zp_model.proofs.Heads.{head_le, lt_head, head_of, lt_pow}
 use Rattle.zp_model.proofs.Pages.{In, in_run-to}
 use Rattle.zp_model.proofs.Covers.{cover-to, cover-from, length-cover, length-with, length-without, same_pages}
 use Rattle.zp_tree.specs.Blocks.{IsBlockSet, with_block, without_block}
-use Rattle.zp_laws.proofs.Counting.{in_run-yes, one_if, has-with_any, has-without_any}
-use Rattle.zp_area.specs.Blocks.{count_of}
+use Rattle.zp_laws.proofs.Counting.{in_run-yes, has-with_any, has-without_any}
 use Rattle.zp_tree.proofs.Apart.{clear-starts}
 
 -- a block of a set that has page i
@@ -146,10 +144,3 @@ module _ (m : ℕ) (s : List (Option ℕ)) (h k : ℕ) (x : IsBlockSet m s) (her
         from = w.2.from;
         to = w.2.to;
       }))
-
--- how many blocks of each order there are, with one more and with one less
-pub count-with : (s : List (Option ℕ)) (h k j : ℕ) → h < length s → get_or s h None ≡ None → count_of (with_block s h k) j ≡ count_of s j + one_if (k == j)
-count-with s h k j lt e = omega (arith, sum_by-set (λ o. one_if (is_order j o)) s h (Some k) None lt, ap (λ o. one_if (is_order j o)) e)
-
-pub count-without : (s : List (Option ℕ)) (h k j : ℕ) → h < length s → Starts s h k → count_of s j ≡ count_of (without_block s h) j + one_if (k == j)
-count-without s h k j lt e = omega (arith, sum_by-set (λ o. one_if (is_order j o)) s h None None lt, ap (λ o. one_if (is_order j o)) e)

@@ -1,38 +1,32 @@
 -- Taking a block out of the set.
-use Rattle.std.proofs.Common.{ℕ, ◌+◌, ◌-◌, ◌/◌, ◌^◌, ◌≡◌, ◌≤◌, ◌<◌, ◌==◌, ◌&&◌, not, inl, inr, refl, sym, ◌∙◌, ap, arith, List, [], length, set, get_or-set_same, get_or-set_other, length-set, Option}
+use Rattle.std.proofs.Common.{ℕ, ◌+◌, ◌-◌, ◌/◌, ◌^◌, ◌≡◌, ◌≤◌, ◌<◌, ◌&&◌, not, inl, inr, refl, ◌∙◌, ap, arith, List, [], length, set, get_or-set_same, get_or-set_other, length-set, Option}
 use Rattle.std.specs.List.{slice_index}
 use Rattle.std.proofs.Math.Bool.{and-false}
-use Rattle.std.proofs.lemmas.Bool.{cases_eq, eq-eqb, ne_eqb, both_ways, false_from_ne_true}
+use Rattle.std.proofs.lemmas.Bool.{cases_eq, both_ways, false_from_ne_true}
 use Rattle.std.proofs.lemmas.List.{get_or-drop, map-set}
 use Rattle.zp_model.specs.declared.state.State.TheVariants.{Tail}
-use Rattle.zp_model.specs.Block.{IsBlock, has, in_run}
+use Rattle.zp_model.specs.Block.{has, in_run}
 use Rattle.zp_model.specs.BlockSet.{Starts, cover}
-use Rattle.zp_model.specs.Rows.{Rows, list_at, stands_in, with_list, with_state, without_page}
+use Rattle.zp_model.specs.Rows.{list_at, stands_in, without_page}
 use Rattle.zp_model.specs.Area.{pageblock_pages, lists_count}
 use Rattle.zp_tree.specs.Blocks.{without_block}
-use Rattle.zp_laws.proofs.Counting.{in_run-yes, one_if, has-without_any}
-use Rattle.zp_area.specs.Blocks.{Blocks, block_set, count_of, list_of_block, removed}
+use Rattle.zp_laws.proofs.Counting.{in_run-yes, has-without_any}
+use Rattle.zp_area.specs.Blocks.{Blocks, block_set, list_of_block, removed}
 use Rattle.zp_area.specs.Given.{IsClearRun}
 use Rattle.zp_area.specs.NotedBlocks.{free_order}
 use Rattle.zp_area.specs.OneSet.{IsOneSet, IsKept}
-use Rattle.zp_area.proofs.Keeping.{aside_same, orders_set}
+use Rattle.zp_area.proofs.Keeping.{aside_same}
 use Rattle.zp_area.proofs.Listing.{listed_without, listed_without_other}
-use Rattle.zp_area.proofs.OneBlock.{around_covered, cover-without, count-without, head_below, one_at, without-set}
+use Rattle.zp_area.proofs.OneBlock.{around_covered, cover-without, head_below, one_at, without-set}
 use Rattle.zp_area.proofs.PageblockPages.{counted_less}
 use Rattle.zp_model.proofs.TypeNumbers.{list_number_below}
 use Rattle.zp_model.specs.Lawful.{IsListed}
 
--- the numbers hold those of the block
-pub record IsLessKept (m : ℕ) (a : Blocks) (tree : List (Option ℕ)) (counts free_in : List ℕ) (h k : ℕ) : Type 0 where
-  pub count : 1 ≤ slice_index counts k
+-- the number of free pages holds those of the block
+pub record IsLessKept (m : ℕ) (a : Blocks) (tree : List (Option ℕ)) (free_in : List ℕ) (h k : ℕ) : Type 0 where
   pub most : 2 ^ k ≤ slice_index free_in (h / pageblock_pages m)
-  pub kept : IsKept m (removed m a h k) (without_block tree h) (set counts k (slice_index counts k - 1))
+  pub kept : IsKept m (removed m a h k) (without_block tree h)
       (set free_in (h / pageblock_pages m) (slice_index free_in (h / pageblock_pages m) - 2 ^ k))
-
--- the rows after it, in the words of the code
-pub now_removed : (m : ℕ) (a : Blocks) (h k r : ℕ) (v w : Rows) → v ≡ with_list a.rows r (without_page h (list_at a.rows.lists r)) → w ≡ with_state v h Tail →
-    r ≡ list_of_block m a h k → w ≡ (removed m a h k).rows
-now_removed m a h k r v w ev ew er = rw (ew, ev, er)
 
 module _ (m : ℕ) (a : Blocks) (h k : ℕ) (x : IsOneSet m a) (st : Starts (block_set a) h k) where
   -- the set without the block, and its pages
@@ -70,23 +64,15 @@ module _ (m : ℕ) (a : Blocks) (h k : ℕ) (x : IsOneSet m a) (st : Starts (blo
         aside = λ r p ge on. removed_has p ∙ rw (x.aside r p ge (rw (get_or-set_other a.rows.lists q r hs [] (omega (arith, top))) at on)) refl;
       }
 
-  pub kept_removed : (tree : List (Option ℕ)) (counts free_in : List ℕ) → IsKept m a tree counts free_in → k < length counts → IsLessKept m a tree counts free_in h k
-  kept_removed tree counts free_in y room =
-      let s : List (Option ℕ) = block_set a in
-      let block : IsBlock m (length s) h k = x.blocks.block h k st in
-      let each : (j : ℕ) → count_of s j ≡ count_of (block_set (removed m a h k)) j + one_if (k == j) = λ j. rw removed_set (count-without s h k j (head_below m _ h k block) st) in
-      let here : count_of (block_set a) k ≡ count_of (block_set (removed m a h k)) k + 1 = each k ∙ rw (eq-eqb k k refl) refl in
+  pub kept_removed : (tree : List (Option ℕ)) (free_in : List ℕ) → IsKept m a tree free_in → IsLessKept m a tree free_in h k
+  kept_removed tree free_in y =
       let less = counted_less m a.rows.states (removed m a h k).rows.states free_in h k y.each x.blocks (length-set a.rows.states h Tail) st removed_set in
       record {
-        count = omega (arith, y.orders k block.order);
         most = less.most;
         kept = record {
           one = one_removed;
           few = rw (length-set a.rows.lists (list_of_block m a h k) (without_page h (list_at a.rows.lists (list_of_block m a h k)))) y.few;
           same = rw (y.same, removed_set);
-          orders =
-              orders_set m counts s (block_set (removed m a h k)) k (slice_index counts k - 1) room y.orders (omega (arith, y.orders k block.order))
-              (λ j ne. sym (each j ∙ rw (ne_eqb k j (λ e. ne (sym e))) (omega arith)));
           each = less.each;
         };
       }

@@ -82,9 +82,9 @@ listed_retyped m a kinds x r lt =
       from = λ h w. held h ∙ stands_of-from s r h (kind_at m kinds h) w.0 w.1;
     }
 
-pub kept_retyped : (m : ℕ) (a : Blocks) (tree : List (Option ℕ)) (counts free_in : List ℕ) (b : ℕ) (t : MigrateType) → IsKept m a tree counts free_in →
-    IsKept m (retyped m a b t) tree counts free_in
-kept_retyped m a tree counts free_in b t x =
+pub kept_retyped : (m : ℕ) (a : Blocks) (tree : List (Option ℕ)) (free_in : List ℕ) (b : ℕ) (t : MigrateType) → IsKept m a tree free_in →
+    IsKept m (retyped m a b t) tree free_in
+kept_retyped m a tree free_in b t x =
     let kinds : List MigrateType = set a.kinds b t in
     let n : length (all_relisted m a (set a.kinds b t)) ≡ length a.rows.lists = length-relisted m a kinds x.one.table in
     record {
@@ -98,7 +98,6 @@ kept_retyped m a tree counts free_in b t x =
       };
       few = rw n x.few;
       same = x.same;
-      orders = x.orders;
       each = x.each;
     }
 

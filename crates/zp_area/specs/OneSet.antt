@@ -1,6 +1,6 @@
 -- When notes, lists and types are of one set of blocks, and when what is kept beside them is of the same set. The largest block
 -- has order m.
-use Rattle.std.specs.Prelude.{ℕ, ◌≡◌, ◌≤◌, ◌<◌, ◌+◌, ◌^◌, List, length, slice_index, Option, false}
+use Rattle.std.specs.Prelude.{ℕ, ◌≡◌, ◌≤◌, ◌<◌, ◌+◌, ◌^◌, List, length, Option, false}
 use Rattle.zp_model.specs.declared.constants.TheConstants.{MAX_PAGES}
 use Rattle.zp_model.specs.Block.{has}
 use Rattle.zp_model.specs.BlockSet.{cover}
@@ -8,7 +8,7 @@ use Rattle.zp_model.specs.Rows.{list_at, IsOn}
 use Rattle.zp_model.specs.Area.{lists_count, pageblocks_of}
 use Rattle.zp_tree.specs.Blocks.{IsBlockSet}
 use Rattle.zp_area.specs.Counted.{IsCounted}
-use Rattle.zp_area.specs.Blocks.{Blocks, block_set, count_of}
+use Rattle.zp_area.specs.Blocks.{Blocks, block_set}
 use Rattle.zp_model.specs.Lawful.{IsListed}
 
 -- the notes, the lists and the types are of one set of blocks
@@ -24,11 +24,10 @@ pub record IsOneSet (m : ℕ) (a : Blocks) : Type 0 where
   -- no page of a further list is in a block
   pub aside : (r p : ℕ) → lists_count m ≤ r → IsOn a.rows.lists r p → has (cover (block_set a)) p ≡ false
 
--- the tree and the counts that are kept are those of the set
-pub record IsKept (m : ℕ) (a : Blocks) (tree : List (Option ℕ)) (counts free_in : List ℕ) : Type 0 where
+-- the tree and the numbers of free pages that are kept are those of the set
+pub record IsKept (m : ℕ) (a : Blocks) (tree : List (Option ℕ)) (free_in : List ℕ) : Type 0 where
   pub one : IsOneSet m a
   -- no list has a number that does not fit
   pub few : length a.rows.lists ≤ lists_count m + 2 ^ 32
   pub same : tree ≡ block_set a
-  pub orders : (k : ℕ) → k ≤ m → slice_index counts k ≡ count_of (block_set a) k
   pub each : IsCounted m a.rows.states free_in

@@ -37,8 +37,6 @@ pub struct FreeArea {
     lists: Lists,
     kinds: Vec<MigrateType>,
     tree: OrderTree,
-    /// How many blocks of each order there are.
-    counts: [u32; ORDERS],
     /// How many pages of each pageblock are in blocks.
     free_in: Vec<u32>,
 }
@@ -52,7 +50,7 @@ impl Model for FreeArea {
 
     ghost view = { λ a. record { rows = a.lists; kinds = a.kinds.items } };
 
-    ghost invariant = { λ a. IsKept LARGEST_ORDER (record { rows = a.lists; kinds = a.kinds.items }) a.tree a.counts a.free_in.items };
+    ghost invariant = { λ a. IsKept LARGEST_ORDER (record { rows = a.lists; kinds = a.kinds.items }) a.tree a.free_in.items };
 }
 
 impl FreeArea {
@@ -72,7 +70,6 @@ impl FreeArea {
             lists,
             kinds,
             tree,
-            counts: [0; ORDERS],
             free_in,
         })
     }
@@ -111,7 +108,6 @@ impl FreeArea {
         self.lists.set_state(at, State::Free(order));
         self.lists.push_front(list, at);
         self.tree.set(at, order);
-        self.counts[order.index()] += 1;
         self.free_in[pageblock] += order.pages();
     }
 
@@ -126,7 +122,6 @@ impl FreeArea {
             &mut self.lists,
             &self.kinds,
             &mut self.tree,
-            &mut self.counts,
             &mut self.free_in,
             at,
             from,
@@ -145,7 +140,6 @@ impl FreeArea {
             &mut self.lists,
             &self.kinds,
             &mut self.tree,
-            &mut self.counts,
             &mut self.free_in,
             at,
             order,
@@ -170,11 +164,14 @@ impl FreeArea {
         joins::is_free(&self.lists, at, order)
     }
 
-    /// How many blocks of an order there are.
+    /// How many blocks of an order there are: those on its lists.
     pub fn count(&self, order: Order) -> u32
         ensures { result ≡ count_of (block_set self.now) order }
     {
-        self.counts[order.index()]
+        let unmovable = self.lists.len(list_of(order, MigrateType::Unmovable));
+        let reclaimable = self.lists.len(list_of(order, MigrateType::Reclaimable));
+        let movable = self.lists.len(list_of(order, MigrateType::Movable));
+        unmovable + reclaimable + movable
     }
 
     /// How many pages of a pageblock are in blocks.

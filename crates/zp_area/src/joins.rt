@@ -12,7 +12,7 @@ ghost use Rattle.zp_area.specs.OneSet.{IsKept};
 
 use crate::splits::{put_in, take_out};
 use zp_links::Lists;
-use zp_model::{LARGEST_ORDER, MigrateType, ORDERS, Order, PageAt, State};
+use zp_model::{LARGEST_ORDER, MigrateType, Order, PageAt, State};
 use zp_tree::OrderTree;
 
 /// Whether a block of this order starts at a page.
@@ -28,15 +28,14 @@ pub fn join_up(
     lists: &mut Lists,
     kinds: &Vec<MigrateType>,
     tree: &mut OrderTree,
-    counts: &mut [u32; ORDERS],
     free_in: &mut Vec<u32>,
     at: PageAt,
     order: Order,
 )
-    requires kept { IsKept LARGEST_ORDER (record { rows = lists.old; kinds = kinds.now.items }) tree.old counts.old free_in.old.items }
+    requires kept { IsKept LARGEST_ORDER (record { rows = lists.old; kinds = kinds.now.items }) tree.old free_in.old.items }
     requires block { IsBlock LARGEST_ORDER (length lists.old.states) at order }
     requires clear { IsClearRun LARGEST_ORDER lists.old.states lists.old.lists at order }
-    ensures kept { IsKept LARGEST_ORDER (record { rows = lists.new; kinds = kinds.now.items }) tree.new counts.new free_in.new.items }
+    ensures kept { IsKept LARGEST_ORDER (record { rows = lists.new; kinds = kinds.now.items }) tree.new free_in.new.items }
     ensures after { (d : ℕ) × IsJoinedUp d LARGEST_ORDER (record { rows = lists.old; kinds = kinds.now.items }) at order (record { rows = lists.new; kinds = kinds.now.items }) }
 {
     let pageblock = at.pageblock();
@@ -50,10 +49,10 @@ pub fn join_up(
         if !is_free(lists, buddy, joined) {
             break;
         }
-        take_out(lists, counts, kind, buddy, joined);
+        take_out(lists, kind, buddy, joined);
         head = PageAt::at(head.number().min(buddy.number()));
         tree.double(head, joined);
         joined = joined.higher();
     }
-    put_in(lists, counts, kind, head, joined);
+    put_in(lists, kind, head, joined);
 }

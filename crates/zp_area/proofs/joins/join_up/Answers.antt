@@ -6,7 +6,6 @@ use Rattle.zp_area.specs.Blocks.{Blocks}
 use Rattle.zp_area.specs.Chains.{IsJoinable}
 use Rattle.zp_area.proofs.Keeping.{counted_there, kind_found, read_at}
 use Rattle.zp_area.proofs.Adding.{IsComing, coming_apart, coming_loose, kept_added}
-use Rattle.zp_area.proofs.Removing.{kept_removed}
 use Rattle.zp_area.proofs.Splitting.{block_on}
 use Rattle.zp_area.proofs.Growing.{buddy_kind, buddy_starts, buddy_unique, double_block, grow_begins, grow_ends, grow_goes, grown_coming, grown_kind, tree_halves, tree_length}
 use Rattle.zp_area.proofs.joins.join_up.Goals.{After-index_mut, After-index-kind, After-at-head, else-joins-test, then-joins-test+then-not-is_free}
@@ -26,7 +25,7 @@ read c = read_at LARGEST_ORDER _ _ c.args.at c.args.order _ _ c.requires.kept.ea
 pub overflow_add-index_mut : goal.overflow_add-index_mut
 overflow_add-index_mut c =
     let now = (goal.at.overflow_add-index_mut c).After-index_mut in
-    omega (arith, read now, c.pages.ensures.pages, (kept_added (coming now) _ _ _ c.requires.kept (omega (arith, c.requires.block.order))).fits)
+    omega (arith, read now, c.pages.ensures.pages, (kept_added (coming now) _ _ c.requires.kept).fits)
 
 pub set-requires-clause-apart : goal.set-requires-clause-apart
 set-requires-clause-apart c = rw c.requires.kept.same (coming_apart (coming (goal.at.set-requires-clause-apart c).After-index_mut))
@@ -34,7 +33,7 @@ set-requires-clause-apart c = rw c.requires.kept.same (coming_apart (coming (goa
 pub joins-init : goal.joins-init
 joins-init c =
     let a : Blocks = record { rows = c.args.lists.now; kinds = c.args.kinds.now.items } in
-    rw c.set.ensures.after (grow_begins LARGEST_ORDER a _ _ _ c.args.at c.args.order c.requires.kept c.requires.block c.requires.clear (omega arith))
+    rw c.set.ensures.after (grow_begins LARGEST_ORDER a _ _ c.args.at c.args.order c.requires.kept c.requires.block c.requires.clear)
 
 -- the buddy is free, and the smaller of the two heads is the double's
 joinable : (c : After-at-head) → IsJoinable LARGEST_ORDER (record { rows = c.joins.lists; kinds = c.args.kinds.now.items }) c.joins.head c.joins.joined c.buddy-buddy.result c.at-head.result
@@ -47,12 +46,6 @@ take_out-requires-clause-on c =
     let b : Blocks = record { rows = c.joins.lists; kinds = c.args.kinds.now.items } in
     let y : IsJoinable LARGEST_ORDER b c.joins.head c.joins.joined c.buddy-buddy.result (min c.joins.head c.buddy-buddy.result) = record { order = omega arith; buddy = c.buddy-buddy.ensures; free = c.is_free.ensures.0 c.if-not-is_free.false } in
     rw (buddy_kind c.joins.invariant y c.index-kind.result.now (kind (goal.at.take_out-requires-clause-on c).After-index-kind)) (block_on LARGEST_ORDER b c.buddy-buddy.result c.joins.joined c.joins.invariant.kept.one (buddy_starts c.joins.invariant y))
-
-pub take_out-requires-clause-some : goal.take_out-requires-clause-some
-take_out-requires-clause-some c =
-    let b : Blocks = record { rows = c.joins.lists; kinds = c.args.kinds.now.items } in
-    let y : IsJoinable LARGEST_ORDER b c.joins.head c.joins.joined c.buddy-buddy.result (min c.joins.head c.buddy-buddy.result) = record { order = omega arith; buddy = c.buddy-buddy.ensures; free = c.is_free.ensures.0 c.if-not-is_free.false } in
-    (kept_removed LARGEST_ORDER b c.buddy-buddy.result c.joins.joined c.joins.invariant.kept.one (buddy_starts c.joins.invariant y) _ _ _ c.joins.invariant.kept (omega (arith, c.joins.invariant.orders))).count
 
 pub double-requires-clause-block : goal.double-requires-clause-block
 double-requires-clause-block c = rw (tree_length c.joins.invariant) (double_block c.joins.invariant (joinable (goal.at.double-requires-clause-block c).After-at-head))
@@ -67,7 +60,7 @@ pub joins-preserved : goal.joins-preserved
 joins-preserved c =
     let y = joinable (goal.at.joins-preserved c).After-at-head in
     let before = (goal.at.joins-preserved c).After-index-kind in
-    rw (c.take_out.ensures.lists, c.take_out.ensures.counts, c.double.ensures.after, c.higher-joined.ensures, buddy_kind c.joins.invariant y c.index-kind.result.now (kind before))
+    rw (c.take_out.ensures, c.double.ensures.after, c.higher-joined.ensures, buddy_kind c.joins.invariant y c.index-kind.result.now (kind before))
     (grow_goes c.joins.invariant y (counted_there LARGEST_ORDER _ _ c.args.at c.args.order c.requires.kept.each c.requires.block))
 
 pub put_in-requires-clause-loose : goal.put_in-requires-clause-loose
@@ -85,6 +78,6 @@ returns c =
     (counted_there LARGEST_ORDER _ _ c.args.at c.args.order c.requires.kept.each c.requires.block) in
     let k = grown_kind c.joins.invariant c.index-kind.result.now (kind before) in
     record {
-      kept = rw (c.put_in.ensures.lists, c.put_in.ensures.counts, k, c.pageblock-pageblock.ensures, read (goal.at.returns c).After-index_mut, c.pages.ensures.pages) y.0;
-      after = rw (c.put_in.ensures.lists, k) y.1;
+      kept = rw (c.put_in.ensures, k, c.pageblock-pageblock.ensures, read (goal.at.returns c).After-index_mut, c.pages.ensures.pages) y.0;
+      after = rw (c.put_in.ensures, k) y.1;
     }

@@ -18,14 +18,14 @@ kind c =
     kind_found LARGEST_ORDER a c.args.at c.args.from _ _ c.requires.kept.one (block c) c.pageblock-pageblock.ensures c.index-kind.ensures
 
 -- one half is still to be split off
-half : (c : After-lower-order) → IsSplitting LARGEST_ORDER (record { rows = c.args.lists.now; kinds = c.args.kinds.now.items }) (record { rows = c.halves.lists; kinds = c.args.kinds.now.items }) c.halves.counts c.args.free_in.now.items c.args.at c.args.to c.args.from (c.lower-order.result + 1)
+half : (c : After-lower-order) → IsSplitting LARGEST_ORDER (record { rows = c.args.lists.now; kinds = c.args.kinds.now.items }) (record { rows = c.halves.lists; kinds = c.args.kinds.now.items }) c.args.free_in.now.items c.args.at c.args.to c.args.from (c.lower-order.result + 1)
 half c = rw c.lower-order.ensures c.halves.invariant
 
 pub halves-init : goal.halves-init
 halves-init c =
     let a : Blocks = record { rows = c.args.lists.now; kinds = c.args.kinds.now.items } in
-    rw (c.take_out.ensures.lists, c.take_out.ensures.counts, kind (goal.at.halves-init c).After-index-kind)
-    (split_begins LARGEST_ORDER a _ _ _ c.args.at c.args.to c.args.from c.requires.kept c.requires.block c.requires.down (omega arith))
+    rw (c.take_out.ensures, kind (goal.at.halves-init c).After-index-kind)
+    (split_begins LARGEST_ORDER a _ _ c.args.at c.args.to c.args.from c.requires.kept c.requires.block c.requires.down)
 
 pub put_in-requires-clause-loose : goal.put_in-requires-clause-loose
 put_in-requires-clause-loose c =
@@ -38,11 +38,11 @@ halves-preserved c =
     let x = half (goal.at.halves-preserved c).After-lower-order in
     let before = (goal.at.halves-preserved c).After-index-kind in
     let e : c.at-high.result ≡ c.args.at + 2 ^ c.lower-order.result = omega arith in
-    rw (c.put_in.ensures.lists, c.put_in.ensures.counts, e, half_kind c.lower-order.result x c.index-kind.result.now (kind before))
+    rw (c.put_in.ensures, e, half_kind c.lower-order.result x c.index-kind.result.now (kind before))
     (split_goes c.lower-order.result x (omega arith) (counted_there LARGEST_ORDER _ _ c.args.at c.args.from c.requires.kept.each (block before)))
 
 -- the loop has come down to the order that is wanted
-whole : (c : After-index_mut) → IsSplitting LARGEST_ORDER (record { rows = c.args.lists.now; kinds = c.args.kinds.now.items }) (record { rows = c.halves.lists; kinds = c.args.kinds.now.items }) c.halves.counts c.args.free_in.now.items c.args.at c.args.to c.args.from c.args.to
+whole : (c : After-index_mut) → IsSplitting LARGEST_ORDER (record { rows = c.args.lists.now; kinds = c.args.kinds.now.items }) (record { rows = c.halves.lists; kinds = c.args.kinds.now.items }) c.args.free_in.now.items c.args.at c.args.to c.args.from c.args.to
 whole c = let e : c.halves.order ≡ c.args.to = omega (arith, c.halves.invariant.down) in rw e at c.halves.invariant
 
 read : (c : After-index_mut) → IsBlock LARGEST_ORDER (length c.args.lists.now.states) c.args.at c.args.from → c.index_mut.result.now ≡ slice_index c.args.free_in.now.items (c.args.at / PAGEBLOCK_PAGES)
@@ -57,4 +57,4 @@ pub returns-clause-kept : goal.returns-clause-kept
 returns-clause-kept c =
     let now = (goal.at.returns-clause-kept c).After-index_mut in
     let a : Blocks = record { rows = c.args.lists.now; kinds = c.args.kinds.now.items } in
-    rw (c.split_in_tree.ensures, c.requires.kept.same, c.pageblock-pageblock.ensures, read now (block (goal.at.returns-clause-kept c).After-index-kind), c.pages-2.ensures.pages) (split_ends LARGEST_ORDER a _ _ _ c.args.at c.args.to c.args.from (whole now)).0
+    rw (c.split_in_tree.ensures, c.requires.kept.same, c.pageblock-pageblock.ensures, read now (block (goal.at.returns-clause-kept c).After-index-kind), c.pages-2.ensures.pages) (split_ends LARGEST_ORDER a _ _ c.args.at c.args.to c.args.from (whole now)).0

@@ -8,7 +8,7 @@ abbrev pub invariant-halves : goal.invariant-halves
 invariant-halves l =
     let a : Blocks = record { rows = l.fn.lists; kinds = l.kinds.items } in
     let b : Blocks = record { rows = l.lists; kinds = l.kinds.items } in
-    IsSplitting LARGEST_ORDER a b l.counts l.free_in.items l.at l.to l.fn.from l.order
+    IsSplitting LARGEST_ORDER a b l.free_in.items l.at l.to l.fn.from l.order
 
 abbrev pub decreases-halves : goal.decreases-halves
 decreases-halves l = l.order

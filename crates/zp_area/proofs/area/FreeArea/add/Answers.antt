@@ -17,18 +17,12 @@ set-requires-clause-apart c =
     let x : IsComing LARGEST_ORDER a c.args.at c.args.order = coming_by LARGEST_ORDER a _ _ _ c.self.view_is c.self.invariant.one c.requires.block c.requires.clear in
     rw c.self.invariant.same (coming_apart x)
 
-pub overflow_add-self : goal.overflow_add-self
-overflow_add-self c =
-    let a : Blocks = record { rows = c.self.inside.lists; kinds = c.self.inside.kinds.items } in
-    let x : IsComing LARGEST_ORDER a c.args.at c.args.order = coming_by LARGEST_ORDER a _ _ _ c.self.view_is c.self.invariant.one c.requires.block c.requires.clear in
-    rw c.index-2.ensures.same (omega (arith, (kept_added x _ _ _ c.self.invariant (omega (arith, x.block.order))).count))
-
 pub overflow_add-index_mut : goal.overflow_add-index_mut
 overflow_add-index_mut c =
     let a : Blocks = record { rows = c.self.inside.lists; kinds = c.self.inside.kinds.items } in
     let x : IsComing LARGEST_ORDER a c.args.at c.args.order = coming_by LARGEST_ORDER a _ _ _ c.self.view_is c.self.invariant.one c.requires.block c.requires.clear in
     let r = read_at LARGEST_ORDER _ _ c.args.at c.args.order _ _ c.self.invariant.each x.block c.pageblock-pageblock.ensures c.index_mut.ensures.value in
-    omega (arith, r, c.pages.ensures.pages, (kept_added x _ _ _ c.self.invariant (omega (arith, x.block.order))).fits)
+    omega (arith, r, c.pages.ensures.pages, (kept_added x _ _ c.self.invariant).fits)
 
 pub invariant_of-self : goal.invariant_of-self
 invariant_of-self c =
@@ -39,11 +33,10 @@ invariant_of-self c =
     rw (
       now_added LARGEST_ORDER a c.args.at c.args.order c.list_of-list.result c.set_state.new.self c.push_front.new.self c.set_state.ensures c.push_front.ensures.after er,
       c.set.ensures.after,
-      c.index-2.ensures.same,
       c.pageblock-pageblock.ensures,
       r,
       c.pages.ensures.pages,
-    ) (kept_added x _ _ _ c.self.invariant (omega (arith, x.block.order))).kept
+    ) (kept_added x _ _ c.self.invariant).kept
 
 pub returns-clause-held : goal.returns-clause-held
 returns-clause-held c =

@@ -17,7 +17,7 @@ invariant_of-result c =
       c.in_ok-tree.ensures.empty,
       c.in_ok-free_in.ensures.items_if_clones_equal (λ y e. search rules),
       e,
-    ) (kept_empty LARGEST_ORDER c.args.pages c.args.side 11 c.requires.pages c.requires.side)
+    ) (kept_empty LARGEST_ORDER c.args.pages c.args.side c.requires.pages c.requires.side)
 
 pub returns : goal.returns
 returns c =

@@ -10,7 +10,7 @@ pub invariant_of-self : goal.invariant_of-self
 invariant_of-self c =
     let a : Blocks = record { rows = c.self.inside.lists; kinds = c.self.inside.kinds.items } in
     rw (retyped_by LARGEST_ORDER a c.args.pageblock c.args.kind c.retype.new.lists _ c.retype.ensures.states c.retype.ensures.kinds c.retype.ensures.lists)
-    (kept_retyped LARGEST_ORDER a _ _ _ c.args.pageblock c.args.kind c.self.invariant)
+    (kept_retyped LARGEST_ORDER a _ _ c.args.pageblock c.args.kind c.self.invariant)
 
 pub returns-else-ne-clause-after : goal.returns-else-ne-clause-after
 returns-else-ne-clause-after c =
