@@ -1,12 +1,10 @@
-//! A zone under load, as a user would keep it: its seat, and the blocks that were lent.
-
-ghost use Rattle.zp_zone.specs.Seats.{IsSeatOf, Agrees};
+//! A zone under load, as a user would keep it: its blocks that were lent.
 
 use crate::random::{Checksum, Random, below};
+use crate::source::Source;
 use std::alloc::{AllocError, Global};
 use thiserror::Error;
-use zp_model::{Mark, MigrateType, Order, PageNo, Refused};
-use zp_zone::{Seat, Zone, ZoneConfig};
+use zp_model::{MigrateType, Order, PageNo, Refused};
 
 /// There was no memory for a zone, or for the table of lent blocks.
 #[derive(Clone, Copy, PartialEq, Eq, Debug, Drop, Error)]
@@ -32,38 +30,26 @@ pub struct LentBlock {
     order: Order,
 }
 
-/// A zone with nothing lent at first, the numbers drawn so far, and the checksum of the pages answered.
+/// A source with nothing lent at first, the numbers drawn so far, and the checksum of the pages answered.
 #[derive(Drop)]
-pub struct Bench {
-    zone: Zone,
-    seat: Seat,
+pub struct Bench<S> {
+    pub source: S,
+    /// The pages of the zone.
+    pages: u32,
     lent: Vec<LentBlock>,
     /// The pages of the lent blocks.
     lent_pages: u64,
     pub random: Random,
     checksum: Checksum,
-    ghost fits: { IsSeatOf zone seat },
-    ghost agrees: { Agrees zone seat },
 }
 
-impl Bench {
-    /// A zone of so many pages, marks 0, and room for as many lent blocks.
-    pub fn new(alloc: Global, pages: u32) -> Result<Bench, NoMemory> {
-        let config = ZoneConfig {
-            name: "Movable",
-            base: 0,
-            pages,
-            min: 0,
-        };
+impl<S: Source> Bench<S> {
+    /// Over a zone of so many pages, with room for as many lent blocks.
+    pub fn new(alloc: Global, pages: u32) -> Result<Bench<S>, NoMemory> {
         let lent = Vec::with_capacity(alloc, pages as usize)?;
-        let (mut zone, mut seats) = Zone::new(alloc, config, 1)?;
-        let Some(mut seat) = seats.pop() else {
-            return Err(NoMemory);
-        };
-        zone.check(&mut seat);
         Ok(Bench {
-            zone,
-            seat,
+            source: S::new(alloc, pages)?,
+            pages,
             lent,
             lent_pages: 0,
             random: Random::seeded(),
@@ -75,9 +61,14 @@ impl Bench {
         self.checksum.value()
     }
 
+    /// Counts a number of pages answered into the checksum.
+    pub fn count(&mut self, pages: usize) {
+        self.checksum.add(pages as u64);
+    }
+
     /// How many pages the zone has.
     pub fn pages(&self) -> u64 {
-        u64::from(self.zone.pages())
+        u64::from(self.pages)
     }
 
     /// How many pages are lent.
@@ -86,24 +77,18 @@ impl Bench {
     }
 
     /// Takes a block; its page counts into the checksum.
-    fn take(&mut self, order: Order, kind: MigrateType) -> Option<LentBlock> {
-        match self.zone.alloc(&mut self.seat, order, kind, Mark::Any) {
-            Ok(page) => {
-                self.checksum.add(u64::from(page.number()) + 1);
-                Some(LentBlock { page, order })
-            }
-            Err(_) => {
-                self.checksum.add(0);
-                None
-            }
+    pub fn take(&mut self, order: Order, kind: MigrateType) -> Option<LentBlock> {
+        let taken = self.source.take(order, kind);
+        self.checksum.add_page(&taken);
+        match taken {
+            Some(page) => Some(LentBlock { page, order }),
+            None => None,
         }
     }
 
     /// Gives a block back, where it is lent.
-    fn give(&mut self, lent: LentBlock) {
-        if self.zone.held_by(&self.seat, lent.page, lent.order) {
-            self.zone.free(&mut self.seat, lent.page, lent.order);
-        }
+    pub fn give(&mut self, lent: LentBlock) {
+        self.source.give(lent.page, lent.order);
     }
 
     /// Takes a block and gives it back.
@@ -113,9 +98,9 @@ impl Bench {
         }
     }
 
-    /// Takes a Movable block, and keeps it as the last one. Answers whether there was one.
-    pub fn lend(&mut self, order: Order) -> Result<bool, NoMemory> {
-        let Some(lent) = self.take(order, MigrateType::Movable) else {
+    /// Takes a block, and keeps it as the last one. Answers whether there was one.
+    pub fn lend(&mut self, order: Order, kind: MigrateType) -> Result<bool, NoMemory> {
+        let Some(lent) = self.take(order, kind) else {
             return Ok(false);
         };
         if self.lent.push(lent).is_err() {
@@ -123,6 +108,16 @@ impl Bench {
         }
         self.lent_pages = self.lent_pages.saturating_add(u64::from(order.pages()));
         Ok(true)
+    }
+
+    /// Takes blocks of this order for this type until there is none.
+    pub fn lend_all(&mut self, order: Order, kind: MigrateType) -> Result<(), NoMemory> {
+        for _ in 0..self.pages {
+            if !self.lend(order, kind)? {
+                break;
+            }
+        }
+        Ok(())
     }
 
     /// Gives back the block at a place; the last one comes to its place.
@@ -144,15 +139,16 @@ impl Bench {
         }
     }
 
-    /// Gives back each page whose number three divides.
-    pub fn give_every_third(&mut self) {
+    /// Gives back each block whose first page is picked.
+    pub fn give_picked<F: Fn(u32) -> bool>(&mut self, is_picked: F)
+        requires { F.IsAlwaysCallable is_picked }
+    {
         let mut place = 0;
         for _ in 0..self.lent.len() {
             if place >= self.lent.len() {
                 break;
             }
-            let lent = self.lent[place];
-            if lent.page.number() % 3 == 0 {
+            if is_picked(self.lent[place].page.number()) {
                 self.give_at(place);
             } else {
                 place += 1;

@@ -1,14 +1,15 @@
-//! A worker with lists of its own under load: its share, over a row of one zone.
+//! A worker's share of one zone: blocks through its lists, or past them.
 
-ghost use Rattle.std.specs.Prelude.{◌≡◌, length, map};
+ghost use Rattle.std.specs.Prelude.{◌≡◌, ◌≤◌, length, map};
 ghost use Rattle.zp_share.specs.Shares.{IsShareOf, key_of};
 
 use crate::bench::NoMemory;
 use crate::random::Checksum;
+use crate::source::{Source, config};
 use std::alloc::Global;
-use zp_model::{Mark, MigrateType, Order};
+use zp_model::{Mark, MigrateType, Order, PageNo};
 use zp_share::{ListConfig, PlainZones, Share, Zones, alloc, free};
-use zp_zone::{Zone, ZoneConfig};
+use zp_zone::Zone;
 
 /// How many pages a refill asks for.
 const BATCH: u8 = 31;
@@ -21,6 +22,36 @@ pub fn lists() -> Result<ListConfig, NoMemory> {
     ListConfig::new(BATCH, HIGH_LEN).ok_or(NoMemory)
 }
 
+/// Takes a block of the first zone: its first page.
+fn take<Z: Zones>(
+    share: &mut Share,
+    zones: &mut Z,
+    order: Order,
+    kind: MigrateType,
+) -> Option<PageNo>
+    requires fits { IsShareOf (Z.keys zones.old) share.old }
+    requires one { length share.old.zones ≡ 1 }
+    ensures keys { Z.keys zones.new ≡ Z.keys zones.old }
+    ensures fits { IsShareOf (Z.keys zones.new) share.new }
+    ensures one { length share.new.zones ≡ 1 }
+{
+    match alloc(share, zones, order, kind, 0, Mark::Any) {
+        Ok(lent) => Some(lent.page),
+        Err(_) => None,
+    }
+}
+
+/// Gives a block of the first zone back, where it is lent.
+fn give<Z: Zones>(share: &mut Share, zones: &mut Z, page: PageNo, order: Order)
+    requires fits { IsShareOf (Z.keys zones.old) share.old }
+    requires one { length share.old.zones ≡ 1 }
+    ensures keys { Z.keys zones.new ≡ Z.keys zones.old }
+    ensures fits { IsShareOf (Z.keys zones.new) share.new }
+    ensures one { length share.new.zones ≡ 1 }
+{
+    let _ = free(share, zones, 0, page, order);
+}
+
 /// Takes a Movable page of the first zone and gives it back; the page counts into the checksum.
 pub fn pair<Z: Zones>(share: &mut Share, zones: &mut Z, checksum: &mut Checksum)
     requires fits { IsShareOf (Z.keys zones.old) share.old }
@@ -29,55 +60,104 @@ pub fn pair<Z: Zones>(share: &mut Share, zones: &mut Z, checksum: &mut Checksum)
     ensures fits { IsShareOf (Z.keys zones.new) share.new }
     ensures one { length share.new.zones ≡ 1 }
 {
-    let (order, kind) = (Order::zero(), MigrateType::Movable);
-    match alloc(share, zones, order, kind, 0, Mark::Any) {
-        Ok(lent) => {
-            checksum.add(u64::from(lent.page.number()) + 1);
-            let _ = free(share, zones, lent.zone, lent.page, lent.order);
-        }
-        Err(_) => checksum.add(0),
+    let taken = take(share, zones, Order::zero(), MigrateType::Movable);
+    checksum.add_page(&taken);
+    if let Some(page) = taken {
+        give(share, zones, page, Order::zero());
     }
 }
 
-/// A zone with nothing lent at first, the share of its one worker, and the checksum of the pages answered.
+/// A row of one zone, and the share of its one worker, whose lists are empty at first.
 #[derive(Drop)]
-pub struct CachedBench {
+struct Hand {
     zones: PlainZones,
     share: Share,
-    checksum: Checksum,
     ghost fits: { IsShareOf (map key_of zones) share },
     ghost one: { length share.zones ≡ 1 },
 }
 
-impl CachedBench {
-    /// A zone of so many pages, marks 0, and empty lists of the longest settings.
-    pub fn new(alloc: Global, pages: u32) -> Result<CachedBench, NoMemory> {
-        let config = ZoneConfig {
-            name: "Movable",
-            base: 0,
-            pages,
-            min: 0,
-        };
+impl Hand {
+    /// Over a zone of so many pages, marks 0, with lists of the longest settings.
+    fn new(alloc: Global, pages: u32) -> Result<Hand, NoMemory> {
         let mut zones = Vec::with_capacity(alloc, 1)?;
-        let (zone, seats) = Zone::new(alloc, config, 1)?;
+        let (zone, seats) = Zone::new(alloc, config(pages), 1)?;
         zones.push_reserved(zone);
         let share = Share::new(alloc, seats, lists()?)?;
-        Ok(CachedBench {
+        Ok(Hand {
             zones: PlainZones::new(zones),
             share,
-            checksum: Checksum::new(),
         })
     }
+}
 
-    pub fn checksum(&self) -> u64 {
-        self.checksum.value()
+/// Single pages by the worker's lists, larger blocks past them.
+#[derive(Drop)]
+pub struct Cached(Hand);
+
+impl Source for Cached {
+    fn new(alloc: Global, pages: u32) -> Result<Cached, NoMemory> {
+        Ok(Cached(Hand::new(alloc, pages)?))
     }
 
-    /// So many pairs. Answers how many calls they were.
-    pub fn pairs(&mut self, ops: u32) -> u64 {
-        for _ in 0..ops {
-            pair(&mut self.share, &mut self.zones, &mut self.checksum);
+    fn take(&mut self, order: Order, kind: MigrateType) -> Option<PageNo> {
+        take(&mut self.0.share, &mut self.0.zones, order, kind)
+    }
+
+    fn give(&mut self, page: PageNo, order: Order) {
+        give(&mut self.0.share, &mut self.0.zones, page, order);
+    }
+}
+
+/// All blocks past the worker's lists: each request is one section with the zone. What stands on a list was put there by hand.
+#[derive(Drop)]
+pub struct PastLists(Hand);
+
+impl Source for PastLists {
+    fn new(alloc: Global, pages: u32) -> Result<PastLists, NoMemory> {
+        Ok(PastLists(Hand::new(alloc, pages)?))
+    }
+
+    fn take(&mut self, order: Order, kind: MigrateType) -> Option<PageNo> {
+        let Hand { zones, share, .. } = &mut self.0;
+        zones.alloc_block(share, 0, order, kind, Mark::Any).ok()
+    }
+
+    fn give(&mut self, page: PageNo, order: Order) {
+        let Hand { zones, share, .. } = &mut self.0;
+        let _ = zones.free_block(share, 0, page, order);
+    }
+}
+
+impl PastLists {
+    /// Takes the lowest block of this order: its first page.
+    pub fn take_low(&mut self, order: Order) -> Option<PageNo> {
+        match self.0.zones.alloc_low(&mut self.0.share, 0, order) {
+            Ok(block) => Some(block.page),
+            Err(_) => None,
         }
-        2 * u64::from(ops)
+    }
+
+    /// Puts a lent page on the list of its type, where there is room.
+    pub fn put(&mut self, page: PageNo) {
+        let _ = self.0.share.put_cached(0, page);
+    }
+
+    /// Fills the list of this type, where it is empty: how many pages it has then.
+    pub fn refill(&mut self, kind: MigrateType) -> usize {
+        let share = &mut self.0.share;
+        if share.cached_len(0, kind) == 0 && share.lists().batch() != 0 {
+            let _ = self.0.zones.refill(share, 0, kind, Mark::Any);
+        }
+        self.0.share.cached_len(0, kind)
+    }
+
+    /// Gives back all pages of the list of this type, in one section: how many they were.
+    pub fn drain(&mut self, kind: MigrateType) -> usize {
+        let share = &mut self.0.share;
+        let count = share.cached_len(0, kind);
+        if count != 0 {
+            let _ = self.0.zones.drain(share, 0, kind, count);
+        }
+        count
     }
 }

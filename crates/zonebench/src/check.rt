@@ -1,22 +1,40 @@
-//! The checksums of the workloads: what another allocator with the same rule of placement answers too.
+//! The checksums of the workloads: what another allocator with the same rules answers too.
 
 use crate::bench::{Bench, NoMemory};
-use crate::cached::CachedBench;
+use crate::cached::{Cached, PastLists};
+use crate::seated::Seated;
+use crate::source::Source;
 use crate::workload::{SIZES, Workload};
+use crate::worst;
 use std::alloc::Global;
 use zp_model::Order;
 
-/// The checksum of a workload in a zone of so many pages.
-fn checksum(alloc: Global, workload: &Workload, pages: u32, ops: u32) -> Result<u64, NoMemory> {
-    let mut bench = Bench::new(alloc, pages)?;
+/// The calls that were made, and the checksum of their answers and of those before them.
+#[derive(Clone, Copy, Drop)]
+pub struct Sum {
+    pub calls: u64,
+    pub checksum: u64,
+}
+
+/// A workload in a zone of so many pages.
+pub fn sum_of<S: Source>(
+    alloc: Global,
+    workload: &Workload,
+    pages: u32,
+    ops: u32,
+) -> Result<Sum, NoMemory> {
+    let mut bench = Bench::<S>::new(alloc, pages)?;
     workload.prepare(&mut bench)?;
-    workload.run(&mut bench, ops)?;
+    let calls = workload.run(&mut bench, ops)?;
     bench.give_all();
-    Ok(bench.checksum())
+    Ok(Sum {
+        calls,
+        checksum: bench.checksum(),
+    })
 }
 
 /// Prints the checksums of a workload, a line for each size of a zone.
-fn print_sums(
+fn print_sums<S: Source>(
     rt: &impl Print,
     alloc: Global,
     name: &str,
@@ -24,32 +42,36 @@ fn print_sums(
     ops: u32,
 ) -> anyhow::Result<()> {
     for pages in SIZES {
-        let sum = checksum(alloc, workload, pages, ops)?;
-        println!(rt; "{name} {pages} {ops} {sum:016x}")?;
+        let sum = sum_of::<S>(alloc, workload, pages, ops)?;
+        println!(rt; "{name} {pages} {ops} {:016x}", sum.checksum)?;
     }
     Ok(())
 }
 
-/// Prints the checksums of pairs of cached pages, a line for each size of a zone.
-fn print_cached_sums(rt: &impl Print, alloc: Global, name: &str, ops: u32) -> anyhow::Result<()> {
-    for pages in SIZES {
-        let mut bench = CachedBench::new(alloc, pages)?;
-        bench.pairs(ops);
-        println!(rt; "{name} {pages} {ops} {:016x}", bench.checksum())?;
+/// Prints the checksums of pairs of an order.
+fn print_pairs(rt: &impl Print, alloc: Global, name: &str, order: u8) -> anyhow::Result<()> {
+    if let Some(order) = Order::new(order) {
+        print_sums::<Seated>(rt, alloc, name, &Workload::Pairs(order), 1000)?;
     }
     Ok(())
 }
 
-/// Prints all checksums: the workload, the pages of the zone, the calls or rounds, and the checksum of the answers.
+/// Prints all checksums: the workload, the pages of the zone, the number of calls or rounds, and the checksum of the answers.
 pub fn print_all(rt: &impl Print, alloc: Global) -> anyhow::Result<()> {
-    print_sums(rt, alloc, "pairs 0", &Workload::Pairs(Order::zero()), 1000)?;
-    if let Some(order) = Order::new(4) {
-        print_sums(rt, alloc, "pairs 4", &Workload::Pairs(order), 1000)?;
-    }
-    print_sums(rt, alloc, "runs", &Workload::Runs, 12_800)?;
-    print_sums(rt, alloc, "churn", &Workload::Churn, 100_000)?;
-    print_sums(rt, alloc, "press", &Workload::Press, 100_000)?;
-    print_sums(rt, alloc, "burst", &Workload::Burst, 2)?;
-    print_cached_sums(rt, alloc, "cached pairs 0", 1000)?;
-    Ok(())
+    let hot = Workload::Pairs(Order::zero());
+    print_pairs(rt, alloc, "pairs 0", 0)?;
+    print_pairs(rt, alloc, "pairs 4", 4)?;
+    print_sums::<Seated>(rt, alloc, "runs", &Workload::Runs, 12_800)?;
+    print_sums::<Seated>(rt, alloc, "churn", &Workload::Churn, 100_000)?;
+    print_sums::<Seated>(rt, alloc, "press", &Workload::Press, 100_000)?;
+    print_sums::<Seated>(rt, alloc, "burst", &Workload::Burst, 2)?;
+    print_sums::<Cached>(rt, alloc, "cached pairs 0", &hot, 1000)?;
+    print_pairs(rt, alloc, "pairs 9", 9)?;
+    print_pairs(rt, alloc, "pairs 10", 10)?;
+    print_sums::<Cached>(rt, alloc, "cached runs", &Workload::Runs, 12_800)?;
+    print_sums::<Cached>(rt, alloc, "cached churn", &Workload::Churn, 100_000)?;
+    print_sums::<Cached>(rt, alloc, "cached press", &Workload::Press, 100_000)?;
+    print_sums::<Cached>(rt, alloc, "cached burst", &Workload::Burst, 2)?;
+    print_sums::<PastLists>(rt, alloc, "past lists churn", &Workload::Churn, 100_000)?;
+    worst::print_sums(rt, alloc)
 }

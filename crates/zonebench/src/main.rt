@@ -1,26 +1,39 @@
-//! `zonebench [check]`: workloads over a zone, each with its seed, and one of a worker with lists of its own, which threads run
-//! over a shared zone too.
+//! `zonebench [check | worst | count WORKLOAD PAGES CALLS]`: workloads over a zone, each with its seed, by a seat of the zone and by a
+//! worker with lists of its own, which threads run over a shared zone too.
 //!
 //! With no word it prints how long a call of each takes, with a line of progress for each on standard error. With `check` it
-//! prints the checksums of the pages answered, which do not depend on the machine, and starts no thread.
+//! prints the checksums of the pages answered, which do not depend on the machine, and starts no thread. With `worst` it prints how
+//! long the dearest requests that are known take. With `count` it makes so many calls of one workload, so that a tool can count
+//! their instructions.
 #![tactic(auto)]
 
 mod bench;
 mod board;
 mod cached;
 mod check;
+mod counting;
+mod grounds;
 mod random;
+mod seated;
+mod shapes;
+mod source;
 mod threads;
+mod times;
 mod timing;
 mod workload;
+mod worst;
 
 use std::env;
 
 fn main(rt: HostRuntime) -> anyhow::Result<()> {
-    let mut words = env::args(&rt)?.skip(1);
-    match words.next() {
-        None => timing::print_all(&rt, rt.alloc()),
-        Some(word) if word.as_str() == "check" => check::print_all(&rt, rt.alloc()),
-        Some(_) => anyhow::bail!("zonebench: the one word there is, is check"),
+    let words: Vec<String> = env::args(&rt)?.skip(1).collect(rt.alloc())?;
+    match words.as_slice() {
+        [] => timing::print_all(&rt, rt.alloc()),
+        [word] if word.as_str() == "check" => check::print_all(&rt, rt.alloc()),
+        [word] if word.as_str() == "worst" => worst::print_all(&rt, rt.alloc()),
+        [word, name, pages, calls] if word.as_str() == "count" => {
+            counting::print_count(&rt, rt.alloc(), name, pages, calls)
+        }
+        _ => anyhow::bail!("zonebench: the words are check, worst, or count WORKLOAD PAGES CALLS"),
     }
 }

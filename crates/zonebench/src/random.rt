@@ -2,6 +2,8 @@
 //! language draws the same numbers and sums the same answers.
 ghost use Rattle.std.specs.Prelude.{◌<◌, ◌≤◌};
 
+use zp_model::PageNo;
+
 /// The seed of all workloads.
 const SEED: u64 = 88_172_645_463_325_252;
 
@@ -53,6 +55,14 @@ impl Checksum {
         value ^= value << 13;
         value ^= value >> 7;
         self.value = value;
+    }
+
+    /// Adds the answer to a request for a block: its first page and 1, or 0 where there is none.
+    pub fn add_page(&mut self, answer: &Option<PageNo>) {
+        match answer {
+            Some(page) => self.add(u64::from(page.number()) + 1),
+            None => self.add(0),
+        }
     }
 
     pub fn value(&self) -> u64 {

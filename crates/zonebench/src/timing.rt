@@ -2,7 +2,10 @@
 
 use crate::bench::Bench;
 use crate::board::BoardBench;
-use crate::cached::CachedBench;
+use crate::cached::{Cached, PastLists};
+use crate::counting::HOW_TO_COUNT;
+use crate::seated::Seated;
+use crate::source::Source;
 use crate::threads;
 use crate::workload::{SIZES, Workload};
 use std::alloc::Global;
@@ -19,41 +22,27 @@ const CALLS: u32 = 2_000_000;
 const SHARED_PAGES: u32 = SIZES[1];
 
 /// Tenths of a nanosecond that a call of a workload takes in a zone of so many pages.
-fn tenths_a_call(
+fn tenths_a_call<S: Source>(
     rt: &impl Clock,
     alloc: Global,
     workload: &Workload,
     pages: u32,
     ops: u32,
 ) -> anyhow::Result<u128> {
-    let mut bench = Bench::new(alloc, pages)?;
+    let mut bench = Bench::<S>::new(alloc, pages)?;
     workload.prepare(&mut bench)?;
     tenths_of_run(rt, &mut bench, workload, ops)
 }
 
 /// Tenths of a nanosecond that a call of a workload takes where the zone is prepared for it.
-fn tenths_of_run(
+fn tenths_of_run<S: Source>(
     rt: &impl Clock,
-    bench: &mut Bench,
+    bench: &mut Bench<S>,
     workload: &Workload,
     ops: u32,
 ) -> anyhow::Result<u128> {
     let start = Instant::now(rt)?;
     let calls = workload.run(bench, ops)?;
-    let time = start.elapsed(rt)?;
-    Ok(tenths_each(time, calls))
-}
-
-/// Tenths of a nanosecond that a call of pairs of cached pages takes in a zone of so many pages.
-fn tenths_a_cached_call(
-    rt: &impl Clock,
-    alloc: Global,
-    pages: u32,
-    ops: u32,
-) -> anyhow::Result<u128> {
-    let mut bench = CachedBench::new(alloc, pages)?;
-    let start = Instant::now(rt)?;
-    let calls = bench.pairs(ops);
     let time = start.elapsed(rt)?;
     Ok(tenths_each(time, calls))
 }
@@ -77,7 +66,7 @@ fn print_tenths(rt: &impl Print, tenths: u128) -> anyhow::Result<()> {
 }
 
 /// Prints a line of the table: the time of a workload at each size.
-fn print_times(
+fn print_times<S: Source>(
     rt: &(impl Print + Eprint + Clock),
     alloc: Global,
     name: &str,
@@ -86,23 +75,7 @@ fn print_times(
 ) -> anyhow::Result<()> {
     print_name(rt, name)?;
     for (pages, ops) in SIZES.iter().zip(ops) {
-        let tenths = tenths_a_call(rt, alloc, workload, *pages, ops)?;
-        print_tenths(rt, tenths)?;
-    }
-    println!(rt;)?;
-    Ok(())
-}
-
-/// Prints a line of the table: the time of pairs of cached pages at each size.
-fn print_cached_times(
-    rt: &(impl Print + Eprint + Clock),
-    alloc: Global,
-    name: &str,
-    ops: u32,
-) -> anyhow::Result<()> {
-    print_name(rt, name)?;
-    for pages in SIZES {
-        let tenths = tenths_a_cached_call(rt, alloc, pages, ops)?;
+        let tenths = tenths_a_call::<S>(rt, alloc, workload, *pages, ops)?;
         print_tenths(rt, tenths)?;
     }
     println!(rt;)?;
@@ -149,7 +122,8 @@ fn print_board_times(rt: &(impl Print + Eprint + Clock), alloc: Global) -> anyho
     Ok(())
 }
 
-/// Prints the table, and under it the times of one worker and of four at the same time, and those of a board.
+/// Prints the table, under it the times of one worker and of four at the same time, and those of a board, and how to count
+/// instructions.
 pub fn print_all<R: Print + Eprint + Clock + Threads + Wait + Sync>(
     rt: &R,
     alloc: Global,
@@ -157,56 +131,81 @@ pub fn print_all<R: Print + Eprint + Clock + Threads + Wait + Sync>(
     print_table(rt, alloc)?;
     print_shared_time(rt, alloc, "cached pairs, one thread", 1)?;
     print_shared_time(rt, alloc, "cached pairs, four threads", 4)?;
-    print_board_times(rt, alloc)
+    print_board_times(rt, alloc)?;
+    println!(rt; "{HOW_TO_COUNT}")?;
+    Ok(())
 }
 
-/// Prints the table: nanoseconds a call, by the pages of the zone.
+/// Prints lines of the table: the time of pairs of these orders.
+fn print_pairs<S: Source>(
+    rt: &(impl Print + Eprint + Clock),
+    alloc: Global,
+    pairs: &[(&str, u8)],
+) -> anyhow::Result<()> {
+    for (name, order) in pairs {
+        if let Some(order) = Order::new(*order) {
+            print_times::<S>(rt, alloc, name, &Workload::Pairs(order), [CALLS / 2; 3])?;
+        }
+    }
+    Ok(())
+}
+
+/// Prints lines of the table: the times of what keeps more than one block lent.
+fn print_mixed<S: Source>(rt: &(impl Print + Eprint + Clock), alloc: Global) -> anyhow::Result<()> {
+    for (name, workload, ops) in [
+        ("runs of 64 pages", Workload::Runs, [CALLS; 3]),
+        ("churn of all orders", Workload::Churn, [CALLS; 3]),
+        ("press at nine tenths", Workload::Press, [CALLS; 3]),
+        ("bursts of all pages", Workload::Burst, [1000, 250, 16]),
+    ] {
+        print_times::<S>(rt, alloc, name, &workload, ops)?;
+    }
+    Ok(())
+}
+
+/// Prints the table: nanoseconds a call, by the pages of the zone; first by a seat, then by a worker's share.
 fn print_table(rt: &(impl Print + Eprint + Clock), alloc: Global) -> anyhow::Result<()> {
     println!(rt;
         "{:<34}{:>12}{:>12}{:>12}",
         "nanoseconds a call", "1024 pages", "4096", "65536"
     )?;
-    let same = [CALLS / 2; 3];
-    for (name, order) in [
-        ("pairs of order 0", 0),
-        ("pairs of order 4", 4),
-        ("pairs of order 9", 9),
-        ("pairs of order 10", 10),
-    ] {
-        if let Some(order) = Order::new(order) {
-            print_times(rt, alloc, name, &Workload::Pairs(order), same)?;
-        }
-    }
-    print_times(rt, alloc, "runs of 64 pages", &Workload::Runs, [CALLS; 3])?;
-    print_times(
+    print_pairs::<Seated>(
         rt,
         alloc,
-        "churn of all orders",
-        &Workload::Churn,
-        [CALLS; 3],
+        &[
+            ("pairs of order 0", 0),
+            ("pairs of order 4", 4),
+            ("pairs of order 9", 9),
+            ("pairs of order 10", 10),
+        ],
     )?;
-    print_times(
-        rt,
-        alloc,
-        "press at nine tenths",
-        &Workload::Press,
-        [CALLS; 3],
-    )?;
-    print_times(
-        rt,
-        alloc,
-        "bursts of all pages",
-        &Workload::Burst,
-        [1000, 250, 16],
-    )?;
-    print_times(
+    print_mixed::<Seated>(rt, alloc)?;
+    print_times::<Seated>(
         rt,
         alloc,
         "Unmovable among scattered Movable",
         &Workload::Scattered,
         [100_000, 20_000, 1000],
     )?;
-    print_times(rt, alloc, "claims of order 10", &Workload::Claims, same)?;
-    print_cached_times(rt, alloc, "cached pairs of order 0", CALLS / 2)?;
-    Ok(())
+    print_times::<Seated>(
+        rt,
+        alloc,
+        "claims of order 10",
+        &Workload::Claims,
+        [CALLS / 2; 3],
+    )?;
+    print_share_lines(rt, alloc)
+}
+
+/// Prints the table's lines of a worker's share.
+fn print_share_lines(rt: &(impl Print + Eprint + Clock), alloc: Global) -> anyhow::Result<()> {
+    println!(rt; "with lists of workers")?;
+    print_pairs::<Cached>(rt, alloc, &[("hot pair of order 0", 0)])?;
+    print_mixed::<Cached>(rt, alloc)?;
+    println!(rt; "past the lists of workers")?;
+    print_pairs::<PastLists>(
+        rt,
+        alloc,
+        &[("pairs of order 0", 0), ("pairs of order 10", 10)],
+    )
 }

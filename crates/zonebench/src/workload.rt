@@ -1,9 +1,11 @@
 //! The workloads.
 
-ghost use Rattle.std.specs.Prelude.{◌≤◌};
+ghost use Rattle.std.specs.Prelude.{◌≡◌, ◌≤◌};
+ghost use Rattle.zonebench.specs.Calls.{ops};
 
 use crate::bench::{Bench, NoMemory};
 use crate::random::below;
+use crate::source::Source;
 use zp_model::{MigrateType, Order};
 
 /// The sizes of the zones, in pages.
@@ -41,8 +43,38 @@ pub enum Workload {
 }
 
 impl Workload {
+    /// The workload of this name.
+    pub fn named(name: &str) -> Option<Workload> {
+        match name {
+            "pairs-0" => Some(Workload::Pairs(Order::zero())),
+            "pairs-4" => Order::new(4).map(Workload::Pairs),
+            "pairs-9" => Order::new(9).map(Workload::Pairs),
+            "pairs-10" => Some(Workload::Pairs(Order::largest())),
+            "runs" => Some(Workload::Runs),
+            "churn" => Some(Workload::Churn),
+            "press" => Some(Workload::Press),
+            "burst" => Some(Workload::Burst),
+            "scattered" => Some(Workload::Scattered),
+            "claims" => Some(Workload::Claims),
+            _ => None,
+        }
+    }
+
+    /// The number for `run` that makes about so many calls, in a zone of so many pages.
+    pub fn ops(&self, pages: u32, calls: u32) -> u32
+        requires { 1 ≤ pages }
+        ensures { result ≡ ops self.now pages calls }
+    {
+        match self {
+            Workload::Pairs(_) | Workload::Scattered => calls / 2,
+            Workload::Runs | Workload::Churn | Workload::Press => calls,
+            Workload::Burst => calls / 2 / pages,
+            Workload::Claims => calls / 4,
+        }
+    }
+
     /// What comes before the calls that count.
-    pub fn prepare(&self, bench: &mut Bench) -> Result<(), NoMemory> {
+    pub fn prepare<S: Source>(&self, bench: &mut Bench<S>) -> Result<(), NoMemory> {
         match self {
             Workload::Churn => {
                 churn(bench, WARMING)?;
@@ -56,7 +88,7 @@ impl Workload {
     }
 
     /// The calls that count. Answers how many calls of the zone they were, a test and a giving back being one.
-    pub fn run(&self, bench: &mut Bench, ops: u32) -> Result<u64, NoMemory> {
+    pub fn run<S: Source>(&self, bench: &mut Bench<S>, ops: u32) -> Result<u64, NoMemory> {
         match self {
             Workload::Pairs(order) => pairs(bench, *order, ops),
             Workload::Runs => runs(bench, ops),
@@ -69,14 +101,14 @@ impl Workload {
     }
 }
 
-fn pairs(bench: &mut Bench, order: Order, ops: u32) -> Result<u64, NoMemory> {
+fn pairs<S: Source>(bench: &mut Bench<S>, order: Order, ops: u32) -> Result<u64, NoMemory> {
     for _ in 0..ops {
         bench.pair(order, MigrateType::Movable);
     }
     Ok(2 * u64::from(ops))
 }
 
-fn runs(bench: &mut Bench, ops: u32) -> Result<u64, NoMemory> {
+fn runs<S: Source>(bench: &mut Bench<S>, ops: u32) -> Result<u64, NoMemory> {
     for _ in 0..ops / (2 * RUN) {
         run(bench)?;
     }
@@ -84,15 +116,15 @@ fn runs(bench: &mut Bench, ops: u32) -> Result<u64, NoMemory> {
 }
 
 /// One run.
-fn run(bench: &mut Bench) -> Result<(), NoMemory> {
+fn run<S: Source>(bench: &mut Bench<S>) -> Result<(), NoMemory> {
     for _ in 0..RUN {
-        bench.lend(Order::zero())?;
+        bench.lend(Order::zero(), MigrateType::Movable)?;
     }
     bench.give_in_order();
     Ok(())
 }
 
-fn churn(bench: &mut Bench, ops: u32) -> Result<u64, NoMemory> {
+fn churn<S: Source>(bench: &mut Bench<S>, ops: u32) -> Result<u64, NoMemory> {
     for _ in 0..ops {
         churn_once(bench)?;
     }
@@ -100,7 +132,7 @@ fn churn(bench: &mut Bench, ops: u32) -> Result<u64, NoMemory> {
 }
 
 /// A block of a drawn order is taken where fewer than half of the pages are lent; else a drawn one is given back.
-fn churn_once(bench: &mut Bench) -> Result<(), NoMemory> {
+fn churn_once<S: Source>(bench: &mut Bench<S>) -> Result<(), NoMemory> {
     let drawn = bench.random.draw();
     if bench.lent_pages() >= bench.pages() / 2 {
         bench.give_drawn(drawn);
@@ -108,23 +140,18 @@ fn churn_once(bench: &mut Bench) -> Result<(), NoMemory> {
     }
     let number = (drawn | CHURNED).trailing_zeros();
     if let Some(order) = Order::new(number as u8) {
-        bench.lend(order)?;
+        bench.lend(order, MigrateType::Movable)?;
     }
     Ok(())
 }
 
 /// Takes all pages one by one.
-fn fill(bench: &mut Bench) -> Result<(), NoMemory> {
-    for _ in 0..bench.pages() {
-        if !bench.lend(Order::zero())? {
-            break;
-        }
-    }
-    Ok(())
+fn fill<S: Source>(bench: &mut Bench<S>) -> Result<(), NoMemory> {
+    bench.lend_all(Order::zero(), MigrateType::Movable)
 }
 
 /// Leaves nine tenths of the pages lent.
-fn press_down(bench: &mut Bench) -> Result<(), NoMemory> {
+fn press_down<S: Source>(bench: &mut Bench<S>) -> Result<(), NoMemory> {
     fill(bench)?;
     let kept = bench.pages() / 10 * 9;
     for _ in 0..bench.pages() {
@@ -137,7 +164,7 @@ fn press_down(bench: &mut Bench) -> Result<(), NoMemory> {
     Ok(())
 }
 
-fn press(bench: &mut Bench, ops: u32) -> Result<u64, NoMemory> {
+fn press<S: Source>(bench: &mut Bench<S>, ops: u32) -> Result<u64, NoMemory> {
     let mut calls: u64 = 0;
     for _ in 0..ops {
         if calls >= u64::from(ops) {
@@ -150,7 +177,7 @@ fn press(bench: &mut Bench, ops: u32) -> Result<u64, NoMemory> {
 }
 
 /// Gives back so many drawn pages, and takes as many. Answers how many calls these were.
-fn exchange(bench: &mut Bench, pages: usize) -> Result<u64, NoMemory>
+fn exchange<S: Source>(bench: &mut Bench<S>, pages: usize) -> Result<u64, NoMemory>
     requires { pages ≤ 64 }
 {
     for _ in 0..pages {
@@ -158,13 +185,13 @@ fn exchange(bench: &mut Bench, pages: usize) -> Result<u64, NoMemory>
         bench.give_drawn(drawn);
     }
     for _ in 0..pages {
-        bench.lend(Order::zero())?;
+        bench.lend(Order::zero(), MigrateType::Movable)?;
     }
     Ok(2 * pages as u64)
 }
 
 /// Takes all pages, and gives them back at random.
-fn burst(bench: &mut Bench) -> Result<(), NoMemory> {
+fn burst<S: Source>(bench: &mut Bench<S>) -> Result<(), NoMemory> {
     fill(bench)?;
     for _ in 0..bench.pages() {
         let drawn = bench.random.draw();
@@ -173,7 +200,7 @@ fn burst(bench: &mut Bench) -> Result<(), NoMemory> {
     Ok(())
 }
 
-fn bursts(bench: &mut Bench, ops: u32) -> Result<u64, NoMemory> {
+fn bursts<S: Source>(bench: &mut Bench<S>, ops: u32) -> Result<u64, NoMemory> {
     for _ in 0..ops {
         burst(bench)?;
     }
@@ -181,20 +208,20 @@ fn bursts(bench: &mut Bench, ops: u32) -> Result<u64, NoMemory> {
 }
 
 /// Leaves a third of the pages free, each alone.
-fn scatter(bench: &mut Bench) -> Result<(), NoMemory> {
+fn scatter<S: Source>(bench: &mut Bench<S>) -> Result<(), NoMemory> {
     fill(bench)?;
-    bench.give_every_third();
+    bench.give_picked(|page| page % 3 == 0);
     Ok(())
 }
 
-fn scattered(bench: &mut Bench, ops: u32) -> Result<u64, NoMemory> {
+fn scattered<S: Source>(bench: &mut Bench<S>, ops: u32) -> Result<u64, NoMemory> {
     for _ in 0..ops {
         bench.pair(Order::zero(), MigrateType::Unmovable);
     }
     Ok(2 * u64::from(ops))
 }
 
-fn claims(bench: &mut Bench, ops: u32) -> Result<u64, NoMemory> {
+fn claims<S: Source>(bench: &mut Bench<S>, ops: u32) -> Result<u64, NoMemory> {
     for _ in 0..ops {
         bench.pair(Order::largest(), MigrateType::Unmovable);
         bench.pair(Order::largest(), MigrateType::Movable);

@@ -1,0 +1,240 @@
+//! Requests in zones that make them dear, each by `docs/rules.md`.
+
+use crate::bench::{Bench, LentBlock, NoMemory};
+use crate::cached::PastLists;
+use crate::grounds::{Ground, PAGEBLOCKS, PAGES};
+use crate::seated::Seated;
+use crate::source::Source;
+use std::alloc::Global;
+use zp_model::{MigrateType, Order, PAGEBLOCK_PAGES, PageNo};
+
+/// A request in a zone of `PAGES` pages.
+pub trait Shape {
+    /// Makes the request.
+    fn ask(&mut self);
+
+    /// Brings the zone back to where the request is dear.
+    fn restore(&mut self) -> Result<(), NoMemory>;
+
+    /// The checksum of all pages answered, those of the preparation too.
+    fn checksum(&self) -> u64;
+}
+
+/// No request: the time of the clock alone.
+#[derive(Clone, Copy, Drop)]
+pub struct Nothing;
+
+impl Shape for Nothing {
+    fn ask(&mut self) {}
+
+    fn restore(&mut self) -> Result<(), NoMemory> {
+        Ok(())
+    }
+
+    fn checksum(&self) -> u64 {
+        0
+    }
+}
+
+/// A block that is asked for on a ground, for the one type and the other in turn, and given back each time.
+#[derive(Clone, Copy, Drop)]
+pub struct Wish {
+    pub ground: Ground,
+    pub order: Order,
+    pub kinds: [MigrateType; 2],
+}
+
+impl Wish {
+    /// A page, on this ground.
+    fn page(ground: Ground, kinds: [MigrateType; 2]) -> Wish {
+        Wish {
+            ground,
+            order: Order::zero(),
+            kinds,
+        }
+    }
+}
+
+/// The blocks that are dear to split, to find or to claim.
+pub fn wishes() -> [(&'static str, Wish); 6] {
+    let (unmovable, reclaimable, movable) = (
+        MigrateType::Unmovable,
+        MigrateType::Reclaimable,
+        MigrateType::Movable,
+    );
+    // half of each pageblock is free, in blocks that are too small
+    let too_small = Wish {
+        ground: Ground::Halves(movable),
+        order: Order::zero().higher(),
+        kinds: [unmovable; 2],
+    };
+    // and in blocks by which a Movable request may not claim
+    let borrow = Wish::page(Ground::Halves(unmovable), [movable; 2]);
+    // the free pages are of another type each time
+    let in_turn = Wish::page(Ground::OnePageblock, [unmovable, movable]);
+    let retype = Wish::page(Ground::HalfPageblock, [unmovable, reclaimable]);
+    let list_end = Wish::page(Ground::LongList, [unmovable; 2]);
+    [
+        ("ten splits", Wish::page(Ground::Whole, [movable; 2])),
+        ("claim that fails beside 64 pageblocks", too_small),
+        ("borrow after such a claim", borrow),
+        ("claims in turn", in_turn),
+        ("retype of 512 single pages", retype),
+        ("claim at the end of a long list", list_end),
+    ]
+}
+
+/// A wish, asked of a zone.
+#[derive(Drop)]
+pub struct Taking {
+    bench: Bench<Seated>,
+    wish: Wish,
+    lent: Option<LentBlock>,
+}
+
+impl Taking {
+    pub fn new(alloc: Global, wish: Wish) -> Result<Taking, NoMemory> {
+        let mut bench = Bench::new(alloc, PAGES)?;
+        wish.ground.prepare(&mut bench)?;
+        Ok(Taking {
+            bench,
+            wish,
+            lent: None,
+        })
+    }
+}
+
+impl Shape for Taking {
+    fn ask(&mut self) {
+        self.lent = self.bench.take(self.wish.order, self.wish.kinds[0]);
+    }
+
+    fn restore(&mut self) -> Result<(), NoMemory> {
+        if let Some(lent) = self.lent {
+            self.bench.give(lent);
+        }
+        self.lent = None;
+        let [asked, next] = self.wish.kinds;
+        self.wish.kinds = [next, asked];
+        if self.wish.ground.is_laid_anew() {
+            self.wish.ground.prepare(&mut self.bench)?;
+        }
+        Ok(())
+    }
+
+    fn checksum(&self) -> u64 {
+        self.bench.checksum()
+    }
+}
+
+/// A page that joins ten times as it is given back.
+#[derive(Drop)]
+pub struct Giving {
+    bench: Bench<Seated>,
+    lent: Option<LentBlock>,
+}
+
+impl Giving {
+    pub fn new(alloc: Global) -> Result<Giving, NoMemory> {
+        let mut bench = Bench::new(alloc, PAGES)?;
+        let lent = bench.take(Order::zero(), MigrateType::Movable);
+        Ok(Giving { bench, lent })
+    }
+}
+
+impl Shape for Giving {
+    fn ask(&mut self) {
+        if let Some(lent) = self.lent {
+            self.bench.give(lent);
+        }
+    }
+
+    fn restore(&mut self) -> Result<(), NoMemory> {
+        self.lent = self.bench.take(Order::zero(), MigrateType::Movable);
+        Ok(())
+    }
+
+    fn checksum(&self) -> u64 {
+        self.bench.checksum()
+    }
+}
+
+/// A refill each of whose pages is borrowed after a claim that fails beside 64 pageblocks.
+#[derive(Drop)]
+pub struct Refilling {
+    bench: Bench<PastLists>,
+}
+
+impl Refilling {
+    pub fn new(alloc: Global) -> Result<Refilling, NoMemory> {
+        let mut bench = Bench::new(alloc, PAGES)?;
+        Ground::Halves(MigrateType::Unmovable).prepare(&mut bench)?;
+        Ok(Refilling { bench })
+    }
+}
+
+impl Shape for Refilling {
+    fn ask(&mut self) {
+        let pages = self.bench.source.refill(MigrateType::Movable);
+        self.bench.count(pages);
+    }
+
+    fn restore(&mut self) -> Result<(), NoMemory> {
+        self.bench.source.drain(MigrateType::Movable);
+        Ok(())
+    }
+
+    fn checksum(&self) -> u64 {
+        self.bench.checksum()
+    }
+}
+
+/// A drain each of whose pages joins ten times: one page of each pageblock.
+#[derive(Drop)]
+pub struct Draining {
+    bench: Bench<PastLists>,
+}
+
+impl Draining {
+    pub fn new(alloc: Global) -> Result<Draining, NoMemory> {
+        let mut bench = Bench::new(alloc, PAGES)?;
+        list_first_pages(&mut bench);
+        Ok(Draining { bench })
+    }
+}
+
+impl Shape for Draining {
+    fn ask(&mut self) {
+        let pages = self.bench.source.drain(MigrateType::Movable);
+        self.bench.count(pages);
+    }
+
+    fn restore(&mut self) -> Result<(), NoMemory> {
+        list_first_pages(&mut self.bench);
+        Ok(())
+    }
+
+    fn checksum(&self) -> u64 {
+        self.bench.checksum()
+    }
+}
+
+/// Puts the first page of each pageblock on the worker's list, where all pages are free.
+fn list_first_pages(bench: &mut Bench<PastLists>) {
+    for _ in 0..PAGEBLOCKS {
+        // the blocks come back below
+        let _ = bench.take(Order::largest(), MigrateType::Movable);
+    }
+    list_pages_from(&mut bench.source);
+}
+
+/// Gives back the lent pageblocks, the last one first, and puts the first page of each on the worker's list: the lowest free one.
+fn list_pages_from(source: &mut PastLists) {
+    for after in 1..=PAGEBLOCKS {
+        let head = PageNo::new((PAGEBLOCKS - after) * PAGEBLOCK_PAGES);
+        source.give(head, Order::largest());
+        if let Some(page) = source.take_low(Order::zero()) {
+            source.put(page);
+        }
+    }
+}

@@ -1,0 +1,99 @@
+//! How long the dearest requests that are known take, each call by itself.
+
+use crate::grounds::PAGES;
+use crate::shapes::{Draining, Giving, Nothing, Refilling, Shape, Taking, wishes};
+use crate::times::Times;
+use std::alloc::Global;
+use std::rt::Clock;
+use std::time::Instant;
+
+/// The calls of each request.
+const CALLS: u32 = 10_000;
+
+/// The calls of a request whose ground is laid anew before each one.
+const CALLS_ANEW: u32 = 1000;
+
+/// The calls whose answers are summed.
+const CALLS_SUMMED: u32 = 10;
+
+const GIVING: &str = "ten joins";
+
+const REFILLING: &str = "refill of 31 borrowed pages";
+
+const DRAINING: &str = "drain of 64 pages, ten joins each";
+
+/// The times of so many calls.
+fn times_of(
+    rt: &impl Clock,
+    alloc: Global,
+    shape: &mut impl Shape,
+    calls: u32,
+) -> anyhow::Result<Times> {
+    let mut times = Times::new(alloc, calls)?;
+    for _ in 0..calls {
+        let start = Instant::now(rt)?;
+        shape.ask();
+        times.add(start.elapsed(rt)?)?;
+        shape.restore()?;
+    }
+    Ok(times)
+}
+
+/// Prints a line of the table.
+fn print_times(
+    rt: &(impl Print + Eprint + Clock),
+    alloc: Global,
+    name: &str,
+    shape: &mut impl Shape,
+    calls: u32,
+) -> anyhow::Result<()> {
+    eprintln!(rt; "{name} ..")?;
+    let mut times = times_of(rt, alloc, shape, calls)?;
+    if let Some(spread) = times.spread() {
+        println!(rt; "{name:<36}{:>10}{:>14}", spread.median, spread.high)?;
+    }
+    Ok(())
+}
+
+/// Prints the table: of each request the median and the 99.9th percentile, the time of the clock with them.
+pub fn print_all(rt: &(impl Print + Eprint + Clock), alloc: Global) -> anyhow::Result<()> {
+    println!(rt;
+        "{:<36}{:>10}{:>14}",
+        "nanoseconds of one call", "median", "99.9 per cent"
+    )?;
+    print_times(rt, alloc, "the clock alone", &mut Nothing, CALLS)?;
+    for (name, wish) in wishes() {
+        let calls = if wish.ground.is_laid_anew() {
+            CALLS_ANEW
+        } else {
+            CALLS
+        };
+        print_times(rt, alloc, name, &mut Taking::new(alloc, wish)?, calls)?;
+    }
+    print_times(rt, alloc, GIVING, &mut Giving::new(alloc)?, CALLS)?;
+    print_times(rt, alloc, REFILLING, &mut Refilling::new(alloc)?, CALLS)?;
+    print_times(rt, alloc, DRAINING, &mut Draining::new(alloc)?, CALLS)
+}
+
+/// Prints the checksum of the answers to a few calls.
+fn print_sum(rt: &impl Print, name: &str, shape: &mut impl Shape) -> anyhow::Result<()> {
+    for _ in 0..CALLS_SUMMED {
+        shape.ask();
+        shape.restore()?;
+    }
+    println!(rt;
+        "worst {name} {PAGES} {CALLS_SUMMED} {:016x}",
+        shape.checksum()
+    )?;
+    Ok(())
+}
+
+/// Prints the checksums of all requests: the request, the pages of the zone, the calls, and the checksum of the answers.
+pub fn print_sums(rt: &impl Print, alloc: Global) -> anyhow::Result<()> {
+    for (name, wish) in wishes() {
+        print_sum(rt, name, &mut Taking::new(alloc, wish)?)?;
+    }
+    print_sum(rt, GIVING, &mut Giving::new(alloc)?)?;
+    print_sum(rt, REFILLING, &mut Refilling::new(alloc)?)?;
+    print_sum(rt, DRAINING, &mut Draining::new(alloc)?)
+}
