@@ -4,10 +4,12 @@ use Rattle.std.specs.Option.{IfSome}
 use Rattle.std.proofs.lemmas.Bool.{cases_lt, cases_eq, cases_Bool, false_from_ne_true}
 use Rattle.std.proofs.lemmas.List.{get_or_default, get_or_past}
 use Rattle.std.proofs.lemmas.Option.{slice_get_within}
-use Rattle.zp_model.specs.Rows.{Rows, list_at, stands_in, IsOn, IsLoose, IsRow, after}
+use Rattle.std.proofs.Math.ListN.{get_or-map}
+use Rattle.zp_model.specs.Rows.{Rows, list_at, stands_in, IsOn, IsLoose, IsRow, state_at, after}
 use Rattle.zp_table.specs.declared.entry.PageEntry.{PageEntry}
+use Rattle.zp_table.specs.Entries.{entry_at, blank}
 use Rattle.zp_links.specs.declared.ends.Ends.{Ends}
-use Rattle.zp_links.specs.Linked.{back_at, forward_at, At, spelled, ends_at, no_ends, IsLinked, MayStand}
+use Rattle.zp_links.specs.Linked.{back_at, forward_at, states_of, At, spelled, ends_at, no_ends, IsLinked, MayStand}
 use Rattle.zp_links.proofs.Places.{after_is, any_at, before_has, distinct, get_some, none_at, nowhere, stands_at}
 use Rattle.zp_links.proofs.Splice.{row_of}
 use Rattle.zp_links.proofs.Writes.{value, linked_in, pages_in}
@@ -105,3 +107,11 @@ front_read es i e l h = ap (λ (d : Ends). d.first) (sym (h ∙ get_or_default e
 
 pub front_within : (es : List Ends) (i r p : ℕ) → length es ≤ i → ((r : ℕ) → r < i → (ends_at es r).first ≡ Some p → ⊥) → (ends_at es r).first ≡ Some p → ⊥
 front_within es i r p l none e = elim (cases_lt r i) [ inl lt ↦ none r lt e | inr past ↦ let n = rw (get_or_past es r no_ends (omega arith)) at e in cc ]
+
+-- the entry of a page with these neighbours
+pub entry_is : (w : Rows) (t : List PageEntry) (es : List Ends) (p : ℕ) (b f : Option ℕ) → value t es ≡ w → p < length w.states → back_at t p ≡ b → forward_at t p ≡ f →
+    entry_at t p ≡ record { state = state_at w.states p; back = b; forward = f }
+entry_is w t es p b f v lt back forward =
+    let n = pages_in w t es v in
+    let state : state_at (states_of t) p ≡ (entry_at t p).state = get_or-map (λ (e : PageEntry). e.state) t p blank in
+    rw (← back, ← forward, ← v, state) refl

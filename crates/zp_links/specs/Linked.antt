@@ -2,7 +2,7 @@
 use Rattle.std.specs.Prelude.{ℕ, zero, suc, ◌≡◌, ◌<◌, ◌≤◌, List, [], ◌∷◌, length, map, slice_index_or, slice_get, Option, None, Some}
 use Rattle.zp_model.specs.declared.constants.TheConstants.{MAX_PAGES}
 use Rattle.zp_model.specs.declared.state.State.{State}
-use Rattle.zp_model.specs.Rows.{list_at}
+use Rattle.zp_model.specs.Rows.{Rows, list_at, state_at}
 use Rattle.zp_table.specs.declared.entry.PageEntry.{PageEntry}
 use Rattle.zp_table.specs.Entries.{entry_at, with_back_at, with_forward_at}
 use Rattle.zp_links.specs.declared.ends.Ends.{Ends}
@@ -53,6 +53,13 @@ StandsNowhere ls p = (r k : ℕ) → At ls r k p → ⊥
 abbrev pub before : List ℕ → ℕ → Option ℕ
 before xs zero = None
 before xs (suc k) = slice_get xs k
+
+-- the entry of page p, which stands at place k of list r, and that of a page that stands nowhere
+abbrev pub entry_in : Rows → ℕ → ℕ → ℕ → PageEntry
+entry_in w r k p = record { state = state_at w.states p; back = before (list_at w.lists r) k; forward = slice_get (list_at w.lists r) (suc k) }
+
+abbrev pub loose_entry : State → PageEntry
+loose_entry s = record { state = s; back = None; forward = None }
 
 -- the pages from o on, at most n of them, as the forward links name them
 abbrev pub walk : ℕ → List PageEntry → Option ℕ → List ℕ

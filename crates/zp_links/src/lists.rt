@@ -5,7 +5,8 @@ ghost use Rattle.std.specs.Prelude.{◌≡◌, ◌<◌, ◌≤◌, ℕ, true, fa
 ghost use Rattle.zp_model.specs.Rows.{Rows, list_at, state_at, IsOn, IsLoose, IsRow, with_list, with_state, without_page, front, rest, after};
 ghost use Rattle.zp_model.specs.declared.constants.TheConstants.{MAX_PAGES};
 ghost use Rattle.zp_table.specs.Entries.{IsUnlinked};
-ghost use Rattle.zp_links.specs.Linked.{states_of};
+ghost use Rattle.zp_table.specs.Packed.{packed};
+ghost use Rattle.zp_links.specs.Linked.{states_of, At, entry_in, loose_entry};
 ghost use Rattle.zp_links.specs.Moved.{StandAsBefore};
 
 use crate::ends::{Ends, is_front};
@@ -95,10 +96,11 @@ impl Lists {
         ensures loose { IsLoose self.new.lists at }
         ensures others { StandAsBefore at self.old.lists self.new.lists }
     {
-        let entry = self.table.entry(at);
+        let back = self.table.back(at);
+        let forward = self.table.forward(at);
         let ends = &mut self.ends[list];
-        set_back_or_last(&mut self.table, &mut ends.last, entry.forward, entry.back);
-        set_forward_or_first(&mut self.table, &mut ends.first, entry.back, entry.forward);
+        set_back_or_last(&mut self.table, &mut ends.last, forward, back);
+        set_forward_or_first(&mut self.table, &mut ends.first, back, forward);
         ends.len -= 1;
         let nowhere = Link::none();
         self.table.set_links(at, nowhere, nowhere);
@@ -140,8 +142,7 @@ impl Lists {
     {
         // the page's own link names it, whichever the list
         let _list = list;
-        let entry = self.table.entry(at);
-        entry.forward.page()
+        self.table.forward(at).page()
     }
 
     /// How many pages a list has.
@@ -166,7 +167,7 @@ impl Lists {
                     if page == at {
                         return true;
                     }
-                    next = self.table.entry(page).forward.page();
+                    next = self.table.forward(page).page();
                 }
             }
         }
@@ -182,8 +183,7 @@ impl Lists {
         if at.index() >= self.table.len() {
             return false;
         }
-        let entry = self.table.entry(at);
-        entry.back.page().is_some() || is_front(&self.ends, at)
+        self.table.back(at).page().is_some() || is_front(&self.ends, at)
     }
 
     /// What is noted of a page.
@@ -191,7 +191,7 @@ impl Lists {
         requires { at < length self.now.states }
         ensures { result ≡ state_at self.now.states at }
     {
-        self.table.entry(at).state
+        self.table.state(at)
     }
 
     /// Notes another state of a page.
@@ -209,7 +209,7 @@ impl Lists {
         ensures first { (r : ℕ) → slice_get (list_at self.now.lists r) 0 ≡ Some at → result ≡ None }
         ensures loose { IsLoose self.now.lists at → result ≡ None }
     {
-        self.table.entry(at).back.page()
+        self.table.back(at).page()
     }
 
     /// The page after a page in its list, as the page's link names it.
@@ -218,7 +218,16 @@ impl Lists {
         ensures next { (r : ℕ) → IsOn self.now.lists r at → result ≡ after at (list_at self.now.lists r) }
         ensures loose { IsLoose self.now.lists at → result ≡ None }
     {
-        self.table.entry(at).forward.page()
+        self.table.forward(at).page()
+    }
+
+    /// The word that the page's entry is packed in: what is noted of it, and its neighbours in its list.
+    pub fn word(&self, at: PageAt) -> u64
+        requires { at < length self.now.states }
+        ensures on { (r k : ℕ) → At self.now.lists r k at → result ≡ packed (entry_in self.now r k at) }
+        ensures loose { IsLoose self.now.lists at → result ≡ packed (loose_entry (state_at self.now.states at)) }
+    {
+        self.table.word(at)
     }
 
     /// How many pages there are.

@@ -309,13 +309,12 @@ taken_whole o u t n p z ys x en f ez eu =
     λ i. V (slice_set o.uses.uses (p - x.0 i) (Lent (ez i) t)) (slice_set o.cached (en i) ys) in
     (ap (λ v. v.base) eu ∙ x.0, subst (λ s. IsShare s) (sym (same ∙ named)) (taken_keeps (share_of o) p t ys x.1 f))
 
-pub put_whole : (o : Inside) (u : UsesState) (t : MigrateType) (j n p : ℕ) (d ys : List ℕ) → IsWhole o → n ≡ type_number t →
-    Lent j t ≡ use_of o.uses.base o.uses.uses p → j ≡ 0 → ys ≡ p ∷ get_or o.cached n d →
+pub put_whole : (o : Inside) (u : UsesState) (t : MigrateType) (n p : ℕ) (d ys : List ℕ) → IsWhole o → n ≡ type_number t →
+    use_in (share_of o) p ≡ Lent 0 t → ys ≡ p ∷ get_or o.cached n d →
     u ≡ record { base = o.uses.base; uses = slice_set o.uses.uses (p - o.uses.base) (Cached t) } →
     (u.base ≡ o.seat.part.base) × IsShare (record { seat = o.seat; uses = u.uses; cached = slice_set o.cached n ys; sections = o.sections })
-put_whole o u t j n p d ys x en lent ej ey eu =
+put_whole o u t n p d ys x en at ey eu =
     let lt : type_number t < length o.cached = number_in o.seat.part.base o.uses.uses o.cached t (listing (share_of o) x.1) in
-    let at : use_in (share_of o) p ≡ Lent 0 t = ap (λ b. use_of b o.uses.uses p) (sym x.0) ∙ sym lent ∙ ap (λ k. Lent k t) ej in
     let V : List PageUse → List (List ℕ) → ZoneShareState = λ us ls. record { seat = o.seat; uses = us; cached = ls; sections = o.sections } in
     let same : V u.uses (slice_set o.cached n ys) ≡ V (slice_set o.uses.uses (p - o.uses.base) (Cached t)) (slice_set o.cached n ys) = λ i. V (eu i).uses (slice_set o.cached n ys) in
     let named : V (slice_set o.uses.uses (p - o.uses.base) (Cached t)) (slice_set o.cached n ys) ≡ put_in p t (share_of o) =

@@ -1,51 +1,52 @@
 -- A block given back: to its zone, or to the front of its list.
-use Rattle.std.proofs.Common.{ℕ, arith, ◌<◌, ◌≡◌, refl, sym, ◌∙◌, ap, subst, List, length, Option, Some, Result, Ok, Err, true, false, cond}
+use Rattle.std.proofs.Common.{ℕ, inl, inr, ◌<◌, ◌≡◌, refl, sym, ◌∙◌, ap, subst, List, length, Option, Some, Result, Ok, true, false, cond}
+use Rattle.std.proofs.lemmas.Bool.{lt-ltb}
+use Rattle.std.proofs.lemmas.Bool.Decides.{eqb_tells}
 use Rattle.zp_model.specs.declared.migrate_type.MigrateType.{MigrateType}
 use Rattle.zp_model.specs.declared.refused.Refused.{Refused}
 use Rattle.zp_model.specs.declared.request.Request.TheVariants.{Free}
 use Rattle.zp_zone.specs.NamedZone.{NamedZone}
-use Rattle.zp_share.specs.declared.page_use.PageUse.{PageUse}
-use Rattle.zp_share.specs.declared.page_use.PageUse.TheVariants.{Away, Lent, Cached}
+use Rattle.zp_share.specs.declared.page_use.PageUse.TheVariants.{Away, Cached}
 use Rattle.zp_share.specs.PageUses.{is_lent_as}
-use Rattle.zp_share.specs.PlainShares.{PlainZoneShare, used_as, lends, lent_kind, put, putting, putting_as}
-use Rattle.zp_share.specs.ZoneShares.{plain_share, use_in, is_lent}
+use Rattle.zp_share.specs.PlainShares.{PlainZoneShare, PlainShare, Putting, used_as, list_of, lends, lent_kind, put, putting}
+use Rattle.zp_share.specs.ZoneShares.{plain_share, use_in, is_lent, cached_of}
 use Rattle.zp_share.specs.Commands.{World, Done, done, told_as, and_then, done_answer, section, is_listed, drain_full, put_page, free_listed, free_as, free_in}
-use Rattle.zp_share.specs.Shares.{ShareState, HasSameLent, IsDone, share_at, with_zone_share, plain, world}
-use Rattle.zp_share.proofs.OneUse.{in_by_use, use-set}
-use Rattle.zp_share.proofs.Carrying.{same_lent, own-plain, moved, then_ok}
+use Rattle.zp_share.specs.Shares.{ShareState, IsDone, share_at, with_zone_share, plain, world}
+use Rattle.zp_share.proofs.OneUse.{in_by_use, use-set, lent_use}
+use Rattle.zp_share.proofs.Carrying.{own-plain, moved, then_ok}
 
 -- a page that is put on its list is lent no more
 put_away : (x : PlainZoneShare) (p k : ℕ) (t : MigrateType) → (used_as x p ≡ Away → ⊥) → lends (put p t x) p k ≡ false
 put_away x p k t ne = ap (is_lent_as k) (use-set x.base p (Cached t) x.uses (in_by_use x.base p x.uses ne))
 
-put_use : (x : PlainZoneShare) (p k high : ℕ) (v : Unit {0}) (u : PageUse) → used_as x p ≡ u → Ok v ≡ (putting_as u p high x).answer → lends (putting_as u p high x).share p k ≡ false
-put_use x p k high v (Lent j t) f e = grind (arith, put_away x p k t)
-put_use x p k high v u f e = absurd (cc)
+pub put_gone : (s u : ShareState) (i p k : ℕ) (t : MigrateType) → lent_kind (use_in (share_at s i) p) 0 ≡ Some t →
+    plain_share (share_at u i) ≡ put p t (plain_share (share_at s i)) → is_lent (share_at u i) p k ≡ false
+put_gone s u i p k t e f = ap (λ x. lends x p k) f ∙ put_away (plain_share (share_at s i)) p k t (λ away. let none = rw away at e in cc)
 
-pub put_gone : (s u : ShareState) (i p k high : ℕ) (v : Unit {0}) → Ok v ≡ (putting (plain_share (share_at s i)) p high).answer →
-    plain_share (share_at u i) ≡ (putting (plain_share (share_at s i)) p high).share → is_lent (share_at u i) p k ≡ false
-put_gone s u i p k high v e f = ap (λ x. lends x p k) f ∙ put_use (plain_share (share_at s i)) p k high v (used_as (plain_share (share_at s i)) p) refl e
+-- a lent page of order 0 is put on its list, where that has room
+put_done : (x : PlainZoneShare) (p high : ℕ) (t : MigrateType) → lent_kind (used_as x p) 0 ≡ Some t → length (list_of x t) < high →
+    putting x p high ≡ record { answer = Ok tt; share = put p t x }
+put_done x p high t e lt = rw (lent_use (used_as x p) t e, lt-ltb (length (list_of x t)) high lt) refl
 
--- where a page is not put, the share stays
-put_nothing : (x : PlainZoneShare) (p high : ℕ) (e : Refused) (u : PageUse) → Err e ≡ (putting_as u p high x).answer → (putting_as u p high x).share ≡ x
-put_nothing x p high e u f = grind arith
+pub puts : (rows : List NamedZone) (s u : ShareState) (i p : ℕ) (t : MigrateType) (told : Option (List NamedZone)) → told ≡ Some rows →
+    lent_kind (use_in (share_at s i) p) 0 ≡ Some t → length (cached_of (share_at s i) t) < s.high_len → u ≡ with_zone_share i (share_at u i) s →
+    plain_share (share_at u i) ≡ put p t (plain_share (share_at s i)) → IsDone (put_page (world rows s) i p) (Ok tt) told u
+puts rows s u i p t told z e lt o g =
+    let is = put_done (plain_share (share_at s i)) p s.high_len t e lt in
+    record {
+      answer = sym (ap (λ x. (putting x p s.high_len).answer) (own-plain s i) ∙ ap (λ (d : Putting). d.answer) is);
+      zones = z;
+      share = moved s u i (λ x. (putting x p s.high_len).share) o (g ∙ sym (ap (λ (d : Putting). d.share) is));
+    }
 
-pub not_put_lent : (s u : ShareState) (i p high : ℕ) (e : Refused) → i < length s.zones → Err e ≡ (putting (plain_share (share_at s i)) p high).answer → u ≡ with_zone_share i (share_at u i) s →
-    plain_share (share_at u i) ≡ (putting (plain_share (share_at s i)) p high).share → HasSameLent s u
-not_put_lent s u i p high e lt f is after =
-    let x : PlainZoneShare = plain_share (share_at s i) in
-    let same : plain_share (share_at u i) ≡ x = after ∙ put_nothing x p high e (used_as x p) f in
-    subst (λ v. HasSameLent s v) (sym is) (same_lent s i (share_at u i) lt (λ q k. ap (λ y. lends y q k) same))
+-- pages alone are listed
+listed_zero : (s : PlainShare) (k : ℕ) → is_listed s k ≡ true → k ≡ 0
+listed_zero s k on = elim (eqb_tells k 0) [ inl w ↦ w.1 | inr w ↦ let none = rw w.0 at on in absurd cc ]
 
--- a page is put on its list
-pub puts : (rows : List NamedZone) (s u : ShareState) (i p : ℕ) (r : Result (Unit {0}) Refused) (told : Option (List NamedZone)) → told ≡ Some rows →
-    r ≡ (putting (plain_share (share_at s i)) p s.high_len).answer → u ≡ with_zone_share i (share_at u i) s →
-    plain_share (share_at u i) ≡ (putting (plain_share (share_at s i)) p s.high_len).share → IsDone (put_page (world rows s) i p) r told u
-puts rows s u i p r told z a e g = record {
-  answer = a ∙ ap (λ x. (putting x p s.high_len).answer) (sym (own-plain s i));
-  zones = z;
-  share = moved s u i (λ x. (putting x p s.high_len).share) e g;
-}
+-- a page that was lent is lent still, where a drain left the types of the lent blocks
+pub lent_still : (s m : ShareState) (i p k : ℕ) (t : MigrateType) → ((q j : ℕ) → lent_kind (use_in (share_at m i) q) j ≡ lent_kind (use_in (share_at s i) q) j) →
+    Some t ≡ lent_kind (use_in (share_at s i) p) k → is_listed (plain s) k ≡ true → lent_kind (use_in (share_at m i) p) 0 ≡ Some t
+lent_still s m i p k t kinds e on = kinds p 0 ∙ ap (λ j. lent_kind (use_in (share_at s i) p) j) (sym (listed_zero (plain s) k on)) ∙ sym e
 
 -- a page of a listed order goes to the list of its type
 pub free_on : (rows : List NamedZone) (s : ShareState) (i p k : ℕ) (t : MigrateType) → Some t ≡ lent_kind (use_in (share_at s i) p) k → is_listed (plain s) k ≡ true →
@@ -61,14 +62,14 @@ abbrev pub after_room : ℕ → ℕ → MigrateType → Unit {0} → World → D
 after_room i p t _ v = and_then (put_page v i p) (λ _ u. done (Ok tt) (drain_full u i t).world)
 
 -- the page is put, and what becomes of the second drain is passed over
-pub freed : (rows : List NamedZone) (s m n u : ShareState) (i p k : ℕ) (t : MigrateType) (a b : Unit {0}) (r : Result (Unit {0}) Refused) (mid last : Option (List NamedZone)) →
+pub freed : (rows : List NamedZone) (s m n u : ShareState) (i p k : ℕ) (t : MigrateType) (a : Unit {0}) (r : Result (Unit {0}) Refused) (mid last : Option (List NamedZone)) →
     Some t ≡ lent_kind (use_in (share_at s i) p) k → is_listed (plain s) k ≡ true → IsDone (drain_full (world rows s) i t) (Ok a) mid m →
-    Ok b ≡ (putting (plain_share (share_at m i)) p m.high_len).answer → n ≡ with_zone_share i (share_at n i) m →
-    plain_share (share_at n i) ≡ (putting (plain_share (share_at m i)) p m.high_len).share →
+    lent_kind (use_in (share_at m i) p) 0 ≡ Some t → length (cached_of (share_at m i) t) < m.high_len → n ≡ with_zone_share i (share_at n i) m →
+    plain_share (share_at n i) ≡ put p t (plain_share (share_at m i)) →
     ((rows : List NamedZone) → mid ≡ Some rows → IsDone (drain_full (world rows n) i t) r last u) → IsDone (free_in (world rows s) i p k) (Ok tt) last u
-freed rows s m n u i p k t a b r mid last e on x y f g z =
+freed rows s m n u i p k t a r mid last e on x lent lt f g z =
     subst (λ d. IsDone d (Ok tt) last u) (sym (free_on rows s i p k t e on))
     (then_ok (drain_full (world rows s) i t) (after_room i p t) a (Ok a) mid m (Ok tt) last u x refl
     (λ rows2 e2.
-    then_ok (put_page (world rows2 m) i p) (λ _ v. done (Ok tt) (drain_full v i t).world) b (Ok b) mid n (Ok tt) last u (puts rows2 m n i p (Ok b) mid e2 y f g) refl
+    then_ok (put_page (world rows2 m) i p) (λ _ v. done (Ok tt) (drain_full v i t).world) tt (Ok tt) mid n (Ok tt) last u (puts rows2 m n i p t mid e2 lent lt f g) refl
     (λ rows3 e3. let d = z rows3 e3 in record { answer = refl; zones = d.zones; share = d.share })))

@@ -1,16 +1,17 @@
 -- Pages that all get one use.
-use Rattle.std.proofs.Common.{ℕ, ◌-◌, ◌≡◌, ◌≤◌, ◌<◌, refl, sym, ◌∙◌, ap, subst, arith, true, List, [], ◌∷◌, ◌++◌, length, get_or, take, map, cond, ◌+◌, All}
+use Rattle.std.proofs.Common.{ℕ, inl, inr, Some, ◌-◌, ◌≡◌, ◌≤◌, ◌<◌, refl, sym, ◌∙◌, ap, subst, arith, true, List, [], ◌∷◌, ◌++◌, length, get_or, take, map, cond, ◌+◌, All}
 use Rattle.std.specs.Prelude.{slice_set}
-use Rattle.std.proofs.lemmas.Bool.Decides.{nat_tests}
+use Rattle.std.proofs.lemmas.Bool.Decides.{nat_tests, eqb_tells}
 use Rattle.std.proofs.lemmas.Grind.{common_steps}
 use Rattle.std.proofs.lemmas.List.{get_or_past, map-set, length-set, take_more}
 use Rattle.std.proofs.lemmas.List.Elements.{All-get_or}
 use Rattle.zp_model.specs.declared.migrate_type.MigrateType.{MigrateType}
 use Rattle.zp_model.specs.Rows.{stands_in}
+use Rattle.zp_share.specs.PlainShares.{lent_kind}
 use Rattle.zp_model.specs.Books.{with_pages, without_pages}
 use Rattle.zp_model.proofs.Settles.{stands_first, stands_later}
 use Rattle.zp_share.specs.declared.page_use.PageUse.{PageUse}
-use Rattle.zp_share.specs.declared.page_use.PageUse.TheVariants.{Away, Cached}
+use Rattle.zp_share.specs.declared.page_use.PageUse.TheVariants.{Away, Lent, Cached}
 use Rattle.zp_share.specs.PageUses.{UsesState, IsPlace, use_at, use_of, held, all_as}
 
 abbrev pub IsIn : ℕ → List PageUse → ℕ → Type 0
@@ -80,3 +81,9 @@ one_more_use o m n u i p ps lt at e f =
     f
     ∙ ap (λ (x : UsesState). let y : UsesState = record x { uses = slice_set x.uses (p - x.base) u } in y) e
     ∙ sym (ap (with_all o u) grown ∙ ap (λ us. let y : UsesState = record o { uses = us } in y) (all_as-push o.base p u (take i ps) o.uses))
+
+-- a page whose block of order 0 has a type is lent with it
+pub lent_use : (u : PageUse) (t : MigrateType) → lent_kind u 0 ≡ Some t → u ≡ Lent 0 t
+lent_use Away t e = absurd cc
+lent_use (Cached k) t e = absurd cc
+lent_use (Lent j k) t e = elim (eqb_tells j 0) [ inl w ↦ let same = rw w.0 at e in cc | inr w ↦ let none = rw w.0 at e in absurd cc ]

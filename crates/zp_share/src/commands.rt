@@ -7,7 +7,7 @@ ghost use Rattle.zp_model.specs.declared.refused.Refused.TheVariants.{NotLent, J
 ghost use Rattle.zp_model.specs.declared.constants.TheConstants.{LONGEST_LIST, TYPES, MAX_ZONES};
 ghost use Rattle.zp_zone.specs.NamedZone.{NamedZone};
 ghost use Rattle.zp_share.specs.PlainShares.{lent_kind};
-ghost use Rattle.zp_share.specs.ZoneShares.{IsAllocRefusal, use_in, is_lent, cached_of};
+ghost use Rattle.zp_share.specs.ZoneShares.{IsAllocRefusal, IsShare, use_in, is_lent, cached_of};
 ghost use Rattle.zp_share.specs.Commands.{alloc_in, alloc_down, free_in, drain_full, drain_list, drain_zone, drain_all};
 ghost use Rattle.zp_share.specs.Shares.{IsShareOf, IsSameShare, IsDone, IsAskedFor, IsLentBy, AreAskedDown, KeepsLent, HasSameLent, HasSameLentBut, HasEmptyLists, KeepsEmptyLists, KeepsOrEmptiesLists, share_at, world};
 
@@ -114,23 +114,29 @@ pub fn free<Z: Zones>(
     if !share.is_listed(order) {
         return zones.free_block(share, zone, page, order);
     }
-    drain_full(share, zones, zone, kind)?;
-    share.put_cached(zone, page)?;
+    let len = share.cached_len(zone, kind);
+    drain_full(share, zones, zone, kind, len)?;
+    let len = share.put_lent(zone, page, kind);
     // the page is given back whatever becomes of this drain
-    let _ = drain_full(share, zones, zone, kind);
+    let _ = drain_full(share, zones, zone, kind, len);
     Ok(())
 }
 
-/// Gives back a batch of a list that has `high_len` pages, so that it has room for a page. Refused 30.
+/// Gives back a batch of a list, which has so many pages, where they are `high_len`, so that it has room for a page. Refused 30.
+#[inline(always)]
 fn drain_full<Z: Zones>(
     share: &mut Share,
     zones: &mut Z,
     zone: usize,
     kind: MigrateType,
+    len: usize,
 ) -> Result<(), Refused>
     requires fits { IsShareOf (Z.keys zones.old) share.old }
     requires zone { zone < length share.old.zones }
     requires lists { 1 ≤ share.old.batch }
+    requires len { len ≡ length (cached_of (share_at share.old zone) kind) }
+    requires full { len ≤ share.old.high_len }
+    requires share { IsShare (share_at share.old zone) }
     ensures keys { Z.keys zones.new ≡ Z.keys zones.old }
     ensures fits { IsShareOf (Z.keys zones.new) share.new }
     ensures same { IsSameShare share.old share.new }
@@ -141,7 +147,7 @@ fn drain_full<Z: Zones>(
     ensures told { (rows : List NamedZone) → Z.told zones.old ≡ Some rows → IsDone (drain_full (world rows share.old) zone kind) result (Z.told zones.new) share.new }
 {
     let lists = share.lists();
-    if share.cached_len(zone, kind) < lists.high_len() {
+    if len < lists.high_len() {
         return Ok(());
     }
     zones.drain(share, zone, kind, usize::from(lists.batch()))

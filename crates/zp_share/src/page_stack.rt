@@ -78,6 +78,8 @@ impl PageStack {
         requires { count ≤ length self.old }
         ensures { self.new ≡ without_back count self.old }
     {
-        self.pages.drain(..count);
+        let left = self.pages.len() - count;
+        self.pages.as_mut_slice().copy_within(count.., 0);
+        self.pages.truncate(left);
     }
 }

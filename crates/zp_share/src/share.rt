@@ -1,5 +1,5 @@
 //! A worker's share of a row of zones.
-ghost use Rattle.std.specs.Prelude.{◌≡◌, ◌<◌, ◌≤◌, ◌==◌, map, length, All, IfOk, IfErr, IfSome, IsSome, IsTrue, ◌↔◌, slice_index_or};
+ghost use Rattle.std.specs.Prelude.{◌≡◌, ◌<◌, ◌≤◌, ◌==◌, map, length, All, IfOk, IfErr, IfSome, IsSome, IsTrue, Some, ◌↔◌, slice_index_or};
 ghost use Rattle.zp_model.specs.Zone.{workers_of};
 ghost use Rattle.zp_model.specs.Rows.{front};
 ghost use Rattle.zp_model.specs.declared.refused.Refused.TheVariants.{Memory};
@@ -7,7 +7,7 @@ ghost use Rattle.zp_model.specs.declared.constants.TheConstants.{LONGEST_LIST};
 ghost use Rattle.zp_zone.specs.Seats.{SeatState, IsSeatOf, IsUnused};
 ghost use Rattle.zp_model.specs.Bounds.{AreLists};
 ghost use Rattle.std.specs.Option.{option_copied};
-ghost use Rattle.zp_share.specs.PlainShares.{back, lends_for, lent_kind, putting, refused_full, taken};
+ghost use Rattle.zp_share.specs.PlainShares.{back, lends_for, lent_kind, put, putting, refused_full, taken};
 ghost use Rattle.zp_share.specs.Sections.{IsBack};
 ghost use Rattle.zp_share.specs.ZoneShares.{ZoneShareState, IsShare, SharesIn, use_in, is_lent, cached_of, opening_share, plain_share};
 ghost use Rattle.zp_share.specs.Commands.{is_listed};
@@ -227,5 +227,21 @@ impl Share {
     {
         let high_len = self.lists.high_len();
         self.zones[zone].put_cached(page, high_len)
+    }
+
+    /// Puts a lent page of this type at the front of its list: how many pages the list then has.
+    pub(crate) fn put_lent(&mut self, zone: usize, page: PageNo, kind: MigrateType) -> usize
+        requires zone { zone < length self.old.zones }
+        requires lent { lent_kind (use_in (share_at self.old zone) page) 0 ≡ Some kind }
+        requires free { length (cached_of (share_at self.old zone) kind) < self.old.high_len }
+        ensures len { result ≡ length (cached_of (share_at self.new zone) kind) }
+        ensures room { result ≤ self.new.high_len }
+        ensures share { IsShare (share_at self.new zone) }
+        ensures after { plain_share (share_at self.new zone) ≡ put page kind (plain_share (share_at self.old zone)) }
+        ensures seat { (share_at self.new zone).seat ≡ (share_at self.old zone).seat }
+        ensures others { self.new ≡ with_zone_share zone (share_at self.new zone) self.old }
+    {
+        self.zones[zone].put_lent(page, kind);
+        self.cached_len(zone, kind)
     }
 }

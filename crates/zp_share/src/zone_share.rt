@@ -1,12 +1,13 @@
 //! What one worker has of one zone.
-ghost use Rattle.std.specs.Prelude.{ℕ, ◌≡◌, ◌<◌, ◌≤◌, ◌↔◌, length, IfOk, IfErr, IfSome, IsSome, IsTrue};
+ghost use Rattle.std.specs.Prelude.{ℕ, ◌≡◌, ◌<◌, ◌≤◌, ◌↔◌, length, IfOk, IfErr, IfSome, IsSome, IsTrue, Some};
 ghost use Rattle.zp_model.specs.Zone.{workers_of};
+ghost use Rattle.zp_model.specs.declared.constants.TheConstants.{LONGEST_LIST};
 ghost use Rattle.zp_model.specs.declared.refused.Refused.TheVariants.{Memory};
 ghost use Rattle.zp_model.specs.Rows.{front};
 ghost use Rattle.zp_zone.specs.Seats.{IsSeatOf, IsUnused};
 ghost use Rattle.zp_share.specs.Gathering.{cached_pages};
 ghost use Rattle.std.specs.Option.{option_copied};
-ghost use Rattle.zp_share.specs.PlainShares.{back, lent_kind, taken, putting};
+ghost use Rattle.zp_share.specs.PlainShares.{back, lent_kind, taken, put, putting};
 ghost use Rattle.zp_share.specs.Sections.{IsBack};
 ghost use Rattle.zp_share.specs.ZoneShares.{HasAtMost, use_in, is_lent, cached_of, IsShare, SharesIn, IsLeft, plain_share, opening_share};
 
@@ -175,8 +176,19 @@ impl ZoneShare {
         if self.cached_len(kind) >= high_len {
             return Err(Refused::ListFull);
         }
-        self.cached[kind.number()].push_front(page);
-        self.uses.set(page, PageUse::Cached(kind));
+        self.put_lent(page, kind);
         Ok(())
+    }
+
+    /// Puts a lent page of this type at the front of its list.
+    pub(crate) fn put_lent(&mut self, page: PageNo, kind: MigrateType)
+        requires lent { lent_kind (use_in self.old page) 0 ≡ Some kind }
+        requires room { length (cached_of self.old kind) < LONGEST_LIST }
+        ensures after { plain_share self.new ≡ put page kind (plain_share self.old) }
+        ensures seat { self.new.seat ≡ self.old.seat }
+        ensures lists { (n : ℕ) → length (cached_of self.old kind) < n → HasAtMost n self.old → HasAtMost n self.new }
+    {
+        self.uses.set(page, PageUse::Cached(kind));
+        self.cached[kind.number()].push_front(page);
     }
 }

@@ -1,2 +1,4 @@
-pub mod Entries
 pub mod Links
+pub mod Fields
+pub mod Packed
+pub mod Entries

@@ -4,10 +4,16 @@
 #![tactic(auto)]
 
 mod entry;
+mod field;
+mod layout;
 mod link;
+mod packed_entry;
+mod packed_state;
+mod packing_law;
 mod table;
 
 pub use entry::PageEntry;
 pub use link::Link;
+pub use packing_law::unpacking_undoes_packing;
 pub use table::PageTable;
 pub use zp_model::State;

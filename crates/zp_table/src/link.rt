@@ -1,5 +1,7 @@
 //! A link to a page, or to none, in four bytes.
-ghost use Rattle.std.specs.Prelude.{◌≡◌, Option, None, Some, ℕ};
+ghost use Rattle.std.specs.Prelude.{◌≡◌, ◌<◌, ◌≤◌, Option, None, Some, IfSome, ℕ};
+ghost use Rattle.zp_model.specs.declared.constants.TheConstants.{MAX_PAGES};
+ghost use Rattle.zp_table.specs.Links.{page_of, number_of};
 
 use std::marker::Model;
 use zp_model::{MAX_PAGES, PageAt};
@@ -52,5 +54,21 @@ impl Link {
         } else {
             None
         }
+    }
+
+    /// The page's number, or `MAX_PAGES`.
+    pub(crate) fn number(self) -> u32
+        ensures same { result ≡ number_of self }
+        ensures fits { IfSome self (λ page. page < MAX_PAGES) }
+    {
+        self.number
+    }
+
+    /// The link of this number.
+    pub(crate) fn numbered(number: u32) -> Link
+        requires { number ≤ MAX_PAGES }
+        ensures { result ≡ page_of number }
+    {
+        Link { number }
     }
 }

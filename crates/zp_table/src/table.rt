@@ -4,9 +4,11 @@
 ghost use Rattle.std.specs.Prelude.{◌≡◌, ◌<◌, ◌≤◌, length, replicate, IfOk};
 ghost use Rattle.zp_model.specs.declared.constants.TheConstants.{MAX_PAGES};
 ghost use Rattle.zp_table.specs.Entries.{blank, entry_at, IsUnlinked, with_state_at, with_links_at, with_back_at, with_forward_at};
+ghost use Rattle.zp_table.specs.Packed.{packed};
 
 use crate::entry::PageEntry;
 use crate::link::Link;
+use crate::packed_entry::PackedEntry;
 use std::alloc::{AllocError, Global};
 use std::marker::Model;
 use zp_model::{PageAt, State};
@@ -14,7 +16,7 @@ use zp_model::{PageAt, State};
 /// An entry for each page.
 #[derive(Drop)]
 pub struct PageTable {
-    entries: Vec<PageEntry>,
+    entries: Vec<PackedEntry>,
 }
 
 impl Model for PageTable {
@@ -36,11 +38,11 @@ impl PageTable {
         ensures table { IfOk result (λ t. t ≡ replicate pages blank) }
         ensures unlinked { IfOk result IsUnlinked }
     {
-        let blank = PageEntry {
+        let blank = PackedEntry::new(PageEntry {
             state: State::Tail,
             back: Link::none(),
             forward: Link::none(),
-        };
+        });
         let entries = Vec::from_elem(alloc, blank, pages as usize)?;
         Ok(PageTable { entries })
     }
@@ -58,36 +60,66 @@ impl PageTable {
         ensures { result ≡ entry_at self.now at }
     {
         let place = at.index();
-        self.entries[place]
+        self.entries[place].entry()
+    }
+
+    /// What is noted of a page. Nothing else of its entry is unpacked.
+    pub fn state(&self, at: PageAt) -> State
+        requires { at < length self.now }
+        ensures { result ≡ (entry_at self.now at).state }
+    {
+        self.entries[at.index()].state()
+    }
+
+    /// The page before a page in its list.
+    pub fn back(&self, at: PageAt) -> Link
+        requires { at < length self.now }
+        ensures { result ≡ (entry_at self.now at).back }
+    {
+        self.entries[at.index()].back()
+    }
+
+    /// The page after a page in its list.
+    pub fn forward(&self, at: PageAt) -> Link
+        requires { at < length self.now }
+        ensures { result ≡ (entry_at self.now at).forward }
+    {
+        self.entries[at.index()].forward()
+    }
+
+    /// The word that the entry of a page is packed in.
+    pub fn word(&self, at: PageAt) -> u64
+        requires { at < length self.now }
+        ensures { result ≡ packed (entry_at self.now at) }
+    {
+        self.entries[at.index()].word()
     }
 
     pub fn set_state(&mut self, at: PageAt, state: State)
         requires { at < length self.old }
         ensures { self.new ≡ with_state_at self.old at state }
     {
-        self.entries[at.index()].state = state;
+        self.entries[at.index()].set_state(state);
     }
 
     pub fn set_links(&mut self, at: PageAt, back: Link, forward: Link)
         requires { at < length self.old }
         ensures { self.new ≡ with_links_at self.old at back forward }
     {
-        let entry = &mut self.entries[at.index()];
-        entry.back = back;
-        entry.forward = forward;
+        self.entries[at.index()].set_links(back, forward);
     }
 
     pub fn set_back(&mut self, at: PageAt, back: Link)
         requires { at < length self.old }
         ensures { self.new ≡ with_back_at self.old at back }
     {
-        self.entries[at.index()].back = back;
+        self.entries[at.index()].set_back(back);
     }
 
     pub fn set_forward(&mut self, at: PageAt, forward: Link)
         requires { at < length self.old }
         ensures { self.new ≡ with_forward_at self.old at forward }
     {
-        self.entries[at.index()].forward = forward;
+        self.entries[at.index()].set_forward(forward);
     }
 }

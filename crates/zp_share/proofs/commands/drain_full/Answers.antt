@@ -4,12 +4,12 @@ use Rattle.zp_share.proofs.commands.drain_full.Goals as goal
 
 pub returns-clause-lent : goal.returns-clause-lent
 returns-clause-lent g c =
-    same_lent_drained c.args.share.now c.drain.new.share c.args.zone c.from.result c.args.kind c.drain.result c.requires.zone c.cached_len.ensures.share
+    same_lent_drained c.args.share.now c.drain.new.share c.args.zone c.from.result c.args.kind c.drain.result c.requires.zone c.requires.share
     (search rules)
     c.drain.ensures.share
 
 pub returns-clause-kinds : goal.returns-clause-kinds
 returns-clause-kinds g c =
-    same_kind_drained c.args.share.now c.drain.new.share c.args.zone c.from.result c.args.kind c.drain.result c.requires.zone c.cached_len.ensures.share
+    same_kind_drained c.args.share.now c.drain.new.share c.args.zone c.from.result c.args.kind c.drain.result c.requires.zone c.requires.share
     (search rules)
     c.drain.ensures.share

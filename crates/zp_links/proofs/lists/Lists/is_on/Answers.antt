@@ -1,7 +1,6 @@
 use Rattle.std.proofs.Common.{◌≡◌, ℕ, add-one, below_more, Some, sym, ◌∙◌, ap, refl, arith}
 use Rattle.std.proofs.lemmas.Bool.{eqb-false, eqb-true}
 use Rattle.std.proofs.lemmas.Option.{slice_get_within}
-use Rattle.zp_table.specs.declared.entry.PageEntry.{PageEntry}
 use Rattle.zp_model.specs.Rows.{list_at}
 use Rattle.zp_links.specs.Linked.{At}
 use Rattle.zp_links.proofs.Places.{any_at, stands_at}
@@ -12,7 +11,7 @@ pub loop-place-preserved : goal.loop-place-preserved
 loop-place-preserved c =
     let w = c.args.self.now in
     let at : At w.lists c.args.list c.loop-place._place c.in-Some.page = sym c.loop-place.invariant.0 ∙ c.in-Some.is in (
-      c.page-next-in-Some.ensures ∙ ap (λ (e : PageEntry). e.forward) c.entry.ensures ∙ rw add-one ((linked_in _ _ _ c.self.view_is c.self.invariant).after c.args.list c.loop-place._place c.in-Some.page at),
+      c.page-next-in-Some.ensures ∙ c.forward.ensures ∙ rw add-one ((linked_in _ _ _ c.self.view_is c.self.invariant).after c.args.list c.loop-place._place c.in-Some.page at),
       below_more _ _ c.loop-place.invariant.1 (λ e. eqb-false c.in-Some.page c.args.at (sym c.eq.ensures ∙ c.if-eq.false) cc),
     )
 

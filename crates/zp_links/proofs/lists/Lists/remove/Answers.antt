@@ -6,15 +6,18 @@ use Rattle.zp_links.proofs.Moving.{taken_off}
 use Rattle.zp_links.proofs.lists.Lists.remove.Goals.{After-set_links}
 use Rattle.zp_links.proofs.lists.Lists.remove.Goals as goal
 
-pub entry-entry-requires : goal.entry-entry-requires
-entry-entry-requires c = within _ _ _ (linked_in _ _ _ c.self.view_is c.self.invariant) c.args.list c.args.at c.requires
+pub back-back-requires : goal.back-back-requires
+back-back-requires c = within _ _ _ (linked_in _ _ _ c.self.view_is c.self.invariant) c.args.list c.args.at c.requires
+
+pub forward-forward-requires : goal.forward-forward-requires
+forward-forward-requires c = within _ _ _ (linked_in _ _ _ c.self.view_is c.self.invariant) c.args.list c.args.at c.requires
 
 pub set_back_or_last-requires : goal.set_back_or_last-requires
-set_back_or_last-requires c = rw c.entry-entry.ensures (next_stands _ _ _ (linked_in _ _ _ c.self.view_is c.self.invariant) c.args.list c.args.at c.requires)
+set_back_or_last-requires c = rw (c.forward-forward.ensures) (next_stands _ _ _ (linked_in _ _ _ c.self.view_is c.self.invariant) c.args.list c.args.at c.requires)
 
 pub set_forward_or_first-requires : goal.set_forward_or_first-requires
 set_forward_or_first-requires c =
-    rw (c.set_back_or_last.ensures.table, length-back, c.entry-entry.ensures) (previous_stands _ _ _ (linked_in _ _ _ c.self.view_is c.self.invariant) c.args.list c.args.at c.requires)
+    rw (c.set_back_or_last.ensures.table, length-back, c.back-back.ensures) (previous_stands _ _ _ (linked_in _ _ _ c.self.view_is c.self.invariant) c.args.list c.args.at c.requires)
 
 pub set_links-requires : goal.set_links-requires
 set_links-requires c =
@@ -24,8 +27,8 @@ wrote : (c : After-set_links) → Spell c.set_links.new.self (set c.self.inside.
     (with_list c.args.self.now c.args.list (without_page c.args.at (list_at c.args.self.now.lists c.args.list)))
 wrote c =
     removed_from c.args.self.now c.args.list c.args.at c.self.inside.table _ c.self.inside.ends.items c.index_mut-ends.result.now _ c.self.view_is c.self.invariant c.requires c.index_mut-ends.ensures.value
-    (rw (c.set_links.ensures, c.set_forward_or_first.ensures.table, c.set_back_or_last.ensures.table, c.none-nowhere.ensures, c.entry-entry.ensures) refl)
-    (rw c.entry-entry.ensures at c.set_forward_or_first.ensures.first) (rw c.entry-entry.ensures at c.set_back_or_last.ensures.last) refl
+    (rw (c.set_links.ensures, c.set_forward_or_first.ensures.table, c.set_back_or_last.ensures.table, c.none-nowhere.ensures, c.back-back.ensures, c.forward-forward.ensures) refl)
+    (rw (c.back-back.ensures, c.forward-forward.ensures) at c.set_forward_or_first.ensures.first) (rw (c.back-back.ensures, c.forward-forward.ensures) at c.set_back_or_last.ensures.last) refl
 
 pub invariant_of-self : goal.invariant_of-self
 invariant_of-self c = (wrote (goal.at.invariant_of-self c).After-set_links).0
