@@ -13,7 +13,7 @@ use Rattle.zp_model.specs.Rows.{Rows}
 use Rattle.zp_model.specs.Area.{pageblock_pages, lists_count, pageblocks_of, size_in}
 use Rattle.zp_table.specs.declared.entry.PageEntry.{PageEntry}
 use Rattle.zp_table.specs.Entries.{blank}
-use Rattle.zp_tree.proofs.Opening.{no_start}
+use Rattle.zp_tree.proofs.BlockSets.{no_start}
 use Rattle.zp_links.specs.Linked.{states_of}
 use Rattle.zp_area.specs.NotedBlocks.{blocks_of}
 use Rattle.zp_laws.proofs.Counting.{count-none}

@@ -9,8 +9,7 @@ use Rattle.zp_model.specs.Block.{IsBlock, head}
 use Rattle.zp_model.specs.BlockSet.{Starts, some_below, is_order, is_covered}
 use Rattle.zp_model.proofs.Heads.{head_le, lt_head}
 use Rattle.zp_tree.specs.Blocks.{IsBlockSet, IsApart, IsBeside, with_block, without_block}
-use Rattle.zp_tree.proofs.Opening.{no_start}
-use Rattle.zp_tree.proofs.BlockSets.{same_page}
+use Rattle.zp_tree.proofs.BlockSets.{no_start, same_page}
 
 -- the block of order k around page i is in the set
 abbrev is_around : List (Option ℕ) → ℕ → ℕ → Bool
@@ -23,14 +22,14 @@ covered-decides s i = Decides-below_or (is_around s i) (λ k. Starts s (head i k
     order_decides k None = (λ e. absurd (false≢true e), λ e. absurd cc)
     order_decides k (Some j) = (λ e. ap (λ n. Some n) (eqb-true j k e), λ e. eq-eqb j k cc)
 
-uncovered-to : (s : List (Option ℕ)) (i k : ℕ) → is_covered s i ≡ false → k < length s → Starts s (head i k) k → ⊥
+pub uncovered-to : (s : List (Option ℕ)) (i k : ℕ) → is_covered s i ≡ false → k < length s → Starts s (head i k) k → ⊥
 uncovered-to s i k e lt st = false≢true (sym e ∙ (covered-decides s i).1 (k, lt, st))
 
 pub uncovered-from : (s : List (Option ℕ)) (i : ℕ) → ((k : ℕ) → k < length s → Starts s (head i k) k → ⊥) → is_covered s i ≡ false
 uncovered-from s i none = false_from_ne_true _ (λ e. let w = (covered-decides s i).0 e in none w.0 w.1 w.2)
 
 -- a block of the set after a block was set is that block, or was there
-set-starts : (s : List (Option ℕ)) (p k g j : ℕ) → p < length s → Starts (with_block s p k) g j → ((g ≡ p) × (j ≡ k)) ⊎ Starts s g j
+pub set-starts : (s : List (Option ℕ)) (p k g j : ℕ) → p < length s → Starts (with_block s p k) g j → ((g ≡ p) × (j ≡ k)) ⊎ Starts s g j
 set-starts s p k g j lt st = elim (cases_eq g p) [
   | inl e ↦ let d = rw (e, get_or-set_same s p (Some k) None lt) at st in inl (e, cc)
   | inr ne ↦ inr (sym (get_or-set_other s p g (Some k) None ne) ∙ st)

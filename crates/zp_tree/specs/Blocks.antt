@@ -24,10 +24,7 @@ with_block s h k = slice_set s h (Some k)
 abbrev pub without_block : List (Option ℕ) → ℕ → List (Option ℕ)
 without_block s h = slice_set s h None
 
--- the set with the halves of the block of order k + 1 at h in its place, and with that block in the place of its halves
-abbrev pub with_halves : List (Option ℕ) → ℕ → ℕ → List (Option ℕ)
-with_halves s h k = with_block (with_block s h k) (h + 2 ^ k) k
-
+-- the set with that block in the place of its halves
 abbrev pub with_double : List (Option ℕ) → ℕ → ℕ → List (Option ℕ)
 with_double s h k = with_block (without_block s (h + 2 ^ k)) h (k + 1)
 

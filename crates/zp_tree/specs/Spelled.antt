@@ -1,27 +1,34 @@
--- The block set that a status tree stands for (this profile): its full nodes spell it.
-use Rattle.std.specs.Prelude.{ℕ, ◌+◌, ◌^◌, ◌/◌, ◌%◌, ◌≡◌, ◌≤◌, ◌==◌, ◌&&◌, ◌↔◌, List, length, map, Bool, Option}
+-- The block set that a status tree stands for (this profile): its bits spell it.
+use Rattle.std.specs.Prelude.{ℕ, ◌+◌, ◌*◌, ◌/◌, ◌^◌, ◌%◌, ◌≡◌, ◌≤◌, ◌<◌, ◌==◌, ◌&&◌, ◌↔◌, List, length, map, Bool, Option, slice_index}
 use Rattle.std.specs.List.{range_with_len, find}
-use Rattle.zp_model.specs.Block.{IsBlock}
 use Rattle.zp_model.specs.BlockSet.{Starts}
 use Rattle.zp_model.specs.declared.constants.TheConstants.{MAX_PAGES}
-use Rattle.zp_tree.specs.declared.constants.TheConstants.{LARGEST_HEIGHT}
-use Rattle.zp_tree.specs.Layout.{rank_at}
-use Rattle.zp_tree.specs.Sound.{IsFull, IsSound}
+use Rattle.zp_tree.specs.declared.constants.TheConstants.{GROUP_ORDER, GROUP_PAGES, MOST_GROUPS}
+use Rattle.zp_tree.specs.Blocks.{IsBlockSet}
+use Rattle.zp_tree.specs.Marks.{mark, IsWords, IsInGroups}
 
--- whether a full node of level o begins at page i
-abbrev pub begins_full : ℕ → List ℕ → ℕ → ℕ → Bool
-begins_full h ns i o = (i % 2 ^ o == 0) && (rank_at h ns o (i / 2 ^ o) == o + 1)
+-- whether a block of order k starts at page i
+abbrev pub begins : List ℕ → List ℕ → ℕ → ℕ → Bool
+begins ls hs i k = (i % 2 ^ k == 0) && (mark ls hs i k == 1)
 
--- for each page the level of the full node that begins there, the least first
-unfoldable pub spelled : ℕ → ℕ → List ℕ → List (Option ℕ)
-spelled h pages ns = map (λ i. find (begins_full h ns i) (range_with_len 0 (h + 1))) (range_with_len 0 pages)
+-- for each page the order of the block that begins there
+unfoldable pub spelled : ℕ → List ℕ → List ℕ → List (Option ℕ)
+spelled pages ls hs = map (λ i. find (begins ls hs i) (range_with_len 0 (GROUP_ORDER + 1))) (range_with_len 0 pages)
 
--- the nodes are the tree of the block set, where no block has an order above m
-pub record IsTreeOf (m h pages : ℕ) (ns : List ℕ) (s : List (Option ℕ)) : Type 0 where
-  pub height : h ≤ LARGEST_HEIGHT
+-- r is the rank of the blocks of the set in group g: 0 for none, else one more than their largest order
+pub record IsRankIn (s : List (Option ℕ)) (g r : ℕ) : Type 0 where
+  pub most : (i k : ℕ) → i / GROUP_PAGES ≡ g → Starts s i k → k < r
+  pub some : (k : ℕ) → r ≡ k + 1 → (i : ℕ) × (i / GROUP_PAGES ≡ g) × Starts s i k
+
+-- the words and the groups' ranks are those of the block set, where no block has an order above m
+pub record IsTreeOf (m pages : ℕ) (ls hs rs : List ℕ) (s : List (Option ℕ)) : Type 0 where
+  pub orders : m ≤ GROUP_ORDER
   pub bounds : pages ≤ MAX_PAGES
-  pub room : pages ≤ 2 ^ h
+  pub groups : length hs ≤ MOST_GROUPS
+  pub room : pages ≤ GROUP_PAGES * length hs
   pub pages_of : length s ≡ pages
-  pub sound : IsSound h ns
-  pub inside : (i o : ℕ) → Starts s i o → IsBlock m pages i o
-  pub blocks : (i o : ℕ) → IsFull h ns i o ↔ Starts s i o
+  pub set : IsBlockSet m s
+  pub words : IsWords ls hs
+  pub marked : (i k : ℕ) → IsInGroups hs i k → (mark ls hs i k ≡ 1) ↔ Starts s i k
+  pub rows : length hs ≤ length rs
+  pub ranked : (g : ℕ) → IsRankIn s g (slice_index rs g)

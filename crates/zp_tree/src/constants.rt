@@ -1,11 +1,35 @@
 //! The bounds of a status tree.
 
-use zp_model::MAX_PAGES;
+use zp_model::{LARGEST_ORDER, MAX_PAGES};
 
-/// The height of the tree over the largest zone.
-pub const LARGEST_HEIGHT: u8 = 16;
+/// The levels of a word below its root: it stands for 2 to this many places.
+pub const WORD_LEVELS: u8 = 5;
 
-const _: () = prove!(1 << LARGEST_HEIGHT == MAX_PAGES);
+/// How many places a word stands for.
+pub const PLACES: u32 = 1 << WORD_LEVELS;
 
-/// The most nodes that are read to find the lowest block: one on each level.
-pub const MOST_READS: u64 = LARGEST_HEIGHT as u64 + 1;
+/// The order of a group, the pages of which one high word knows: those of 32 low words.
+pub const GROUP_ORDER: u8 = 2 * WORD_LEVELS;
+
+/// How many pages a group has.
+pub const GROUP_PAGES: u32 = 1 << GROUP_ORDER;
+
+// each block lies in one group
+const _: () = prove!(LARGEST_ORDER <= GROUP_ORDER);
+
+/// How many nodes of the tree of ranks stand below one. They lie side by side, and are read as one word.
+pub const FAN: usize = 8;
+
+/// The most rows of the tree of ranks below its root.
+pub const MOST_ROWS: u8 = 2;
+
+/// The most groups of a zone.
+pub const MOST_GROUPS: usize = 64;
+
+const _: () = prove!(MOST_GROUPS as u32 * GROUP_PAGES == MAX_PAGES);
+
+const _: () = prove!(FAN * FAN == MOST_GROUPS);
+
+/// The most words that are read to find the lowest block: one of each row of ranks, and of one group the high word and 31 low ones, or
+/// all 32 low ones.
+pub const MOST_READS: u64 = MOST_ROWS as u64 + PLACES as u64;

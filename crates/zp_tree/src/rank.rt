@@ -42,6 +42,14 @@ impl Rank {
         }
     }
 
+    /// The rank of a block of the order of this number.
+    pub const fn of_number(order: u8) -> Rank
+        requires { order ≤ LARGEST_ORDER }
+        ensures { result ≡ order + 1 }
+    {
+        Rank { number: order + 1 }
+    }
+
     pub const fn number(self) -> u8
         ensures same { result ≡ self }
         ensures within { result ≤ LARGEST_ORDER + 1 }

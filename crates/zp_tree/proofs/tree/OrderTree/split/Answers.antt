@@ -1,22 +1,27 @@
+use Rattle.std.proofs.Common.{ℕ, arith, sym, subst, List}
+use Rattle.std.specs.Vec.{with_items}
 use Rattle.zp_model.specs.declared.constants.TheConstants.{LARGEST_ORDER}
-use Rattle.zp_tree.proofs.SplitDown.{split_in, tree_of_nodes, starts_of_nodes}
-use Rattle.zp_tree.proofs.Spelling.{tree_in, tree_kept, spelled_is, spelled_tree}
+use Rattle.zp_tree.specs.Blocks.{split_set}
+use Rattle.zp_tree.specs.Marks.{IsInGroups, IsSplitUp}
+use Rattle.zp_tree.specs.Spelled.{IsTreeOf}
+use Rattle.zp_tree.proofs.Spelling.{tree_in, spelled_is, spelled_tree, block_in_groups}
+use Rattle.zp_tree.proofs.TreeSteps.{split_tree, tree_kept}
+use Rattle.zp_tree.proofs.tree.OrderTree.split.Goals.{After-lower_rank}
 use Rattle.zp_tree.proofs.tree.OrderTree.split.Goals as goal
 
-pub split_nodes-requires-clause-tree : goal.split_nodes-requires-clause-tree
-split_nodes-requires-clause-tree c = tree_of_nodes _ _ _ _ _ c.deref_mut-nodes.ensures.value c.self.invariant
+pub split_marks-requires-clause-inside : goal.split_marks-requires-clause-inside
+split_marks-requires-clause-inside c =
+    let P : List ℕ → Type 0 = λ hs. IsInGroups hs c.args.at c.args.from in
+    subst P (sym c.deref_mut-high.ensures.value) (block_in_groups _ _ _ _ _ _ _ _ (tree_in LARGEST_ORDER _ _ _ _ _ c.self.view_is c.self.invariant) c.requires.block)
 
-pub split_nodes-requires-clause-block : goal.split_nodes-requires-clause-block
-split_nodes-requires-clause-block c = starts_of_nodes _ _ _ _ _ _ _ c.deref_mut-nodes.ensures.value c.self.view_is c.requires.block
+after : (c : After-lower_rank) → IsTreeOf LARGEST_ORDER c.self.inside.pages (with_items c.self.inside.low c.split_marks.new.low).items (with_items c.self.inside.high c.split_marks.new.high).items c.lower_rank.new.ranks (split_set c.args.self.now c.args.at c.args.from c.args.to)
+after c =
+    let t = tree_in LARGEST_ORDER _ _ _ _ _ c.self.view_is c.self.invariant in
+    let r : IsSplitUp c.self.inside.low.items c.self.inside.high.items c.split_marks.new.low c.split_marks.new.high c.args.at c.args.from c.args.to = rw (c.deref_mut-low.ensures.value, c.deref_mut-high.ensures.value) at c.split_marks.ensures in
+    tree_kept _ _ c.self.inside.low c.self.inside.high _ _ _ _ _ _ t r.size (split_tree _ _ _ _ _ _ _ _ _ _ _ _ t c.requires.block (omega (arith, c.requires.down)) r c.lower_rank.ensures)
 
 pub invariant_of-self : goal.invariant_of-self
-invariant_of-self c =
-    let t = tree_in LARGEST_ORDER _ _ _ _ c.self.view_is c.self.invariant in
-    let n = split_in LARGEST_ORDER _ _ _ _ _ _ c.args.at c.args.from c.args.to c.deref_mut-nodes.ensures.value c.self.view_is c.split_nodes.ensures.tree in
-    spelled_tree _ _ _ _ _ (tree_kept _ _ _ c.self.inside.nodes _ _ _ t n)
+invariant_of-self c = spelled_tree _ _ _ _ _ _ (after (goal.at.invariant_of-self c).After-lower_rank)
 
 pub returns : goal.returns
-returns c =
-    let t = tree_in LARGEST_ORDER _ _ _ _ c.self.view_is c.self.invariant in
-    let n = split_in LARGEST_ORDER _ _ _ _ _ _ c.args.at c.args.from c.args.to c.deref_mut-nodes.ensures.value c.self.view_is c.split_nodes.ensures.tree in
-    spelled_is _ _ _ _ _ (tree_kept _ _ _ c.self.inside.nodes _ _ _ t n)
+returns c = spelled_is _ _ _ _ _ _ (after (goal.at.returns c).After-lower_rank)

@@ -1,0 +1,10 @@
+use Rattle.std.proofs.Common.{ℕ, ◌+◌, ◌-◌, ◌≡◌, ◌^◌}
+use Rattle.zp_tree.specs.declared.constants.TheConstants.{FAN}
+use Rattle.zp_tree.proofs.RankWays.{IsOnWay}
+use Rattle.zp_tree.proofs.ranks.RankTree.first.Given as goal
+
+abbrev pub invariant-rows : goal.invariant-rows
+invariant-rows l = (d : ℕ) → l.self-inside.first ≡ FAN ^ d → (j : ℕ) × IsOnWay d j l.node l.fn.rank l.self-inside.nodes.items × (l.meter ≡ l.initial.meter + j)
+
+abbrev pub decreases-rows : goal.decreases-rows
+decreases-rows l = l.self-inside.first - l.node

@@ -1,0 +1,175 @@
+//! The blocks of 32 places in one word.
+//!
+//! Six levels of a binary tree in its own numbering: bit 1 stands for all places, bits 2 and 3 for its halves, and so on to bits 32 to 63
+//! for single places. A bit is set where its places are a block.
+ghost use Rattle.std.specs.Prelude.{◌≡◌, ◌≤◌, ◌<◌, ◌+◌, ◌*◌, ◌^◌, length};
+ghost use Rattle.zp_tree.specs.declared.constants.TheConstants.{PLACES, WORD_LEVELS};
+ghost use Rattle.zp_tree.specs.Words.{node, IsPlace, IsMarked, IsHalved, IsRow, IsLargestIn, IsFirstOf, IsFirst, IsUnion};
+
+use crate::constants::{PLACES, WORD_LEVELS};
+use std::marker::Model;
+
+/// The blocks of 32 places. Contracts see the number whose bits they are.
+#[derive(Clone, Copy, PartialEq, Eq, Debug, Drop)]
+pub struct Word {
+    bits: u64,
+}
+
+impl Model for Word {
+    ghost use Rattle.std.specs.Prelude.{ℕ, ◌≡◌};
+    ghost use Rattle.std.specs.Int.{bit_at};
+
+    ghost Value = { ℕ };
+
+    ghost view = { λ w. w.bits };
+
+    ghost invariant = { λ w. bit_at w.bits 0 ≡ 0 };
+
+    ghost inverse = { λ n. record { bits = n } };
+}
+
+/// The number of the node of 2 to the `level` places at a place.
+fn node_of(place: u32, level: u8) -> u32
+    requires { IsPlace place level }
+    ensures node { result ≡ node place level }
+    ensures within { (0 < result) × (result < 64) }
+{
+    (PLACES + place) >> level
+}
+
+/// How many places a block of this level has.
+fn places_of(level: u8) -> u32
+    requires { level ≤ WORD_LEVELS }
+    ensures places { result ≡ 2 ^ level }
+    ensures within { result ≤ PLACES }
+{
+    1 << level
+}
+
+impl Word {
+    /// The word of no block.
+    pub fn empty() -> Word
+        ensures { result ≡ 0 }
+    {
+        Word { bits: 0 }
+    }
+
+    /// With the block of this level at a place.
+    #[inline]
+    pub fn with(self, place: u32, level: u8) -> Word
+        requires { IsPlace place level }
+        ensures { IsMarked self result place level 1 }
+    {
+        Word {
+            bits: self.bits | 1 << node_of(place, level),
+        }
+    }
+
+    /// Without the block of this level at a place.
+    #[inline]
+    pub fn without(self, place: u32, level: u8) -> Word
+        requires { IsPlace place level }
+        ensures { IsMarked self result place level 0 }
+    {
+        Word {
+            bits: self.bits & !(1 << node_of(place, level)),
+        }
+    }
+
+    /// With the high halves that are left where a block of level `from` is split down to `to`.
+    #[inline]
+    pub fn with_halves(self, place: u32, from: u8, to: u8) -> Word
+        requires block { IsPlace place from }
+        requires down { to ≤ from }
+        ensures { IsHalved self result place from to }
+    {
+        let mut word = self;
+        let mut level = from;
+        'halves: while to < level {
+            level -= 1;
+            word = word.with(place + places_of(level), level);
+        }
+        word
+    }
+
+    /// The largest level of a block.
+    #[inline]
+    pub fn largest(self) -> Option<u8>
+        ensures { IsLargestIn self 0 WORD_LEVELS result }
+    {
+        if self.bits == 0 {
+            return None;
+        }
+        // the nodes of a level have one length in bits, and those of the larger levels come first
+        let first = self.bits.trailing_zeros();
+        Some((first.leading_zeros() - (31 - WORD_LEVELS as u32)) as u8)
+    }
+
+    /// The bits of the nodes of the places of node `node` that are `down` levels below it, the first in bit 0.
+    #[inline]
+    fn row_below(self, node: u32, down: u8) -> u64
+        requires node { (0 < node) × (node * 2 ^ down + 2 ^ down ≤ 64) }
+        requires down { down ≤ WORD_LEVELS }
+        ensures { IsRow self node down result }
+    {
+        let width = places_of(down);
+        (self.bits >> (node << down)) & ((1u64 << width) - 1)
+    }
+
+    /// The largest level of a block whose places all lie in the run of this level at a place.
+    pub fn largest_in(self, place: u32, level: u8) -> Option<u8>
+        requires { IsPlace place level }
+        ensures { IsLargestIn self place level result }
+    {
+        let node = node_of(place, level);
+        'levels: for down in 0..=level {
+            if self.row_below(node, down) != 0 {
+                return Some(level - down);
+            }
+        }
+        None
+    }
+
+    /// The first place where a block of this level starts.
+    fn first_of(self, level: u8) -> Option<u32>
+        requires { level ≤ WORD_LEVELS }
+        ensures { IsFirstOf self level result }
+    {
+        let row = self.row_below(1, WORD_LEVELS - level);
+        if row == 0 {
+            None
+        } else {
+            Some(row.trailing_zeros() << level)
+        }
+    }
+
+    /// The first block of this level or more: its place and its level.
+    pub fn first(self, least: u8) -> Option<(u32, u8)>
+        requires { least ≤ WORD_LEVELS }
+        ensures { IsFirst self least result }
+    {
+        let mut first = None;
+        let mut end = PLACES;
+        'levels: for level in least..=WORD_LEVELS {
+            let place = self.first_of(level).unwrap_or(PLACES);
+            if place < end {
+                first = Some((place, level));
+                end = place;
+            }
+        }
+        first
+    }
+}
+
+/// The blocks of some words together, at their places in each.
+pub fn union(words: &[Word], from: usize, count: usize) -> Word
+    requires { from + count ≤ length words.now }
+    ensures { IsUnion words.now from count result }
+{
+    let mut bits = 0;
+    'words: for place in 0..count {
+        let word = words[from + place];
+        bits |= word.bits;
+    }
+    Word { bits }
+}
