@@ -4,8 +4,8 @@ use Rattle.std.proofs.lemmas.Bool.{cases_eq, cases_lt}
 use Rattle.std.proofs.lemmas.List.{length-set, get_or-set_same, get_or-set_other}
 use Rattle.std.proofs.lemmas.Nat.{pow_pos, pow_below}
 use Rattle.zp_model.specs.BlockSet.{Starts}
-use Rattle.zp_tree.specs.Blocks.{with_block, without_block, split_set}
-use Rattle.zp_tree.specs.Marks.{mark, IsInGroups, IsRemarked, IsSplitUp}
+use Rattle.zp_tree.specs.Blocks.{with_block, without_block, with_double, split_set}
+use Rattle.zp_tree.specs.Marks.{mark, IsInGroups, IsRemarked, IsDoubledUp, IsSplitUp}
 use Rattle.zp_tree.proofs.ChangedSets.{halves_other, halves_at}
 
 abbrev pub IsMarkedBy : List ℕ → List ℕ → List (Option ℕ) → Type 0
@@ -109,4 +109,38 @@ marked_split ls hs ms gs s p f t x r room le st free i j y =
     pow_same j l e = elim (cases_eq j l) [
       | inl same ↦ same
       | inr ne ↦ absurd (elim (cases_lt j l) [ inl lt ↦ omega (arith, e, pow_below j l lt) | inr ge ↦ omega (arith, e, pow_below l j (omega arith)) ])
+    ]
+
+pub marked_double : (ls hs ms gs : List ℕ) (s : List (Option ℕ)) (p k : ℕ) → IsMarkedBy ls hs s → IsDoubledUp ls hs ms gs p k → p + 2 ^ k < length s → Starts s p k → Starts s (p + 2 ^ k) k → IsMarkedBy ms gs (with_double s p k)
+marked_double ls hs ms gs s p k x r room low high i j y =
+    let z : IsInGroups hs i j = rw (← r.size) y in
+    let q = p + 2 ^ k in
+    let pos = pow_pos k in
+    let s1 = without_block s q in
+    let here : get_or (with_double s p k) p None ≡ Some (k + 1) = get_or-set_same s1 p (Some (k + 1)) None (omega (arith, room, length-set s q None)) in
+    let there : get_or (with_double s p k) q None ≡ None = get_or-set_other s1 p q (Some (k + 1)) None (λ e. omega (arith, e, pos)) ∙ get_or-set_same s q None None room in
+    elim (cases_eq i p) [
+      | inl e ↦ elim (cases_eq j (k + 1)) [
+        | inl f ↦ (λ _. rw (e, f) here, λ _. rw (e, f) r.double)
+        | inr nd ↦ (
+          λ one. absurd (elim (cases_eq j k) [
+            | inl f ↦ let zero : mark ms gs i j ≡ 0 = rw (e, f) r.low in omega (arith, zero, one)
+            | inr nl ↦ let old = (x i j z).0 (sym (r.others i j z (λ _ f. nl f) (λ g _. omega (arith, e, g, pos)) (λ _ f. nd f)) ∙ one) in nl (sym (some_same k j (sym low ∙ rw e at old)))
+          ]),
+          λ st. absurd (nd (sym (some_same (k + 1) j (sym here ∙ rw e at st)))),
+        )
+      ]
+      | inr np ↦ elim (cases_eq i q) [
+        | inl e ↦ (
+          λ one. absurd (elim (cases_eq j k) [
+            | inl f ↦ let zero : mark ms gs i j ≡ 0 = rw (e, f) r.high in omega (arith, zero, one)
+            | inr nh ↦ let old = (x i j z).0 (sym (r.others i j z (λ g _. np g) (λ _ f. nh f) (λ g _. np g)) ∙ one) in nh (sym (some_same k j (sym high ∙ rw e at old)))
+          ]),
+          λ st. absurd (let w = rw e at st in let d : None ≡ Some j = sym there ∙ w in cc),
+        )
+        | inr nq ↦
+            let o = r.others i j z (λ g _. np g) (λ g _. nq g) (λ g _. np g) in
+            let g = get_or-set_other s1 p i (Some (k + 1)) None np ∙ get_or-set_other s q i None None nq in
+            (λ one. g ∙ (x i j z).0 (sym o ∙ one), λ st. o ∙ (x i j z).1 (sym g ∙ st))
+      ]
     ]

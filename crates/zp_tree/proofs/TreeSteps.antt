@@ -9,12 +9,12 @@ use Rattle.zp_model.specs.BlockSet.{Starts}
 use Rattle.zp_model.proofs.Heads.{two, number_around}
 use Rattle.zp_tree.specs.declared.constants.TheConstants.{GROUP_ORDER, GROUP_PAGES}
 use Rattle.zp_tree.specs.Blocks.{IsBlockSet, IsApart, with_block, without_block, with_double, split_set}
-use Rattle.zp_tree.specs.Marks.{IsWords, IsInGroups, IsRemarked, IsSplitUp, IsLowered}
+use Rattle.zp_tree.specs.Marks.{IsWords, IsInGroups, IsRemarked, IsDoubledUp, IsSplitUp, IsLowered}
 use Rattle.zp_tree.specs.Spelled.{IsTreeOf}
 use Rattle.zp_tree.proofs.Apart.{set-starts, clear-starts, clear_apart, clear_still_apart}
 use Rattle.zp_tree.proofs.BlockSets.{same_page}
 use Rattle.zp_tree.proofs.ChangedSets.{none_in, set_block_set, clear_block_set, split_block_set, halves_other, halves_at, halves_length}
-use Rattle.zp_tree.proofs.MarkedSets.{IsMarkedBy, marked_set, marked_clear, marked_split, half_or_not, some_same}
+use Rattle.zp_tree.proofs.MarkedSets.{IsMarkedBy, marked_set, marked_clear, marked_split, marked_double, half_or_not, some_same}
 use Rattle.zp_tree.proofs.Ranked.{IsRankedBy, IsChangedIn, ranks_raised, ranks_lowered}
 use Rattle.zp_tree.proofs.Spelling.{block_in_groups}
 
@@ -153,40 +153,36 @@ split_tree m pages ls hs rs ms gs ts s p f t x st le r l =
     (ranks_lowered ms gs rs ts s c g f x.ranked (changed_split m s p f t x.set x.orders st le) room marked inside l)
 
 -- two blocks that are the halves of one
-pub double_tree : (m pages : ℕ) (ls hs l1 h1 l2 h2 rs ms gs ts : List ℕ) (s : List (Option ℕ)) (p k : ℕ) → IsTreeOf m pages ls hs rs s → IsBlock m (length s) p (k + 1) → Starts s p k → Starts s (p + 2 ^ k) k →
-    IsRemarked ls hs l1 h1 (p + 2 ^ k) k 0 → IsRemarked l1 h1 l2 h2 p k 0 → IsRemarked l2 h2 ms gs p (k + 1) 1 → ts ≡ slice_set rs (p / GROUP_PAGES) (max (k + 1 + 1) (slice_index rs (p / GROUP_PAGES))) →
-    IsTreeOf m pages ms gs ts (with_double s p k)
-double_tree m pages ls hs l1 h1 l2 h2 rs ms gs ts s p k t b low high r1 r2 r3 e =
+pub double_tree : (m pages : ℕ) (ls hs rs ms gs ts : List ℕ) (s : List (Option ℕ)) (p k : ℕ) → IsTreeOf m pages ls hs rs s → IsBlock m (length s) p (k + 1) → Starts s p k → Starts s (p + 2 ^ k) k → IsDoubledUp ls hs ms gs p k →
+    ts ≡ slice_set rs (p / GROUP_PAGES) (max (k + 1 + 1) (slice_index rs (p / GROUP_PAGES))) → IsTreeOf m pages ms gs ts (with_double s p k)
+double_tree m pages ls hs rs ms gs ts s p k t b low high r e =
     let q = p + 2 ^ k in
     let pos = pow_pos k in
     let width = two k in
     let lp : p < length s = omega (arith, b.inside, width) in
-    let lq : q < length s = omega (arith, b.inside, width) in
+    let lq : q < length s = omega (arith, b.inside, width, pos) in
     let s1 = without_block s q in
     let s2 = without_block s1 p in
     let n1 = length-set s q None in
     let n2 = length-set s1 p None in
     let low1 : Starts s1 p k = get_or-set_other s q p None None (λ f. omega (arith, f, pos)) ∙ low in
     let x1 = clear_block_set m s q k t.set high in
-    let x2 = clear_block_set m s1 p k x1 low1 in
     let b1 : IsBlock m (length s1) p k = x1.block p k low1 in
     let apart : IsApart s2 p (k + 1) = λ i lo hi. elim (cases_lt i q) [
       | inl below ↦ clear_apart m s1 p k x1 low1 i lo below
       | inr above ↦ clear_still_apart m s1 p k q k b1 (clear_apart m s q k t.set high) i above (omega (arith, hi, width))
     ] in
     let b2 : IsBlock m (length s2) p (k + 1) = rw (n2, n1) b in
-    let none : (j : ℕ) → Starts s2 p j → ⊥ = λ j. none_starts m s2 p (k + 1) p j x2 apart (omega arith) (omega (arith, pos, width)) in
     let g = p / GROUP_PAGES in
     let room : g < length rs = omega (arith, lp, t.room, t.rows, t.pages_of) in
-    let same : with_block s2 p (k + 1) ≡ with_double s p k = set-set s1 p None (Some (k + 1)) in
-    let m1 = marked_clear ls hs l1 h1 s q k t.marked r1 lq high in
-    let m2 = marked_clear l1 h1 l2 h2 s1 p k m1 r2 (omega (arith, lp, n1)) low1 in
-    let m3 = marked_set l2 h2 ms gs s2 p (k + 1) m2 r3 (omega (arith, lp, n1, n2)) none in
-    let here : get_or (with_block s2 p (k + 1)) p None ≡ Some (k + 1) = get_or-set_same s2 p (Some (k + 1)) None (omega (arith, lp, n1, n2)) in
-    let there : get_or (with_block s2 p (k + 1)) q None ≡ None = get_or-set_other s2 p q (Some (k + 1)) None (λ f. omega (arith, f, pos)) ∙ get_or-set_other s1 p q None None (λ f. omega (arith, f, pos)) ∙ get_or-set_same s q None None lq in
-    let rest : (i : ℕ) → i ≢ p → i ≢ q → get_or (with_block s2 p (k + 1)) i None ≡ get_or s i None = λ i np nq. get_or-set_other s2 p i (Some (k + 1)) None np ∙ get_or-set_other s1 p i None None np ∙ get_or-set_other s q i None None nq in
+    let d = with_double s p k in
+    let same : with_block s2 p (k + 1) ≡ d = set-set s1 p None (Some (k + 1)) in
+    let set : IsBlockSet m d = rw (← same) (set_block_set m s2 p (k + 1) (clear_block_set m s1 p k x1 low1) b2 apart) in
+    let here : get_or d p None ≡ Some (k + 1) = get_or-set_same s1 p (Some (k + 1)) None (omega (arith, lp, n1)) in
+    let there : get_or d q None ≡ None = get_or-set_other s1 p q (Some (k + 1)) None (λ f. omega (arith, f, pos)) ∙ get_or-set_same s q None None lq in
+    let rest : (i : ℕ) → i ≢ p → i ≢ q → get_or d i None ≡ get_or s i None = λ i np nq. get_or-set_other s1 p i (Some (k + 1)) None np ∙ get_or-set_other s q i None None nq in
     let group : q / GROUP_PAGES ≡ g = same_group m s p (k + 1) q b t.orders (omega arith) (omega (arith, width, pos)) in
-    let changed : IsChangedIn s (with_block s2 p (k + 1)) g (k + 1) = record {
+    let changed : IsChangedIn s d g (k + 1) = record {
       others = λ i ne. rest i (λ f. ne (ap (λ n. n / GROUP_PAGES) f)) (λ f. ne (ap (λ n. n / GROUP_PAGES) f ∙ group));
       larger = λ i o more. elim (cases_eq i p) [
         | inl f ↦ (λ y. absurd (let z = some_same (k + 1) o (sym here ∙ rw f at y) in omega (arith, z)), λ y. absurd (let z = some_same k o (sym low ∙ rw f at y) in omega (arith, z)))
@@ -196,10 +192,9 @@ double_tree m pages ls hs l1 h1 l2 h2 rs ms gs ts s p k t b low high r1 r2 r3 e 
         ]
       ];
     } in
-    let size : length gs ≡ length hs = r3.size ∙ r2.size ∙ r1.size in
     let v = max (k + 1 + 1) (slice_index rs g) in
-    rw (e, ← same) (another m pages ls hs rs ms gs (slice_set rs g v) s (with_block s2 p (k + 1)) t r3.words size (length-set rs g v) (length-set s2 p (Some (k + 1)) ∙ n2 ∙ n1) (set_block_set m s2 p (k + 1) x2 b2 apart) m3
-    (ranks_raised rs s (with_block s2 p (k + 1)) p (k + 1) t.ranked changed room here))
+    rw e (another m pages ls hs rs ms gs (slice_set rs g v) s d t r.words r.size (length-set rs g v) (length-set s1 p (Some (k + 1)) ∙ n1) set (marked_double ls hs ms gs s p k t.marked r lq low high)
+    (ranks_raised rs s d p (k + 1) t.ranked changed room here))
 
 -- a tree is kept in the vectors that its words are written back to
 pub tree_kept : {Z Y : Type 0} (m pages : ℕ) (v : Vec ℕ Z) (u : Vec ℕ Y) (ms gs rs ts : List ℕ) (s r : List (Option ℕ)) → IsTreeOf m pages v.items u.items rs s → length gs ≡ length u.items → IsTreeOf m pages ms gs ts r →

@@ -32,6 +32,15 @@ pub record IsRemarked (ls hs ms gs : List ℕ) (p k b : ℕ) : Type 0 where
   pub here : mark ms gs p k ≡ b
   pub others : (i j : ℕ) → IsInGroups hs i j → (i ≡ p → j ≡ k → ⊥) → mark ms gs i j ≡ mark ls hs i j
 
+-- the words after the two blocks of order k whose double begins at page p were joined
+pub record IsDoubledUp (ls hs ms gs : List ℕ) (p k : ℕ) : Type 0 where
+  pub words : IsWords ms gs
+  pub size : length gs ≡ length hs
+  pub low : mark ms gs p k ≡ 0
+  pub high : mark ms gs (p + 2 ^ k) k ≡ 0
+  pub double : mark ms gs p (k + 1) ≡ 1
+  pub others : (i j : ℕ) → IsInGroups hs i j → (i ≡ p → j ≡ k → ⊥) → (i ≡ p + 2 ^ k → j ≡ k → ⊥) → (i ≡ p → j ≡ k + 1 → ⊥) → mark ms gs i j ≡ mark ls hs i j
+
 -- the words after the block of order f at page p was split down to order t, and its low part taken
 pub record IsSplitUp (ls hs ms gs : List ℕ) (p f t : ℕ) : Type 0 where
   pub words : IsWords ms gs

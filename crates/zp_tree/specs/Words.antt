@@ -24,6 +24,12 @@ pub record IsMarked (w v p l b : ℕ) : Type 0 where
   pub here : bit_at v (node p l) ≡ b
   pub others : (q k : ℕ) → IsPlace q k → (q ≡ p → k ≡ l → ⊥) → bit_at v (node q k) ≡ bit_at w (node q k)
 
+-- v is the word w without the two blocks of level l from place p on
+pub record IsCleared (w v p l : ℕ) : Type 0 where
+  pub low : bit_at v (node p l) ≡ 0
+  pub high : bit_at v (node (p + 2 ^ l) l) ≡ 0
+  pub others : (q k : ℕ) → IsPlace q k → (q ≡ p → k ≡ l → ⊥) → (q ≡ p + 2 ^ l → k ≡ l → ⊥) → bit_at v (node q k) ≡ bit_at w (node q k)
+
 -- v is the word w with the high halves of the blocks at place p, from level f down to level t
 pub record IsHalved (w v p f t : ℕ) : Type 0 where
   pub halves : (k : ℕ) → t ≤ k → k < f → bit_at v (node (p + 2 ^ k) k) ≡ 1

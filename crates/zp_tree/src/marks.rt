@@ -1,7 +1,7 @@
 //! The bits of blocks in the low and the high words.
 ghost use Rattle.std.specs.Prelude.{◌≡◌, ◌≤◌, ◌<◌, ◌+◌};
 ghost use Rattle.zp_tree.specs.declared.constants.TheConstants.{WORD_LEVELS};
-ghost use Rattle.zp_tree.specs.Marks.{mark, IsWords, IsInGroups, IsRemarked, IsSplitUp};
+ghost use Rattle.zp_tree.specs.Marks.{mark, IsWords, IsInGroups, IsRemarked, IsDoubledUp, IsSplitUp};
 
 use crate::constants::WORD_LEVELS;
 use crate::place::{group_of, high_place, low_place, low_word};
@@ -69,4 +69,31 @@ pub fn split_marks(low: &mut [Word], high: &mut [Word], at: PageAt, from: Order,
     if least < WORD_LEVELS {
         low[word] = low[word].with_halves(0, WORD_LEVELS, least);
     }
+}
+
+/// Clears the bits of the two halves of a block, and sets its own.
+#[inline]
+pub fn double_marks(low: &mut [Word], high: &mut [Word], at: PageAt, half: Order)
+    requires words { IsWords low.old high.old }
+    requires inside { IsInGroups high.old at (half + 1) }
+    ensures { IsDoubledUp low.old high.old low.new high.new at half }
+{
+    let level = half.number();
+    let word = low_word(at);
+    let group = group_of(at);
+    if level < WORD_LEVELS {
+        let place = low_place(at);
+        let cleared = low[word].without_halves(place, level);
+        if level + 1 < WORD_LEVELS {
+            low[word] = cleared.with(place, level + 1);
+        } else {
+            low[word] = cleared;
+            high[group] = high[group].with(high_place(at), 0);
+        }
+        return;
+    }
+    let above = level - WORD_LEVELS;
+    let place = high_place(at);
+    let cleared = high[group].without_halves(place, above);
+    high[group] = cleared.with(place, above + 1);
 }

@@ -4,7 +4,7 @@
 //! for single places. A bit is set where its places are a block.
 ghost use Rattle.std.specs.Prelude.{◌≡◌, ◌≤◌, ◌<◌, ◌+◌, ◌*◌, ◌^◌, length};
 ghost use Rattle.zp_tree.specs.declared.constants.TheConstants.{PLACES, WORD_LEVELS};
-ghost use Rattle.zp_tree.specs.Words.{node, IsPlace, IsMarked, IsHalved, IsRow, IsLargestIn, IsFirstOf, IsFirst, IsUnion};
+ghost use Rattle.zp_tree.specs.Words.{node, IsPlace, IsMarked, IsCleared, IsHalved, IsRow, IsLargestIn, IsFirstOf, IsFirst, IsUnion};
 
 use crate::constants::{PLACES, WORD_LEVELS};
 use std::marker::Model;
@@ -74,6 +74,16 @@ impl Word {
         Word {
             bits: self.bits & !(1 << node_of(place, level)),
         }
+    }
+
+    /// Without the two blocks of this level from a place on.
+    #[inline]
+    pub fn without_halves(self, place: u32, level: u8) -> Word
+        requires { IsPlace place (level + 1) }
+        ensures { IsCleared self result place level }
+    {
+        self.without(place + places_of(level), level)
+            .without(place, level)
     }
 
     /// With the high halves that are left where a block of level `from` is split down to `to`.
