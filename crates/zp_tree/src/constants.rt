@@ -17,7 +17,7 @@ pub const GROUP_PAGES: u32 = 1 << GROUP_ORDER;
 // each block lies in one group
 const _: () = prove!(LARGEST_ORDER <= GROUP_ORDER);
 
-/// How many nodes of the tree of ranks stand below one. They lie side by side, and are read as one word.
+/// How many nodes of the tree of ranks stand below one. They lie side by side, and count as one word.
 pub const FAN: usize = 8;
 
 /// The most rows of the tree of ranks below its root.

@@ -1,4 +1,4 @@
-//! What a node holds.
+//! What a node of the tree of ranks holds.
 ghost use Rattle.std.specs.Prelude.{◌≡◌, ◌≤◌, ◌+◌, ◌↔◌, IsTrue, max};
 ghost use Rattle.zp_model.specs.declared.constants.TheConstants.{LARGEST_ORDER};
 ghost use Rattle.zp_tree.specs.Ranks.{order_ranked};
