@@ -1,5 +1,5 @@
 -- The nodes of a tree of ranks, and the largest of eight.
-use Rattle.std.proofs.Common.{ℕ, suc, zero, ◌+◌, ◌-◌, ◌*◌, ◌/◌, ◌^◌, ◌≡◌, ◌≢◌, ◌≤◌, ◌<◌, inl, inr, refl, sym, ◌∙◌, ap, arith, List, length, slice_index, slice_set}
+use Rattle.std.proofs.Common.{ℕ, suc, zero, ◌+◌, ◌-◌, ◌*◌, ◌/◌, ◌^◌, ◌≡◌, ◌≢◌, ◌≤◌, ◌<◌, inl, inr, refl, subst, sym, ◌∙◌, ap, arith, List, length, max, slice_index, slice_set}
 use Rattle.std.proofs.lemmas.Bool.{cases_lt, cases_eq}
 use Rattle.std.proofs.lemmas.List.{get_or-set_same, get_or-set_other, length-set}
 use Rattle.std.proofs.Math.Nat.{pow-suc}
@@ -122,3 +122,48 @@ not_root (suc i) x r lt = (i, omega arith)
 
 pub row_number : (i j : ℕ) → FAN ^ i ≡ FAN ^ j → i ≡ j
 row_number i j e = row_same i j (FAN ^ i) record { from = omega arith; to = omega (arith, row_pos i) } record { from = omega arith; to = omega (arith, row_pos j, e) }
+
+-- the largest of some ranks after one of them rose
+pub best_raised : (ns : List ℕ) (x n y v : ℕ) → x ≤ y → y < x + n → y < length ns → slice_index ns y ≤ v → best_from (slice_set ns y v) x n ≡ max (best_from ns x n) v
+best_raised ns x zero y v lo hi room up = absurd (omega arith)
+best_raised ns x (suc n) y v lo hi room up = elim (cases_eq y (x + n)) [
+  | inl same ↦
+      let here : slice_index (slice_set ns y v) (x + n) ≡ v = ap (slice_index (slice_set ns y v)) (sym same) ∙ get_or-set_same ns y v 0 room in
+      let old : slice_index ns y ≡ slice_index ns (x + n) = ap (slice_index ns) same in
+      omega (arith, here, old, up, best_apart ns x n y v (λ _ less. omega (arith, same, less)))
+  | inr ne ↦
+      let there : slice_index (slice_set ns y v) (x + n) ≡ slice_index ns (x + n) = get_or-set_other ns y (x + n) v 0 (λ e. ne (sym e)) in
+      omega (arith, there, best_raised ns x n y v lo (omega arith) room up)
+]
+
+-- a node that holds no less than v is as it should be
+pub raised_right : (d i x v : ℕ) (ns : List ℕ) → IsRankedBut d ns x → IsInRow i x → max (slice_index ns x) v ≡ best_from ns (FAN * x) FAN → v ≤ slice_index ns x → IsRanked d ns
+raised_right d i x v ns r at next le = node_right d i x ns r at (omega (arith, next, le))
+
+-- one that held less gets v, and the one above it is next
+pub raised_next : (d i x v : ℕ) (ns : List ℕ) → IsRankedBut d ns x → IsInRow (i + 1) x → i + 1 < d → max (slice_index ns x) v ≡ best_from ns (FAN * x) FAN → slice_index ns x < v →
+    max (slice_index (slice_set ns x v) (x / FAN)) v ≡ best_from (slice_set ns x v) (FAN * (x / FAN)) FAN
+raised_next d i x v ns r at lt next less =
+    let y = x / FAN in
+    let up = above_in i x at in
+    let c = in_row i y up in
+    let pos = row_pos i in
+    let room : x < length ns = omega (arith, at.to, row_grows (i + 1) d lt, r.size) in
+    let apart : FAN ^ i + c.0 ≢ x = λ e. omega (arith, c.2, e, at.from, eight_of i, up.to) in
+    let b = r.best i c.0 (omega arith) c.1 apart in
+    let held : slice_index ns y ≡ best_from ns (FAN * y) FAN = rw (← c.2) b in
+    let same : slice_index (slice_set ns x v) y ≡ slice_index ns y = get_or-set_other ns x y v 0 (λ e. apart (c.2 ∙ e)) in
+    omega (arith, same, held, best_raised ns (FAN * y) FAN x v (omega arith) (omega arith) room (omega arith))
+
+-- a rank that rises
+pub rank_raised : (d x v : ℕ) (ns : List ℕ) → IsRanked d ns → IsInRow d x → 0 < d → slice_index ns x ≤ v → max (slice_index (slice_set ns x v) (x / FAN)) v ≡ best_from (slice_set ns x v) (FAN * (x / FAN)) FAN
+rank_raised d x v ns r at pos up =
+    let i = d - 1 in
+    let y = x / FAN in
+    let e : d ≡ i + 1 = omega arith in
+    let P : ℕ → Type 0 = λ k. IsInRow k x in
+    let above = above_in i x (subst P e at) in
+    let room : x < length ns = omega (arith, at.to, r.size) in
+    let other : y ≢ x = λ f. omega (arith, f, at.from, row_pos d) in
+    let same : slice_index (slice_set ns x v) y ≡ slice_index ns y = get_or-set_other ns x y v 0 other in
+    omega (arith, same, held d i y ns r above (omega arith), best_raised ns (FAN * y) FAN x v (omega arith) (omega arith) room up)

@@ -29,6 +29,14 @@ pub record IsOpen (ns : List ℕ) (x : ℕ) : Type 0 where
   pub row : IsInRow d x
   pub but : IsRankedBut d ns (x / FAN)
 
+-- the rank at node x of the last row rose to v, and only the node above it may not hold what it should: the larger of v and what it holds
+pub record IsRaised (ns : List ℕ) (x v : ℕ) : Type 0 where
+  pub d : ℕ
+  pub few : d ≤ MOST_ROWS
+  pub row : IsInRow d x
+  pub but : IsRankedBut d ns (x / FAN)
+  pub next : 0 < d → max (slice_index ns (x / FAN)) v ≡ best_from ns (FAN * (x / FAN)) FAN
+
 -- then the nodes ms hold all what they should, and the last row is as it was
 abbrev pub IsMended : List ℕ → List ℕ → ℕ → Type 0
 IsMended ns ms x = (d : ℕ) → IsInRow d x → IsRankedBut d ns (x / FAN) → IsRanked d ms × (drop (FAN ^ d) ms ≡ drop (FAN ^ d) ns)

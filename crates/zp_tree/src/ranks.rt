@@ -1,7 +1,7 @@
 //! The ranks of groups, and a tree over them.
 ghost use Rattle.std.specs.Prelude.{◌≡◌, ◌≤◌, ◌<◌, ◌+◌, ◌^◌, ℕ, IfOk, length, slice_index, slice_set};
 ghost use Rattle.zp_tree.specs.declared.constants.TheConstants.{FAN, MOST_ROWS, MOST_GROUPS};
-ghost use Rattle.zp_tree.specs.RankRows.{best_from, IsFirstOfEight, IsFirstRank, IsTopRank, IsOpen, IsMended};
+ghost use Rattle.zp_tree.specs.RankRows.{best_from, IsFirstOfEight, IsFirstRank, IsTopRank, IsOpen, IsRaised, IsMended};
 
 use crate::constants::{FAN, MOST_ROWS};
 use crate::meter::Meter;
@@ -68,6 +68,21 @@ fn mend(nodes: &mut [Rank], rank: usize)
     }
 }
 
+/// Raises the nodes above a rank that was written, up to the first that holds as much already.
+fn raise(nodes: &mut [Rank], place: usize, rank: Rank)
+    requires { IsRaised nodes.old place rank }
+    ensures { IsMended nodes.old nodes.new place }
+{
+    let mut node = place;
+    'rising: while node > ROOT {
+        node /= FAN;
+        if nodes[node].is_at_least(rank) {
+            return;
+        }
+        nodes[node] = rank;
+    }
+}
+
 impl RankTree {
     /// So many ranks of no block, or some more.
     pub fn new(alloc: Global, groups: usize) -> Result<RankTree, AllocError>
@@ -103,6 +118,18 @@ impl RankTree {
         let nodes: &mut [Rank] = &mut self.nodes;
         nodes[node] = rank;
         mend(nodes, node);
+    }
+
+    /// Gives a group a rank that is no smaller.
+    pub fn raise(&mut self, group: usize, rank: Rank)
+        requires group { group < length self.old }
+        requires up { slice_index self.old group ≤ rank }
+        ensures { self.new ≡ slice_set self.old group rank }
+    {
+        let node = self.first + group;
+        let nodes: &mut [Rank] = &mut self.nodes;
+        nodes[node] = rank;
+        raise(nodes, node, rank);
     }
 
     /// The largest rank.
