@@ -76,6 +76,8 @@ impl Entry {
     }
 
     /// Becomes the entry of a worker's request that was answered so.
+    // (in line, with what it calls: where a caller knows which request it is, no list is made for it)
+    #[inline(always)]
     pub fn set(&mut self, worker: Worker, request: &Request, reply: &Reply)
         requires { HasOneList request.now reply.now }
         ensures { self.new ≡ record { worker = worker; request = request.now; reply = reply.now } }
@@ -151,6 +153,7 @@ fn has_pages(asked: &Asked, answered: &Answered) -> bool
 }
 
 /// A request without its list.
+#[inline(always)]
 fn asked_of(request: &Request) -> Asked
     ensures { result ≡ asked_of request.now }
 {
@@ -166,6 +169,7 @@ fn asked_of(request: &Request) -> Asked
 }
 
 /// A reply without its list.
+#[inline(always)]
 fn answered_of(reply: &Reply) -> Answered
     ensures { result ≡ answered_of reply.now }
 {
@@ -181,6 +185,7 @@ fn answered_of(reply: &Reply) -> Answered
 }
 
 /// The list becomes that of the request or of the reply, where one of them has a list.
+#[inline(always)]
 fn set_pages(pages: &mut PageList, request: &Request, reply: &Reply)
     ensures { pages.new ≡ pages_of request.now reply.now pages.old }
 {

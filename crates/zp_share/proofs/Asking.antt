@@ -1,5 +1,5 @@
 -- One section of a share, whatever is asked: what the request names and the reply gives fits the share, and its lists stay short.
-use Rattle.std.specs.Prelude.{slice_set}
+use Rattle.std.specs.Prelude.{slice_set, IsTrue, IfOk, Result, Ok, Err}
 use Rattle.std.proofs.Common.{ℕ, ◌-◌, ◌≡◌, ◌<◌, ◌≤◌, sym, ◌∙◌, ap, subst, arith, All, get_or, List, length, inl, inr, refl, Bool, true}
 use Rattle.std.proofs.lemmas.List.Elements.{All-set, All-get_or}
 use Rattle.std.proofs.lemmas.List.{length-set}
@@ -7,13 +7,15 @@ use Rattle.std.proofs.lemmas.Bool.{eq-eqb}
 use Rattle.std.proofs.lemmas.Bool.Decides.{nat_tests}
 use Rattle.zp_model.specs.declared.migrate_type.MigrateType.{MigrateType}
 use Rattle.zp_model.specs.declared.constants.TheConstants.{MAX_BATCH}
+use Rattle.zp_model.specs.declared.mark.Mark.{Mark}
 use Rattle.zp_model.specs.declared.refused.Refused.{Refused}
 use Rattle.zp_model.specs.declared.request.Request.{Request}
 use Rattle.zp_model.specs.declared.request.Reply.{Reply}
 use Rattle.zp_model.specs.Zone.{PlainZone, is_of}
 use Rattle.zp_model.specs.Step.{step}
 use Rattle.zp_zone.specs.Asking.{IsGiven, MaySeatAsk}
-use Rattle.zp_zone.specs.Seats.{SeatState, has, replied}
+use Rattle.zp_zone.specs.NamedZone.{page_reply}
+use Rattle.zp_zone.specs.Seats.{SeatState, IsNewTo, has, replied}
 use Rattle.zp_share.specs.PlainShares.{lends_for}
 use Rattle.zp_share.specs.ZoneShares.{ZoneShareState, HasAtMost, answered, IsAllocRefusal, IsNew, IsShare, RefillsAtMost, is_lent, plain_share, use_in}
 use Rattle.zp_share.specs.declared.page_use.PageUse.{PageUse}
@@ -80,6 +82,12 @@ may_seat n (Request.Post p k to) o x = (lent_has (share_of o) p k x.whole.1 x.le
 may_seat n (Request.Refill t m c) o x = (x.may.1, x.may.2)
 may_seat n (Request.Drain t ps) o x = (back_has o t ps x.whole x.may, back_distinct o t ps x.whole x.may)
 may_seat n r o x = tt
+
+-- the page that a block's request is answered is given to the seat
+pub given_page : (k : ℕ) (t : MigrateType) (m : Mark) (got : Result ℕ Refused) (a b : SeatState) → IfOk got (λ p. IsTrue (has b p k)) → IfOk got (IsNewTo a) →
+    IsGiven (Request.Alloc k t m) (page_reply got) a b
+given_page k t m (Ok p) a b h f = record { has = h; fresh = f }
+given_page k t m (Err e) a b h f = tt
 
 -- what is named fits the share
 pub fits : (n : ℕ) (r : Request) (q : Reply) (o : Inside) (seat : SeatState) → IsAsking n r o → seat ≡ replied r q o.seat → IsGiven r q o.seat seat → IsFit r q (share_of o)

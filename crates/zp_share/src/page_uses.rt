@@ -1,5 +1,7 @@
 //! What each page of a zone is to one worker.
 ghost use Rattle.std.specs.Prelude.{◌≡◌, ◌<◌, ◌-◌, All, replicate, slice_set, IfOk};
+ghost use Rattle.zp_model.specs.declared.request.Request.TheVariants as request;
+ghost use Rattle.zp_zone.specs.NamedZone.{page_reply};
 ghost use Rattle.zp_share.specs.declared.page_use.PageUse.TheVariants.{Away};
 ghost use Rattle.zp_share.specs.PageUses.{use_of, all_as, uses_after, IsPlace};
 ghost use Rattle.zp_share.specs.Sections.{HasPlaces};
@@ -7,7 +9,7 @@ ghost use Rattle.zp_share.specs.Sections.{HasPlaces};
 use crate::page_use::PageUse;
 use std::alloc::{AllocError, Global};
 use std::marker::Model;
-use zp_model::{PageNo, Reply, Request};
+use zp_model::{Mark, MigrateType, Order, PageNo, Refused, Reply, Request};
 
 /// One entry for each page of a zone, made with the share.
 #[derive(Drop)]
@@ -64,6 +66,25 @@ impl PageUses {
             // a copy, since the call takes its own
             let same = used;
             self.set(*page, same);
+        }
+    }
+
+    /// What a request for a block of this order for this type, answered so, makes of the pages.
+    #[inline(always)]
+    pub fn note_alloc(
+        &mut self,
+        order: Order,
+        kind: MigrateType,
+        mark: Mark,
+        got: &Result<PageNo, Refused>,
+    )
+        requires { HasPlaces (request.Alloc order kind mark) (page_reply got.now) self.old }
+        ensures { self.new ≡ record self.old { uses = uses_after self.old.base (request.Alloc order kind mark) (page_reply got.now) self.old.uses } }
+    {
+        // the mark is named for the clauses alone
+        let _ = mark;
+        if let Ok(page) = got {
+            self.set(*page, PageUse::Lent(order, kind));
         }
     }
 

@@ -39,6 +39,8 @@ pub trait Zones {
         ensures told { (rows : List NamedZone) → told self.old ≡ Some rows → (told self.new ≡ Some rows) × (result ≡ counts_of (zone_at rows zone).plain.area.largest (zone_at rows zone).plain.area.free) };
 
     /// A block of this order for this type, held to this mark, which is then lent: its first page. Refused 10, 11 or 30.
+    // (out of line, and so are a refill and a drain: what is done for each page of a list is small without them)
+    #[inline(never)]
     fn alloc_block(
         &mut self,
         share: &mut Share,
@@ -109,7 +111,6 @@ pub trait Zones {
     }
 
     /// Fills an empty list with up to a batch of pages of its type, the one taken first in front: the pages. Refused 10, 11 or 30.
-    // (out of line, and so is a drain: what is done for each page is small without them)
     #[inline(never)]
     fn refill(
         &mut self,

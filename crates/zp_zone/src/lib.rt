@@ -11,4 +11,4 @@ mod zone;
 pub use config::ZoneConfig;
 pub use page::ZonePage;
 pub use seat::Seat;
-pub use zone::Zone;
+pub use zone::{Zone, page_reply};

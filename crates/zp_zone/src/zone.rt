@@ -23,6 +23,7 @@ use crate::config::ZoneConfig;
 use crate::page::ZonePage;
 use crate::seat::{Seat, seats};
 use crate::untied_zone::UntiedZone;
+pub use asking::page_reply;
 use std::alloc::Global;
 use std::marker::Model;
 use zp_model::{Counts, LONGEST_NAME, Level, MAX_PAGES, Order, PageNo, Refused};

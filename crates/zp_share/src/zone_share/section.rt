@@ -2,6 +2,8 @@
 ghost use Rattle.std.specs.Prelude.{ℕ, ◌≡◌, ◌≤◌};
 ghost use Rattle.zp_model.specs.declared.constants.TheConstants.{MAX_BATCH};
 ghost use Rattle.zp_model.specs.Zone.{workers_of};
+ghost use Rattle.zp_model.specs.declared.request.Request.TheVariants as request;
+ghost use Rattle.zp_zone.specs.NamedZone.{page_reply};
 ghost use Rattle.zp_zone.specs.Seats.{IsSeatOf};
 ghost use Rattle.zp_share.specs.PlainShares.{lends_for, lists_after};
 ghost use Rattle.zp_share.specs.Sections.{HaveRoom, IsAsked, MayAsk};
@@ -9,8 +11,8 @@ ghost use Rattle.zp_share.specs.ZoneShares.{HasAtMost, IsShare, RefillsAtMost, p
 
 use super::ZoneShare;
 use crate::page_stack::PageStack;
-use zp_model::{Refused, Reply, Request, TYPES};
-use zp_zone::Zone;
+use zp_model::{Mark, MigrateType, Order, PageNo, Refused, Reply, Request, TYPES};
+use zp_zone::{Zone, page_reply};
 
 impl ZoneShare {
     /// Whether the block that a request names, if it names one, is lent.
@@ -37,6 +39,10 @@ impl ZoneShare {
         ensures section { IsAsked request.now result zone.old zone.new self.old self.new }
         ensures lists { (n : ℕ) → RefillsAtMost n request.now → HasAtMost n self.old → HasAtMost n self.new }
     {
+        // the request that is made most has a way of its own, on which no room is cleared for a list of pages
+        if let Request::Alloc(order, kind, mark) = request {
+            return page_reply(self.alloc_block(zone, *order, *kind, *mark));
+        }
         if !self.lends_for(request) {
             return Reply::Refused(Refused::NotLent);
         }
@@ -49,6 +55,31 @@ impl ZoneShare {
         note_lists(&mut self.cached, request, &reply);
         self.sections.add(worker, request, &reply);
         reply
+    }
+
+    /// A block of this order for this type, held to this mark, which is then lent: its first page. Refused 10, 11 or 30.
+    #[inline(always)]
+    fn alloc_block(
+        &mut self,
+        zone: &mut Zone,
+        order: Order,
+        kind: MigrateType,
+        mark: Mark,
+    ) -> Result<PageNo, Refused>
+        requires seat { IsSeatOf zone.old self.old.seat }
+        ensures section { IsAsked (request.Alloc order kind mark) (page_reply result) zone.old zone.new self.old self.new }
+        ensures lists { (n : ℕ) → HasAtMost n self.old → HasAtMost n self.new }
+    {
+        if self.sections.are_full() {
+            return Err(Refused::JournalFull);
+        }
+        let worker = self.seat.worker();
+        let got = zone.alloc(&mut self.seat, order, kind, mark);
+        self.uses.note_alloc(order, kind, mark, &got);
+        let reply = page_reply(got);
+        self.sections
+            .add(worker, &Request::Alloc(order, kind, mark), &reply);
+        got
     }
 }
 

@@ -54,8 +54,9 @@ impl Zone {
     }
 }
 
+/// The answer to a request for a block of a given order, as a reply.
 #[inline(always)]
-fn page_reply(got: Result<PageNo, Refused>) -> Reply
+pub fn page_reply(got: Result<PageNo, Refused>) -> Reply
     ensures { result ≡ page_reply got }
 {
     match got {
