@@ -44,12 +44,18 @@ rising-preserved c d at but start =
     let lt : up.0 < d = omega (arith, up.1, v.1) in
     let less : c.index-nodes-node.result < c.args.rank = search rules in
     let small : slice_index c.rising.nodes y < c.args.rank = omega (arith, less, read (goal.at.rising-preserved c).After-is_at_least) in
-    let best = v.5 (omega (arith, up.1)) in
-    (up.0, omega arith, up.2, node_mended d up.0 y c.args.rank c.rising.nodes v.3 up.2 lt (omega (arith, best, small)), drop-set-lt _ c.rising.nodes y _ (omega (arith, up.2.to, row_grows up.0 d lt)) ∙ v.4, λ pos.
-    let i = up.0 - 1 in
-    let e : up.0 ≡ i + 1 = omega arith in
-    let P : ℕ → Type 0 = λ k. IsInRow k y in
-    raised_next d i y c.args.rank c.rising.nodes v.3 (subst P e up.2) (omega (arith, e, lt)) best small)
+    let best = v.5 (omega (arith, up.1)) in (
+      up.0,
+      omega arith,
+      up.2,
+      node_mended d up.0 y c.args.rank c.rising.nodes v.3 up.2 lt (omega (arith, best, small)),
+      drop-set-lt _ c.rising.nodes y _ (omega (arith, up.2.to, row_grows up.0 d lt)) ∙ v.4,
+      λ pos.
+          let i = up.0 - 1 in
+          let e : up.0 ≡ i + 1 = omega arith in
+          let P : ℕ → Type 0 = λ k. IsInRow k y in
+          raised_next d i y c.args.rank c.rising.nodes v.3 (subst P e up.2) (omega (arith, e, lt)) best small,
+    )
 
 pub returns : goal.returns
 returns c d at but =

@@ -29,7 +29,7 @@ next c =
     let P : List ℕ → Type 0 = λ ns. IsRanked v.0 ns in
     let r = subst P (sym c.deref_mut-nodes.ensures.value) v.4 in
     let held : slice_index c.deref_mut-nodes.result.now x ≡ slice_index c.args.self.now c.args.group =
-        ap (λ ns. slice_index ns x) c.deref_mut-nodes.ensures.value ∙ sym (get_or-drop c.self.inside.first c.self.inside.nodes.items c.args.group 0) ∙ ap (λ rs. slice_index rs c.args.group) c.self.view_is in
+    ap (λ ns. slice_index ns x) c.deref_mut-nodes.ensures.value ∙ sym (get_or-drop c.self.inside.first c.self.inside.nodes.items c.args.group 0) ∙ ap (λ rs. slice_index rs c.args.group) c.self.view_is in
     rank_raised v.0 x c.args.rank c.deref_mut-nodes.result.now r (at c) v.1 (omega (arith, held, c.requires.up))
 
 pub raise-requires : goal.raise-requires
