@@ -1,5 +1,5 @@
 -- A status tree after a block came, went, was split or joined.
-use Rattle.std.proofs.Common.{ℕ, ◌+◌, ◌-◌, ◌/◌, ◌^◌, ◌≡◌, ◌≢◌, ◌≤◌, ◌<◌, inl, inr, sym, ◌∙◌, ap, arith, List, length, get_or, max, slice_index, slice_set, Option, Some, None, Vec}
+use Rattle.std.proofs.Common.{ℕ, ◌+◌, ◌-◌, ◌/◌, ◌%◌, ◌^◌, ◌≡◌, ◌≢◌, ◌≤◌, ◌<◌, inl, inr, sym, ◌∙◌, ap, arith, List, length, get_or, max, slice_index, slice_set, Option, Some, None, Vec}
 use Rattle.std.specs.Vec.{with_items}
 use Rattle.std.proofs.lemmas.Bool.{cases_eq, cases_lt}
 use Rattle.std.proofs.lemmas.List.{length-set, get_or-set_same, get_or-set_other, set-set, with_items_is}
@@ -9,7 +9,7 @@ use Rattle.zp_model.specs.BlockSet.{Starts}
 use Rattle.zp_model.proofs.Heads.{two, number_around}
 use Rattle.zp_tree.specs.declared.constants.TheConstants.{GROUP_ORDER, GROUP_PAGES}
 use Rattle.zp_tree.specs.Blocks.{IsBlockSet, IsApart, with_block, without_block, with_double, split_set}
-use Rattle.zp_tree.specs.Marks.{IsWords, IsInGroups, IsRemarked, IsDoubledUp, IsSplitUp, IsLowered}
+use Rattle.zp_tree.specs.Marks.{IsWords, IsInGroups, IsRemarked, IsDoubledUp, IsSplitUp, IsLowered, IsRankOf}
 use Rattle.zp_tree.specs.Spelled.{IsTreeOf}
 use Rattle.zp_tree.proofs.Apart.{set-starts, clear-starts, clear_apart, clear_still_apart}
 use Rattle.zp_tree.proofs.BlockSets.{same_page}
@@ -80,6 +80,19 @@ clear_tree m pages ls hs rs ms gs ts s p k t st r l =
     let inside : (i o : ℕ) → Starts c i o → IsInGroups gs i o = λ i o y. rw r.size (block_in_groups m pages ls hs rs s i o t (clear-starts s p i o lt y).1) in
     another m pages ls hs rs ms gs ts s c t r.words r.size (ap length l.after ∙ length-set rs g l.rank) (length-set s p None) (clear_block_set m s p k t.set st) marked
     (ranks_lowered ms gs rs ts s c g k t.ranked (changed_clear s p k lt st) room marked inside l)
+
+-- a group that was one block has none after it was cleared
+pub emptied : (m pages : ℕ) (ls hs rs ms gs : List ℕ) (s : List (Option ℕ)) (p k : ℕ) → IsTreeOf m pages ls hs rs s → Starts s p k → IsRemarked ls hs ms gs p k 0 → 2 ^ k ≡ GROUP_PAGES → IsRankOf ms gs (p / GROUP_PAGES) 0
+emptied m pages ls hs rs ms gs s p k t st r whole =
+    let b = t.set.block p k st in
+    let lt : p < length s = omega (arith, b.inside, whole) in
+    let al : p % GROUP_PAGES ≡ 0 = ap (λ n. p % n) (sym whole) ∙ b.aligned in
+    record {
+      most = λ i j h at.
+          let y = clear-starts s p i j lt ((marked_clear ls hs ms gs s p k t.marked r lt st i j h.inside).0 h.bit) in
+          absurd (y.0 (sym (same_page m s p k i j i t.set st y.1 (omega (arith, at, al)) (omega (arith, at, al, whole)) (omega arith) (omega (arith, pow_pos j)))));
+      some = λ j e. absurd (omega arith);
+    }
 
 -- no other block starts inside a block
 free_inside : (m : ℕ) (s : List (Option ℕ)) (p f i o : ℕ) → IsBlockSet m s → Starts s p f → p < i → i < p + 2 ^ f → Starts s i o → ⊥

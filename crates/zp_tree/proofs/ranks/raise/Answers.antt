@@ -1,4 +1,4 @@
-use Rattle.std.proofs.Common.{ℕ, rules, refl, ◌+◌, ◌-◌, ◌*◌, ◌/◌, ◌^◌, ◌≡◌, ◌≤◌, ◌<◌, ◌∙◌, sym, subst, arith, length, max, slice_index}
+use Rattle.std.proofs.Common.{ℕ, rules, refl, ◌+◌, ◌-◌, ◌*◌, ◌/◌, ◌≡◌, ◌≤◌, ◌<◌, ◌∙◌, sym, subst, arith, length, max, slice_index}
 use Rattle.std.proofs.lemmas.List.{drop-set-lt, get_or_default}
 use Rattle.zp_tree.specs.declared.constants.TheConstants.{FAN}
 use Rattle.zp_tree.specs.RankRows.{best_from, IsInRow, IsRankedBut}
