@@ -15,6 +15,10 @@ entry_at t p = slice_index_or t p blank
 abbrev pub IsUnlinked : List PageEntry → Type 0
 IsUnlinked t = (p : ℕ) → p < length t → ((entry_at t p).back ≡ None) × ((entry_at t p).forward ≡ None)
 
+-- the table with another entry of page p
+abbrev pub with_entry_at : List PageEntry → ℕ → PageEntry → List PageEntry
+with_entry_at t p e = slice_set t p e
+
 -- the table with another state, or other links, in the entry of page p
 abbrev pub with_state_at : List PageEntry → ℕ → State → List PageEntry
 with_state_at t p s = slice_set t p (record (entry_at t p) { state = s })

@@ -1,5 +1,5 @@
 //! The entry of a page in one word.
-ghost use Rattle.std.specs.Prelude.{◌≡◌};
+ghost use Rattle.std.specs.Prelude.{◌≡◌, ◌↔◌, IsTrue};
 ghost use Rattle.zp_table.specs.Packed.{packed};
 
 use crate::entry::PageEntry;
@@ -77,6 +77,13 @@ impl PackedEntry {
             2 => State::Out(order, migrate_type, worker),
             _ => State::Posted(order, migrate_type, worker),
         }
+    }
+
+    /// Whether this is the state. Its bits are compared, and nothing is unpacked.
+    pub fn is_state(self, state: State) -> bool
+        ensures { IsTrue result ↔ (self.state ≡ state) }
+    {
+        field(self.word, 0, FORWARD_AT) == packed_state(state)
     }
 
     pub fn back(self) -> Link

@@ -1,9 +1,9 @@
 //! The table of page entries.
 //!
 //! In Linux: `mem_map`, an array of `struct page`.
-ghost use Rattle.std.specs.Prelude.{◌≡◌, ◌<◌, ◌≤◌, length, replicate, IfOk};
+ghost use Rattle.std.specs.Prelude.{◌≡◌, ◌<◌, ◌≤◌, ◌↔◌, length, replicate, IfOk, IsTrue};
 ghost use Rattle.zp_model.specs.declared.constants.TheConstants.{MAX_PAGES};
-ghost use Rattle.zp_table.specs.Entries.{blank, entry_at, IsUnlinked, with_state_at, with_links_at, with_back_at, with_forward_at};
+ghost use Rattle.zp_table.specs.Entries.{blank, entry_at, IsUnlinked, with_entry_at, with_state_at, with_links_at, with_back_at, with_forward_at};
 ghost use Rattle.zp_table.specs.Packed.{packed};
 
 use crate::entry::PageEntry;
@@ -71,6 +71,14 @@ impl PageTable {
         self.entries[at.index()].state()
     }
 
+    /// Whether this is noted of a page. Its bits are compared, and nothing is unpacked.
+    pub fn holds(&self, at: PageAt, state: State) -> bool
+        requires { at < length self.now }
+        ensures { IsTrue result ↔ ((entry_at self.now at).state ≡ state) }
+    {
+        self.entries[at.index()].is_state(state)
+    }
+
     /// The page before a page in its list.
     pub fn back(&self, at: PageAt) -> Link
         requires { at < length self.now }
@@ -93,6 +101,14 @@ impl PageTable {
         ensures { result ≡ packed (entry_at self.now at) }
     {
         self.entries[at.index()].word()
+    }
+
+    /// Gives a page another entry, which is written whole.
+    pub fn set(&mut self, at: PageAt, entry: PageEntry)
+        requires { at < length self.old }
+        ensures { self.new ≡ with_entry_at self.old at entry }
+    {
+        self.entries[at.index()] = PackedEntry::new(entry);
     }
 
     pub fn set_state(&mut self, at: PageAt, state: State)
