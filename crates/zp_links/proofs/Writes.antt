@@ -7,7 +7,7 @@ use Rattle.zp_model.specs.declared.constants.TheConstants.{MAX_PAGES}
 use Rattle.zp_model.specs.declared.state.State.{State}
 use Rattle.zp_model.specs.Rows.{Rows, list_at, with_list, with_state, without_page, IsOn, IsLoose}
 use Rattle.zp_table.specs.declared.entry.PageEntry.{PageEntry}
-use Rattle.zp_table.specs.Entries.{entry_at, blank, with_links_at, with_state_at, IsUnlinked}
+use Rattle.zp_table.specs.Entries.{entry_at, blank, with_entry_at, with_links_at, with_state_at, IsUnlinked}
 use Rattle.zp_links.specs.declared.ends.Ends.{Ends}
 use Rattle.zp_links.specs.Linked.{states_of, back_at, forward_at, end_if, with_back_of, with_forward_of, spelled, ends_at, no_ends, before, At, IsLinked}
 use Rattle.zp_links.proofs.Places.{put, any_at, nowhere, before_has}
@@ -193,6 +193,39 @@ restated w t t' es p s v x e =
       apart = y.apart;
       loose = λ q none. (back q ∙ (y.loose q none).0, forward q ∙ (y.loose q none).1);
     })) (rw (e, states_set t p _) (ap (λ (z : Rows). set z.states p s) v))
+
+-- an entry that is written whole: its state and then its links, or its links and then its state
+abbrev pub noted : State → Option ℕ → Option ℕ → PageEntry
+noted s b f = record { state = s; back = b; forward = f }
+
+links_last : (t : List PageEntry) (p : ℕ) (s : State) (b f : Option ℕ) → with_entry_at t p (noted s b f) ≡ with_links_at (with_state_at t p s) p b f
+links_last [] p s b f = refl
+links_last (d ∷ t) zero s b f = refl
+links_last (d ∷ t) (suc p) s b f = cc (links_last t p s b f)
+
+state_last : (t : List PageEntry) (p : ℕ) (s : State) (b f : Option ℕ) → with_entry_at t p (noted s b f) ≡ with_state_at (with_links_at t p b f) p s
+state_last [] p s b f = refl
+state_last (d ∷ t) zero s b f = refl
+state_last (d ∷ t) (suc p) s b f = cc (state_last t p s b f)
+
+-- what a push leaves where the page's entry is written whole
+pub pushed_noted : (w : Rows) (r i p : ℕ) (s : State) (t t' : List PageEntry) (es : List Ends) (e d : Ends) (b f : Option ℕ) → value t es ≡ w → IsLinked t es (spelled t es) → r < length w.lists →
+    p < length w.states → IsLoose w.lists p → i ≤ length (list_at w.lists r) → b ≡ before (list_at w.lists r) i → f ≡ slice_get (list_at w.lists r) i → e ≡ get_or es r e →
+    t' ≡ with_forward_of (with_back_of (with_entry_at t p (noted s b f)) f (Some p)) b (Some p) → d.first ≡ end_if b (Some p) e.first → d.last ≡ end_if f (Some p) e.last → d.len ≡ e.len + 1 →
+    Spell t' (set es r d) (with_list (with_state w p s) r (put (list_at w.lists r) i p))
+pushed_noted w r i p s t t' es e d b f v x l here loose place eb ef read written first last count =
+    let y = restated w t (with_state_at t p s) es p s v x refl in
+    pushed (with_state w p s) r i p (with_state_at t p s) t' es e d b f y.1 y.0 l (omega (arith, length-set w.states p s)) loose place eb ef read (rw (links_last t p s b f) at written) first last count
+
+-- what a removal leaves where the page's entry is written whole
+pub removed_noted : (w : Rows) (r p : ℕ) (s : State) (t t' : List PageEntry) (es : List Ends) (e d : Ends) → value t es ≡ w → IsLinked t es (spelled t es) → IsOn w.lists r p → e ≡ get_or es r e →
+    t' ≡ with_entry_at (with_forward_of (with_back_of t (forward_at t p) (back_at t p)) (back_at t p) (forward_at t p)) p (noted s None None) →
+    d.first ≡ end_if (back_at t p) (forward_at t p) e.first → d.last ≡ end_if (forward_at t p) (back_at t p) e.last → d.len ≡ e.len - 1 →
+    Spell t' (set es r d) (with_state (with_list w r (without_page p (list_at w.lists r))) p s)
+removed_noted w r p s t t' es e d v x on read written first last count =
+    let t1 = closed t p (back_at t p) (forward_at t p) in
+    let y = removed_from w r p t t1 es e d v x on read refl first last count in
+    restated _ t1 t' (set es r d) p s y.1 y.0 (written ∙ state_last _ p s None None)
 
 -- empty lists
 pub opened : (t : List PageEntry) (es : List Ends) (n : ℕ) → length t ≤ MAX_PAGES → IsUnlinked t → es ≡ replicate n no_ends → Spell t es (record { lists = replicate n []; states = states_of t })

@@ -10,11 +10,11 @@ ghost use Rattle.zp_links.specs.Linked.{states_of, At, entry_in, loose_entry};
 ghost use Rattle.zp_links.specs.Moved.{StandAsBefore};
 
 use crate::ends::{Ends, is_front};
-use crate::neighbour::{set_back_or_last, set_forward_or_first};
+use crate::neighbour::{close_gap, set_back_or_last, set_forward_or_first};
 use std::alloc::{AllocError, Global};
 use std::marker::Model;
 use zp_model::PageAt;
-use zp_table::{Link, PageTable, State};
+use zp_table::{Link, PageEntry, PageTable, State};
 
 /// A row of lists of pages; no page stands twice.
 #[derive(Drop)]
@@ -71,6 +71,31 @@ impl Lists {
         ends.len += 1;
     }
 
+    /// Notes a state of a page and puts the page in front of a list: its entry is written once.
+    // inlined, as a state that the caller knows is packed when it is compiled
+    #[inline(always)]
+    pub fn push_front_noted(&mut self, list: usize, at: PageAt, state: State)
+        requires list { list < length self.old.lists }
+        requires page { at < length self.old.states }
+        requires loose { IsLoose self.old.lists at }
+        ensures after { self.new ≡ with_list (with_state self.old at state) list (at ∷ list_at self.old.lists list) }
+        ensures on { IsOn self.new.lists list at }
+        ensures others { StandAsBefore at self.old.lists self.new.lists }
+    {
+        let here = Link::to(at);
+        let ends = &mut self.ends[list];
+        let next = ends.first;
+        let entry = PageEntry {
+            state,
+            back: Link::none(),
+            forward: next,
+        };
+        self.table.set(at, entry);
+        set_back_or_last(&mut self.table, &mut ends.last, next, here);
+        ends.first = here;
+        ends.len += 1;
+    }
+
     /// Puts a page at the end of a list.
     pub fn push_back(&mut self, list: usize, at: PageAt)
         requires list { list < length self.old.lists }
@@ -96,14 +121,28 @@ impl Lists {
         ensures loose { IsLoose self.new.lists at }
         ensures others { StandAsBefore at self.old.lists self.new.lists }
     {
-        let back = self.table.back(at);
-        let forward = self.table.forward(at);
-        let ends = &mut self.ends[list];
-        set_back_or_last(&mut self.table, &mut ends.last, forward, back);
-        set_forward_or_first(&mut self.table, &mut ends.first, back, forward);
-        ends.len -= 1;
+        close_gap(&mut self.table, &mut self.ends[list], at);
         let nowhere = Link::none();
         self.table.set_links(at, nowhere, nowhere);
+    }
+
+    /// Takes a page out of its list and notes a state of it: its entry is written once.
+    // inlined, as a state that the caller knows is packed when it is compiled
+    #[inline(always)]
+    pub fn remove_noted(&mut self, list: usize, at: PageAt, state: State)
+        requires { IsOn self.old.lists list at }
+        ensures after { self.new ≡ with_state (with_list self.old list (without_page at (list_at self.old.lists list))) at state }
+        ensures loose { IsLoose self.new.lists at }
+        ensures others { StandAsBefore at self.old.lists self.new.lists }
+    {
+        close_gap(&mut self.table, &mut self.ends[list], at);
+        let nowhere = Link::none();
+        let entry = PageEntry {
+            state,
+            back: nowhere,
+            forward: nowhere,
+        };
+        self.table.set(at, entry);
     }
 
     /// Takes the page in front of a list.
@@ -192,6 +231,14 @@ impl Lists {
         ensures { result ≡ state_at self.now.states at }
     {
         self.table.state(at)
+    }
+
+    /// Whether this is noted of a page. Its bits are compared, and nothing is unpacked.
+    pub fn holds(&self, at: PageAt, state: State) -> bool
+        requires { at < length self.now.states }
+        ensures { IsTrue result ↔ (state_at self.now.states at ≡ state) }
+    {
+        self.table.holds(at, state)
     }
 
     /// Notes another state of a page.

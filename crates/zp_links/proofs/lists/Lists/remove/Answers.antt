@@ -1,4 +1,4 @@
-use Rattle.std.proofs.Common.{◌-◌, set, refl}
+use Rattle.std.proofs.Common.{set, refl}
 use Rattle.zp_model.specs.Rows.{list_at, with_list, without_page}
 use Rattle.zp_links.proofs.Writes.{Spell, linked_in, removed_from, length-back, length-forward}
 use Rattle.zp_links.proofs.Telling.{within, next_stands, previous_stands, row_in}
@@ -6,29 +6,22 @@ use Rattle.zp_links.proofs.Moving.{taken_off}
 use Rattle.zp_links.proofs.lists.Lists.remove.Goals.{After-set_links}
 use Rattle.zp_links.proofs.lists.Lists.remove.Goals as goal
 
-pub back-back-requires : goal.back-back-requires
-back-back-requires c = within _ _ _ (linked_in _ _ _ c.self.view_is c.self.invariant) c.args.list c.args.at c.requires
+pub close_gap-requires-clause-page : goal.close_gap-requires-clause-page
+close_gap-requires-clause-page c = within _ _ _ (linked_in _ _ _ c.self.view_is c.self.invariant) c.args.list c.args.at c.requires
 
-pub forward-forward-requires : goal.forward-forward-requires
-forward-forward-requires c = within _ _ _ (linked_in _ _ _ c.self.view_is c.self.invariant) c.args.list c.args.at c.requires
+pub close_gap-requires-clause-back : goal.close_gap-requires-clause-back
+close_gap-requires-clause-back c = previous_stands _ _ _ (linked_in _ _ _ c.self.view_is c.self.invariant) c.args.list c.args.at c.requires
 
-pub set_back_or_last-requires : goal.set_back_or_last-requires
-set_back_or_last-requires c = rw (c.forward-forward.ensures) (next_stands _ _ _ (linked_in _ _ _ c.self.view_is c.self.invariant) c.args.list c.args.at c.requires)
-
-pub set_forward_or_first-requires : goal.set_forward_or_first-requires
-set_forward_or_first-requires c =
-    rw (c.set_back_or_last.ensures.table, length-back, c.back-back.ensures) (previous_stands _ _ _ (linked_in _ _ _ c.self.view_is c.self.invariant) c.args.list c.args.at c.requires)
+pub close_gap-requires-clause-forward : goal.close_gap-requires-clause-forward
+close_gap-requires-clause-forward c = next_stands _ _ _ (linked_in _ _ _ c.self.view_is c.self.invariant) c.args.list c.args.at c.requires
 
 pub set_links-requires : goal.set_links-requires
-set_links-requires c =
-    rw (c.set_forward_or_first.ensures.table, length-forward, c.set_back_or_last.ensures.table, length-back) (within _ _ _ (linked_in _ _ _ c.self.view_is c.self.invariant) c.args.list c.args.at c.requires)
+set_links-requires c = rw (c.close_gap.ensures.table, length-forward, length-back) (within _ _ _ (linked_in _ _ _ c.self.view_is c.self.invariant) c.args.list c.args.at c.requires)
 
-wrote : (c : After-set_links) → Spell c.set_links.new.self (set c.self.inside.ends.items c.args.list (record { first = c.set_forward_or_first.new.first; last = c.set_back_or_last.new.last; len = c.index_mut-ends.result.now.len - 1 }))
-    (with_list c.args.self.now c.args.list (without_page c.args.at (list_at c.args.self.now.lists c.args.list)))
+wrote : (c : After-set_links) → Spell c.set_links.new.self (set c.self.inside.ends.items c.args.list c.close_gap.new.ends) (with_list c.args.self.now c.args.list (without_page c.args.at (list_at c.args.self.now.lists c.args.list)))
 wrote c =
-    removed_from c.args.self.now c.args.list c.args.at c.self.inside.table _ c.self.inside.ends.items c.index_mut-ends.result.now _ c.self.view_is c.self.invariant c.requires c.index_mut-ends.ensures.value
-    (rw (c.set_links.ensures, c.set_forward_or_first.ensures.table, c.set_back_or_last.ensures.table, c.none-nowhere.ensures, c.back-back.ensures, c.forward-forward.ensures) refl)
-    (rw (c.back-back.ensures, c.forward-forward.ensures) at c.set_forward_or_first.ensures.first) (rw (c.back-back.ensures, c.forward-forward.ensures) at c.set_back_or_last.ensures.last) refl
+    removed_from c.args.self.now c.args.list c.args.at c.self.inside.table _ c.self.inside.ends.items c.index_mut.result.now _ c.self.view_is c.self.invariant c.requires c.index_mut.ensures.value
+    (rw (c.set_links.ensures, c.close_gap.ensures.table, c.none-nowhere.ensures) refl) c.close_gap.ensures.first c.close_gap.ensures.last c.close_gap.ensures.len
 
 pub invariant_of-self : goal.invariant_of-self
 invariant_of-self c = (wrote (goal.at.invariant_of-self c).After-set_links).0
