@@ -42,9 +42,8 @@ pub record IsMoreKept (m : ℕ) (a : Blocks) (tree : List (Option ℕ)) (free_in
       (set free_in (h / pageblock_pages m) (slice_index free_in (h / pageblock_pages m) + 2 ^ k))
 
 -- the rows after it, in the words of the code
-pub now_added : (m : ℕ) (a : Blocks) (h k r : ℕ) (v w : Rows) → v ≡ with_state a.rows h (Free k) → w ≡ with_list v r (h ∷ list_at v.lists r) → r ≡ list_of_block m a h k →
-    w ≡ (added m a h k).rows
-now_added m a h k r v w ev ew er = rw (ew, ev, er)
+pub now_added : (m : ℕ) (a : Blocks) (h k r : ℕ) (w : Rows) → w ≡ with_list (with_state a.rows h (Free k)) r (h ∷ list_at a.rows.lists r) → r ≡ list_of_block m a h k → w ≡ (added m a h k).rows
+now_added m a h k r w ew er = rw (ew, er)
 
 module _ {m : ℕ} {a : Blocks} {h k : ℕ} (x : IsComing m a h k) where
   pub coming_new : IsNew m (block_set a) h k

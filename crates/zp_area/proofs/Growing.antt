@@ -1,15 +1,17 @@
--- A block that comes back and grows: what is kept beside the lists, buddy by buddy.
-use Rattle.std.proofs.Common.{ℕ, suc, ◌+◌, ◌-◌, ◌/◌, ◌^◌, ◌≡◌, ◌≢◌, ◌≤◌, ◌<◌, ◌⊎◌, inl, inr, refl, sym, ◌∙◌, ap, arith, List, length, set, get_or, get_or-set_same, get_or-set_other, length-set, Option, Some, None}
+-- A block that comes back and grows: what is kept beside the lists, buddy by buddy, and what the tree of them all is.
+use Rattle.std.proofs.Common.{ℕ, zero, suc, ◌+◌, ◌-◌, ◌/◌, ◌^◌, ◌≡◌, ◌≢◌, ◌≤◌, ◌<◌, ◌⊎◌, inl, inr, refl, sym, ◌∙◌, ap, subst, arith, List, length, set, get_or, get_or-set_same, get_or-set_other, length-set, Option, Some, None}
 use Rattle.std.specs.List.{slice_index}
 use Rattle.std.proofs.lemmas.Nat.{pow_pos}
-use Rattle.std.proofs.lemmas.List.{map-set, set-get_or, set-set, set_comm}
+use Rattle.std.proofs.lemmas.Bool.{cases_lt}
+use Rattle.std.proofs.lemmas.List.{map-set, set-get_or, set-set, set_past}
 use Rattle.zp_model.specs.declared.migrate_type.MigrateType.{MigrateType}
 use Rattle.zp_model.specs.declared.state.State.TheVariants.{Tail}
 use Rattle.zp_model.specs.Block.{head, IsBlock, IsBuddy}
 use Rattle.zp_model.specs.BlockSet.{Starts}
 use Rattle.zp_model.specs.Area.{pageblock_pages, kind_at}
-use Rattle.zp_model.proofs.Heads.{two, head_of, number_around}
-use Rattle.zp_tree.specs.Blocks.{with_block, with_double}
+use Rattle.zp_model.proofs.Heads.{two, head_le, lt_head, head_of, head_self, number_around}
+use Rattle.zp_tree.specs.Blocks.{with_block, buddy, without_buddies, joined_set, HasBuddies}
+use Rattle.zp_tree.proofs.Apart.{clear-starts}
 use Rattle.zp_area.specs.Given.{IsClearRun}
 use Rattle.zp_area.specs.NotedBlocks.{free_order}
 use Rattle.zp_area.specs.Blocks.{Blocks, block_set, added, removed}
@@ -22,29 +24,38 @@ use Rattle.zp_area.proofs.Adding.{IsComing, coming_new, kept_added}
 use Rattle.zp_area.proofs.Removing.{clear_removed, clear_still, kept_removed}
 use Rattle.zp_area.proofs.Splitting.{kept_set}
 
--- the block (h, k), which comes back to a, has grown to (g, j): b is a without the buddies, and the tree has what has grown; of the pages
--- of the pageblock those are counted that are in blocks of b
-pub record IsGrowing (m : ℕ) (a b : Blocks) (tree : List (Option ℕ)) (free_in : List ℕ) (h k g j : ℕ) : Type 0 where
+-- the block (h, k), which comes back to a, has grown to (g, j): b is a without the buddies; of the pages of the pageblock those are
+-- counted that are in blocks of b
+pub record IsGrowing (m : ℕ) (a b : Blocks) (free_in : List ℕ) (h k g j : ℕ) : Type 0 where
+  pub up : k ≤ j
   pub kinds : b.kinds ≡ a.kinds
+  pub pages : length b.rows.states ≡ length a.rows.states
   pub number : g / pageblock_pages m ≡ h / pageblock_pages m
   pub most : 2 ^ j ≤ slice_index free_in (h / pageblock_pages m) + 2 ^ k
   pub kept : IsKept m b (block_set b) (set free_in (h / pageblock_pages m) (slice_index free_in (h / pageblock_pages m) + 2 ^ k - 2 ^ j))
-  pub same : tree ≡ with_block (block_set b) g j
+  pub around : g ≡ head h j
+  pub buddies : HasBuddies (block_set a) h k j
+  pub same : block_set b ≡ without_buddies (block_set a) h k (j - k)
   pub block : IsBlock m (length b.rows.states) g j
   pub clear : IsClearRun m b.rows.states b.rows.lists g j
   pub after : (n : Blocks) (i : ℕ) → IsJoinedUp i m b g j n → (e : ℕ) × IsJoinedUp e m a h k n
 
 pub grow_begins : (m : ℕ) (a : Blocks) (t : List (Option ℕ)) (free_in : List ℕ) (h k : ℕ) → IsKept m a t free_in → IsBlock m (length a.rows.states) h k → IsClearRun m a.rows.states a.rows.lists h k →
-    IsGrowing m a a (with_block t h k) free_in h k h k
+    IsGrowing m a a free_in h k h k
 grow_begins m a t free_in h k x b clear =
     let p : ℕ = h / pageblock_pages m in
     let same : slice_index free_in p + 2 ^ k - 2 ^ k ≡ slice_index free_in p = omega arith in
+    let none_yet : 0 ≡ k - k = omega arith in
     record {
+      up = omega arith;
       kinds = refl;
+      pages = refl;
       number = refl;
       most = omega arith;
       kept = rw (same, set-get_or free_in p 0) (kept_set m a t free_in x);
-      same = ap (λ q. set q h (Some k)) x.same;
+      around = sym (head_self h k b.aligned);
+      buddies = λ j from to. absurd (omega arith);
+      same = ap (λ d. without_buddies (block_set a) h k d) none_yet;
       block = b;
       clear = clear;
       after = λ n i w. (i, w);
@@ -58,20 +69,24 @@ buddy_unique b j c d e f x y =
     let dy : head b (j + 1) ≡ f = head_of f b (j + 1) y.double (omega (arith, two j)) (omega (arith, two j)) in
     omega arith
 
-module _ {m : ℕ} {a b : Blocks} {tree : List (Option ℕ)} {free_in : List ℕ} {h k g j : ℕ} (x : IsGrowing m a b tree free_in h k g j) where
+-- a block of the set without some buddies was there before
+starts_before : (d : ℕ) (s : List (Option ℕ)) (h k p i : ℕ) → Starts (without_buddies s h k d) p i → Starts s p i
+starts_before zero s h k p i st = st
+starts_before (suc d) s h k p i st =
+    let left : List (Option ℕ) = without_buddies s h k d in
+    let q : ℕ = buddy h (k + d) in
+    starts_before d s h k p i (elim (cases_lt q (length left)) [
+      | inl lt ↦ (clear-starts left q p i lt st).1
+      | inr past ↦ sym (ap (λ s. get_or s p None) (set_past left q None past)) ∙ st
+    ])
+
+module _ {m : ℕ} {a b : Blocks} {free_in : List ℕ} {h k g j : ℕ} (x : IsGrowing m a b free_in h k g j) where
   pub grown_coming : IsComing m b g j
   grown_coming = record { one = x.kept.one; block = x.block; clear = x.clear }
 
-  -- no block of b starts where the grown block does
-  none_here : get_or (block_set b) g None ≡ None
-  none_here = no_block (get_or (block_set b) g None) (new_none m (block_set b) g j x.kept.one.blocks (coming_new grown_coming))
-    where
-      no_block : (o : Option ℕ) → ((i : ℕ) → o ≡ Some i → ⊥) → o ≡ None
-      no_block o f = grind arith
-
-  -- the tree is over the pages
-  pub tree_length : length tree ≡ length b.rows.states
-  tree_length = rw x.same (length-set (block_set b) g (Some j) ∙ blocks_length b.rows.states)
+  -- what has grown is a block of the set's pages
+  pub grown_block : IsBlock m (length (block_set a)) (head h j) j
+  grown_block = rw (blocks_length a.rows.states, ← x.pages, ← x.around) x.block
 
   -- the type of the pageblock is that of the grown block's
   pub grown_kind : (t : MigrateType) → t ≡ kind_at m a.kinds h → t ≡ kind_at m b.kinds g
@@ -101,32 +116,39 @@ module _ {m : ℕ} {a b : Blocks} {tree : List (Option ℕ)} {free_in : List ℕ
     pub buddy_kind : (t : MigrateType) → t ≡ kind_at m a.kinds h → t ≡ kind_at m b.kinds c
     buddy_kind t e = rw (buddy_number, x.kinds) e
 
-    -- in the tree the two are the halves of the double
-    pub tree_halves : Starts tree d j × Starts tree (d + 2 ^ j) j
-    tree_halves =
-        let apart : c ≢ g = λ e. let q = y.buddy.halves in omega (arith, e, pow_pos j) in
-        let at_g : Starts tree g j = rw x.same (get_or-set_same (block_set b) g (Some j) None (omega (arith, blocks_length b.rows.states, x.block.inside, pow_pos j))) in
-        let at_c : Starts tree c j = rw x.same (get_or-set_other (block_set b) g c (Some j) None apart ∙ buddy_starts) in
-        elim y.buddy.halves [ inl e ↦ (rw (← e.0) at_g, rw (← e.1) at_c) | inr e ↦ (rw (← e.0) at_c, rw (← e.1) at_g) ]
+    -- the block lies in its double
+    inside_double : (d ≤ h) × (h < d + 2 ^ (j + 1))
+    inside_double =
+        let q = y.buddy.halves in
+        let lo : g ≤ h = rw x.around (head_le h j) in
+        let hi : h < g + 2 ^ j = rw x.around (lt_head h j) in
+        (omega (arith, two j), omega (arith, two j))
 
-    doubled : with_double tree d j ≡ with_block (block_set (removed m b c j)) d (j + 1)
-    doubled =
-        let s : List (Option ℕ) = block_set b in
-        let pos : 0 < 2 ^ j = pow_pos j in
-        ap (λ q. with_double q d j) x.same
-        ∙ elim y.buddy.halves [
-          | inl e ↦
-              ap (λ q. set (set (set s g (Some j)) q None) d (Some (j + 1))) (sym e.1)
-              ∙ ap (λ q. set q d (Some (j + 1))) (set_comm s g c (Some j) None (λ f. omega (arith, e.0, e.1, f)))
-              ∙ ap (λ q. set (set (set s c None) q (Some j)) d (Some (j + 1))) e.0
-              ∙ set-set (set s c None) d (Some j) (Some (j + 1))
-          | inr e ↦
-              ap (λ q. set (set (set s g (Some j)) q None) d (Some (j + 1))) (sym e.1)
-              ∙ ap (λ q. set q d (Some (j + 1))) (set-set s g (Some j) None ∙ ap (λ q. set s g q) (sym none_here) ∙ set-get_or s g None)
-              ∙ sym (set-set s d None (Some (j + 1)))
-              ∙ ap (λ q. set (set s q None) d (Some (j + 1))) (sym e.0)
-        ]
-        ∙ ap (λ q. set q d (Some (j + 1))) (sym (map-set free_order b.rows.states c Tail))
+    double_around : d ≡ head h (j + 1)
+    double_around = sym (head_of d h (j + 1) y.buddy.double inside_double.0 inside_double.1)
+
+    buddy_around : c ≡ buddy h j
+    buddy_around = let q = y.buddy.halves in let e = x.around in omega (arith, double_around, pow_pos j)
+
+    more_buddies : HasBuddies (block_set a) h k (j + 1)
+    more_buddies i from to = elim (cases_lt i j) [
+      | inl lt ↦ x.buddies i from lt
+      | inr ge ↦
+          let e : j ≡ i = omega arith in
+          let here : Starts (block_set b) (buddy h j) j = rw buddy_around at buddy_starts in
+          let before : Starts (block_set a) (buddy h j) j = starts_before (j - k) (block_set a) h k (buddy h j) j (rw x.same at here) in
+          let P : ℕ → Type 0 = λ n. Starts (block_set a) (buddy h n) n in
+          subst P e before
+    ]
+
+    one_less : block_set (removed m b c j) ≡ without_buddies (block_set a) h k (j + 1 - k)
+    one_less =
+        let at : k + (j - k) ≡ j = let u = x.up in omega arith in
+        let steps : suc (j - k) ≡ j + 1 - k = let u = x.up in omega arith in
+        map-set free_order b.rows.states c Tail
+        ∙ ap (λ s. set s c None) x.same
+        ∙ ap (λ q. set (without_buddies (block_set a) h k (j - k)) q None) (buddy_around ∙ ap (λ n. buddy h n) (sym at))
+        ∙ ap (λ n. without_buddies (block_set a) h k n) steps
 
     double_clear : IsClearRun m (removed m b c j).rows.states (removed m b c j).rows.lists d (j + 1)
     double_clear i lo hi = elim (halves_cases i lo hi) [
@@ -140,7 +162,7 @@ module _ {m : ℕ} {a b : Blocks} {tree : List (Option ℕ)} {free_in : List ℕ
         halves_cases : (i : ℕ) → d ≤ i → i < d + 2 ^ (j + 1) → ((g ≤ i) × (i < g + 2 ^ j)) ⊎ ((c ≤ i) × (i < c + 2 ^ j))
         halves_cases i lo hi = let q = y.buddy.halves in elim (run_cases g j i) [ inl w ↦ inl w | inr out ↦ inr (omega (arith, two j), omega (arith, two j)) ]
 
-    pub grow_goes : h / pageblock_pages m < length free_in → IsGrowing m a (removed m b c j) (with_double tree d j) free_in h k d (j + 1)
+    pub grow_goes : h / pageblock_pages m < length free_in → IsGrowing m a (removed m b c j) free_in h k d (j + 1)
     grow_goes lt =
         let p : ℕ = h / pageblock_pages m in
         let v : ℕ = slice_index free_in (h / pageblock_pages m) in
@@ -151,11 +173,15 @@ module _ {m : ℕ} {a b : Blocks} {tree : List (Option ℕ)} {free_in : List ℕ
         let free : set free_in p (v + 2 ^ k - 2 ^ (j + 1)) ≡ set was (c / pageblock_pages m) (slice_index was (c / pageblock_pages m) - 2 ^ j) =
         sym (set-set free_in p (v + 2 ^ k - 2 ^ j) (v + 2 ^ k - 2 ^ (j + 1))) ∙ ap (λ q. set was p q) (omega (arith, had, x.most, two j)) ∙ ap (λ q. set was q (slice_index was q - 2 ^ j)) (sym buddy_number) in
         record {
+          up = let u = x.up in omega arith;
           kinds = x.kinds;
+          pages = length-set b.rows.states c Tail ∙ x.pages;
           number = double_number;
           most = omega (arith, had, most, x.most, two j);
           kept = rw free (kept_set m _ _ _ z.kept);
-          same = doubled;
+          around = double_around;
+          buddies = more_buddies;
+          same = one_less;
           block = rw (length-set b.rows.states c Tail) double_block;
           clear = double_clear;
           after = λ n i r. x.after n (suc i) (c, d, y, r);
@@ -163,7 +189,7 @@ module _ {m : ℕ} {a b : Blocks} {tree : List (Option ℕ)} {free_in : List ℕ
 
   -- the grown block has no free buddy, and is added
   pub grow_ends : ((c d : ℕ) → IsJoinable m b g j c d → ⊥) → h / pageblock_pages m < length free_in →
-      IsKept m (added m b g j) tree (set free_in (h / pageblock_pages m) (slice_index free_in (h / pageblock_pages m) + 2 ^ k)) ×
+      IsKept m (added m b g j) (joined_set (block_set a) h k j) (set free_in (h / pageblock_pages m) (slice_index free_in (h / pageblock_pages m) + 2 ^ k)) ×
       ((e : ℕ) × IsJoinedUp e m a h k (added m b g j))
   grow_ends stop lt =
       let p : ℕ = h / pageblock_pages m in
@@ -173,4 +199,6 @@ module _ {m : ℕ} {a b : Blocks} {tree : List (Option ℕ)} {free_in : List ℕ
       let had : slice_index was p ≡ v + 2 ^ k - 2 ^ j = get_or-set_same free_in p (v + 2 ^ k - 2 ^ j) 0 lt in
       let free : set free_in p (v + 2 ^ k) ≡ set was (g / pageblock_pages m) (slice_index was (g / pageblock_pages m) + 2 ^ j) =
       sym (set-set free_in p (v + 2 ^ k - 2 ^ j) (v + 2 ^ k)) ∙ ap (λ q. set was p q) (omega (arith, had, x.most)) ∙ ap (λ q. set was q (slice_index was q + 2 ^ j)) (sym x.number) in
-      (rw (x.same, free) z.kept, x.after (added m b g j) 0 (refl, stop))
+      let tree : joined_set (block_set a) h k j ≡ with_block (block_set b) g j =
+      ap (λ s. with_block s (head h j) j) (sym x.same) ∙ ap (λ q. with_block (block_set b) q j) (sym x.around) in
+      (rw (tree, free) z.kept, x.after (added m b g j) 0 (refl, stop))

@@ -105,37 +105,44 @@ impl FreeArea {
     {
         let pageblock = at.pageblock();
         let list = list_of(order, self.kinds[pageblock]);
-        self.lists.set_state(at, State::Free(order));
-        self.lists.push_front(list, at);
+        self.lists.push_front_noted(list, at, State::Free(order));
         self.tree.set(at, order);
         self.free_in[pageblock] += order.pages();
     }
 
     /// Takes a block of order `from` out of the set, and its high halves down to order `to` into it, the largest first. Its low part
     /// of order `to` is in no block then.
+    #[inline(always)]
     pub fn split_off(&mut self, at: PageAt, from: Order, to: Order)
         requires block { Starts (block_set self.old) at from }
         requires down { to ≤ from }
         ensures { self.new ≡ split_off LARGEST_ORDER self.old at from to }
     {
-        splits::split_off(
-            &mut self.lists,
-            &self.kinds,
-            &mut self.tree,
-            &mut self.free_in,
-            at,
-            from,
-            to,
-        );
+        let FreeArea {
+            lists,
+            kinds,
+            tree,
+            free_in,
+        } = self;
+        if to.number() < from.number() {
+            splits::split_off(lists, kinds, tree, free_in, at, from, to);
+        } else {
+            splits::take_whole(lists, kinds, tree, free_in, at, from);
+        }
     }
 
     /// Takes a block into the set, joined with its buddies as long as they are in the set: each leaves it, and what the block has
     /// grown to comes.
+    #[inline(always)]
     pub fn join_up(&mut self, at: PageAt, order: Order)
         requires block { IsBlock LARGEST_ORDER (length self.old.rows.states) at order }
         requires clear { IsClearRun LARGEST_ORDER self.old.rows.states self.old.rows.lists at order }
         ensures { (d : ℕ) × IsJoinedUp d LARGEST_ORDER self.old at order self.new }
     {
+        if !joins::has_free_buddy(&self.lists, at, order) {
+            self.add(at, order);
+            return;
+        }
         joins::join_up(
             &mut self.lists,
             &self.kinds,

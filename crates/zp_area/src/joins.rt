@@ -1,10 +1,10 @@
 //! Joining a block that comes back with its free buddies, as one change of what is kept beside the lists.
 //!
 //! In Linux: `__free_one_page`, with `page_is_buddy`.
-ghost use Rattle.std.specs.Prelude.{◌≡◌, ◌↔◌, ℕ, length, IsTrue};
+ghost use Rattle.std.specs.Prelude.{◌≡◌, ◌%◌, ◌^◌, ◌↔◌, ◌<◌, ℕ, false, length, IsTrue};
 ghost use Rattle.zp_model.specs.declared.constants.TheConstants.{LARGEST_ORDER};
 ghost use Rattle.zp_model.specs.declared.state.State.TheVariants.{Free};
-ghost use Rattle.zp_model.specs.Block.{IsBlock};
+ghost use Rattle.zp_model.specs.Block.{IsBlock, IsBuddy};
 ghost use Rattle.zp_model.specs.Rows.{state_at};
 ghost use Rattle.zp_area.specs.Chains.{IsJoinedUp};
 ghost use Rattle.zp_area.specs.Given.{IsClearRun};
@@ -19,11 +19,21 @@ use zp_tree::OrderTree;
 pub fn is_free(lists: &Lists, at: PageAt, order: Order) -> bool
     ensures { IsTrue result ↔ (state_at lists.now.states at ≡ Free order) }
 {
-    at.index() < lists.pages() && lists.state(at) == State::Free(order)
+    at.index() < lists.pages() && lists.holds(at, State::Free(order))
 }
 
-/// Takes a block into the set, joined with its buddies as long as they are free. It stands in the tree from the first, and
-/// doubles there with each buddy that leaves its list; its head comes on a list last.
+/// Whether a block has a free buddy, with which it makes a larger one.
+pub fn has_free_buddy(lists: &Lists, at: PageAt, order: Order) -> bool
+    requires { at % 2 ^ order ≡ 0 }
+    ensures { result ≡ false → order < LARGEST_ORDER → (c d : ℕ) → IsBuddy at order c d → state_at lists.now.states c ≡ Free order → ⊥ }
+{
+    order.number() < LARGEST_ORDER && is_free(lists, at.buddy(order), order)
+}
+
+/// Takes a block into the set, joined with its buddies as long as they are free. Each leaves its list; the head of what the block
+/// has grown to comes on a list last, and in the tree all is one change.
+// (out of line: a block with no free buddy is added, which is the shorter way)
+#[inline(never)]
 pub fn join_up(
     lists: &mut Lists,
     kinds: &Vec<MigrateType>,
@@ -41,7 +51,6 @@ pub fn join_up(
     let pageblock = at.pageblock();
     let kind = kinds[pageblock];
     free_in[pageblock] += order.pages();
-    tree.set(at, order);
     let mut head = at;
     let mut joined = order;
     'joins: while joined.number() < LARGEST_ORDER {
@@ -51,8 +60,8 @@ pub fn join_up(
         }
         take_out(lists, kind, buddy, joined);
         head = PageAt::at(head.number().min(buddy.number()));
-        tree.double(head, joined);
         joined = joined.higher();
     }
+    tree.join(at, order, joined);
     put_in(lists, kind, head, joined);
 }

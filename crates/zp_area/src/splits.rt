@@ -7,8 +7,7 @@ ghost use Rattle.zp_model.specs.declared.state.State.TheVariants.{Free, Tail};
 ghost use Rattle.zp_model.specs.BlockSet.{Starts};
 ghost use Rattle.zp_model.specs.Rows.{IsLoose, IsOn, with_state};
 ghost use Rattle.zp_model.specs.Area.{list_number, lists_count};
-ghost use Rattle.zp_tree.specs.Blocks.{split_set};
-ghost use Rattle.zp_area.specs.Blocks.{block_set, put_in_front, taken_off};
+ghost use Rattle.zp_area.specs.Blocks.{block_set, put_in_front, removed, taken_off};
 ghost use Rattle.zp_area.specs.Chains.{split_off};
 ghost use Rattle.zp_area.specs.OneSet.{IsKept};
 
@@ -25,8 +24,7 @@ pub fn put_in(lists: &mut Lists, kind: MigrateType, at: PageAt, order: Order)
     requires loose { IsLoose lists.old.lists at }
     ensures { lists.new ≡ put_in_front (with_state lists.old at (Free order)) (list_number order kind) at }
 {
-    lists.set_state(at, State::Free(order));
-    lists.push_front(list_of(order, kind), at);
+    lists.push_front_noted(list_of(order, kind), at, State::Free(order));
 }
 
 /// Takes the head of a block off its list, and notes the block as free no more.
@@ -36,26 +34,35 @@ pub fn take_out(lists: &mut Lists, kind: MigrateType, at: PageAt, order: Order)
     requires on { IsOn lists.old.lists (list_number order kind) at }
     ensures { lists.new ≡ with_state (taken_off lists.old (list_number order kind) at) at Tail }
 {
-    lists.remove(list_of(order, kind), at);
-    lists.set_state(at, State::Tail);
+    lists.remove_noted(list_of(order, kind), at, State::Tail);
 }
 
-/// Splits a block in the tree, or takes it out whole.
+/// Takes the block of this order at a page out of the set whole.
 #[inline(always)]
-fn split_in_tree(tree: &mut OrderTree, at: PageAt, from: Order, to: Order)
-    requires block { Starts tree.old at from }
-    requires down { to ≤ from }
-    ensures { tree.new ≡ split_set tree.old at from to }
+pub fn take_whole(
+    lists: &mut Lists,
+    kinds: &Vec<MigrateType>,
+    tree: &mut OrderTree,
+    free_in: &mut Vec<u32>,
+    at: PageAt,
+    order: Order,
+)
+    requires kept { IsKept LARGEST_ORDER (record { rows = lists.old; kinds = kinds.now.items }) tree.old free_in.old.items }
+    requires block { Starts (block_set (record { rows = lists.old; kinds = kinds.now.items })) at order }
+    ensures kept { IsKept LARGEST_ORDER (record { rows = lists.new; kinds = kinds.now.items }) tree.new free_in.new.items }
+    ensures after { (record { rows = lists.new; kinds = kinds.now.items }) ≡ removed LARGEST_ORDER (record { rows = lists.old; kinds = kinds.now.items }) at order }
 {
-    if to.number() < from.number() {
-        tree.split(at, from, to);
-    } else {
-        tree.clear(at, from);
-    }
+    let pageblock = at.pageblock();
+    let kind = kinds[pageblock];
+    take_out(lists, kind, at, order);
+    tree.clear(at, order);
+    free_in[pageblock] -= order.pages();
 }
 
 /// Takes the block of order `from` at `at` out of the set, and its high halves down to order `to` into it. The tree changes once,
 /// and so does the number of free pages of the pageblock.
+// (out of line: most blocks are taken whole, which is the shorter way)
+#[inline(never)]
 pub fn split_off(
     lists: &mut Lists,
     kinds: &Vec<MigrateType>,
@@ -67,14 +74,14 @@ pub fn split_off(
 )
     requires kept { IsKept LARGEST_ORDER (record { rows = lists.old; kinds = kinds.now.items }) tree.old free_in.old.items }
     requires block { Starts (block_set (record { rows = lists.old; kinds = kinds.now.items })) at from }
-    requires down { to ≤ from }
+    requires down { to < from }
     ensures kept { IsKept LARGEST_ORDER (record { rows = lists.new; kinds = kinds.now.items }) tree.new free_in.new.items }
     ensures after { (record { rows = lists.new; kinds = kinds.now.items }) ≡ split_off LARGEST_ORDER (record { rows = lists.old; kinds = kinds.now.items }) at from to }
 {
     let pageblock = at.pageblock();
     let kind = kinds[pageblock];
     take_out(lists, kind, at, from);
-    split_in_tree(tree, at, from, to);
+    tree.split(at, from, to);
     let mut order = from;
     'halves: while to.number() < order.number() {
         order = order.lower();

@@ -14,7 +14,7 @@ use zp_area::FreeArea;
 use zp_model::{Order, PageAt};
 
 /// Takes the free block of order `found` at `head`, splits it down to `order`, and leaves its low part out of the area.
-#[inline]
+#[inline(always)]
 pub fn take_block(area: &mut FreeArea, head: PageAt, found: Order, order: Order)
     requires down { order ≤ found }
     requires free { Starts (block_set area.old) head found }

@@ -4,9 +4,11 @@ use Rattle.std.proofs.lemmas.Bool.{cases_eq, cases_lt}
 use Rattle.std.proofs.lemmas.List.{length-set, get_or-set_same, get_or-set_other}
 use Rattle.std.proofs.lemmas.Nat.{pow_pos, pow_below}
 use Rattle.zp_model.specs.BlockSet.{Starts}
-use Rattle.zp_tree.specs.Blocks.{with_block, without_block, with_double, split_set}
-use Rattle.zp_tree.specs.Marks.{mark, IsInGroups, IsRemarked, IsDoubledUp, IsSplitUp}
+use Rattle.zp_model.specs.Block.{head}
+use Rattle.zp_tree.specs.Blocks.{buddy, with_block, without_block, without_buddies, split_set, joined_set}
+use Rattle.zp_tree.specs.Marks.{mark, IsInGroups, IsRemarked, IsSplitUp, IsJoinedUp}
 use Rattle.zp_tree.proofs.ChangedSets.{halves_other, halves_at}
+use Rattle.zp_tree.proofs.JoinedSets.{IsJoining, freed}
 
 abbrev pub IsMarkedBy : List ℕ → List ℕ → List (Option ℕ) → Type 0
 IsMarkedBy ls hs s = (i k : ℕ) → IsInGroups hs i k → (mark ls hs i k ≡ 1) ↔ Starts s i k
@@ -111,36 +113,45 @@ marked_split ls hs ms gs s p f t x r room le st free i j y =
       | inr ne ↦ absurd (elim (cases_lt j l) [ inl lt ↦ omega (arith, e, pow_below j l lt) | inr ge ↦ omega (arith, e, pow_below l j (omega arith)) ])
     ]
 
-pub marked_double : (ls hs ms gs : List ℕ) (s : List (Option ℕ)) (p k : ℕ) → IsMarkedBy ls hs s → IsDoubledUp ls hs ms gs p k → p + 2 ^ k < length s → Starts s p k → Starts s (p + 2 ^ k) k → IsMarkedBy ms gs (with_double s p k)
-marked_double ls hs ms gs s p k x r room low high i j y =
+pub marked_joined : (m : ℕ) (ls hs ms gs : List ℕ) (s : List (Option ℕ)) (p f t : ℕ) → IsMarkedBy ls hs s → IsJoinedUp ls hs ms gs p f t → IsJoining m s p f t → IsMarkedBy ms gs (joined_set s p f t)
+marked_joined m ls hs ms gs s p f t x r w i j y =
     let z : IsInGroups hs i j = rw (← r.size) y in
-    let q = p + 2 ^ k in
-    let pos = pow_pos k in
-    let s1 = without_block s q in
-    let here : get_or (with_double s p k) p None ≡ Some (k + 1) = get_or-set_same s1 p (Some (k + 1)) None (omega (arith, room, length-set s q None)) in
-    let there : get_or (with_double s p k) q None ≡ None = get_or-set_other s1 p q (Some (k + 1)) None (λ e. omega (arith, e, pos)) ∙ get_or-set_same s q None None room in
-    elim (cases_eq i p) [
-      | inl e ↦ elim (cases_eq j (k + 1)) [
-        | inl f ↦ (λ _. rw (e, f) here, λ _. rw (e, f) r.double)
-        | inr nd ↦ (
-          λ one. absurd (elim (cases_eq j k) [
-            | inl f ↦ let zero : mark ms gs i j ≡ 0 = rw (e, f) r.low in omega (arith, zero, one)
-            | inr nl ↦ let old = (x i j z).0 (sym (r.others i j z (λ _ f. nl f) (λ g _. omega (arith, e, g, pos)) (λ _ f. nd f)) ∙ one) in nl (sym (some_same k j (sym low ∙ rw e at old)))
-          ]),
-          λ st. absurd (nd (sym (some_same (k + 1) j (sym here ∙ rw e at st)))),
+    let a = freed m s p f t w in
+    let h = head p t in
+    let c = without_buddies s p f (t - f) in
+    let lt : h < length c = omega (arith, a.block.inside, pow_pos t) in
+    let here : get_or (joined_set s p f t) h None ≡ Some t = get_or-set_same c h (Some t) None lt in
+    let buddy_order : (l : ℕ) → f ≤ l → l < t → i ≡ buddy p l → Starts s i j → j ≡ l = λ l lo hi e st. sym (some_same l j (sym (w.buddies l lo hi) ∙ rw e at st)) in
+    -- a bit that is set and neither of the block nor of a buddy is of a block of the set that was there
+    let old : (i ≡ h → j ≡ t → ⊥) → (i ≡ buddy p j → f ≤ j → j < t → ⊥) → mark ms gs i j ≡ 1 → Starts s i j = λ nh nb one. (x i j z).0 (sym (r.others i j z nh nb) ∙ one) in
+    elim (cases_eq i h) [
+      | inl e ↦ elim (cases_eq j t) [
+        | inl same ↦ (λ _. rw (e, same) here, λ _. rw (e, same) r.here)
+        | inr ne ↦ (
+          λ one. absurd (
+              let free : i ≡ buddy p j → f ≤ j → j < t → ⊥ = λ b lo hi. let zero : mark ms gs i j ≡ 0 = ap (λ n. mark ms gs n j) b ∙ r.buddies j lo hi in omega (arith, zero, one) in
+              let st = old (λ _ same. ne same) free one in
+              elim (a.which i) [
+                | inl b ↦ let same = buddy_order b.0 b.1 b.2 b.3 st in free (b.3 ∙ ap (λ n. buddy p n) (sym same)) (omega (arith, same, b.1)) (omega (arith, same, b.2))
+                | inr none ↦ let kept : Starts c i j = a.other i none ∙ st in a.none j (rw e at kept)
+              ]),
+          λ st. absurd (ne (sym (some_same t j (sym here ∙ rw e at st)))),
         )
       ]
-      | inr np ↦ elim (cases_eq i q) [
-        | inl e ↦ (
-          λ one. absurd (elim (cases_eq j k) [
-            | inl f ↦ let zero : mark ms gs i j ≡ 0 = rw (e, f) r.high in omega (arith, zero, one)
-            | inr nh ↦ let old = (x i j z).0 (sym (r.others i j z (λ g _. np g) (λ _ f. nh f) (λ g _. np g)) ∙ one) in nh (sym (some_same k j (sym high ∙ rw e at old)))
-          ]),
-          λ st. absurd (let w = rw e at st in let d : None ≡ Some j = sym there ∙ w in cc),
-        )
-        | inr nq ↦
-            let o = r.others i j z (λ g _. np g) (λ g _. nq g) (λ g _. np g) in
-            let g = get_or-set_other s1 p i (Some (k + 1)) None np ∙ get_or-set_other s q i None None nq in
-            (λ one. g ∙ (x i j z).0 (sym o ∙ one), λ st. o ∙ (x i j z).1 (sym g ∙ st))
-      ]
+      | inr nh ↦
+          let rest : get_or (joined_set s p f t) i None ≡ get_or c i None = get_or-set_other c h i (Some t) None nh in
+          elim (a.which i) [
+            | inl b ↦ (
+              λ one. absurd (
+                  let free : i ≡ buddy p j → f ≤ j → j < t → ⊥ = λ b lo hi. let zero : mark ms gs i j ≡ 0 = ap (λ n. mark ms gs n j) b ∙ r.buddies j lo hi in omega (arith, zero, one) in
+                  let st = old (λ e _. nh e) free one in
+                  let same = buddy_order b.0 b.1 b.2 b.3 st in
+                  free (b.3 ∙ ap (λ n. buddy p n) (sym same)) (omega (arith, same, b.1)) (omega (arith, same, b.2))),
+              λ st. absurd (let gone : get_or c i None ≡ None = rw b.3 (a.gone b.0 b.1 b.2) in let d : None ≡ Some j = sym gone ∙ sym rest ∙ st in cc),
+            )
+            | inr none ↦
+                let g = rest ∙ a.other i none in
+                let o = r.others i j z (λ e _. nh e) (λ e lo hi. none j lo hi e) in
+                (λ one. g ∙ (x i j z).0 (sym o ∙ one), λ st. o ∙ (x i j z).1 (sym g ∙ st))
+          ]
     ]

@@ -1,5 +1,5 @@
 -- The ranks of a zone's groups, before and after a change of its block set.
-use Rattle.std.proofs.Common.{ℕ, ◌+◌, ◌/◌, ◌≡◌, ◌≢◌, ◌<◌, ◌↔◌, inl, inr, refl, sym, ◌∙◌, arith, List, length, get_or, max, slice_index, slice_set, Option, None}
+use Rattle.std.proofs.Common.{ℕ, ◌+◌, ◌/◌, ◌≡◌, ◌≢◌, ◌<◌, ◌↔◌, inl, inr, sym, ◌∙◌, arith, List, length, get_or, max, slice_index, slice_set, Option, None}
 use Rattle.std.proofs.lemmas.Bool.{cases_eq, cases_lt}
 use Rattle.std.proofs.lemmas.List.{get_or-set_same, get_or-set_other}
 use Rattle.zp_model.specs.BlockSet.{Starts}
@@ -30,15 +30,13 @@ ranks_set rs s r g k v x c room new h = elim (cases_eq h g) [
 ]
 
 -- a block came that is the largest of those that changed
-pub ranks_raised : (rs : List ℕ) (s r : List (Option ℕ)) (p k : ℕ) → IsRankedBy rs s → IsChangedIn s r (p / GROUP_PAGES) k → p / GROUP_PAGES < length rs → Starts r p k →
-    IsRankedBy (slice_set rs (p / GROUP_PAGES) (max (k + 1) (slice_index rs (p / GROUP_PAGES)))) r
-ranks_raised rs s r p k x c room st =
-    let g = p / GROUP_PAGES in
+pub ranks_raised : (rs : List ℕ) (s r : List (Option ℕ)) (g p k : ℕ) → IsRankedBy rs s → IsChangedIn s r g k → p / GROUP_PAGES ≡ g → g < length rs → Starts r p k → IsRankedBy (slice_set rs g (max (k + 1) (slice_index rs g))) r
+ranks_raised rs s r g p k x c in_group room st =
     let v = slice_index rs g in
     ranks_set rs s r g k (max (k + 1) v) x c room record {
       most = λ i o at y. elim (cases_lt k o) [ inl more ↦ omega (arith, (x g).most i o at ((c.larger i o more).0 y)) | inr few ↦ omega arith ];
       some = λ o e. elim (cases_eq o k) [
-        | inl same ↦ (p, refl, rw same st)
+        | inl same ↦ (p, in_group, rw same st)
         | inr ne ↦ let w = (x g).some o (omega arith) in (w.0, w.1, (c.larger w.0 o (omega arith)).1 w.2)
       ];
     }

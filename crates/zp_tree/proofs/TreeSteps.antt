@@ -1,20 +1,22 @@
 -- A status tree after a block came, went, was split or joined.
-use Rattle.std.proofs.Common.{ℕ, ◌+◌, ◌-◌, ◌/◌, ◌%◌, ◌^◌, ◌≡◌, ◌≢◌, ◌≤◌, ◌<◌, inl, inr, sym, ◌∙◌, ap, arith, List, length, get_or, max, slice_index, slice_set, Option, Some, None, Vec}
+use Rattle.std.proofs.Common.{ℕ, ◌+◌, ◌-◌, ◌/◌, ◌%◌, ◌^◌, ◌≡◌, ◌≢◌, ◌≤◌, ◌<◌, inl, inr, refl, sym, ◌∙◌, ap, arith, List, length, get_or, max, slice_index, slice_set, Option, Some, None, Vec}
 use Rattle.std.specs.Vec.{with_items}
-use Rattle.std.proofs.lemmas.Bool.{cases_eq, cases_lt}
-use Rattle.std.proofs.lemmas.List.{length-set, get_or-set_same, get_or-set_other, set-set, with_items_is}
+use Rattle.std.proofs.lemmas.Bool.{cases_eq}
+use Rattle.std.proofs.lemmas.List.{length-set, get_or-set_same, get_or-set_other, with_items_is}
 use Rattle.std.proofs.lemmas.Nat.{pow_pos, pow_below}
-use Rattle.zp_model.specs.Block.{IsBlock}
+use Rattle.zp_model.specs.Block.{IsBlock, head}
 use Rattle.zp_model.specs.BlockSet.{Starts}
-use Rattle.zp_model.proofs.Heads.{two, number_around}
+use Rattle.zp_model.proofs.Heads.{number_around}
 use Rattle.zp_tree.specs.declared.constants.TheConstants.{GROUP_ORDER, GROUP_PAGES}
-use Rattle.zp_tree.specs.Blocks.{IsBlockSet, IsApart, with_block, without_block, with_double, split_set}
-use Rattle.zp_tree.specs.Marks.{IsWords, IsInGroups, IsRemarked, IsDoubledUp, IsSplitUp, IsLowered, IsRankOf}
+use Rattle.zp_tree.specs.Blocks.{IsBlockSet, IsApart, buddy, with_block, without_block, without_buddies, split_set, joined_set}
+use Rattle.zp_tree.specs.Marks.{IsWords, IsInGroups, IsRemarked, IsSplitUp, IsJoinedUp, IsLowered, IsRankOf}
 use Rattle.zp_tree.specs.Spelled.{IsTreeOf}
-use Rattle.zp_tree.proofs.Apart.{set-starts, clear-starts, clear_apart, clear_still_apart}
+use Rattle.zp_tree.proofs.Apart.{set-starts, clear-starts}
 use Rattle.zp_tree.proofs.BlockSets.{same_page}
 use Rattle.zp_tree.proofs.ChangedSets.{none_in, set_block_set, clear_block_set, split_block_set, halves_other, halves_at, halves_length}
-use Rattle.zp_tree.proofs.MarkedSets.{IsMarkedBy, marked_set, marked_clear, marked_split, marked_double, half_or_not, some_same}
+use Rattle.zp_tree.proofs.MarkedSets.{IsMarkedBy, marked_set, marked_clear, marked_split, marked_joined, half_or_not, some_same}
+use Rattle.zp_tree.proofs.BuddyPlaces.{buddy_around, head_around}
+use Rattle.zp_tree.proofs.JoinedSets.{IsJoining, IsFreed, freed, joined_block_set}
 use Rattle.zp_tree.proofs.Ranked.{IsRankedBy, IsChangedIn, ranks_raised, ranks_lowered}
 use Rattle.zp_tree.proofs.Spelling.{block_in_groups}
 
@@ -66,7 +68,7 @@ set_tree m pages ls hs rs ms gs ts s p k t b a r e =
     let g = p / GROUP_PAGES in
     let room : g < length rs = omega (arith, lt, t.room, t.rows, t.pages_of) in
     rw e (another m pages ls hs rs ms gs (slice_set rs g (max (k + 1) (slice_index rs g))) s (with_block s p k) t r.words r.size (length-set rs g _) (length-set s p (Some k)) (set_block_set m s p k t.set b a)
-    (marked_set ls hs ms gs s p k t.marked r lt none) (ranks_raised rs s (with_block s p k) p k t.ranked (changed_set s p k lt none) room (get_or-set_same s p (Some k) None lt)))
+    (marked_set ls hs ms gs s p k t.marked r lt none) (ranks_raised rs s (with_block s p k) g p k t.ranked (changed_set s p k lt none) refl room (get_or-set_same s p (Some k) None lt)))
 
 pub clear_tree : (m pages : ℕ) (ls hs rs ms gs ts : List ℕ) (s : List (Option ℕ)) (p k : ℕ) → IsTreeOf m pages ls hs rs s → Starts s p k → IsRemarked ls hs ms gs p k 0 → IsLowered ms gs rs ts (p / GROUP_PAGES) k →
     IsTreeOf m pages ms gs ts (without_block s p)
@@ -165,49 +167,64 @@ split_tree m pages ls hs rs ms gs ts s p f t x st le r l =
     another m pages ls hs rs ms gs ts s c x r.words r.size (ap length l.after ∙ length-set rs g l.rank) (halves_length (without_block s p) p t (f - t) ∙ length-set s p None) (split_block_set m s p f t x.set st le) marked
     (ranks_lowered ms gs rs ts s c g f x.ranked (changed_split m s p f t x.set x.orders st le) room marked inside l)
 
--- two blocks that are the halves of one
-pub double_tree : (m pages : ℕ) (ls hs rs ms gs ts : List ℕ) (s : List (Option ℕ)) (p k : ℕ) → IsTreeOf m pages ls hs rs s → IsBlock m (length s) p (k + 1) → Starts s p k → Starts s (p + 2 ^ k) k → IsDoubledUp ls hs ms gs p k →
-    ts ≡ slice_set rs (p / GROUP_PAGES) (max (k + 1 + 1) (slice_index rs (p / GROUP_PAGES))) → IsTreeOf m pages ms gs ts (with_double s p k)
-double_tree m pages ls hs rs ms gs ts s p k t b low high r e =
-    let q = p + 2 ^ k in
-    let pos = pow_pos k in
-    let width = two k in
-    let lp : p < length s = omega (arith, b.inside, width) in
-    let lq : q < length s = omega (arith, b.inside, width, pos) in
-    let s1 = without_block s q in
-    let s2 = without_block s1 p in
-    let n1 = length-set s q None in
-    let n2 = length-set s1 p None in
-    let low1 : Starts s1 p k = get_or-set_other s q p None None (λ f. omega (arith, f, pos)) ∙ low in
-    let x1 = clear_block_set m s q k t.set high in
-    let b1 : IsBlock m (length s1) p k = x1.block p k low1 in
-    let apart : IsApart s2 p (k + 1) = λ i lo hi. elim (cases_lt i q) [
-      | inl below ↦ clear_apart m s1 p k x1 low1 i lo below
-      | inr above ↦ clear_still_apart m s1 p k q k b1 (clear_apart m s q k t.set high) i above (omega (arith, hi, width))
-    ] in
-    let b2 : IsBlock m (length s2) p (k + 1) = rw (n2, n1) b in
+-- the buddies of a run lie in the group around it, as the block does that they make
+changed_joined : (m : ℕ) (s : List (Option ℕ)) (p f t : ℕ) → m ≤ GROUP_ORDER → IsJoining m s p f t → IsChangedIn s (joined_set s p f t) (p / GROUP_PAGES) t
+changed_joined m s p f t few x = record {
+  others = λ i ne. elim (a.which i) [
+    | inl b ↦ absurd (ne (ap (λ n. n / GROUP_PAGES) b.3 ∙ buddy_around p b.0 GROUP_ORDER (omega (arith, b.2, x.block.order))))
+    | inr none ↦ rest i (λ e. ne (ap (λ n. n / GROUP_PAGES) e ∙ head_around p t GROUP_ORDER (omega (arith, x.block.order)))) ∙ a.other i none
+  ];
+  larger = λ i o more. elim (cases_eq i h) [
+    | inl e ↦ (
+      λ y. absurd (let z = some_same t o (sym here ∙ rw e at y) in omega (arith, z)),
+      λ y. absurd (elim (a.which i) [
+        | inl b ↦ let z = order b.0 b.1 b.2 o (rw b.3 at y) in omega (arith, z, b.2)
+        | inr none ↦ let kept : Starts c i o = a.other i none ∙ y in a.none o (rw e at kept)
+      ]),
+    )
+    | inr nh ↦ elim (a.which i) [
+      | inl b ↦ (
+        λ y. absurd (let gone : get_or c i None ≡ None = rw b.3 (a.gone b.0 b.1 b.2) in let d : None ≡ Some o = sym gone ∙ sym (rest i nh) ∙ y in cc),
+        λ y. absurd (let z = order b.0 b.1 b.2 o (rw b.3 at y) in omega (arith, z, b.2)),
+      )
+      | inr none ↦ let g = rest i nh ∙ a.other i none in (λ y. sym g ∙ y, λ y. g ∙ y)
+    ]
+  ];
+}
+  where
+    h : ℕ
+    h = head p t
+
+    c : List (Option ℕ)
+    c = without_buddies s p f (t - f)
+
+    a : IsFreed m s c p f t
+    a = freed m s p f t x
+
+    here : get_or (joined_set s p f t) h None ≡ Some t
+    here = get_or-set_same c h (Some t) None (omega (arith, a.block.inside, pow_pos t))
+
+    rest : (i : ℕ) → i ≢ h → get_or (joined_set s p f t) i None ≡ get_or c i None
+    rest i ne = get_or-set_other c h i (Some t) None ne
+
+    order : (l : ℕ) → f ≤ l → l < t → (o : ℕ) → Starts s (buddy p l) o → l ≡ o
+    order l lo hi o y = some_same l o (sym (x.buddies l lo hi) ∙ y)
+
+pub join_tree : (m pages : ℕ) (ls hs rs ms gs ts : List ℕ) (s : List (Option ℕ)) (p f t : ℕ) → IsTreeOf m pages ls hs rs s → IsJoining m s p f t → IsJoinedUp ls hs ms gs p f t →
+    ts ≡ slice_set rs (p / GROUP_PAGES) (max (t + 1) (slice_index rs (p / GROUP_PAGES))) → IsTreeOf m pages ms gs ts (joined_set s p f t)
+join_tree m pages ls hs rs ms gs ts s p f t x w r e =
+    let h = head p t in
     let g = p / GROUP_PAGES in
-    let room : g < length rs = omega (arith, lp, t.room, t.rows, t.pages_of) in
-    let d = with_double s p k in
-    let same : with_block s2 p (k + 1) ≡ d = set-set s1 p None (Some (k + 1)) in
-    let set : IsBlockSet m d = rw (← same) (set_block_set m s2 p (k + 1) (clear_block_set m s1 p k x1 low1) b2 apart) in
-    let here : get_or d p None ≡ Some (k + 1) = get_or-set_same s1 p (Some (k + 1)) None (omega (arith, lp, n1)) in
-    let there : get_or d q None ≡ None = get_or-set_other s1 p q (Some (k + 1)) None (λ f. omega (arith, f, pos)) ∙ get_or-set_same s q None None lq in
-    let rest : (i : ℕ) → i ≢ p → i ≢ q → get_or d i None ≡ get_or s i None = λ i np nq. get_or-set_other s1 p i (Some (k + 1)) None np ∙ get_or-set_other s q i None None nq in
-    let group : q / GROUP_PAGES ≡ g = same_group m s p (k + 1) q b t.orders (omega arith) (omega (arith, width, pos)) in
-    let changed : IsChangedIn s d g (k + 1) = record {
-      others = λ i ne. rest i (λ f. ne (ap (λ n. n / GROUP_PAGES) f)) (λ f. ne (ap (λ n. n / GROUP_PAGES) f ∙ group));
-      larger = λ i o more. elim (cases_eq i p) [
-        | inl f ↦ (λ y. absurd (let z = some_same (k + 1) o (sym here ∙ rw f at y) in omega (arith, z)), λ y. absurd (let z = some_same k o (sym low ∙ rw f at y) in omega (arith, z)))
-        | inr np ↦ elim (cases_eq i q) [
-          | inl f ↦ (λ y. absurd (let z = rw f at y in let d : None ≡ Some o = sym there ∙ z in cc), λ y. absurd (let z = some_same k o (sym high ∙ rw f at y) in omega (arith, z)))
-          | inr nq ↦ (λ y. sym (rest i np nq) ∙ y, λ y. rest i np nq ∙ y)
-        ]
-      ];
-    } in
-    let v = max (k + 1 + 1) (slice_index rs g) in
-    rw e (another m pages ls hs rs ms gs (slice_set rs g v) s d t r.words r.size (length-set rs g v) (length-set s1 p (Some (k + 1)) ∙ n1) set (marked_double ls hs ms gs s p k t.marked r lq low high)
-    (ranks_raised rs s d p (k + 1) t.ranked changed room here))
+    let c = without_buddies s p f (t - f) in
+    let d = joined_set s p f t in
+    let a = freed m s p f t w in
+    let in_zone : h < length s = omega (arith, w.block.inside, pow_pos t) in
+    let group : h / GROUP_PAGES ≡ g = head_around p t GROUP_ORDER (omega (arith, w.block.order, x.orders)) in
+    let room : g < length rs = omega (arith, group, in_zone, x.room, x.rows, x.pages_of) in
+    let here : Starts d h t = get_or-set_same c h (Some t) None (omega (arith, in_zone, a.size)) in
+    let v = max (t + 1) (slice_index rs g) in
+    let ranked : IsRankedBy (slice_set rs g v) d = ranks_raised rs s d g h t x.ranked (changed_joined m s p f t x.orders w) group room here in
+    rw e (another m pages ls hs rs ms gs (slice_set rs g v) s d x r.words r.size (length-set rs g v) (length-set c h (Some t) ∙ a.size) (joined_block_set m s p f t w) (marked_joined m ls hs ms gs s p f t x.marked r w) ranked)
 
 -- a tree is kept in the vectors that its words are written back to
 pub tree_kept : {Z Y : Type 0} (m pages : ℕ) (v : Vec ℕ Z) (u : Vec ℕ Y) (ms gs rs ts : List ℕ) (s r : List (Option ℕ)) → IsTreeOf m pages v.items u.items rs s → length gs ≡ length u.items → IsTreeOf m pages ms gs ts r →

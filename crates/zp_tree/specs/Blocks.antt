@@ -1,7 +1,7 @@
 -- Sets of blocks that share no page (Knowlton 1965): when a list of the kind of `zp_model`'s `BlockSet` is one, and what one block more or
 -- less makes of it.
-use Rattle.std.specs.Prelude.{ℕ, suc, zero, ◌+◌, ◌-◌, ◌^◌, ◌≡◌, ◌≤◌, ◌<◌, ◌⊎◌, true, false, List, length, Option, None, Some, slice_set}
-use Rattle.zp_model.specs.Block.{IsBlock, in_run}
+use Rattle.std.specs.Prelude.{ℕ, suc, zero, ◌+◌, ◌-◌, ◌*◌, ◌^◌, ◌≡◌, ◌≤◌, ◌<◌, ◌⊎◌, true, false, List, length, Option, None, Some, slice_set}
+use Rattle.zp_model.specs.Block.{IsBlock, head, in_run}
 use Rattle.zp_model.specs.BlockSet.{Starts, is_covered}
 
 -- each block lies in the zone and has an order of at most m, and no two have a page in common
@@ -24,10 +24,6 @@ with_block s h k = slice_set s h (Some k)
 abbrev pub without_block : List (Option ℕ) → ℕ → List (Option ℕ)
 without_block s h = slice_set s h None
 
--- the set with that block in the place of its halves
-abbrev pub with_double : List (Option ℕ) → ℕ → ℕ → List (Option ℕ)
-with_double s h k = with_block (without_block s (h + 2 ^ k)) h (k + 1)
-
 -- the set with d high halves of blocks at h, the last of order k
 abbrev pub high_halves : List (Option ℕ) → ℕ → ℕ → ℕ → List (Option ℕ)
 high_halves s h k zero = s
@@ -36,3 +32,20 @@ high_halves s h k (suc d) = high_halves (with_block s (h + 2 ^ (k + d)) (k + d))
 -- the set with the high halves of the block (h, o) down to order k in its place: its low part of order k is in no block
 abbrev pub split_set : List (Option ℕ) → ℕ → ℕ → ℕ → List (Option ℕ)
 split_set s h o k = high_halves (without_block s h) h k (o - k)
+
+-- the other half of the double of the run of order k around page h
+abbrev pub buddy : ℕ → ℕ → ℕ
+buddy h k = 2 * head h (k + 1) + 2 ^ k - head h k
+
+-- the set without the buddies of d runs around page h, the first of order k
+abbrev pub without_buddies : List (Option ℕ) → ℕ → ℕ → ℕ → List (Option ℕ)
+without_buddies s h k zero = s
+without_buddies s h k (suc d) = without_block (without_buddies s h k d) (buddy h (k + d))
+
+-- the buddies of the runs of orders k up to below o around page h are blocks of the set
+abbrev pub HasBuddies : List (Option ℕ) → ℕ → ℕ → ℕ → Type 0
+HasBuddies s h k o = (j : ℕ) → k ≤ j → j < o → Starts s (buddy h j) j
+
+-- the set with the block of order o around page h in the place of the buddies with which the run of order k at h makes it
+abbrev pub joined_set : List (Option ℕ) → ℕ → ℕ → ℕ → List (Option ℕ)
+joined_set s h k o = with_block (without_buddies s h k (o - k)) (head h o) o

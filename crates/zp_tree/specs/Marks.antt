@@ -2,8 +2,9 @@
 -- group and its blocks from order 5 on.
 use Rattle.std.specs.Prelude.{ℕ, ◌+◌, ◌-◌, ◌*◌, ◌/◌, ◌%◌, ◌^◌, ◌≡◌, ◌≤◌, ◌<◌, ◌⊎◌, List, length, cond, ltb, slice_index, slice_set, Option, None, Some}
 use Rattle.std.specs.Int.{bit_at}
-use Rattle.zp_model.specs.Block.{IsBlock}
+use Rattle.zp_model.specs.Block.{IsBlock, head}
 use Rattle.zp_tree.specs.declared.constants.TheConstants.{PLACES, WORD_LEVELS, GROUP_ORDER, GROUP_PAGES}
+use Rattle.zp_tree.specs.Blocks.{buddy}
 use Rattle.zp_tree.specs.Words.{node}
 
 -- the bit of the block of order k at page i, by the low words and the high words
@@ -32,15 +33,6 @@ pub record IsRemarked (ls hs ms gs : List ℕ) (p k b : ℕ) : Type 0 where
   pub here : mark ms gs p k ≡ b
   pub others : (i j : ℕ) → IsInGroups hs i j → (i ≡ p → j ≡ k → ⊥) → mark ms gs i j ≡ mark ls hs i j
 
--- the words after the two blocks of order k whose double begins at page p were joined
-pub record IsDoubledUp (ls hs ms gs : List ℕ) (p k : ℕ) : Type 0 where
-  pub words : IsWords ms gs
-  pub size : length gs ≡ length hs
-  pub low : mark ms gs p k ≡ 0
-  pub high : mark ms gs (p + 2 ^ k) k ≡ 0
-  pub double : mark ms gs p (k + 1) ≡ 1
-  pub others : (i j : ℕ) → IsInGroups hs i j → (i ≡ p → j ≡ k → ⊥) → (i ≡ p + 2 ^ k → j ≡ k → ⊥) → (i ≡ p → j ≡ k + 1 → ⊥) → mark ms gs i j ≡ mark ls hs i j
-
 -- the words after the block of order f at page p was split down to order t, and its low part taken
 pub record IsSplitUp (ls hs ms gs : List ℕ) (p f t : ℕ) : Type 0 where
   pub words : IsWords ms gs
@@ -48,6 +40,14 @@ pub record IsSplitUp (ls hs ms gs : List ℕ) (p f t : ℕ) : Type 0 where
   pub here : mark ms gs p f ≡ 0
   pub halves : (j : ℕ) → t ≤ j → j < f → mark ms gs (p + 2 ^ j) j ≡ 1
   pub others : (i j : ℕ) → IsInGroups hs i j → (i ≡ p → j ≡ f → ⊥) → (i ≡ p + 2 ^ j → t ≤ j → j < f → ⊥) → mark ms gs i j ≡ mark ls hs i j
+
+-- the words after the run of order f at page p was joined with its buddies to the block of order t around it
+pub record IsJoinedUp (ls hs ms gs : List ℕ) (p f t : ℕ) : Type 0 where
+  pub words : IsWords ms gs
+  pub size : length gs ≡ length hs
+  pub here : mark ms gs (head p t) t ≡ 1
+  pub buddies : (j : ℕ) → f ≤ j → j < t → mark ms gs (buddy p j) j ≡ 0
+  pub others : (i j : ℕ) → IsInGroups hs i j → (i ≡ head p t → j ≡ t → ⊥) → (i ≡ buddy p j → f ≤ j → j < t → ⊥) → mark ms gs i j ≡ mark ls hs i j
 
 -- the block of order k at page i is in the words
 pub record HasMark (ls hs : List ℕ) (i k : ℕ) : Type 0 where

@@ -3,6 +3,7 @@
 use Rattle.std.specs.Prelude.{ℕ, ◌+◌, ◌*◌, ◌/◌, ◌%◌, ◌^◌, ◌≡◌, ◌≤◌, ◌<◌, List, slice_index, Option, None, Some}
 use Rattle.std.specs.Int.{bit_at}
 use Rattle.zp_tree.specs.declared.constants.TheConstants.{PLACES, WORD_LEVELS}
+use Rattle.zp_tree.specs.Blocks.{buddy}
 
 -- the number of the node of 2 ^ l places at place p
 abbrev pub node : ℕ → ℕ → ℕ
@@ -24,16 +25,15 @@ pub record IsMarked (w v p l b : ℕ) : Type 0 where
   pub here : bit_at v (node p l) ≡ b
   pub others : (q k : ℕ) → IsPlace q k → (q ≡ p → k ≡ l → ⊥) → bit_at v (node q k) ≡ bit_at w (node q k)
 
--- v is the word w without the two blocks of level l from place p on
-pub record IsCleared (w v p l : ℕ) : Type 0 where
-  pub low : bit_at v (node p l) ≡ 0
-  pub high : bit_at v (node (p + 2 ^ l) l) ≡ 0
-  pub others : (q k : ℕ) → IsPlace q k → (q ≡ p → k ≡ l → ⊥) → (q ≡ p + 2 ^ l → k ≡ l → ⊥) → bit_at v (node q k) ≡ bit_at w (node q k)
-
 -- v is the word w with the high halves of the blocks at place p, from level f down to level t
 pub record IsHalved (w v p f t : ℕ) : Type 0 where
   pub halves : (k : ℕ) → t ≤ k → k < f → bit_at v (node (p + 2 ^ k) k) ≡ 1
   pub others : (q k : ℕ) → IsPlace q k → (q ≡ p + 2 ^ k → t ≤ k → k < f → ⊥) → bit_at v (node q k) ≡ bit_at w (node q k)
+
+-- v is the word w without the buddies of the runs around place p, from level f to below level t
+pub record IsUnpaired (w v p f t : ℕ) : Type 0 where
+  pub buddies : (k : ℕ) → f ≤ k → k < t → bit_at v (node (buddy p k) k) ≡ 0
+  pub others : (q k : ℕ) → IsPlace q k → (q ≡ buddy p k → f ≤ k → k < t → ⊥) → bit_at v (node q k) ≡ bit_at w (node q k)
 
 -- v has the bits of the nodes d levels below node n of the word w, and no others
 pub record IsRow (w n d v : ℕ) : Type 0 where

@@ -1,7 +1,8 @@
 //! The bits of blocks in the low and the high words.
-ghost use Rattle.std.specs.Prelude.{◌≡◌, ◌≤◌, ◌<◌, ◌+◌};
+ghost use Rattle.std.specs.Prelude.{◌≡◌, ◌≤◌, ◌<◌};
+ghost use Rattle.zp_model.specs.Block.{head};
 ghost use Rattle.zp_tree.specs.declared.constants.TheConstants.{WORD_LEVELS};
-ghost use Rattle.zp_tree.specs.Marks.{mark, IsWords, IsInGroups, IsRemarked, IsDoubledUp, IsSplitUp};
+ghost use Rattle.zp_tree.specs.Marks.{mark, IsWords, IsInGroups, IsRemarked, IsJoinedUp, IsSplitUp};
 
 use crate::constants::WORD_LEVELS;
 use crate::place::{group_of, high_place, low_place, low_word};
@@ -71,29 +72,33 @@ pub fn split_marks(low: &mut [Word], high: &mut [Word], at: PageAt, from: Order,
     }
 }
 
-/// Clears the bits of the two halves of a block, and sets its own.
+/// Clears the bits of the buddies of the runs around a page, of orders `from` to below `to`, and sets that of the block of order `to`
+/// around it. One word is written, and a second one where the chain goes from a low word into a high one.
 #[inline]
-pub fn double_marks(low: &mut [Word], high: &mut [Word], at: PageAt, half: Order)
+pub fn join_marks(low: &mut [Word], high: &mut [Word], at: PageAt, from: Order, to: Order)
     requires words { IsWords low.old high.old }
-    requires inside { IsInGroups high.old at (half + 1) }
-    ensures { IsDoubledUp low.old high.old low.new high.new at half }
+    requires inside { IsInGroups high.old (head at to) to }
+    requires up { from ≤ to }
+    ensures { IsJoinedUp low.old high.old low.new high.new at from to }
 {
-    let level = half.number();
+    let least = from.number();
+    let top = to.number();
     let word = low_word(at);
-    let group = group_of(at);
-    if level < WORD_LEVELS {
+    let head = at.head(to);
+    if least < WORD_LEVELS {
         let place = low_place(at);
-        let cleared = low[word].without_halves(place, level);
-        if level + 1 < WORD_LEVELS {
-            low[word] = cleared.with(place, level + 1);
-        } else {
-            low[word] = cleared;
-            high[group] = high[group].with(high_place(at), 0);
+        if top < WORD_LEVELS {
+            low[word] = low[word]
+                .without_buddies(place, least, top)
+                .with(low_place(head), top);
+            return;
         }
-        return;
+        low[word] = low[word].without_buddies(place, least, WORD_LEVELS);
     }
-    let above = level - WORD_LEVELS;
-    let place = high_place(at);
-    let cleared = high[group].without_halves(place, above);
-    high[group] = cleared.with(place, above + 1);
+    let group = group_of(at);
+    let level = top - WORD_LEVELS;
+    let start = least.max(WORD_LEVELS) - WORD_LEVELS;
+    high[group] = high[group]
+        .without_buddies(high_place(at), start, level)
+        .with(high_place(head), level);
 }

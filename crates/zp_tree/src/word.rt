@@ -4,7 +4,8 @@
 //! for single places. A bit is set where its places are a block.
 ghost use Rattle.std.specs.Prelude.{◌≡◌, ◌≤◌, ◌<◌, ◌+◌, ◌*◌, ◌^◌, length};
 ghost use Rattle.zp_tree.specs.declared.constants.TheConstants.{PLACES, WORD_LEVELS};
-ghost use Rattle.zp_tree.specs.Words.{node, IsPlace, IsMarked, IsCleared, IsHalved, IsRow, IsLargestIn, IsFirstOf, IsFirst, IsUnion};
+ghost use Rattle.zp_tree.specs.Blocks.{buddy};
+ghost use Rattle.zp_tree.specs.Words.{node, IsPlace, IsMarked, IsHalved, IsUnpaired, IsRow, IsLargestIn, IsFirstOf, IsFirst, IsUnion};
 
 use crate::constants::{PLACES, WORD_LEVELS};
 use std::marker::Model;
@@ -35,6 +36,16 @@ fn node_of(place: u32, level: u8) -> u32
     ensures within { (0 < result) × (result < 64) }
 {
     (PLACES + place) >> level
+}
+
+/// The number of the node of the buddy of the run of this level around a place.
+fn buddy_of(place: u32, level: u8) -> u32
+    requires place { place < PLACES }
+    requires level { level < WORD_LEVELS }
+    ensures buddy { result ≡ node (buddy place level) level }
+    ensures within { (0 < result) × (result < 64) }
+{
+    ((PLACES + place) >> level) ^ 1
 }
 
 /// How many places a block of this level has.
@@ -76,14 +87,16 @@ impl Word {
         }
     }
 
-    /// Without the two blocks of this level from a place on.
+    /// Without the buddy of the run of this level around a place.
     #[inline]
-    pub fn without_halves(self, place: u32, level: u8) -> Word
-        requires { IsPlace place (level + 1) }
-        ensures { IsCleared self result place level }
+    fn without_buddy(self, place: u32, level: u8) -> Word
+        requires place { place < PLACES }
+        requires level { level < WORD_LEVELS }
+        ensures { IsMarked self result (buddy place level) level 0 }
     {
-        self.without(place + places_of(level), level)
-            .without(place, level)
+        Word {
+            bits: self.bits & !(1 << buddy_of(place, level)),
+        }
     }
 
     /// With the high halves that are left where a block of level `from` is split down to `to`.
@@ -98,6 +111,23 @@ impl Word {
         'halves: while to < level {
             level -= 1;
             word = word.with(place + places_of(level), level);
+        }
+        word
+    }
+
+    /// Without the buddies of the runs around a place, from level `from` to below level `to`.
+    #[inline]
+    pub fn without_buddies(self, place: u32, from: u8, to: u8) -> Word
+        requires place { place < PLACES }
+        requires up { from ≤ to }
+        requires levels { to ≤ WORD_LEVELS }
+        ensures { IsUnpaired self result place from to }
+    {
+        let mut word = self;
+        let mut level = from;
+        'buddies: while level < to {
+            word = word.without_buddy(place, level);
+            level += 1;
         }
         word
     }

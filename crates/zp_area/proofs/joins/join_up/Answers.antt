@@ -7,7 +7,7 @@ use Rattle.zp_area.specs.Chains.{IsJoinable}
 use Rattle.zp_area.proofs.Keeping.{counted_there, kind_found, read_at}
 use Rattle.zp_area.proofs.Adding.{IsComing, coming_apart, coming_loose, kept_added}
 use Rattle.zp_area.proofs.Splitting.{block_on}
-use Rattle.zp_area.proofs.Growing.{buddy_kind, buddy_starts, buddy_unique, double_block, grow_begins, grow_ends, grow_goes, grown_coming, grown_kind, tree_halves, tree_length}
+use Rattle.zp_area.proofs.Growing.{buddy_kind, buddy_starts, buddy_unique, grow_begins, grow_ends, grow_goes, grown_block, grown_coming, grown_kind}
 use Rattle.zp_area.proofs.joins.join_up.Goals.{After-index_mut, After-index-kind, After-at-head, else-joins-test, then-joins-test+then-not-is_free}
 use Rattle.zp_area.proofs.joins.join_up.Goals as goal
 
@@ -27,13 +27,10 @@ overflow_add-index_mut c =
     let now = (goal.at.overflow_add-index_mut c).After-index_mut in
     omega (arith, read now, c.pages.ensures.pages, (kept_added (coming now) _ _ c.requires.kept).fits)
 
-pub set-requires-clause-apart : goal.set-requires-clause-apart
-set-requires-clause-apart c = rw c.requires.kept.same (coming_apart (coming (goal.at.set-requires-clause-apart c).After-index_mut))
-
 pub joins-init : goal.joins-init
 joins-init c =
     let a : Blocks = record { rows = c.args.lists.now; kinds = c.args.kinds.now.items } in
-    rw c.set.ensures.after (grow_begins LARGEST_ORDER a _ _ c.args.at c.args.order c.requires.kept c.requires.block c.requires.clear)
+    grow_begins LARGEST_ORDER a _ _ c.args.at c.args.order c.requires.kept c.requires.block c.requires.clear
 
 -- the buddy is free, and the smaller of the two heads is the double's
 joinable : (c : After-at-head) → IsJoinable LARGEST_ORDER (record { rows = c.joins.lists; kinds = c.args.kinds.now.items }) c.joins.head c.joins.joined c.buddy-buddy.result c.at-head.result
@@ -47,21 +44,18 @@ take_out-requires-clause-on c =
     let y : IsJoinable LARGEST_ORDER b c.joins.head c.joins.joined c.buddy-buddy.result (min c.joins.head c.buddy-buddy.result) = record { order = omega arith; buddy = c.buddy-buddy.ensures; free = c.is_free.ensures.0 c.if-not-is_free.false } in
     rw (buddy_kind c.joins.invariant y c.index-kind.result.now (kind (goal.at.take_out-requires-clause-on c).After-index-kind)) (block_on LARGEST_ORDER b c.buddy-buddy.result c.joins.joined c.joins.invariant.kept.one (buddy_starts c.joins.invariant y))
 
-pub double-requires-clause-block : goal.double-requires-clause-block
-double-requires-clause-block c = rw (tree_length c.joins.invariant) (double_block c.joins.invariant (joinable (goal.at.double-requires-clause-block c).After-at-head))
-
-pub double-requires-clause-low : goal.double-requires-clause-low
-double-requires-clause-low c = (tree_halves c.joins.invariant (joinable (goal.at.double-requires-clause-low c).After-at-head)).0
-
-pub double-requires-clause-high : goal.double-requires-clause-high
-double-requires-clause-high c = (tree_halves c.joins.invariant (joinable (goal.at.double-requires-clause-high c).After-at-head)).1
-
 pub joins-preserved : goal.joins-preserved
 joins-preserved c =
     let y = joinable (goal.at.joins-preserved c).After-at-head in
     let before = (goal.at.joins-preserved c).After-index-kind in
-    rw (c.take_out.ensures, c.double.ensures.after, c.higher-joined.ensures, buddy_kind c.joins.invariant y c.index-kind.result.now (kind before))
+    rw (c.take_out.ensures, c.higher-joined.ensures, buddy_kind c.joins.invariant y c.index-kind.result.now (kind before))
     (grow_goes c.joins.invariant y (counted_there LARGEST_ORDER _ _ c.args.at c.args.order c.requires.kept.each c.requires.block))
+
+pub join-requires-clause-block : goal.join-requires-clause-block
+join-requires-clause-block c = rw c.requires.kept.same (grown_block c.joins.invariant)
+
+pub join-requires-clause-apart : goal.join-requires-clause-apart
+join-requires-clause-apart c = rw c.requires.kept.same (coming_apart (coming (goal.at.join-requires-clause-apart c).After-index_mut))
 
 pub put_in-requires-clause-loose : goal.put_in-requires-clause-loose
 put_in-requires-clause-loose c = coming_loose (grown_coming c.joins.invariant)
@@ -78,6 +72,6 @@ returns c =
     (counted_there LARGEST_ORDER _ _ c.args.at c.args.order c.requires.kept.each c.requires.block) in
     let k = grown_kind c.joins.invariant c.index-kind.result.now (kind before) in
     record {
-      kept = rw (c.put_in.ensures, k, c.pageblock-pageblock.ensures, read (goal.at.returns c).After-index_mut, c.pages.ensures.pages) y.0;
+      kept = rw (c.put_in.ensures, k, c.join.ensures, c.requires.kept.same, c.pageblock-pageblock.ensures, read (goal.at.returns c).After-index_mut, c.pages.ensures.pages) y.0;
       after = rw (c.put_in.ensures, k) y.1;
     }

@@ -9,7 +9,7 @@ abbrev pub invariant-joins : goal.invariant-joins
 invariant-joins l =
     let a : Blocks = record { rows = l.fn.lists; kinds = l.kinds.items } in
     let b : Blocks = record { rows = l.lists; kinds = l.kinds.items } in
-    IsGrowing LARGEST_ORDER a b l.tree l.fn.free_in.items l.fn.at l.fn.order l.head l.joined
+    IsGrowing LARGEST_ORDER a b l.fn.free_in.items l.fn.at l.fn.order l.head l.joined
 
 abbrev pub decreases-joins : goal.decreases-joins
 decreases-joins l = LARGEST_ORDER - l.joined

@@ -25,7 +25,7 @@ pub halves-init : goal.halves-init
 halves-init c =
     let a : Blocks = record { rows = c.args.lists.now; kinds = c.args.kinds.now.items } in
     rw (c.take_out.ensures, kind (goal.at.halves-init c).After-index-kind)
-    (split_begins LARGEST_ORDER a _ _ c.args.at c.args.to c.args.from c.requires.kept c.requires.block c.requires.down)
+    (split_begins LARGEST_ORDER a _ _ c.args.at c.args.to c.args.from c.requires.kept c.requires.block (omega arith))
 
 pub put_in-requires-clause-loose : goal.put_in-requires-clause-loose
 put_in-requires-clause-loose c =
@@ -57,4 +57,4 @@ pub returns-clause-kept : goal.returns-clause-kept
 returns-clause-kept c =
     let now = (goal.at.returns-clause-kept c).After-index_mut in
     let a : Blocks = record { rows = c.args.lists.now; kinds = c.args.kinds.now.items } in
-    rw (c.split_in_tree.ensures, c.requires.kept.same, c.pageblock-pageblock.ensures, read now (block (goal.at.returns-clause-kept c).After-index-kind), c.pages-2.ensures.pages) (split_ends LARGEST_ORDER a _ _ c.args.at c.args.to c.args.from (whole now)).0
+    rw (c.split.ensures, c.requires.kept.same, c.pageblock-pageblock.ensures, read now (block (goal.at.returns-clause-kept c).After-index-kind), c.pages-2.ensures.pages) (split_ends LARGEST_ORDER a _ _ c.args.at c.args.to c.args.from (whole now)).0

@@ -5,11 +5,11 @@ use Rattle.zp_area.proofs.Keeping.{list_found, read_at}
 use Rattle.zp_area.proofs.Adding.{IsComing, added_starts, clear_beside, coming_apart, coming_by, coming_loose, kept_added, now_added}
 use Rattle.zp_area.proofs.area.FreeArea.add.Goals as goal
 
-pub push_front-requires-clause-loose : goal.push_front-requires-clause-loose
-push_front-requires-clause-loose c =
+pub push_front_noted-requires-clause-loose : goal.push_front_noted-requires-clause-loose
+push_front_noted-requires-clause-loose c =
     let a : Blocks = record { rows = c.self.inside.lists; kinds = c.self.inside.kinds.items } in
     let x : IsComing LARGEST_ORDER a c.args.at c.args.order = coming_by LARGEST_ORDER a _ _ _ c.self.view_is c.self.invariant.one c.requires.block c.requires.clear in
-    rw c.set_state.ensures (coming_loose x)
+    coming_loose x
 
 pub set-requires-clause-apart : goal.set-requires-clause-apart
 set-requires-clause-apart c =
@@ -31,7 +31,7 @@ invariant_of-self c =
     let r = read_at LARGEST_ORDER _ _ c.args.at c.args.order _ _ c.self.invariant.each x.block c.pageblock-pageblock.ensures c.index_mut.ensures.value in
     let er = list_found LARGEST_ORDER a c.args.at c.args.order _ _ _ x.one x.block c.pageblock-pageblock.ensures c.index.ensures c.list_of-list.ensures.number in
     rw (
-      now_added LARGEST_ORDER a c.args.at c.args.order c.list_of-list.result c.set_state.new.self c.push_front.new.self c.set_state.ensures c.push_front.ensures.after er,
+      now_added LARGEST_ORDER a c.args.at c.args.order c.list_of-list.result c.push_front_noted.new.self c.push_front_noted.ensures.after er,
       c.set.ensures.after,
       c.pageblock-pageblock.ensures,
       r,
@@ -43,11 +43,11 @@ returns-clause-held c =
     let a : Blocks = record { rows = c.self.inside.lists; kinds = c.self.inside.kinds.items } in
     let x : IsComing LARGEST_ORDER a c.args.at c.args.order = coming_by LARGEST_ORDER a _ _ _ c.self.view_is c.self.invariant.one c.requires.block c.requires.clear in
     let er = list_found LARGEST_ORDER a c.args.at c.args.order _ _ _ x.one x.block c.pageblock-pageblock.ensures c.index.ensures c.list_of-list.ensures.number in
-    rw (now_added LARGEST_ORDER a c.args.at c.args.order c.list_of-list.result c.set_state.new.self c.push_front.new.self c.set_state.ensures c.push_front.ensures.after er) (added_starts x)
+    rw (now_added LARGEST_ORDER a c.args.at c.args.order c.list_of-list.result c.push_front_noted.new.self c.push_front_noted.ensures.after er) (added_starts x)
 
 pub returns-clause-still_clear : goal.returns-clause-still_clear
 returns-clause-still_clear c =
     let a : Blocks = record { rows = c.self.inside.lists; kinds = c.self.inside.kinds.items } in
     let x : IsComing LARGEST_ORDER a c.args.at c.args.order = coming_by LARGEST_ORDER a _ _ _ c.self.view_is c.self.invariant.one c.requires.block c.requires.clear in
     let er = list_found LARGEST_ORDER a c.args.at c.args.order _ _ _ x.one x.block c.pageblock-pageblock.ensures c.index.ensures c.list_of-list.ensures.number in
-    rw (← c.self.view_is, now_added LARGEST_ORDER a c.args.at c.args.order c.list_of-list.result c.set_state.new.self c.push_front.new.self c.set_state.ensures c.push_front.ensures.after er) (clear_beside x)
+    rw (← c.self.view_is, now_added LARGEST_ORDER a c.args.at c.args.order c.list_of-list.result c.push_front_noted.new.self c.push_front_noted.ensures.after er) (clear_beside x)
