@@ -1,10 +1,10 @@
 -- The nodes of a tree of ranks, and the largest of eight.
-use Rattle.std.proofs.Common.{ℕ, suc, zero, ◌+◌, ◌-◌, ◌*◌, ◌/◌, ◌^◌, ◌≡◌, ◌≢◌, ◌≤◌, ◌<◌, inl, inr, refl, subst, sym, ◌∙◌, ap, arith, List, length, max, slice_index, slice_set}
+use Rattle.std.proofs.Common.{ℕ, suc, zero, ◌+◌, ◌-◌, ◌*◌, ◌/◌, ◌^◌, ◌≡◌, ◌≢◌, ◌≤◌, ◌<◌, inl, inr, refl, subst, sym, ◌∙◌, ap, arith, List, length, max, slice_index, slice_set, Option, Some, None, IsSome}
 use Rattle.std.proofs.lemmas.Bool.{cases_lt, cases_eq}
 use Rattle.std.proofs.lemmas.List.{get_or-set_same, get_or-set_other, length-set}
 use Rattle.std.proofs.Math.Nat.{pow-suc}
 use Rattle.zp_tree.specs.declared.constants.TheConstants.{FAN}
-use Rattle.zp_tree.specs.RankRows.{best_from, IsInRow, IsRankedBut, IsRanked}
+use Rattle.zp_tree.specs.RankRows.{best_from, IsInRow, IsRankedBut, IsRanked, IsFirstOfEight}
 
 pub eight_of : (j : ℕ) → FAN ^ (j + 1) ≡ FAN * FAN ^ j
 eight_of j = let e : j + 1 ≡ suc j = omega arith in let f : FAN ^ suc j ≡ FAN ^ j * FAN = pow-suc FAN j in ap (λ n. FAN ^ n) e ∙ omega (arith, f)
@@ -167,3 +167,47 @@ rank_raised d x v ns r at pos up =
     let other : y ≢ x = λ f. omega (arith, f, at.from, row_pos d) in
     let same : slice_index (slice_set ns x v) y ≡ slice_index ns y = get_or-set_other ns x y v 0 other in
     omega (arith, same, held d i y ns r above (omega arith), best_raised ns (FAN * y) FAN x v (omega arith) (omega arith) room up)
+
+-- the largest of some ranks after one of them fell
+pub best_lowered : (ns : List ℕ) (x n y v : ℕ) → y < length ns → v ≤ slice_index ns y → best_from (slice_set ns y v) x n ≤ best_from ns x n
+best_lowered ns x zero y v room down = omega arith
+best_lowered ns x (suc n) y v room down = elim (cases_eq y (x + n)) [
+  | inl same ↦
+      let here : slice_index (slice_set ns y v) (x + n) ≡ v = ap (slice_index (slice_set ns y v)) (sym same) ∙ get_or-set_same ns y v 0 room in
+      let old : slice_index ns y ≡ slice_index ns (x + n) = ap (slice_index ns) same in
+      omega (arith, here, old, down, best_lowered ns x n y v room down)
+  | inr ne ↦
+      let there : slice_index (slice_set ns y v) (x + n) ≡ slice_index ns (x + n) = get_or-set_other ns y (x + n) v 0 (λ e. ne (sym e)) in
+      omega (arith, there, best_lowered ns x n y v room down)
+]
+
+-- a node that got less leaves no more below the one above it than that holds
+pub lowered_next : (d i x v : ℕ) (ns : List ℕ) → IsRankedBut d ns x → IsInRow (i + 1) x → i + 1 < d → v ≤ slice_index ns x → best_from (slice_set ns x v) (FAN * (x / FAN)) FAN ≤ slice_index (slice_set ns x v) (x / FAN)
+lowered_next d i x v ns r at lt down =
+    let y = x / FAN in
+    let up = above_in i x at in
+    let c = in_row i y up in
+    let room : x < length ns = omega (arith, at.to, row_grows (i + 1) d lt, r.size) in
+    let apart : FAN ^ i + c.0 ≢ x = λ e. omega (arith, c.2, e, at.from, eight_of i, up.to) in
+    let b = r.best i c.0 (omega arith) c.1 apart in
+    let held : slice_index ns y ≡ best_from ns (FAN * y) FAN = rw (← c.2) b in
+    let same : slice_index (slice_set ns x v) y ≡ slice_index ns y = get_or-set_other ns x y v 0 (λ e. apart (c.2 ∙ e)) in
+    omega (arith, same, held, best_lowered ns (FAN * y) FAN x v room down)
+
+-- a rank that falls
+pub rank_lowered : (d x v : ℕ) (ns : List ℕ) → IsRanked d ns → IsInRow d x → 0 < d → v ≤ slice_index ns x → best_from (slice_set ns x v) (FAN * (x / FAN)) FAN ≤ slice_index (slice_set ns x v) (x / FAN)
+rank_lowered d x v ns r at pos down =
+    let i = d - 1 in
+    let y = x / FAN in
+    let e : d ≡ i + 1 = omega arith in
+    let P : ℕ → Type 0 = λ k. IsInRow k x in
+    let above = above_in i x (subst P e at) in
+    let room : x < length ns = omega (arith, at.to, r.size) in
+    let other : y ≢ x = λ f. omega (arith, f, at.from, row_pos d) in
+    let same : slice_index (slice_set ns x v) y ≡ slice_index ns y = get_or-set_other ns x y v 0 other in
+    omega (arith, same, held d i y ns r above (omega arith), best_lowered ns (FAN * y) FAN x v room down)
+
+-- one of eight that is v or more
+pub found_as_much : (q : Option ℕ) (ns : List ℕ) (x v : ℕ) → IsFirstOfEight ns x v q → IsSome q → v ≤ best_from ns x FAN
+found_as_much None ns x v f some = absurd cc
+found_as_much (Some z) ns x v f some = omega (arith, f.2, best_most ns x FAN z f.0 f.1)

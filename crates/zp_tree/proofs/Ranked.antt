@@ -1,10 +1,10 @@
 -- The ranks of a zone's groups, before and after a change of its block set.
-use Rattle.std.proofs.Common.{ℕ, ◌+◌, ◌/◌, ◌≡◌, ◌≢◌, ◌<◌, ◌↔◌, inl, inr, sym, ◌∙◌, arith, List, length, get_or, max, slice_index, slice_set, Option, None}
+use Rattle.std.proofs.Common.{ℕ, ◌+◌, ◌/◌, ◌≡◌, ◌≢◌, ◌<◌, ◌↔◌, inl, inr, refl, sym, ◌∙◌, arith, List, length, get_or, max, slice_index, slice_set, Option, None}
 use Rattle.std.proofs.lemmas.Bool.{cases_eq, cases_lt}
 use Rattle.std.proofs.lemmas.List.{get_or-set_same, get_or-set_other}
 use Rattle.zp_model.specs.BlockSet.{Starts}
 use Rattle.zp_tree.specs.declared.constants.TheConstants.{GROUP_PAGES}
-use Rattle.zp_tree.specs.Marks.{IsInGroups, IsLowered}
+use Rattle.zp_tree.specs.Marks.{IsInGroups, IsLowered, IsRankBound}
 use Rattle.zp_tree.specs.Spelled.{IsRankIn}
 use Rattle.zp_tree.proofs.MarkedSets.{IsMarkedBy}
 
@@ -54,3 +54,10 @@ ranks_lowered ls hs rs ts s r g k x c room m inside l =
         some = λ o e. let w = anew.some o e in (w.0, w.2, (m w.0 o w.1.inside).0 w.1.bit);
       }
     ]))
+
+-- what is left in the group of a block that went has no rank above the group's
+pub rank_bound : (ls hs rs : List ℕ) (s r : List (Option ℕ)) (p k : ℕ) → IsRankedBy rs s → IsChangedIn s r (p / GROUP_PAGES) k → Starts s p k → IsMarkedBy ls hs r → IsRankBound ls hs (p / GROUP_PAGES) (slice_index rs (p / GROUP_PAGES))
+rank_bound ls hs rs s r p k x c st m i o h at = elim (cases_lt k o) [
+  | inl more ↦ (x (p / GROUP_PAGES)).most i o at ((c.larger i o more).0 ((m i o h.inside).0 h.bit))
+  | inr few ↦ omega (arith, (x (p / GROUP_PAGES)).most p k refl st)
+]

@@ -9,7 +9,7 @@ use Rattle.zp_model.specs.BlockSet.{Starts}
 use Rattle.zp_model.proofs.Heads.{number_around}
 use Rattle.zp_tree.specs.declared.constants.TheConstants.{GROUP_ORDER, GROUP_PAGES}
 use Rattle.zp_tree.specs.Blocks.{IsBlockSet, IsApart, buddy, with_block, without_block, without_buddies, split_set, joined_set}
-use Rattle.zp_tree.specs.Marks.{IsWords, IsInGroups, IsRemarked, IsSplitUp, IsJoinedUp, IsLowered, IsRankOf}
+use Rattle.zp_tree.specs.Marks.{IsWords, IsInGroups, IsRemarked, IsSplitUp, IsJoinedUp, IsLowered, IsRankBound, IsRankOf}
 use Rattle.zp_tree.specs.Spelled.{IsTreeOf}
 use Rattle.zp_tree.proofs.Apart.{set-starts, clear-starts}
 use Rattle.zp_tree.proofs.BlockSets.{same_page}
@@ -17,7 +17,7 @@ use Rattle.zp_tree.proofs.ChangedSets.{none_in, set_block_set, clear_block_set, 
 use Rattle.zp_tree.proofs.MarkedSets.{IsMarkedBy, marked_set, marked_clear, marked_split, marked_joined, half_or_not, some_same}
 use Rattle.zp_tree.proofs.BuddyPlaces.{buddy_around, head_around}
 use Rattle.zp_tree.proofs.JoinedSets.{IsJoining, IsFreed, freed, joined_block_set}
-use Rattle.zp_tree.proofs.Ranked.{IsRankedBy, IsChangedIn, ranks_raised, ranks_lowered}
+use Rattle.zp_tree.proofs.Ranked.{IsRankedBy, IsChangedIn, rank_bound, ranks_raised, ranks_lowered}
 use Rattle.zp_tree.proofs.Spelling.{block_in_groups}
 
 -- a tree of another set over as many pages
@@ -82,6 +82,12 @@ clear_tree m pages ls hs rs ms gs ts s p k t st r l =
     let inside : (i o : ℕ) → Starts c i o → IsInGroups gs i o = λ i o y. rw r.size (block_in_groups m pages ls hs rs s i o t (clear-starts s p i o lt y).1) in
     another m pages ls hs rs ms gs ts s c t r.words r.size (ap length l.after ∙ length-set rs g l.rank) (length-set s p None) (clear_block_set m s p k t.set st) marked
     (ranks_lowered ms gs rs ts s c g k t.ranked (changed_clear s p k lt st) room marked inside l)
+
+-- what a block that was cleared leaves of its group has no rank above the group's
+pub clear_bound : (m pages : ℕ) (ls hs rs ms gs : List ℕ) (s : List (Option ℕ)) (p k : ℕ) → IsTreeOf m pages ls hs rs s → Starts s p k → IsRemarked ls hs ms gs p k 0 → IsRankBound ms gs (p / GROUP_PAGES) (slice_index rs (p / GROUP_PAGES))
+clear_bound m pages ls hs rs ms gs s p k t st r =
+    let lt : p < length s = omega (arith, (t.set.block p k st).inside, pow_pos k) in
+    rank_bound ms gs rs s (without_block s p) p k t.ranked (changed_clear s p k lt st) st (marked_clear ls hs ms gs s p k t.marked r lt st)
 
 -- a group that was one block has none after it was cleared
 pub emptied : (m pages : ℕ) (ls hs rs ms gs : List ℕ) (s : List (Option ℕ)) (p k : ℕ) → IsTreeOf m pages ls hs rs s → Starts s p k → IsRemarked ls hs ms gs p k 0 → 2 ^ k ≡ GROUP_PAGES → IsRankOf ms gs (p / GROUP_PAGES) 0
@@ -153,6 +159,16 @@ split_in_groups m pages ls hs rs s p f t i o x st le y =
     let n = halves_length (without_block s p) p t (f - t) in
     record { order = omega (arith, b.order, x.orders); aligned = b.aligned; inside = omega (arith, b.inside, n, length-set s p None, x.room, x.pages_of) }
 
+-- the bits after a block was split
+split_marked : (m pages : ℕ) (ls hs rs ms gs : List ℕ) (s : List (Option ℕ)) (p f t : ℕ) → IsTreeOf m pages ls hs rs s → Starts s p f → t ≤ f → IsSplitUp ls hs ms gs p f t → IsMarkedBy ms gs (split_set s p f t)
+split_marked m pages ls hs rs ms gs s p f t x st le r =
+    let free : (j o : ℕ) → t ≤ j → j < f → Starts s (p + 2 ^ j) o → ⊥ = λ j o lo hi. free_inside m s p f (p + 2 ^ j) o x.set st (omega (arith, pow_pos j)) (omega (arith, pow_below j f hi)) in
+    marked_split ls hs ms gs s p f t x.marked r (x.set.block p f st).inside le st free
+
+-- what a block that was split leaves of its group has no rank above the group's
+pub split_bound : (m pages : ℕ) (ls hs rs ms gs : List ℕ) (s : List (Option ℕ)) (p f t : ℕ) → IsTreeOf m pages ls hs rs s → Starts s p f → t ≤ f → IsSplitUp ls hs ms gs p f t → IsRankBound ms gs (p / GROUP_PAGES) (slice_index rs (p / GROUP_PAGES))
+split_bound m pages ls hs rs ms gs s p f t x st le r = rank_bound ms gs rs s (split_set s p f t) p f x.ranked (changed_split m s p f t x.set x.orders st le) st (split_marked m pages ls hs rs ms gs s p f t x st le r)
+
 pub split_tree : (m pages : ℕ) (ls hs rs ms gs ts : List ℕ) (s : List (Option ℕ)) (p f t : ℕ) → IsTreeOf m pages ls hs rs s → Starts s p f → t ≤ f → IsSplitUp ls hs ms gs p f t → IsLowered ms gs rs ts (p / GROUP_PAGES) f →
     IsTreeOf m pages ms gs ts (split_set s p f t)
 split_tree m pages ls hs rs ms gs ts s p f t x st le r l =
@@ -161,8 +177,7 @@ split_tree m pages ls hs rs ms gs ts s p f t x st le r l =
     let g = p / GROUP_PAGES in
     let room : g < length rs = omega (arith, lt, x.room, x.rows, x.pages_of) in
     let c = split_set s p f t in
-    let free : (j o : ℕ) → t ≤ j → j < f → Starts s (p + 2 ^ j) o → ⊥ = λ j o lo hi. free_inside m s p f (p + 2 ^ j) o x.set st (omega (arith, pow_pos j)) (omega (arith, pow_below j f hi)) in
-    let marked = marked_split ls hs ms gs s p f t x.marked r b.inside le st free in
+    let marked = split_marked m pages ls hs rs ms gs s p f t x st le r in
     let inside : (i o : ℕ) → Starts c i o → IsInGroups gs i o = λ i o y. rw r.size (split_in_groups m pages ls hs rs s p f t i o x st le y) in
     another m pages ls hs rs ms gs ts s c x r.words r.size (ap length l.after ∙ length-set rs g l.rank) (halves_length (without_block s p) p t (f - t) ∙ length-set s p None) (split_block_set m s p f t x.set st le) marked
     (ranks_lowered ms gs rs ts s c g f x.ranked (changed_split m s p f t x.set x.orders st le) room marked inside l)

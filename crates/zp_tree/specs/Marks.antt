@@ -72,6 +72,10 @@ pub record IsRankOf (ls hs : List ℕ) (g r : ℕ) : Type 0 where
   pub most : (i k : ℕ) → HasMark ls hs i k → i / GROUP_PAGES ≡ g → k < r
   pub some : (k : ℕ) → r ≡ k + 1 → (i : ℕ) × HasMark ls hs i k × (i / GROUP_PAGES ≡ g)
 
+-- no block of group g has a rank above r
+abbrev pub IsRankBound : List ℕ → List ℕ → ℕ → ℕ → Type 0
+IsRankBound ls hs g r = (i k : ℕ) → HasMark ls hs i k → i / GROUP_PAGES ≡ g → k < r
+
 -- the first block of order k or more of group g
 abbrev pub IsFirstMark : List ℕ → List ℕ → ℕ → ℕ → Option (ℕ × ℕ) → Type 0
 IsFirstMark ls hs g k None = (i o : ℕ) → HasMark ls hs i o → i / GROUP_PAGES ≡ g → o < k
@@ -107,6 +111,12 @@ IsLargestMark ls hs a r None = (i k : ℕ) → HasMark ls hs i k → a ≤ i →
 IsLargestMark ls hs a r (Some j) =
     ((i : ℕ) × HasMark ls hs i j × (a ≤ i) × (i + 2 ^ j ≤ a + 2 ^ r))
     × ((i k : ℕ) → HasMark ls hs i k → a ≤ i → i + 2 ^ k ≤ a + 2 ^ r → k ≤ j)
+
+-- the ranks after that of group g was reckoned anew
+pub record IsReranked (ls hs rs ts : List ℕ) (g : ℕ) : Type 0 where
+  pub rank : ℕ
+  pub after : ts ≡ slice_set rs g rank
+  pub is : IsRankOf ls hs g rank
 
 -- the ranks after a block of order k of group g was cleared: where it was one of the largest, the group's rank is what its words tell
 pub record IsLowered (ls hs rs ts : List ℕ) (g k : ℕ) : Type 0 where

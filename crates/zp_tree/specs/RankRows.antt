@@ -22,12 +22,13 @@ pub record IsRankedBut (d : ℕ) (ns : List ℕ) (x : ℕ) : Type 0 where
 abbrev pub IsRanked : ℕ → List ℕ → Type 0
 IsRanked d ns = IsRankedBut d ns 0
 
--- a rank was written at node x of the last row, and only the node above it may not hold what it should
+-- the rank at node x of the last row fell, and only the node above it may not hold what it should: it holds as much, or more
 pub record IsOpen (ns : List ℕ) (x : ℕ) : Type 0 where
   pub d : ℕ
   pub few : d ≤ MOST_ROWS
   pub row : IsInRow d x
   pub but : IsRankedBut d ns (x / FAN)
+  pub most : 0 < d → best_from ns (FAN * (x / FAN)) FAN ≤ slice_index ns (x / FAN)
 
 -- the rank at node x of the last row rose to v, and only the node above it may not hold what it should: the larger of v and what it holds
 pub record IsRaised (ns : List ℕ) (x v : ℕ) : Type 0 where

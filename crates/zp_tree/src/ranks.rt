@@ -52,7 +52,7 @@ fn first_of_eight(nodes: &[Rank], node: usize, rank: Rank) -> Option<usize>
     (node..node + FAN).find(|&it| nodes[it].is_at_least(rank))
 }
 
-/// Mends the nodes above a rank that was written, up to the first that holds what it should.
+/// Mends the nodes above a rank that fell, up to the first that still holds as much as one of those below it.
 fn mend(nodes: &mut [Rank], rank: usize)
     requires { IsOpen nodes.old rank }
     ensures { IsMended nodes.old nodes.new rank }
@@ -60,11 +60,10 @@ fn mend(nodes: &mut [Rank], rank: usize)
     let mut node = rank;
     'mending: while node > ROOT {
         node /= FAN;
-        let best = best_of_eight(nodes, FAN * node);
-        if nodes[node] == best {
+        if first_of_eight(nodes, FAN * node, nodes[node]).is_some() {
             return;
         }
-        nodes[node] = best;
+        nodes[node] = best_of_eight(nodes, FAN * node);
     }
 }
 
@@ -109,9 +108,10 @@ impl RankTree {
         self.nodes[self.first + group]
     }
 
-    /// Gives a group another rank.
-    pub fn put(&mut self, group: usize, rank: Rank)
-        requires { group < length self.old }
+    /// Gives a group a rank that is no larger.
+    pub fn lower(&mut self, group: usize, rank: Rank)
+        requires group { group < length self.old }
+        requires down { rank ≤ slice_index self.old group }
         ensures { self.new ≡ slice_set self.old group rank }
     {
         let node = self.first + group;

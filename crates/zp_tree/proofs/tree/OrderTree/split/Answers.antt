@@ -5,7 +5,7 @@ use Rattle.zp_tree.specs.Blocks.{split_set}
 use Rattle.zp_tree.specs.Marks.{IsInGroups, IsSplitUp}
 use Rattle.zp_tree.specs.Spelled.{IsTreeOf}
 use Rattle.zp_tree.proofs.Spelling.{tree_in, spelled_is, spelled_tree, block_in_groups}
-use Rattle.zp_tree.proofs.TreeSteps.{split_tree, tree_kept}
+use Rattle.zp_tree.proofs.TreeSteps.{split_bound, split_tree, tree_kept}
 use Rattle.zp_tree.proofs.tree.OrderTree.split.Goals.{After-lower_rank}
 use Rattle.zp_tree.proofs.tree.OrderTree.split.Goals as goal
 
@@ -13,6 +13,12 @@ pub split_marks-requires-clause-inside : goal.split_marks-requires-clause-inside
 split_marks-requires-clause-inside c =
     let P : List ℕ → Type 0 = λ hs. IsInGroups hs c.args.at c.args.from in
     subst P (sym c.deref_mut-high.ensures.value) (block_in_groups _ _ _ _ _ _ _ _ (tree_in LARGEST_ORDER _ _ _ _ _ c.self.view_is c.self.invariant) c.requires.block)
+
+pub lower_rank-requires-clause-down : goal.lower_rank-requires-clause-down
+lower_rank-requires-clause-down c =
+    let t = tree_in LARGEST_ORDER _ _ _ _ _ c.self.view_is c.self.invariant in
+    let r : IsSplitUp c.self.inside.low.items c.self.inside.high.items c.split_marks.new.low c.split_marks.new.high c.args.at c.args.from c.args.to = rw (c.deref_mut-low.ensures.value, c.deref_mut-high.ensures.value) at c.split_marks.ensures in
+    split_bound _ _ _ _ _ _ _ _ _ _ _ t c.requires.block (omega (arith, c.requires.down)) r
 
 after : (c : After-lower_rank) → IsTreeOf LARGEST_ORDER c.self.inside.pages (with_items c.self.inside.low c.split_marks.new.low).items (with_items c.self.inside.high c.split_marks.new.high).items c.lower_rank.new.ranks (split_set c.args.self.now c.args.at c.args.from c.args.to)
 after c =
