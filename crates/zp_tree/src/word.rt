@@ -39,6 +39,7 @@ fn node_of(place: u32, level: u8) -> u32
 }
 
 /// The number of the node of the buddy of the run of this level around a place.
+#[inline]
 fn buddy_of(place: u32, level: u8) -> u32
     requires place { place < PLACES }
     requires level { level < WORD_LEVELS }
