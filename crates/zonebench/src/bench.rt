@@ -76,11 +76,18 @@ impl<S: Source> Bench<S> {
         self.lent_pages
     }
 
-    /// Takes a block; its page counts into the checksum.
-    pub fn take(&mut self, order: Order, kind: MigrateType) -> Option<LentBlock> {
+    /// Takes a block: its page, which counts into the checksum.
+    // (a page alone is handed on in a register)
+    #[inline(always)]
+    fn taken(&mut self, order: Order, kind: MigrateType) -> Option<PageNo> {
         let taken = self.source.take(order, kind);
         self.checksum.add_page(&taken);
-        match taken {
+        taken
+    }
+
+    /// Takes a block; its page counts into the checksum.
+    pub fn take(&mut self, order: Order, kind: MigrateType) -> Option<LentBlock> {
+        match self.taken(order, kind) {
             Some(page) => Some(LentBlock { page, order }),
             None => None,
         }
@@ -93,17 +100,18 @@ impl<S: Source> Bench<S> {
 
     /// Takes a block and gives it back.
     pub fn pair(&mut self, order: Order, kind: MigrateType) {
-        if let Some(lent) = self.take(order, kind) {
-            self.give(lent);
+        if let Some(page) = self.taken(order, kind) {
+            self.source.give(page, order);
         }
     }
 
     /// Takes a block, and keeps it as the last one. Answers whether there was one.
+    #[inline(always)]
     pub fn lend(&mut self, order: Order, kind: MigrateType) -> Result<bool, NoMemory> {
-        let Some(lent) = self.take(order, kind) else {
+        let Some(page) = self.taken(order, kind) else {
             return Ok(false);
         };
-        if self.lent.push(lent).is_err() {
+        if self.lent.push(LentBlock { page, order }).is_err() {
             return Err(NoMemory);
         }
         self.lent_pages = self.lent_pages.saturating_add(u64::from(order.pages()));

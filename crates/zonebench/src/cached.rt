@@ -67,6 +67,29 @@ pub fn pair<Z: Zones>(share: &mut Share, zones: &mut Z, checksum: &mut Checksum)
     }
 }
 
+/// Takes a Movable block of the first zone past the worker's lists and gives it back, a section each; the page counts into the
+/// checksum.
+pub fn pair_past_lists<Z: Zones>(
+    share: &mut Share,
+    zones: &mut Z,
+    order: Order,
+    checksum: &mut Checksum,
+)
+    requires fits { IsShareOf (Z.keys zones.old) share.old }
+    requires one { length share.old.zones ≡ 1 }
+    ensures keys { Z.keys zones.new ≡ Z.keys zones.old }
+    ensures fits { IsShareOf (Z.keys zones.new) share.new }
+    ensures one { length share.new.zones ≡ 1 }
+{
+    let taken = zones
+        .alloc_block(share, 0, order, MigrateType::Movable, Mark::Any)
+        .ok();
+    checksum.add_page(&taken);
+    if let Some(page) = taken {
+        let _ = zones.free_block(share, 0, page, order);
+    }
+}
+
 /// A row of one zone, and the share of its one worker, whose lists are empty at first.
 #[derive(Drop)]
 struct Hand {

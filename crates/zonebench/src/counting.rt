@@ -1,13 +1,16 @@
 //! One workload alone, so that its instructions can be counted.
 
-ghost use Rattle.std.specs.Prelude.{◌≤◌};
+ghost use Rattle.std.specs.Prelude.{◌≤◌, IfOk};
 
 use crate::bench::NoMemory;
 use crate::cached::{Cached, PastLists};
 use crate::check::{Sum, sum_of};
+use crate::locked::{self, SECTIONS};
 use crate::seated::Seated;
 use crate::workload::Workload;
 use std::alloc::Global;
+use std::rt::Clock;
+use std::sync::Wait;
 use zp_model::MAX_PAGES;
 
 /// How instructions are counted, where the processor's own counters are not to be had.
@@ -17,7 +20,8 @@ and divide the difference in instructions by that in calls";
 
 /// The names of workloads, as a message has them.
 const NAMES: &str =
-    "pairs-0, pairs-4, pairs-9, pairs-10, runs, churn, press, burst, scattered and claims, and each with cached- or past-lists- before it";
+    "pairs-0, pairs-4, pairs-9, pairs-10, runs, churn, press, burst, scattered and claims, and each with cached- or past-lists- before it, \
+and pairs with locked- before them";
 
 /// The way on which the blocks of a workload come and go.
 #[derive(Clone, Copy, PartialEq, Eq, Debug, Drop)]
@@ -58,17 +62,11 @@ impl Way {
     }
 }
 
-/// Makes about so many calls of the workload of this name in a zone of so many pages, and prints how many they were, and the
-/// checksum of the answers.
-pub fn print_count(
-    rt: &impl Print,
-    alloc: Global,
-    name: &str,
-    pages: &str,
-    calls: &str,
-) -> anyhow::Result<()> {
-    let (way, rest) = Way::split(name);
-    let Some(workload) = Workload::named(rest) else {
+/// The workload of this name, and the numbers of pages and of calls.
+fn wanted(name: &str, pages: &str, calls: &str) -> anyhow::Result<(Workload, u32, u32)>
+    ensures { IfOk result (λ w. 1 ≤ w.1) }
+{
+    let Some(workload) = Workload::named(name) else {
         anyhow::bail!("zonebench: there is no workload {name}; there are {NAMES}")
     };
     let (Ok(pages), Ok(calls)) = (pages.parse::<u32>(), calls.parse::<u32>()) else {
@@ -77,7 +75,43 @@ pub fn print_count(
     if pages == 0 || pages > MAX_PAGES {
         anyhow::bail!("zonebench: PAGES is 1 to {MAX_PAGES}")
     }
-    let sum = way.sum(alloc, &workload, pages, calls)?;
+    Ok((workload, pages, calls))
+}
+
+/// Makes so many sections of pairs on a zone behind its lock.
+fn locked_sum(
+    rt: &(impl Wait + Clock),
+    alloc: Global,
+    workload: &Workload,
+    pages: u32,
+    calls: u32,
+) -> anyhow::Result<Sum> {
+    let Workload::Pairs(order) = workload else {
+        anyhow::bail!("zonebench: of a zone behind its lock there are pairs alone")
+    };
+    if calls > SECTIONS {
+        anyhow::bail!("zonebench: a zone behind its lock has room for {SECTIONS} calls")
+    }
+    Ok(locked::pairs(rt, alloc, pages, *order, calls / 2)?.sum)
+}
+
+/// Makes about so many calls of the workload of this name in a zone of so many pages, and prints how many they were, and the
+/// checksum of the answers.
+pub fn print_count(
+    rt: &(impl Print + Wait + Clock),
+    alloc: Global,
+    name: &str,
+    pages: &str,
+    calls: &str,
+) -> anyhow::Result<()> {
+    let sum = if let Some(rest) = name.strip_prefix("locked-") {
+        let (workload, pages, calls) = wanted(rest, pages, calls)?;
+        locked_sum(rt, alloc, &workload, pages, calls)?
+    } else {
+        let (way, rest) = Way::split(name);
+        let (workload, pages, calls) = wanted(rest, pages, calls)?;
+        way.sum(alloc, &workload, pages, calls)?
+    };
     println!(rt; "{name} {pages} {} {:016x}", sum.calls, sum.checksum)?;
     Ok(())
 }

@@ -13,6 +13,7 @@ mod cached;
 mod check;
 mod counting;
 mod grounds;
+mod locked;
 mod random;
 mod seated;
 mod shapes;

@@ -7,7 +7,8 @@ ghost use Rattle.zp_board.specs.Boards.{BoardState};
 ghost use Rattle.zp_zone.specs.Seats.{IsSeatOf, IsUnused};
 
 use crate::bench::NoMemory;
-use crate::cached::{lists, pair};
+use crate::cached::{lists, pair, pair_past_lists};
+use crate::check::Sum;
 use crate::random::Checksum;
 use std::alloc::Global;
 use std::marker::{Brand, PhantomData};
@@ -15,6 +16,7 @@ use std::rt::Clock;
 use std::sync::Wait;
 use std::thread::{Threads, map_vec};
 use std::time::{Duration, Instant};
+use zp_model::Order;
 use zp_share::Share;
 use zp_shared::{BoardReader, LockedZones, Naming, OpenedZone, SharedZone, share_zones};
 use zp_zone::{Seat, Zone, ZoneConfig};
@@ -24,13 +26,13 @@ const ENTRIES: u32 = 64;
 
 /// A row of one zone, behind its lock.
 #[derive(Drop)]
-struct Row<J: Naming> {
+pub struct Row<J: Naming> {
     zones: Vec<SharedZone<J>>,
     ghost places: { IsRowOf J.zones zones.items },
 }
 
 impl<J: Naming> Row<J> {
-    fn new(alloc: Global, opened: OpenedZone) -> Result<Row<J>, NoMemory>
+    pub fn new(alloc: Global, opened: OpenedZone) -> Result<Row<J>, NoMemory>
         requires named { J.zones ≡ opened_key opened ∷ [] }
         requires boards { J.boards ≡ opened_board opened ∷ [] }
     {
@@ -44,7 +46,7 @@ impl<J: Naming> Row<J> {
 
 /// A worker's share, and the checksum of the pages answered.
 #[derive(Drop)]
-struct Hand<J: Naming> {
+pub struct Hand<J: Naming> {
     share: Share,
     checksum: Checksum,
     of: PhantomData<J>,
@@ -57,11 +59,28 @@ impl<J: Naming> Hand<J> {
     fn pair<'a, R: Wait>(&mut self, zones: &mut LockedZones<'a, J, (), R>) {
         pair(&mut self.share, zones, &mut self.checksum);
     }
+
+    /// Takes a block past its lists and gives it back.
+    fn pair_past_lists<'a, R: Wait>(
+        &mut self,
+        zones: &mut LockedZones<'a, J, (), R>,
+        order: Order,
+    ) {
+        pair_past_lists(&mut self.share, zones, order, &mut self.checksum);
+    }
+
+    /// How many sections were made, and the checksum of the pages answered.
+    pub fn sum(&self) -> Sum {
+        Sum {
+            calls: self.share.sections(0),
+            checksum: self.checksum.value(),
+        }
+    }
 }
 
 /// A worker of the row, with its reader of the zone's board.
 #[derive(Drop)]
-struct Worker<J: Naming> {
+pub struct Worker<J: Naming> {
     hand: Hand<J>,
     readers: Vec<BoardReader>,
     ghost read: { AreReaders J.zones J.boards readers },
@@ -96,10 +115,26 @@ impl<J: Naming> Worker<J> {
         }
         hand
     }
+
+    /// Takes a block of this order past its lists and gives it back, so many times.
+    pub fn pairs_past_lists<'a, R: Wait>(
+        self,
+        rt: &'a R,
+        row: &'a Row<J>,
+        order: Order,
+        ops: u32,
+    ) -> Hand<J> {
+        let Worker { mut hand, readers } = self;
+        let mut zones = LockedZones::<J, (), R>::new(rt, row.zones.as_slice(), readers);
+        for _ in 0..ops {
+            hand.pair_past_lists(&mut zones, order);
+        }
+        hand
+    }
 }
 
 /// The workers of these seats of the opened zone.
-fn crew<J: Naming>(
+pub fn crew<J: Naming>(
     alloc: Global,
     opened: &mut OpenedZone,
     seats: Vec<Seat>,

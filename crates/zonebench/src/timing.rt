@@ -4,6 +4,7 @@ use crate::bench::Bench;
 use crate::board::BoardBench;
 use crate::cached::{Cached, PastLists};
 use crate::counting::HOW_TO_COUNT;
+use crate::locked::{self, SECTIONS};
 use crate::seated::Seated;
 use crate::source::Source;
 use crate::threads;
@@ -17,6 +18,9 @@ use zp_model::Order;
 
 /// The calls that are timed, about.
 const CALLS: u32 = 2_000_000;
+
+/// The samples of sections on a locked zone, each with a zone of its own.
+const SAMPLES: u32 = 8;
 
 /// The pages of the zone that workers in threads share.
 const SHARED_PAGES: u32 = SIZES[1];
@@ -82,6 +86,48 @@ fn print_times<S: Source>(
     Ok(())
 }
 
+/// Tenths of a nanosecond that a section on a locked zone of so many pages takes, where blocks of this order come and go past the
+/// lists: the least of several samples.
+fn tenths_a_section<R: Clock + Wait>(
+    rt: &R,
+    alloc: Global,
+    pages: u32,
+    order: Order,
+) -> anyhow::Result<u128> {
+    let mut least = u128::MAX;
+    for _ in 0..SAMPLES {
+        let sections = locked::pairs(rt, alloc, pages, order, SECTIONS / 2)?;
+        least = least.min(tenths_each(sections.time, sections.sum.calls));
+    }
+    Ok(least)
+}
+
+/// Prints a line of the table: the time of a section on a locked zone at each size.
+fn print_section_times<R: Print + Eprint + Clock + Wait>(
+    rt: &R,
+    alloc: Global,
+    name: &str,
+    order: Order,
+) -> anyhow::Result<()> {
+    print_name(rt, name)?;
+    for pages in SIZES {
+        let tenths = tenths_a_section(rt, alloc, pages, order)?;
+        print_tenths(rt, tenths)?;
+    }
+    println!(rt;)?;
+    Ok(())
+}
+
+/// Prints the table's lines of sections on a locked zone, for whose lock nobody else waits.
+fn print_locked_lines<R: Print + Eprint + Clock + Wait>(
+    rt: &R,
+    alloc: Global,
+) -> anyhow::Result<()> {
+    println!(rt; "sections on a locked zone")?;
+    print_section_times(rt, alloc, "pairs of order 0", Order::zero())?;
+    print_section_times(rt, alloc, "pairs of order 10", Order::largest())
+}
+
 /// Prints a line under the table: the time of pairs of cached pages of each of so many workers, all at the same time, at the second
 /// size of a zone.
 fn print_shared_time<R: Print + Eprint + Clock + Threads + Wait + Sync>(
@@ -129,6 +175,7 @@ pub fn print_all<R: Print + Eprint + Clock + Threads + Wait + Sync>(
     alloc: Global,
 ) -> anyhow::Result<()> {
     print_table(rt, alloc)?;
+    print_locked_lines(rt, alloc)?;
     print_shared_time(rt, alloc, "cached pairs, one thread", 1)?;
     print_shared_time(rt, alloc, "cached pairs, four threads", 4)?;
     print_board_times(rt, alloc)?;
