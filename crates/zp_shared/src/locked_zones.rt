@@ -90,6 +90,7 @@ impl<'a, J: Naming, E: Earlier, R> LockedZones<'a, J, E, R> {
 
 impl<'a, J: Naming, E: Earlier, R: Wait> LockedZones<'a, J, E, R> {
     // The zone at a place, locked, where the one of that place lies there; and the board of that place.
+    #[inline(always)]
     fn locked(&self, zone: usize) -> Option<(MutexGuard<'a, Guarded<J>>, &'a Board)>
         requires { zone < length J.zones }
         ensures place { IfSome result (λ g. (mutex_guard_value g.0).place ≡ zone) }
@@ -112,6 +113,8 @@ impl<'a, J: Naming, E: Earlier, R: Wait> Zones for LockedZones<'a, J, E, R> {
 
     ghost told = { λ z. None };
 
+    // (in line: where a caller knows which request it is, no room is cleared for a list of pages)
+    #[inline(always)]
     fn section(&mut self, share: &mut Share, zone: usize, request: &Request) -> Reply {
         let Some((mut guarded, board)) = self.locked(zone) else {
             return share.refuse(zone, request);
