@@ -1,5 +1,5 @@
 -- A block that comes back and grows: what is kept beside the lists, buddy by buddy, and what the tree of them all is.
-use Rattle.std.proofs.Common.{ℕ, zero, suc, ◌+◌, ◌-◌, ◌/◌, ◌^◌, ◌≡◌, ◌≢◌, ◌≤◌, ◌<◌, ◌⊎◌, inl, inr, refl, sym, ◌∙◌, ap, subst, arith, List, length, set, get_or, get_or-set_same, get_or-set_other, length-set, Option, Some, None}
+use Rattle.std.proofs.Common.{ℕ, zero, suc, ◌+◌, ◌-◌, ◌/◌, ◌^◌, ◌≡◌, ◌≤◌, ◌<◌, ◌⊎◌, inl, inr, refl, sym, ◌∙◌, ap, subst, arith, List, length, set, get_or, get_or-set_same, length-set, Option, None}
 use Rattle.std.specs.List.{slice_index}
 use Rattle.std.proofs.lemmas.Nat.{pow_pos}
 use Rattle.std.proofs.lemmas.Bool.{cases_lt}
@@ -18,9 +18,8 @@ use Rattle.zp_area.specs.Blocks.{Blocks, block_set, added, removed}
 use Rattle.zp_area.specs.Chains.{IsJoinable, IsJoinedUp}
 use Rattle.zp_area.specs.OneSet.{IsKept}
 use Rattle.zp_area.proofs.NotedBlocks.{starts-from}
-use Rattle.zp_area.proofs.OneBlock.{new_none}
 use Rattle.zp_area.proofs.Keeping.{blocks_length}
-use Rattle.zp_area.proofs.Adding.{IsComing, coming_new, kept_added}
+use Rattle.zp_area.proofs.Adding.{IsComing, kept_added}
 use Rattle.zp_area.proofs.Removing.{clear_removed, clear_still, kept_removed}
 use Rattle.zp_area.proofs.Splitting.{kept_set}
 
