@@ -11,7 +11,7 @@ ghost use Rattle.zp_model.specs.Frames.{IsNote};
 ghost use Rattle.zp_model.specs.Area.{list_number, lists_count, size_in};
 ghost use Rattle.zp_tree.specs.Blocks.{IsBeside};
 ghost use Rattle.zp_area.specs.Given.{IsClearRun};
-ghost use Rattle.zp_area.specs.Blocks.{block_set, count_of, free_list_of, side_list_of, no_blocks, added, noted, side_pushed, side_popped};
+ghost use Rattle.zp_area.specs.Blocks.{block_set, count_of, free_list_of, side_list_of, no_blocks, added, removed, noted, side_pushed, side_popped};
 ghost use Rattle.zp_area.specs.Chains.{split_off, IsJoinedUp};
 ghost use Rattle.zp_area.specs.Retyped.{retyped};
 ghost use Rattle.zp_area.specs.OneSet.{IsOneSet};
@@ -118,17 +118,46 @@ impl FreeArea {
         requires down { to ≤ from }
         ensures { self.new ≡ split_off LARGEST_ORDER self.old at from to }
     {
-        let FreeArea {
-            lists,
-            kinds,
-            tree,
-            free_in,
-        } = self;
         if to.number() < from.number() {
-            splits::split_off(lists, kinds, tree, free_in, at, from, to);
+            self.split_down(at, from, to);
         } else {
-            splits::take_whole(lists, kinds, tree, free_in, at, from);
+            self.take_whole(at, from);
         }
+    }
+
+    /// Takes a block of this order out of the set whole.
+    #[inline(always)]
+    fn take_whole(&mut self, at: PageAt, order: Order)
+        requires { Starts (block_set self.old) at order }
+        ensures { self.new ≡ removed LARGEST_ORDER self.old at order }
+    {
+        splits::take_whole(
+            &mut self.lists,
+            &self.kinds,
+            &mut self.tree,
+            &mut self.free_in,
+            at,
+            order,
+        );
+    }
+
+    /// The same of a block that is split.
+    // (out of line: most blocks are taken whole, which is the shorter way; and a method, as one pointer in a loop is less than four)
+    #[inline(never)]
+    fn split_down(&mut self, at: PageAt, from: Order, to: Order)
+        requires block { Starts (block_set self.old) at from }
+        requires down { to < from }
+        ensures { self.new ≡ split_off LARGEST_ORDER self.old at from to }
+    {
+        splits::split_off(
+            &mut self.lists,
+            &self.kinds,
+            &mut self.tree,
+            &mut self.free_in,
+            at,
+            from,
+            to,
+        );
     }
 
     /// Takes a block into the set, joined with its buddies as long as they are in the set: each leaves it, and what the block has
@@ -139,10 +168,21 @@ impl FreeArea {
         requires clear { IsClearRun LARGEST_ORDER self.old.rows.states self.old.rows.lists at order }
         ensures { (d : ℕ) × IsJoinedUp d LARGEST_ORDER self.old at order self.new }
     {
-        if !joins::has_free_buddy(&self.lists, at, order) {
+        if joins::has_free_buddy(&self.lists, at, order) {
+            self.join_buddies(at, order);
+        } else {
             self.add(at, order);
-            return;
         }
+    }
+
+    /// The same of a block that is joined.
+    // (out of line, as most blocks have no free buddy, and a method)
+    #[inline(never)]
+    fn join_buddies(&mut self, at: PageAt, order: Order)
+        requires block { IsBlock LARGEST_ORDER (length self.old.rows.states) at order }
+        requires clear { IsClearRun LARGEST_ORDER self.old.rows.states self.old.rows.lists at order }
+        ensures { (d : ℕ) × IsJoinedUp d LARGEST_ORDER self.old at order self.new }
+    {
         joins::join_up(
             &mut self.lists,
             &self.kinds,

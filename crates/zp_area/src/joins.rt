@@ -32,8 +32,7 @@ pub fn has_free_buddy(lists: &Lists, at: PageAt, order: Order) -> bool
 
 /// Takes a block into the set, joined with its buddies as long as they are free. Each leaves its list; the head of what the block
 /// has grown to comes on a list last, and in the tree all is one change.
-// (out of line: a block with no free buddy is added, which is the shorter way)
-#[inline(never)]
+#[inline(always)]
 pub fn join_up(
     lists: &mut Lists,
     kinds: &Vec<MigrateType>,

@@ -61,8 +61,7 @@ pub fn take_whole(
 
 /// Takes the block of order `from` at `at` out of the set, and its high halves down to order `to` into it. The tree changes once,
 /// and so does the number of free pages of the pageblock.
-// (out of line: most blocks are taken whole, which is the shorter way)
-#[inline(never)]
+#[inline(always)]
 pub fn split_off(
     lists: &mut Lists,
     kinds: &Vec<MigrateType>,
