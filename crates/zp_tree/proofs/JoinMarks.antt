@@ -1,7 +1,7 @@
 -- The words of a zone after a run was joined with its buddies.
 use Rattle.std.proofs.Common.{ℕ, ◌+◌, ◌-◌, ◌/◌, ◌%◌, ◌≡◌, ◌≤◌, ◌<◌, inl, inr, refl, sym, ◌∙◌, ap, arith, List, length, slice_index, slice_set}
 use Rattle.std.specs.Int.{bit_at}
-use Rattle.std.proofs.lemmas.Bool.{cases_lt, cases_eq}
+use Rattle.std.proofs.lemmas.Bool.{cases_lt}
 use Rattle.std.proofs.lemmas.List.{length-set}
 use Rattle.zp_model.specs.Block.{head}
 use Rattle.zp_tree.specs.declared.constants.TheConstants.{PLACES, WORD_LEVELS, GROUP_PAGES}
@@ -13,16 +13,6 @@ use Rattle.zp_tree.proofs.Places as Places
 use Rattle.zp_tree.proofs.Places.{low_place, high_mark}
 use Rattle.zp_tree.proofs.Marking.{low_others, low_here, low_words, high_others, high_here, high_words}
 use Rattle.zp_tree.proofs.BuddyPlaces.{buddy_place, buddy_low, buddy_high, buddy_whole, head_around}
-
-pub one_buddy_more : (w v u p f t k : ℕ) → p < PLACES → t < WORD_LEVELS → f ≤ t → k ≡ t + 1 → IsUnpaired w v p f t → IsMarked v u (buddy p t) t 0 → IsUnpaired w u p f k
-one_buddy_more w v u p f t k lt few le e h m = record {
-  buddies = λ j from to. elim (cases_eq j t) [
-    | inl same ↦ rw same m.here
-    | inr ne ↦ m.others (buddy p j) j (buddy_place p j lt (omega arith)) (λ _ s. ne s) ∙ h.buddies j from (omega arith)
-  ];
-  others = λ q j y ne.
-      m.others q j y (λ a s. ne (rw s a) (omega (arith, s)) (omega (arith, s))) ∙ h.others q j y (λ a from to. ne a from (omega arith));
-}
 
 -- within a low word
 pub low_joined : (ls hs : List ℕ) (v w p f t : ℕ) → IsWords ls hs → IsInGroups hs (head p t) t → t < WORD_LEVELS → IsUnpaired (slice_index ls (p / PLACES)) v (p % PLACES) f t → IsMarked v w (head p t % PLACES) t 1 →

@@ -1,8 +1,8 @@
 -- The nodes of a word: each block of its places has one of its own.
 use Rattle.std.proofs.Common.{ℕ, ◌+◌, ◌-◌, ◌*◌, ◌/◌, ◌%◌, ◌^◌, ◌≡◌, ◌≤◌, ◌<◌, inl, inr, sym, ◌∙◌, ap, arith}
-use Rattle.std.proofs.lemmas.Nat.{shr_split, pow-add, pow_pos, pow_below, shr_below}
+use Rattle.std.proofs.lemmas.Nat.{shr_split, pow-add, pow_pos, shr_below}
 use Rattle.std.proofs.lemmas.Bool.{cases_lt, cases_eq}
-use Rattle.std.proofs.Math.Nat.{mul-add-div_right, add-mod_right, mul-div_cancel, mul-lt-mul_of_pos_right, mul-le-mul_right, mul-mod_left, add-mul-mod_self_right, add-mul-div_right, add-mul, mul_assoc}
+use Rattle.std.proofs.Math.Nat.{mul-add-div_right, mul-div_cancel, mul-lt-mul_of_pos_right, mul-le-mul_right, mul-mod_left, add-mul-mod_self_right, add-mul-div_right, add-mul, mul_assoc}
 use Rattle.std.proofs.Math.Pow.{pow_mono}
 use Rattle.zp_model.specs.Block.{head}
 use Rattle.zp_model.proofs.Heads.{two, aligned_down, head_of, head_room}
@@ -50,16 +50,6 @@ pub place_room : (p l : ℕ) → IsPlace p l → p + 2 ^ l ≤ PLACES
 place_room p l x =
     let z : head p WORD_LEVELS ≡ 0 = head_of 0 p WORD_LEVELS (omega arith) (omega arith) x.inside in
     omega (arith, z, head_room p l WORD_LEVELS x.level x.aligned)
-
--- a high half of a block is a place of its own level
-pub high_place : (p l k : ℕ) → IsPlace p l → k < l → IsPlace (p + 2 ^ k) k
-high_place p l k x lt =
-    let low : p % 2 ^ k ≡ 0 = aligned_down k l p (omega arith) x.aligned in
-    record {
-      level = omega (arith, x.level);
-      aligned = add-mod_right p (2 ^ k) ∙ low;
-      inside = omega (arith, place_room p l x, pow_below k l lt);
-    }
 
 -- each number below 64 but 0 is a node's
 pub node_from : (n j : ℕ) → j ≤ WORD_LEVELS → 2 ^ j ≤ n → n < 2 ^ (j + 1) → (p : ℕ) × IsPlace p (WORD_LEVELS - j) × (node p (WORD_LEVELS - j) ≡ n)

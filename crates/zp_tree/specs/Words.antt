@@ -25,6 +25,12 @@ pub record IsMarked (w v p l b : ℕ) : Type 0 where
   pub here : bit_at v (node p l) ≡ b
   pub others : (q k : ℕ) → IsPlace q k → (q ≡ p → k ≡ l → ⊥) → bit_at v (node q k) ≡ bit_at w (node q k)
 
+-- v has the bits of the buddies of the runs around place p, from level f to below level t, and no others
+pub record IsChain (p f t v : ℕ) : Type 0 where
+  pub buddies : (k : ℕ) → f ≤ k → k < t → bit_at v (node (buddy p k) k) ≡ 1
+  pub others : (q k : ℕ) → IsPlace q k → (q ≡ buddy p k → f ≤ k → k < t → ⊥) → bit_at v (node q k) ≡ 0
+  pub none : bit_at v 0 ≡ 0
+
 -- v is the word w with the high halves of the blocks at place p, from level f down to level t
 pub record IsHalved (w v p f t : ℕ) : Type 0 where
   pub halves : (k : ℕ) → t ≤ k → k < f → bit_at v (node (p + 2 ^ k) k) ≡ 1

@@ -4,9 +4,9 @@
 //! for single places. A bit is set where its places are a block.
 ghost use Rattle.std.specs.Prelude.{◌≡◌, ◌≤◌, ◌<◌, ◌+◌, ◌*◌, ◌^◌, length};
 ghost use Rattle.zp_tree.specs.declared.constants.TheConstants.{PLACES, WORD_LEVELS};
-ghost use Rattle.zp_tree.specs.Blocks.{buddy};
-ghost use Rattle.zp_tree.specs.Words.{node, IsPlace, IsMarked, IsHalved, IsUnpaired, IsRow, IsLargestIn, IsFirstOf, IsFirst, IsUnion};
+ghost use Rattle.zp_tree.specs.Words.{node, IsPlace, IsMarked, IsChain, IsHalved, IsUnpaired, IsRow, IsLargestIn, IsFirstOf, IsFirst, IsUnion};
 
+use crate::buddies::BUDDIES;
 use crate::constants::{PLACES, WORD_LEVELS};
 use std::marker::Model;
 
@@ -38,15 +38,18 @@ fn node_of(place: u32, level: u8) -> u32
     (PLACES + place) >> level
 }
 
-/// The number of the node of the buddy of the run of this level around a place.
+/// The bits of the buddies of the runs around a place, from level `from` to below level `to`.
 #[inline]
-fn buddy_of(place: u32, level: u8) -> u32
+fn chain(place: u32, from: u8, to: u8) -> u64
     requires place { place < PLACES }
-    requires level { level < WORD_LEVELS }
-    ensures buddy { result ≡ node (buddy place level) level }
-    ensures within { (0 < result) × (result < 64) }
+    requires up { from < to }
+    requires levels { to ≤ WORD_LEVELS }
+    ensures { IsChain place from to result }
 {
-    ((PLACES + place) >> level) ^ 1
+    let node = (PLACES + place) >> from;
+    // the nodes of the levels below `to` have their numbers from here on
+    let first = 2 * PLACES >> to;
+    BUDDIES[node as usize] & u64::MAX << first
 }
 
 /// How many places a block of this level has.
@@ -88,18 +91,6 @@ impl Word {
         }
     }
 
-    /// Without the buddy of the run of this level around a place.
-    #[inline]
-    fn without_buddy(self, place: u32, level: u8) -> Word
-        requires place { place < PLACES }
-        requires level { level < WORD_LEVELS }
-        ensures { IsMarked self result (buddy place level) level 0 }
-    {
-        Word {
-            bits: self.bits & !(1 << buddy_of(place, level)),
-        }
-    }
-
     /// With the high halves that are left where a block of level `from` is split down to `to`.
     #[inline]
     pub fn with_halves(self, place: u32, from: u8, to: u8) -> Word
@@ -107,13 +98,13 @@ impl Word {
         requires down { to ≤ from }
         ensures { IsHalved self result place from to }
     {
-        let mut word = self;
-        let mut level = from;
-        'halves: while to < level {
-            level -= 1;
-            word = word.with(place + places_of(level), level);
+        if to == from {
+            return self;
         }
-        word
+        let halves = chain(place, to, from);
+        Word {
+            bits: self.bits | halves,
+        }
     }
 
     /// Without the buddies of the runs around a place, from level `from` to below level `to`.
@@ -124,13 +115,13 @@ impl Word {
         requires levels { to ≤ WORD_LEVELS }
         ensures { IsUnpaired self result place from to }
     {
-        let mut word = self;
-        let mut level = from;
-        'buddies: while level < to {
-            word = word.without_buddy(place, level);
-            level += 1;
+        if from == to {
+            return self;
         }
-        word
+        let buddies = chain(place, from, to);
+        Word {
+            bits: self.bits & !buddies,
+        }
     }
 
     /// The largest level of a block.

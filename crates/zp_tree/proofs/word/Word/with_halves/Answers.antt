@@ -1,20 +1,13 @@
-use Rattle.std.proofs.Common.{◌+◌, ◌-◌, subst, ℕ, arith}
-use Rattle.zp_tree.specs.Words.{IsMarked}
-use Rattle.zp_tree.proofs.Nodes.{high_place}
-use Rattle.zp_tree.proofs.Halves.{one_half_more}
+use Rattle.std.proofs.Common.{ℕ, arith, subst, bit_or}
+use Rattle.std.proofs.lemmas.Nat.Bits.{bit_at_or}
+use Rattle.zp_tree.specs.Words.{IsHalved}
+use Rattle.zp_tree.proofs.Chains.{with_chain}
 use Rattle.zp_tree.proofs.word.Word.with_halves.Goals as goal
 
-pub with-word-requires : goal.with-word-requires
-with-word-requires c =
-    let k = c.halves.level - 1 in
-    rw c.places_of.ensures.places (high_place c.args.place c.args.from k c.requires.block (omega arith))
+pub invariant_of-result-2 : goal.invariant_of-result-2
+invariant_of-result-2 c = omega (arith, bit_at_or c.self.inside.bits c.chain-halves.result 0, c.self.invariant, c.chain-halves.ensures.none)
 
-pub halves-preserved : goal.halves-preserved
-halves-preserved c =
-    let k = c.halves.level - 1 in
-    let P : ℕ → Type 0 = λ n. IsMarked c.halves.word c.with-word.result (c.args.place + n) k 1 in
-    record {
-      down = omega arith;
-      up = omega arith;
-      halved = one_half_more _ _ _ _ _ c.halves.level k c.requires.block (omega arith) (omega arith) c.halves.invariant.halved (subst P c.places_of.ensures.places c.with-word.ensures);
-    }
+pub returns : goal.returns
+returns c =
+    let P : ℕ → Type 0 = λ w. IsHalved w (bit_or c.self.inside.bits c.chain-halves.result) c.args.place c.args.from c.args.to in
+    subst P c.self.view_is (with_chain _ _ _ _ _ c.requires.block c.chain-halves.ensures)

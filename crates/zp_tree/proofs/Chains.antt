@@ -1,0 +1,144 @@
+-- The bits of a chain of buddies: as the table of a word's nodes has them, cut at a level, and put into a word or taken out of it.
+use Rattle.std.proofs.Common.{ℕ, zero, suc, ◌+◌, ◌-◌, ◌*◌, ◌/◌, ◌%◌, ◌^◌, ◌≡◌, ◌≤◌, ◌<◌, Bool, true, eqb, eqb-true, inl, inr, refl, sym, ◌∙◌, ap, arith, slice_index, bit_and, bit_or, bit_xor, w64}
+use Rattle.std.specs.Int.{bit_at, bit_not}
+use Rattle.std.proofs.lemmas.Bool.{cases_lt, cases_eq, agree_below_at}
+use Rattle.std.proofs.lemmas.Nat.{pow-add, pow_pos, shr-shr, shr_split, shr_below}
+use Rattle.std.proofs.lemmas.Nat.Bits.{bit_at_and, bit_at_or, bit_at_not, bit_at-lt, bit_at-zero, bit_at_mask_inside, bit_at_mask_below, ones_shl}
+use Rattle.std.proofs.Math.Nat.{mul-div_cancel}
+use Rattle.std.proofs.Math.Pow.{pow_mono}
+use Rattle.zp_model.proofs.Heads.{two, aligned_down}
+use Rattle.zp_tree.specs.declared.buddies.TheConstants.{BUDDIES}
+use Rattle.zp_tree.specs.declared.constants.TheConstants.{PLACES, WORD_LEVELS}
+use Rattle.zp_tree.specs.Blocks.{buddy}
+use Rattle.zp_tree.specs.Words.{node, IsPlace, IsMarked, IsChain, IsHalved, IsUnpaired}
+use Rattle.zp_tree.proofs.Nodes.{node_is, node_within, place_lt}
+use Rattle.zp_tree.proofs.WordBits.{set_bit, set_marks, set_keeps_none}
+use Rattle.zp_tree.proofs.BuddyPlaces.{buddy_place, buddy_node}
+
+entry : ℕ → ℕ
+entry n = slice_index BUDDIES n
+
+-- the entry of node n + 2 is that of the node above it with the bit of its buddy
+adds_buddy : ℕ → Bool
+adds_buddy n = eqb (entry (n + 2)) (set_bit (entry ((n + 2) / 2)) (bit_xor (n + 2) 1))
+
+none_above : entry 1 ≡ 0
+unfolding entry
+none_above = refl
+
+each_entry : (n : ℕ) → 2 ≤ n → n < 64 → entry n ≡ set_bit (entry (n / 2)) (bit_xor n 1)
+unfolding adds_buddy entry
+each_entry n lo hi =
+    let e : (n - 2) + 2 ≡ n = omega arith in
+    let t : entry ((n - 2) + 2) ≡ set_bit (entry (((n - 2) + 2) / 2)) (bit_xor ((n - 2) + 2) 1) = eqb-true _ _ (agree_below_at adds_buddy (λ _. true) 62 (n - 2) refl (omega arith)) in
+    rw e at t
+
+-- half of a node's number is that of the node above it
+node_above : (p k : ℕ) → node p k / 2 ≡ node p (k + 1)
+node_above p k = shr-shr (PLACES + p) k 1
+
+around_within : (p k : ℕ) → p < PLACES → k ≤ WORD_LEVELS → (2 ^ (WORD_LEVELS - k) ≤ node p k) × (node p k < 2 ^ (WORD_LEVELS - k + 1))
+around_within p k lt le =
+    let e : WORD_LEVELS ≡ (WORD_LEVELS - k) + k = omega arith in
+    let b : p < 2 ^ WORD_LEVELS = lt in
+    let s : p / 2 ^ k < 2 ^ (WORD_LEVELS - k) = shr_below p (WORD_LEVELS - k) k (rw (← e) b) in
+    (omega (arith, node_is p k le), omega (arith, node_is p k le, s, two (WORD_LEVELS - k)))
+
+around_inside : (p k : ℕ) → p < PLACES → k ≤ WORD_LEVELS → node p k < 64
+around_inside p k lt le = let top : 2 ^ (WORD_LEVELS - k + 1) ≤ 2 ^ (WORD_LEVELS + 1) = pow_mono {i = WORD_LEVELS - k + 1} {j = WORD_LEVELS + 1} (omega arith) in omega (arith, around_within p k lt le, top)
+
+entry_marked : (p k : ℕ) → p < PLACES → k < WORD_LEVELS → IsMarked (entry (node p (k + 1))) (entry (node p k)) (buddy p k) k 1 × (bit_at (entry (node p (k + 1))) 0 ≡ 0 → bit_at (entry (node p k)) 0 ≡ 0)
+entry_marked p k lt few =
+    let low : 2 ^ 1 ≤ 2 ^ (WORD_LEVELS - k) = pow_mono {i = 1} {j = WORD_LEVELS - k} (omega arith) in
+    let e : entry (node p k) ≡ set_bit (entry (node p (k + 1))) (bit_xor (node p k) 1) =
+    each_entry (node p k) (omega (arith, around_within p k lt (omega arith), low)) (around_inside p k lt (omega arith)) ∙ ap (λ n. set_bit (entry n) (bit_xor (node p k) 1)) (node_above p k) in
+    let b = buddy_place p k lt few in
+    let n = sym (buddy_node p k lt few) in
+    (rw e (set_marks _ _ _ _ b n), λ none. rw e (set_keeps_none _ _ _ _ b n none))
+
+-- a chain that begins a level lower has one buddy more
+one_level_lower : (p f t v u : ℕ) → p < PLACES → f < t → t ≤ WORD_LEVELS → IsChain p (f + 1) t v → IsMarked v u (buddy p f) f 1 → bit_at u 0 ≡ 0 → IsChain p f t u
+one_level_lower p f t v u lt up le h m none = record {
+  buddies = λ k from to. elim (cases_eq k f) [
+    | inl same ↦ rw same m.here
+    | inr ne ↦ m.others (buddy p k) k (buddy_place p k lt (omega arith)) (λ _ s. ne s) ∙ h.buddies k (omega arith) to
+  ];
+  others = λ q k y ne. m.others q k y (λ a s. ne (rw s a) (omega (arith, s)) (omega (arith, s, up))) ∙ h.others q k y (λ a from to. ne a (omega arith) to);
+  none = none;
+}
+
+-- the entry of the node around a place has the chain up to the root
+whole_chain : (d p f : ℕ) → p < PLACES → f + d ≡ WORD_LEVELS → IsChain p f WORD_LEVELS (entry (node p f))
+whole_chain zero p f lt e =
+    let s : f ≡ WORD_LEVELS = omega arith in
+    let one : node p WORD_LEVELS ≡ 1 = omega (arith, around_within p WORD_LEVELS lt (omega arith)) in
+    let z : entry (node p f) ≡ 0 = ap (λ k. entry (node p k)) s ∙ (ap entry one ∙ none_above) in
+    rw z record { buddies = λ k from to. absurd (omega arith); others = λ q k y ne. bit_at-zero (node q k); none = bit_at-zero 0 }
+whole_chain (suc d) p f lt e =
+    let m = entry_marked p f lt (omega arith) in
+    let h = whole_chain d p (f + 1) lt (omega arith) in
+    one_level_lower p f WORD_LEVELS _ _ lt (omega arith) (omega arith) h m.0 (m.1 h.none)
+
+-- the nodes of the levels below t have their numbers from the first of level t - 1 on
+first_node : (t : ℕ) → t ≤ WORD_LEVELS → 64 / 2 ^ t ≡ 2 ^ (WORD_LEVELS + 1 - t)
+first_node t le =
+    let e : (WORD_LEVELS + 1 - t) + t ≡ WORD_LEVELS + 1 = omega arith in
+    let w : 64 ≡ 2 ^ (WORD_LEVELS + 1 - t) * 2 ^ t = ap (λ n. 2 ^ n) (sym e) ∙ pow-add 2 (WORD_LEVELS + 1 - t) t in
+    ap (λ n. n / 2 ^ t) w ∙ mul-div_cancel (2 ^ (WORD_LEVELS + 1 - t)) (pow_pos t)
+
+pub first_within : (t : ℕ) → 0 < t → t ≤ WORD_LEVELS → 64 / 2 ^ t < 64
+first_within t pos le = let b : 2 ^ (WORD_LEVELS + 1 - t) ≤ 2 ^ WORD_LEVELS = pow_mono {i = WORD_LEVELS + 1 - t} {j = WORD_LEVELS} (omega arith) in omega (arith, first_node t le, b)
+
+from_first : (q k t : ℕ) → IsPlace q k → k < t → t ≤ WORD_LEVELS → 64 / 2 ^ t ≤ node q k
+from_first q k t y lt le = let b : 2 ^ (WORD_LEVELS + 1 - t) ≤ 2 ^ (WORD_LEVELS - k) = pow_mono {i = WORD_LEVELS + 1 - t} {j = WORD_LEVELS - k} (omega arith) in omega (arith, first_node t le, b, node_is q k y.level)
+
+before_first : (q k t : ℕ) → IsPlace q k → t ≤ k → node q k < 64 / 2 ^ t
+before_first q k t y le =
+    let x = y.level in
+    let b : 2 ^ (WORD_LEVELS - k + 1) ≤ 2 ^ (WORD_LEVELS + 1 - t) = pow_mono {i = WORD_LEVELS - k + 1} {j = WORD_LEVELS + 1 - t} (omega arith) in
+    omega (arith, first_node t (omega arith), b, node_is q k x, place_lt q k y, two (WORD_LEVELS - k))
+
+-- a chain up to the root that is cut at a level
+cut_chain : (p f t v : ℕ) → p < PLACES → 0 < t → t ≤ WORD_LEVELS → IsChain p f WORD_LEVELS v → IsChain p f t (bit_and v (2 ^ 64 - 2 ^ (64 / 2 ^ t)))
+cut_chain p f t v lt pos le h =
+    let s = 64 / 2 ^ t in
+    let mask = 2 ^ 64 - 2 ^ s in
+    record {
+      buddies = λ k from to.
+          let y = buddy_place p k lt (omega arith) in
+          let n = node (buddy p k) k in
+          let inside : bit_at mask n ≡ 1 = bit_at_mask_inside s 64 n (from_first (buddy p k) k t y to le) (omega (arith, node_within (buddy p k) k y)) in
+          omega (arith, bit_at_and v mask n, inside, h.buddies k from (omega arith));
+      others = λ q k y ne. elim (cases_lt k t) [
+        | inl low ↦ omega (arith, bit_at_and v mask (node q k), h.others q k y (λ a from to. ne a from low))
+        | inr high ↦ omega (arith, bit_at_and v mask (node q k), bit_at_mask_below s 64 (node q k) (before_first q k t y (omega arith)))
+      ];
+      none = omega (arith, bit_at_and v mask 0, h.none);
+    }
+
+pub chain_bits : (p f t : ℕ) → p < PLACES → f < t → t ≤ WORD_LEVELS → IsChain p f t (bit_and (slice_index BUDDIES (node p f)) ((2 ^ 64 - 1) * 2 ^ (64 / 2 ^ t) % 2 ^ 64))
+unfolding entry
+chain_bits p f t lt up le =
+    let m = ones_shl 64 (64 / 2 ^ t) (omega (arith, first_within t (omega arith) le)) in
+    rw m (cut_chain p f t _ lt (omega arith) le (whole_chain (WORD_LEVELS - f) p f lt (omega arith)))
+
+-- the high halves of a block are the buddies of its low parts
+high_half : (p k l : ℕ) → IsPlace p l → k < l → buddy p k ≡ p + 2 ^ k
+high_half p k l x lt =
+    let a : p % 2 ^ k ≡ 0 = aligned_down k l p (omega arith) x.aligned in
+    let b : p % 2 ^ (k + 1) ≡ 0 = aligned_down (k + 1) l p (omega arith) x.aligned in
+    omega (arith, shr_split p k, shr_split p (k + 1), a, b)
+
+pub with_chain : (w v p f t : ℕ) → IsPlace p f → IsChain p t f v → IsHalved w (bit_or w v) p f t
+with_chain w v p f t x h = record {
+  halves = λ k from to. let e = high_half p k f x to in let o : bit_at v (node (p + 2 ^ k) k) ≡ 1 = rw (← e) (h.buddies k from to) in omega (arith, bit_at_or w v (node (p + 2 ^ k) k), o, bit_at-lt w (node (p + 2 ^ k) k));
+  others = λ q k y ne. let z = h.others q k y (λ a from to. ne (a ∙ high_half p k f x to) from to) in omega (arith, bit_at_or w v (node q k), z);
+}
+
+pub without_chain : (w v p f t : ℕ) → p < PLACES → t ≤ WORD_LEVELS → v < 2 ^ 64 → IsChain p f t v → IsUnpaired w (bit_and w (bit_not w64 v)) p f t
+without_chain w v p f t lt le fits h = record {
+  buddies = λ k from to.
+      let n = node (buddy p k) k in
+      omega (arith, bit_at_and w (bit_not w64 v) n, bit_at_not w64 v n fits (node_within _ _ (buddy_place p k lt (omega arith))).1, h.buddies k from to);
+  others = λ q k y ne. omega (arith, bit_at_and w (bit_not w64 v) (node q k), bit_at_not w64 v (node q k) fits (node_within q k y).1, h.others q k y ne, bit_at-lt w (node q k));
+}
