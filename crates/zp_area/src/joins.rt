@@ -25,7 +25,8 @@ pub fn is_free(lists: &Lists, at: PageAt, order: Order) -> bool
 /// Whether a block has a free buddy, with which it makes a larger one.
 pub fn has_free_buddy(lists: &Lists, at: PageAt, order: Order) -> bool
     requires { at % 2 ^ order ≡ 0 }
-    ensures { result ≡ false → order < LARGEST_ORDER → (c d : ℕ) → IsBuddy at order c d → state_at lists.now.states c ≡ Free order → ⊥ }
+    ensures some { IsTrue result → (c : ℕ) × (d : ℕ) × (order < LARGEST_ORDER) × IsBuddy at order c d × (state_at lists.now.states c ≡ Free order) }
+    ensures none { result ≡ false → order < LARGEST_ORDER → (c d : ℕ) → IsBuddy at order c d → state_at lists.now.states c ≡ Free order → ⊥ }
 {
     order.number() < LARGEST_ORDER && is_free(lists, at.buddy(order), order)
 }
