@@ -1,7 +1,7 @@
 //! A zone under load, as a user would keep it: its blocks that were lent.
 
 use crate::random::{Checksum, Random, below};
-use crate::source::Source;
+use crate::source::BlockSource;
 use std::alloc::{AllocError, Global};
 use thiserror::Error;
 use zp_model::{MigrateType, Order, PageNo, Refused};
@@ -43,7 +43,7 @@ pub struct Bench<S> {
     checksum: Checksum,
 }
 
-impl<S: Source> Bench<S> {
+impl<S: BlockSource> Bench<S> {
     /// Over a zone of so many pages, with room for as many lent blocks.
     pub fn new(alloc: Global, pages: u32) -> Result<Bench<S>, NoMemory> {
         let lent = Vec::with_capacity(alloc, pages as usize)?;

@@ -5,7 +5,7 @@ ghost use Rattle.zp_share.specs.Shares.{IsShareOf, key_of};
 
 use crate::bench::NoMemory;
 use crate::random::Checksum;
-use crate::source::{Source, config};
+use crate::source::{BlockSource, config};
 use std::alloc::Global;
 use zp_model::{Mark, MigrateType, Order, PageNo};
 use zp_share::{ListConfig, PlainZones, Share, Zones, alloc, free};
@@ -117,7 +117,7 @@ impl Hand {
 #[derive(Drop)]
 pub struct Cached(Hand);
 
-impl Source for Cached {
+impl BlockSource for Cached {
     fn new(alloc: Global, pages: u32) -> Result<Cached, NoMemory> {
         Ok(Cached(Hand::new(alloc, pages)?))
     }
@@ -135,7 +135,7 @@ impl Source for Cached {
 #[derive(Drop)]
 pub struct PastLists(Hand);
 
-impl Source for PastLists {
+impl BlockSource for PastLists {
     fn new(alloc: Global, pages: u32) -> Result<PastLists, NoMemory> {
         Ok(PastLists(Hand::new(alloc, pages)?))
     }

@@ -3,7 +3,7 @@
 use crate::bench::{Bench, NoMemory};
 use crate::cached::{Cached, PastLists};
 use crate::seated::Seated;
-use crate::source::Source;
+use crate::source::BlockSource;
 use crate::workload::{SIZES, Workload};
 use crate::worst;
 use std::alloc::Global;
@@ -17,7 +17,7 @@ pub struct Sum {
 }
 
 /// A workload in a zone of so many pages.
-pub fn sum_of<S: Source>(
+pub fn sum_of<S: BlockSource>(
     alloc: Global,
     workload: &Workload,
     pages: u32,
@@ -34,7 +34,7 @@ pub fn sum_of<S: Source>(
 }
 
 /// Prints the checksums of a workload, a line for each size of a zone.
-fn print_sums<S: Source>(
+fn print_sums<S: BlockSource>(
     rt: &impl Print,
     alloc: Global,
     name: &str,

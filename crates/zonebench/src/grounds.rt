@@ -1,7 +1,7 @@
 //! What is free in a zone, and of which type, before a request that is dear.
 
 use crate::bench::{Bench, NoMemory};
-use crate::source::Source;
+use crate::source::BlockSource;
 use zp_model::{MigrateType, Order, PAGEBLOCK_PAGES};
 
 /// The pages of the zone.
@@ -28,7 +28,7 @@ pub enum Ground {
 
 impl Ground {
     /// Brings a zone of `PAGES` pages there.
-    pub fn prepare<S: Source>(&self, bench: &mut Bench<S>) -> Result<(), NoMemory> {
+    pub fn prepare<S: BlockSource>(&self, bench: &mut Bench<S>) -> Result<(), NoMemory> {
         match self {
             Ground::Whole => settle(bench, MigrateType::Movable),
             Ground::OnePageblock => {
@@ -62,20 +62,23 @@ impl Ground {
 }
 
 /// Lends all pageblocks, which get this type: each is of it, or is claimed.
-fn lend_pageblocks<S: Source>(bench: &mut Bench<S>, kind: MigrateType) -> Result<(), NoMemory> {
+fn lend_pageblocks<S: BlockSource>(
+    bench: &mut Bench<S>,
+    kind: MigrateType,
+) -> Result<(), NoMemory> {
     bench.give_all();
     bench.lend_all(Order::largest(), kind)
 }
 
 /// All pages are free, and all pageblocks of this type.
-fn settle<S: Source>(bench: &mut Bench<S>, kind: MigrateType) -> Result<(), NoMemory> {
+fn settle<S: BlockSource>(bench: &mut Bench<S>, kind: MigrateType) -> Result<(), NoMemory> {
     lend_pageblocks(bench, kind)?;
     bench.give_all();
     Ok(())
 }
 
 /// All pages are lent one by one, and all pageblocks of this type.
-fn lend_pages<S: Source>(bench: &mut Bench<S>, kind: MigrateType) -> Result<(), NoMemory> {
+fn lend_pages<S: BlockSource>(bench: &mut Bench<S>, kind: MigrateType) -> Result<(), NoMemory> {
     settle(bench, kind)?;
     bench.lend_all(Order::zero(), kind)
 }

@@ -22,7 +22,7 @@ pub const SECTIONS: u32 = 65_536;
 
 /// The sections that were made by taking blocks of this order and giving them back, and their time.
 #[derive(Clone, Copy, Drop)]
-pub struct Sections {
+pub struct TimedSections {
     pub sum: Sum,
     pub time: Duration,
 }
@@ -35,7 +35,7 @@ fn pairs_as<J: Naming, R: Wait + Clock>(
     seats: Vec<Seat>,
     order: Order,
     pairs: u32,
-) -> anyhow::Result<Sections>
+) -> anyhow::Result<TimedSections>
     requires named { J.zones ≡ opened_key opened ∷ [] }
     requires boards { J.boards ≡ opened_board opened ∷ [] }
     requires fits { All (IsSeatOf opened.zone) seats.items }
@@ -49,7 +49,7 @@ fn pairs_as<J: Naming, R: Wait + Clock>(
     let start = Instant::now(rt)?;
     let hand = worker.pairs_past_lists(rt, &row, order, pairs);
     let time = start.elapsed(rt)?;
-    Ok(Sections {
+    Ok(TimedSections {
         sum: hand.sum(),
         time,
     })
@@ -62,7 +62,7 @@ pub fn pairs<R: Wait + Clock>(
     pages: u32,
     order: Order,
     pairs: u32,
-) -> anyhow::Result<Sections> {
+) -> anyhow::Result<TimedSections> {
     match Zone::new(alloc, config(pages), 1) {
         Ok((zone, seats)) => {
             let opened = OpenedZone::new(alloc, zone, SECTIONS).map_err(NoMemory::from)?;

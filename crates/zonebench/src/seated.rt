@@ -3,7 +3,7 @@
 ghost use Rattle.zp_zone.specs.Seats.{IsSeatOf, Agrees};
 
 use crate::bench::NoMemory;
-use crate::source::{Source, config};
+use crate::source::{BlockSource, config};
 use std::alloc::Global;
 use zp_model::{Mark, MigrateType, Order, PageNo};
 use zp_zone::{Seat, Zone};
@@ -17,7 +17,7 @@ pub struct Seated {
     ghost agrees: { Agrees zone seat },
 }
 
-impl Source for Seated {
+impl BlockSource for Seated {
     fn new(alloc: Global, pages: u32) -> Result<Seated, NoMemory> {
         let (mut zone, mut seats) = Zone::new(alloc, config(pages), 1)?;
         let Some(mut seat) = seats.pop() else {

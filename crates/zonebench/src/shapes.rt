@@ -4,7 +4,7 @@ use crate::bench::{Bench, LentBlock, NoMemory};
 use crate::cached::PastLists;
 use crate::grounds::{Ground, PAGEBLOCKS, PAGES};
 use crate::seated::Seated;
-use crate::source::Source;
+use crate::source::BlockSource;
 use std::alloc::Global;
 use zp_model::{MigrateType, Order, PAGEBLOCK_PAGES, PageNo};
 

@@ -8,7 +8,7 @@ use zp_model::{MigrateType, Order, PageNo};
 use zp_zone::ZoneConfig;
 
 /// A zone from page 0 on, with nothing lent at first, and the way on which its blocks are taken and given back.
-pub trait Source: Drop {
+pub trait BlockSource: Drop {
     /// Over a zone of so many pages, marks 0.
     fn new(alloc: Global, pages: u32) -> Result<Self, NoMemory>;
 

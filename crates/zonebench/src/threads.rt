@@ -80,15 +80,15 @@ impl<J: Naming> Hand<J> {
 
 /// A worker of the row, with its reader of the zone's board.
 #[derive(Drop)]
-pub struct Worker<J: Naming> {
+pub struct RowWorker<J: Naming> {
     hand: Hand<J>,
     readers: Vec<BoardReader>,
     ghost read: { AreReaders J.zones J.boards readers },
 }
 
-impl<J: Naming> Worker<J> {
+impl<J: Naming> RowWorker<J> {
     /// The worker of a seat and of a reader, with empty lists.
-    fn new(alloc: Global, seat: Seat, reader: BoardReader) -> Result<Worker<J>, NoMemory>
+    fn new(alloc: Global, seat: Seat, reader: BoardReader) -> Result<RowWorker<J>, NoMemory>
         requires tie { map (λ (k : ZoneKey). k.tie) J.zones ≡ seat.tie ∷ [] }
         requires board { map (λ (b : BoardState). b.tie) J.boards ≡ reader.tie ∷ [] }
         requires each { length J.boards ≡ length J.zones }
@@ -103,12 +103,12 @@ impl<J: Naming> Worker<J> {
             checksum: Checksum::new(),
             of: PhantomData,
         };
-        Ok(Worker { hand, readers })
+        Ok(RowWorker { hand, readers })
     }
 
     /// Takes a page and gives it back, so many times.
     fn pairs<'a, R: Wait>(self, rt: &'a R, row: &'a Row<J>, ops: u32) -> Hand<J> {
-        let Worker { mut hand, readers } = self;
+        let RowWorker { mut hand, readers } = self;
         let mut zones = LockedZones::<J, (), R>::new(rt, row.zones.as_slice(), readers);
         for _ in 0..ops {
             hand.pair(&mut zones);
@@ -124,7 +124,7 @@ impl<J: Naming> Worker<J> {
         order: Order,
         ops: u32,
     ) -> Hand<J> {
-        let Worker { mut hand, readers } = self;
+        let RowWorker { mut hand, readers } = self;
         let mut zones = LockedZones::<J, (), R>::new(rt, row.zones.as_slice(), readers);
         for _ in 0..ops {
             hand.pair_past_lists(&mut zones, order);
@@ -138,7 +138,7 @@ pub fn crew<J: Naming>(
     alloc: Global,
     opened: &mut OpenedZone,
     seats: Vec<Seat>,
-) -> Result<Vec<Worker<J>>, NoMemory>
+) -> Result<Vec<RowWorker<J>>, NoMemory>
     requires named { J.zones ≡ opened_key opened.old ∷ [] }
     requires boards { J.boards ≡ opened_board opened.old ∷ [] }
     requires fits { All (IsSeatOf opened.old.zone) seats.items }
@@ -148,7 +148,7 @@ pub fn crew<J: Naming>(
     let mut workers = Vec::with_capacity(alloc, seats.len())?;
     for seat in seats {
         if workers
-            .push(Worker::new(alloc, seat, opened.reader())?)
+            .push(RowWorker::new(alloc, seat, opened.reader())?)
             .is_err()
         {
             return Err(NoMemory);

@@ -6,7 +6,7 @@ use crate::cached::{Cached, PastLists};
 use crate::counting::HOW_TO_COUNT;
 use crate::locked::{self, SECTIONS};
 use crate::seated::Seated;
-use crate::source::Source;
+use crate::source::BlockSource;
 use crate::threads;
 use crate::workload::{SIZES, Workload};
 use std::alloc::Global;
@@ -26,7 +26,7 @@ const SAMPLES: u32 = 8;
 const SHARED_PAGES: u32 = SIZES[1];
 
 /// Tenths of a nanosecond that a call of a workload takes in a zone of so many pages.
-fn tenths_a_call<S: Source>(
+fn tenths_a_call<S: BlockSource>(
     rt: &impl Clock,
     alloc: Global,
     workload: &Workload,
@@ -39,7 +39,7 @@ fn tenths_a_call<S: Source>(
 }
 
 /// Tenths of a nanosecond that a call of a workload takes where the zone is prepared for it.
-fn tenths_of_run<S: Source>(
+fn tenths_of_run<S: BlockSource>(
     rt: &impl Clock,
     bench: &mut Bench<S>,
     workload: &Workload,
@@ -70,7 +70,7 @@ fn print_tenths(rt: &impl Print, tenths: u128) -> anyhow::Result<()> {
 }
 
 /// Prints a line of the table: the time of a workload at each size.
-fn print_times<S: Source>(
+fn print_times<S: BlockSource>(
     rt: &(impl Print + Eprint + Clock),
     alloc: Global,
     name: &str,
@@ -184,7 +184,7 @@ pub fn print_all<R: Print + Eprint + Clock + Threads + Wait + Sync>(
 }
 
 /// Prints lines of the table: the time of pairs of these orders.
-fn print_pairs<S: Source>(
+fn print_pairs<S: BlockSource>(
     rt: &(impl Print + Eprint + Clock),
     alloc: Global,
     pairs: &[(&str, u8)],
@@ -198,7 +198,10 @@ fn print_pairs<S: Source>(
 }
 
 /// Prints lines of the table: the times of what keeps more than one block lent.
-fn print_mixed<S: Source>(rt: &(impl Print + Eprint + Clock), alloc: Global) -> anyhow::Result<()> {
+fn print_mixed<S: BlockSource>(
+    rt: &(impl Print + Eprint + Clock),
+    alloc: Global,
+) -> anyhow::Result<()> {
     for (name, workload, ops) in [
         ("runs of 64 pages", Workload::Runs, [CALLS; 3]),
         ("churn of all orders", Workload::Churn, [CALLS; 3]),

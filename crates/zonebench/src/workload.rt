@@ -5,7 +5,7 @@ ghost use Rattle.zonebench.specs.Calls.{ops};
 
 use crate::bench::{Bench, NoMemory};
 use crate::random::below;
-use crate::source::Source;
+use crate::source::BlockSource;
 use zp_model::{MigrateType, Order};
 
 /// The sizes of the zones, in pages.
@@ -74,7 +74,7 @@ impl Workload {
     }
 
     /// What comes before the calls that count.
-    pub fn prepare<S: Source>(&self, bench: &mut Bench<S>) -> Result<(), NoMemory> {
+    pub fn prepare<S: BlockSource>(&self, bench: &mut Bench<S>) -> Result<(), NoMemory> {
         match self {
             Workload::Churn => {
                 churn(bench, WARMING)?;
@@ -88,7 +88,7 @@ impl Workload {
     }
 
     /// The calls that count. Answers how many calls of the zone they were, a test and a giving back being one.
-    pub fn run<S: Source>(&self, bench: &mut Bench<S>, ops: u32) -> Result<u64, NoMemory> {
+    pub fn run<S: BlockSource>(&self, bench: &mut Bench<S>, ops: u32) -> Result<u64, NoMemory> {
         match self {
             Workload::Pairs(order) => pairs(bench, *order, ops),
             Workload::Runs => runs(bench, ops),
@@ -101,14 +101,14 @@ impl Workload {
     }
 }
 
-fn pairs<S: Source>(bench: &mut Bench<S>, order: Order, ops: u32) -> Result<u64, NoMemory> {
+fn pairs<S: BlockSource>(bench: &mut Bench<S>, order: Order, ops: u32) -> Result<u64, NoMemory> {
     for _ in 0..ops {
         bench.pair(order, MigrateType::Movable);
     }
     Ok(2 * u64::from(ops))
 }
 
-fn runs<S: Source>(bench: &mut Bench<S>, ops: u32) -> Result<u64, NoMemory> {
+fn runs<S: BlockSource>(bench: &mut Bench<S>, ops: u32) -> Result<u64, NoMemory> {
     for _ in 0..ops / (2 * RUN) {
         run(bench)?;
     }
@@ -116,7 +116,7 @@ fn runs<S: Source>(bench: &mut Bench<S>, ops: u32) -> Result<u64, NoMemory> {
 }
 
 /// One run.
-fn run<S: Source>(bench: &mut Bench<S>) -> Result<(), NoMemory> {
+fn run<S: BlockSource>(bench: &mut Bench<S>) -> Result<(), NoMemory> {
     for _ in 0..RUN {
         bench.lend(Order::zero(), MigrateType::Movable)?;
     }
@@ -124,7 +124,7 @@ fn run<S: Source>(bench: &mut Bench<S>) -> Result<(), NoMemory> {
     Ok(())
 }
 
-fn churn<S: Source>(bench: &mut Bench<S>, ops: u32) -> Result<u64, NoMemory> {
+fn churn<S: BlockSource>(bench: &mut Bench<S>, ops: u32) -> Result<u64, NoMemory> {
     for _ in 0..ops {
         churn_once(bench)?;
     }
@@ -132,7 +132,7 @@ fn churn<S: Source>(bench: &mut Bench<S>, ops: u32) -> Result<u64, NoMemory> {
 }
 
 /// A block of a drawn order is taken where fewer than half of the pages are lent; else a drawn one is given back.
-fn churn_once<S: Source>(bench: &mut Bench<S>) -> Result<(), NoMemory> {
+fn churn_once<S: BlockSource>(bench: &mut Bench<S>) -> Result<(), NoMemory> {
     let drawn = bench.random.draw();
     if bench.lent_pages() >= bench.pages() / 2 {
         bench.give_drawn(drawn);
@@ -146,12 +146,12 @@ fn churn_once<S: Source>(bench: &mut Bench<S>) -> Result<(), NoMemory> {
 }
 
 /// Takes all pages one by one.
-fn fill<S: Source>(bench: &mut Bench<S>) -> Result<(), NoMemory> {
+fn fill<S: BlockSource>(bench: &mut Bench<S>) -> Result<(), NoMemory> {
     bench.lend_all(Order::zero(), MigrateType::Movable)
 }
 
 /// Leaves nine tenths of the pages lent.
-fn press_down<S: Source>(bench: &mut Bench<S>) -> Result<(), NoMemory> {
+fn press_down<S: BlockSource>(bench: &mut Bench<S>) -> Result<(), NoMemory> {
     fill(bench)?;
     let kept = bench.pages() / 10 * 9;
     for _ in 0..bench.pages() {
@@ -164,7 +164,7 @@ fn press_down<S: Source>(bench: &mut Bench<S>) -> Result<(), NoMemory> {
     Ok(())
 }
 
-fn press<S: Source>(bench: &mut Bench<S>, ops: u32) -> Result<u64, NoMemory> {
+fn press<S: BlockSource>(bench: &mut Bench<S>, ops: u32) -> Result<u64, NoMemory> {
     let mut calls: u64 = 0;
     for _ in 0..ops {
         if calls >= u64::from(ops) {
@@ -177,7 +177,7 @@ fn press<S: Source>(bench: &mut Bench<S>, ops: u32) -> Result<u64, NoMemory> {
 }
 
 /// Gives back so many drawn pages, and takes as many. Answers how many calls these were.
-fn exchange<S: Source>(bench: &mut Bench<S>, pages: usize) -> Result<u64, NoMemory>
+fn exchange<S: BlockSource>(bench: &mut Bench<S>, pages: usize) -> Result<u64, NoMemory>
     requires { pages ≤ 64 }
 {
     for _ in 0..pages {
@@ -191,7 +191,7 @@ fn exchange<S: Source>(bench: &mut Bench<S>, pages: usize) -> Result<u64, NoMemo
 }
 
 /// Takes all pages, and gives them back at random.
-fn burst<S: Source>(bench: &mut Bench<S>) -> Result<(), NoMemory> {
+fn burst<S: BlockSource>(bench: &mut Bench<S>) -> Result<(), NoMemory> {
     fill(bench)?;
     for _ in 0..bench.pages() {
         let drawn = bench.random.draw();
@@ -200,7 +200,7 @@ fn burst<S: Source>(bench: &mut Bench<S>) -> Result<(), NoMemory> {
     Ok(())
 }
 
-fn bursts<S: Source>(bench: &mut Bench<S>, ops: u32) -> Result<u64, NoMemory> {
+fn bursts<S: BlockSource>(bench: &mut Bench<S>, ops: u32) -> Result<u64, NoMemory> {
     for _ in 0..ops {
         burst(bench)?;
     }
@@ -208,20 +208,20 @@ fn bursts<S: Source>(bench: &mut Bench<S>, ops: u32) -> Result<u64, NoMemory> {
 }
 
 /// Leaves a third of the pages free, each alone.
-fn scatter<S: Source>(bench: &mut Bench<S>) -> Result<(), NoMemory> {
+fn scatter<S: BlockSource>(bench: &mut Bench<S>) -> Result<(), NoMemory> {
     fill(bench)?;
     bench.give_picked(|page| page % 3 == 0);
     Ok(())
 }
 
-fn scattered<S: Source>(bench: &mut Bench<S>, ops: u32) -> Result<u64, NoMemory> {
+fn scattered<S: BlockSource>(bench: &mut Bench<S>, ops: u32) -> Result<u64, NoMemory> {
     for _ in 0..ops {
         bench.pair(Order::zero(), MigrateType::Unmovable);
     }
     Ok(2 * u64::from(ops))
 }
 
-fn claims<S: Source>(bench: &mut Bench<S>, ops: u32) -> Result<u64, NoMemory> {
+fn claims<S: BlockSource>(bench: &mut Bench<S>, ops: u32) -> Result<u64, NoMemory> {
     for _ in 0..ops {
         bench.pair(Order::largest(), MigrateType::Unmovable);
         bench.pair(Order::largest(), MigrateType::Movable);
