@@ -1,5 +1,5 @@
 -- What settling leaves of one list, where the list that is left holds what belongs.
-use Rattle.std.proofs.Common.{ℕ, suc, zero, ◌/◌, ◌%◌, ◌≡◌, ◌<◌, ◌==◌, ◌⊎◌, inl, inr, refl, ap, arith, Bool, true, false, List, [], ◌∷◌, length, not, ◌&&◌, Option}
+use Rattle.std.proofs.Common.{ℕ, suc, zero, ◌/◌, ◌≡◌, ◌<◌, ◌==◌, ◌⊎◌, inl, inr, refl, ap, arith, Bool, true, false, List, [], ◌∷◌, length, not, ◌&&◌, Option}
 use Rattle.std.specs.List.{filter, IsDistinct, AllByRecursion}
 use Rattle.std.proofs.Math.Bool.{or-true}
 use Rattle.std.proofs.lemmas.Nat.{pow_pos}

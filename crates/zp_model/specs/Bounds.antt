@@ -1,12 +1,16 @@
--- What may be a zone's base, how many pages it may have, and how many workers; and what may be the settings of workers' lists.
+-- What may be a zone's base, how many pages it may have, its largest order, and how many workers; and what may be the settings of workers' lists.
 use Rattle.std.specs.Prelude.{ℕ, ◌%◌, ◌≡◌, ◌≤◌, ◌<◌}
-use Rattle.zp_model.specs.declared.constants.TheConstants.{BASE_LIMIT, BASE_STEP, LONGEST_LIST, MAX_BATCH, MAX_PAGES, MAX_WORKERS}
+use Rattle.zp_model.specs.declared.constants.TheConstants.{BASE_LIMIT, BASE_STEP, LARGEST_ORDER, LONGEST_LIST, MAX_BATCH, MAX_PAGES, MAX_WORKERS}
 
 abbrev pub IsBase : ℕ → Type 0
 IsBase base = (base % BASE_STEP ≡ 0) × (base ≤ BASE_LIMIT)
 
 abbrev pub IsPages : ℕ → Type 0
 IsPages pages = (0 < pages) × (pages ≤ MAX_PAGES)
+
+-- the order of a zone's largest block
+abbrev pub IsLargest : ℕ → Type 0
+IsLargest m = (1 ≤ m) × (m ≤ LARGEST_ORDER)
 
 abbrev pub IsCrew : ℕ → Type 0
 IsCrew workers = (0 < workers) × (workers ≤ MAX_WORKERS)

@@ -2,7 +2,7 @@
 //!
 //! In Linux: `MAX_ORDER`, `pageblock_nr_pages`, `MIGRATE_PCPTYPES` and their like.
 
-/// The order of the largest block.
+/// The largest order that a zone's blocks can have. Each zone has a largest order of its own, this one at most.
 pub const LARGEST_ORDER: u8 = 10;
 
 /// How many orders there are.

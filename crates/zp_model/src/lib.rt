@@ -10,6 +10,7 @@ mod blocks_law;
 mod constants;
 mod counts;
 mod entry;
+mod largest;
 mod mark;
 mod migrate_type;
 mod name;
@@ -30,6 +31,7 @@ pub use constants::{
 };
 pub use counts::Counts;
 pub use entry::Entry;
+pub use largest::Largest;
 pub use mark::{Level, Mark};
 pub use migrate_type::MigrateType;
 pub use name::Name;

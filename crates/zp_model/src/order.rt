@@ -54,6 +54,14 @@ impl Order {
         }
     }
 
+    /// The order of this number.
+    pub const fn at(number: u8) -> Order
+        requires { number ≤ LARGEST_ORDER }
+        ensures { result ≡ number }
+    {
+        Order { number }
+    }
+
     pub const fn number(self) -> u8
         ensures same { result ≡ self }
         ensures within { result ≤ LARGEST_ORDER }
