@@ -1,5 +1,5 @@
 -- Taking a block into the set.
-use Rattle.std.proofs.Common.{ℕ, ◌+◌, ◌-◌, ◌/◌, ◌^◌, ◌≡◌, ◌≤◌, ◌<◌, ◌||◌, inl, inr, sym, ◌∙◌, ap, arith, List, [], ◌∷◌, length, set, get_or-set_same, get_or-set_other, length-set, Option}
+use Rattle.std.proofs.Common.{ℕ, ◌+◌, ◌-◌, ◌/◌, ◌^◌, ◌≡◌, ◌≤◌, ◌<◌, ◌||◌, inl, inr, sym, ◌∙◌, ap, subst, arith, List, [], ◌∷◌, length, set, get_or-set_same, get_or-set_other, length-set, Option}
 use Rattle.std.specs.List.{slice_index}
 use Rattle.std.proofs.lemmas.Nat.{pow_pos}
 use Rattle.std.proofs.lemmas.Bool.{cases_eq, cases_lt, false≢true, both_ways, false_from_ne_true}
@@ -32,8 +32,13 @@ pub record IsComing (m : ℕ) (a : Blocks) (h k : ℕ) : Type 0 where
   pub clear : IsClearRun m a.rows.states a.rows.lists h k
 
 -- the same of an area that is the other in the words of the code
-pub coming_by : (m : ℕ) (a b : Blocks) (h k : ℕ) → a ≡ b → IsOneSet m a → IsBlock m (length b.rows.states) h k → IsClearRun m b.rows.states b.rows.lists h k → IsComing m a h k
-coming_by m a b h k e one block clear = record { one = one; block = rw e block; clear = rw e clear }
+pub coming_by : (a b : Blocks) (h k : ℕ) → a ≡ b → IsOneSet a.largest a → IsBlock b.largest (length b.rows.states) h k →
+    IsClearRun b.largest b.rows.states b.rows.lists h k → IsComing a.largest a h k
+coming_by a b h k e one block clear = record {
+  one = one;
+  block = subst (λ q. IsBlock q.largest (length q.rows.states) h k) (sym e) block;
+  clear = subst (λ q. IsClearRun q.largest q.rows.states q.rows.lists h k) (sym e) clear;
+}
 
 -- the numbers with the block still fit
 pub record IsMoreKept (m : ℕ) (a : Blocks) (tree : List (Option ℕ)) (free_in : List ℕ) (h k : ℕ) : Type 0 where

@@ -1,9 +1,9 @@
 -- The blocks of an order are those on its three lists, each once.
-use Rattle.std.proofs.Common.{ℕ, zero, suc, ◌+◌, ◌≡◌, ◌≢◌, ◌≤◌, ◌<◌, ◌==◌, ◌||◌, inl, inr, refl, sym, ◌∙◌, ap, arith, Bool, true, List, ◌++◌, length, take, get_or, Option, Some, None, nat_eq}
+use Rattle.std.proofs.Common.{ℕ, zero, suc, ◌+◌, ◌≡◌, ◌≢◌, ◌≤◌, ◌<◌, ◌==◌, ◌||◌, inl, inr, refl, sym, ◌∙◌, ap, arith, Bool, true, List, [], ◌∷◌, ◌++◌, length, take, get_or, Option, Some, None, nat_eq}
 use Rattle.std.specs.List.{filter, count_by, IsDistinct}
 use Rattle.std.specs.Set.{is_member}
 use Rattle.std.proofs.Math.Bool.{or-true}
-use Rattle.std.proofs.lemmas.Bool.{and_from, and_parts, or_cases, eqb-true, eq-eqb, lt-ltb}
+use Rattle.std.proofs.lemmas.Bool.{false_from_ne_true, and_from, and_parts, or_cases, eqb-true, eq-eqb, lt-ltb}
 use Rattle.std.proofs.lemmas.Cmp.{nat_eq_equiv}
 use Rattle.std.proofs.lemmas.List.{length-append, take_all}
 use Rattle.std.proofs.lemmas.List.Sums.{length-filter, sum_by-cons, sum_by_more}
@@ -11,12 +11,12 @@ use Rattle.std.proofs.lemmas.Map.Made.{length-from_same_keys}
 use Rattle.zp_model.specs.declared.migrate_type.MigrateType.{MigrateType}
 use Rattle.zp_model.specs.declared.migrate_type.MigrateType.TheVariants.{Unmovable, Reclaimable, Movable}
 use Rattle.zp_model.specs.BlockSet.{Starts, is_order}
-use Rattle.zp_model.specs.Rows.{stands_in}
+use Rattle.zp_model.specs.Rows.{list_at, stands_in}
 use Rattle.zp_model.specs.Area.{falling, kind_at, list_number}
 use Rattle.zp_model.proofs.TypeNumbers.{list_number_below}
 use Rattle.zp_laws.proofs.Counting.{one_if, same_tests}
 use Rattle.zp_laws.proofs.Settling.{distinct-append, distinct-falling, distinct-filter, stands-append, stands-falling, stands-filter}
-use Rattle.zp_area.specs.Blocks.{Blocks, block_set, count_of, free_list_of}
+use Rattle.zp_area.specs.Blocks.{Blocks, block_set, count_of}
 use Rattle.zp_area.specs.OneSet.{IsOneSet}
 use Rattle.zp_area.proofs.OneBlock.{head_below}
 use Rattle.zp_area.proofs.Listing.{listed_starts}
@@ -35,13 +35,27 @@ starts-to : (o : Option ℕ) (k : ℕ) → is_order k o ≡ true → o ≡ Some 
 starts-to None k e = absurd cc
 starts-to (Some j) k e = ap (λ n. Some n) (eqb-true j k e)
 
+-- a set that has no block of an order counts none
+none_counted : (k : ℕ) (s : List (Option ℕ)) → ((h : ℕ) → get_or s h None ≡ Some k → ⊥) → count_by (is_order k) s ≡ 0
+none_counted k [] absent = refl
+none_counted k (o ∷ s) absent =
+    sum_by-cons (λ o. one_if (is_order k o)) o s
+    ∙ rw (none_counted k s (λ h e. absent (suc h) e), false_from_ne_true (is_order k o) (λ e. absent 0 (starts-to o k e))) refl
+
+-- there is no block of an order above the largest
+pub count_above : (m : ℕ) (a : Blocks) (k : ℕ) → IsOneSet m a → m < k → count_of (block_set a) k ≡ 0
+count_above m a k x lt = none_counted k (block_set a) (λ h e. omega (arith, (x.blocks.block h k e).order))
+
 module _ (m : ℕ) (a : Blocks) (k : ℕ) (x : IsOneSet m a) (le : k ≤ m) where
+  abbrev row : MigrateType → List ℕ
+  row t = list_at a.rows.lists (list_number k t)
+
   -- a page stands on the list of one type alone
-  apart : (s t : MigrateType) → s ≢ t → (h : ℕ) → stands_in h (free_list_of a k s) ≡ true → stands_in h (free_list_of a k t) ≡ true → ⊥
+  apart : (s t : MigrateType) → s ≢ t → (h : ℕ) → stands_in h (row s) ≡ true → stands_in h (row t) ≡ true → ⊥
   apart s t ne h p q = ne (sym (listed_starts m a h k s x le p).1 ∙ (listed_starts m a h k t x le q).1)
 
   abbrev all : List ℕ
-  all = free_list_of a k Unmovable ++ (free_list_of a k Reclaimable ++ free_list_of a k Movable)
+  all = row Unmovable ++ (row Reclaimable ++ row Movable)
 
   abbrev is_head : ℕ → Bool
   is_head h = is_order k (get_or (block_set a) h None)
@@ -49,14 +63,14 @@ module _ (m : ℕ) (a : Blocks) (k : ℕ) (x : IsOneSet m a) (le : k ≤ m) wher
   abbrev heads : List ℕ
   heads = filter is_head (falling (length (block_set a)))
 
-  alone : (t : MigrateType) → IsDistinct (λ y z. y == z) (free_list_of a k t)
+  alone : (t : MigrateType) → IsDistinct (λ y z. y == z) (row t)
   alone t = (x.listed (list_number k t) (list_number_below m k t le)).distinct
 
   distinct_all : IsDistinct (λ y z. y == z) all
   distinct_all =
-      distinct-append (free_list_of a k Unmovable) (free_list_of a k Reclaimable ++ free_list_of a k Movable) (alone Unmovable)
-      (distinct-append (free_list_of a k Reclaimable) (free_list_of a k Movable) (alone Reclaimable) (alone Movable) (apart Reclaimable Movable (λ e. cc)))
-      (λ h p q. elim (or_cases _ _ (sym (stands-append h (free_list_of a k Reclaimable) (free_list_of a k Movable)) ∙ q)) [
+      distinct-append (row Unmovable) (row Reclaimable ++ row Movable) (alone Unmovable)
+      (distinct-append (row Reclaimable) (row Movable) (alone Reclaimable) (alone Movable) (apart Reclaimable Movable (λ e. cc)))
+      (λ h p q. elim (or_cases _ _ (sym (stands-append h (row Reclaimable) (row Movable)) ∙ q)) [
         | inl r ↦ apart Unmovable Reclaimable (λ e. cc) h p r
         | inr r ↦ apart Unmovable Movable (λ e. cc) h p r
       ])
@@ -76,30 +90,30 @@ module _ (m : ℕ) (a : Blocks) (k : ℕ) (x : IsOneSet m a) (le : k ≤ m) wher
       from_starts st = rw st (eq-eqb k k refl)
 
       on_one : stands_in h all ≡ true → Starts (block_set a) h k
-      on_one on = elim (or_cases _ _ (sym (stands-append h (free_list_of a k Unmovable) (free_list_of a k Reclaimable ++ free_list_of a k Movable)) ∙ on)) [
+      on_one on = elim (or_cases _ _ (sym (stands-append h (row Unmovable) (row Reclaimable ++ row Movable)) ∙ on)) [
         | inl u ↦ (listed_starts m a h k Unmovable x le u).0
-        | inr w ↦ elim (or_cases _ _ (sym (stands-append h (free_list_of a k Reclaimable) (free_list_of a k Movable)) ∙ w)) [
+        | inr w ↦ elim (or_cases _ _ (sym (stands-append h (row Reclaimable) (row Movable)) ∙ w)) [
           | inl u ↦ (listed_starts m a h k Reclaimable x le u).0
           | inr u ↦ (listed_starts m a h k Movable x le u).0
         ]
       ]
 
-      parts : stands_in h all ≡ (stands_in h (free_list_of a k Unmovable) || (stands_in h (free_list_of a k Reclaimable) || stands_in h (free_list_of a k Movable)))
+      parts : stands_in h all ≡ (stands_in h (row Unmovable) || (stands_in h (row Reclaimable) || stands_in h (row Movable)))
       parts =
-          stands-append h (free_list_of a k Unmovable) (free_list_of a k Reclaimable ++ free_list_of a k Movable)
-          ∙ ap (λ b. stands_in h (free_list_of a k Unmovable) || b) (stands-append h (free_list_of a k Reclaimable) (free_list_of a k Movable))
+          stands-append h (row Unmovable) (row Reclaimable ++ row Movable)
+          ∙ ap (λ b. stands_in h (row Unmovable) || b) (stands-append h (row Reclaimable) (row Movable))
 
-      on_all : (t : MigrateType) → stands_in h (free_list_of a k t) ≡ true → stands_in h all ≡ true
+      on_all : (t : MigrateType) → stands_in h (row t) ≡ true → stands_in h all ≡ true
       on_all Unmovable on = parts ∙ rw on refl
       on_all Reclaimable on = parts ∙ rw on (or-true _)
-      on_all Movable on = parts ∙ rw (on, or-true (stands_in h (free_list_of a k Reclaimable))) (or-true _)
+      on_all Movable on = parts ∙ rw (on, or-true (stands_in h (row Reclaimable))) (or-true _)
 
   -- so they are as many as the lists are long together
-  pub counted_lists : length (free_list_of a k Unmovable) + length (free_list_of a k Reclaimable) + length (free_list_of a k Movable) ≡ count_of (block_set a) k
+  pub counted_lists : length (row Unmovable) + length (row Reclaimable) + length (row Movable) ≡ count_of (block_set a) k
   counted_lists =
       let s : List (Option ℕ) = block_set a in
       let same : length all ≡ length heads = length-from_same_keys nat_eq_equiv all heads distinct_all (distinct-filter is_head (falling (length s)) (distinct-falling (length s))) same_heads in
-      let long : length all ≡ length (free_list_of a k Unmovable) + (length (free_list_of a k Reclaimable) + length (free_list_of a k Movable)) =
-      length-append (free_list_of a k Unmovable) (free_list_of a k Reclaimable ++ free_list_of a k Movable) ∙ ap (λ n. length (free_list_of a k Unmovable) + n) (length-append (free_list_of a k Reclaimable) (free_list_of a k Movable)) in
+      let long : length all ≡ length (row Unmovable) + (length (row Reclaimable) + length (row Movable)) =
+      length-append (row Unmovable) (row Reclaimable ++ row Movable) ∙ ap (λ n. length (row Unmovable) + n) (length-append (row Reclaimable) (row Movable)) in
       let counted : length heads ≡ count_of s k = length-filter is_head (falling (length s)) ∙ heads_counted s k (length s) (omega arith) ∙ ap (count_by (is_order k)) (take_all (length s) s (omega arith)) in
       omega (arith, same, long, counted)

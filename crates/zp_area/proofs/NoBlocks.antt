@@ -61,5 +61,5 @@ states_of-blank (suc n) = ap (λ ss. Tail ∷ ss) (states_of-blank n)
 -- the area of a blank table, of empty lists over it and of these types, in the words of the code
 pub blank_area : (m n side d : ℕ) (t : List PageEntry) (w : Rows) (kinds : List MigrateType) → t ≡ replicate n blank → d ≡ lists_count m + side →
     w ≡ record { lists = replicate d []; states = states_of t } → kinds ≡ (no_blocks m n side).kinds →
-    (let a : Blocks = record { rows = w; kinds = kinds } in a) ≡ no_blocks m n side
+    (let a : Blocks = record { largest = m; rows = w; kinds = kinds } in a) ≡ no_blocks m n side
 blank_area m n side d t w kinds et em ew ek = rw (ew, ek, et, em, states_of-blank n)

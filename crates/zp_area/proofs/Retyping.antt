@@ -160,5 +160,5 @@ relisted_now m b t a l x lt y =
 
 -- an area of these notes, types and lists, in the words of the code
 pub retyped_by : (m : ℕ) (a : Blocks) (b : ℕ) (t : MigrateType) (w : Rows) (kinds : List MigrateType) → w.states ≡ a.rows.states → kinds ≡ set a.kinds b t →
-    w.lists ≡ all_relisted m a kinds → (let z : Blocks = record { rows = w; kinds = kinds } in z) ≡ retyped m a b t
+    w.lists ≡ all_relisted m a kinds → (let z : Blocks = record { largest = a.largest; rows = w; kinds = kinds } in z) ≡ retyped m a b t
 retyped_by m a b t w kinds es ek el = rw (← ek, ← el, ← es)

@@ -1,6 +1,6 @@
 -- A set of free blocks with the free lists that hold their heads and the types of the pageblocks (Knowlton 1965 for the blocks; Gorman,
 -- chapter 6, for the lists by order; the types and the order of the heads are this profile's). The largest block has order m.
-use Rattle.std.specs.Prelude.{ℕ, ◌+◌, List, [], ◌∷◌, ◌++◌, replicate, Option}
+use Rattle.std.specs.Prelude.{ℕ, ◌+◌, List, [], ◌∷◌, ◌++◌, replicate, take, Option}
 use Rattle.std.specs.List.{count_by}
 use Rattle.zp_model.specs.declared.migrate_type.MigrateType.{MigrateType}
 use Rattle.zp_model.specs.declared.migrate_type.MigrateType.TheVariants.{Movable}
@@ -12,6 +12,8 @@ use Rattle.zp_model.specs.Area.{list_number, lists_count, kind_at, pageblocks_of
 use Rattle.zp_area.specs.NotedBlocks.{blocks_of}
 
 pub record Blocks : Type 0 where
+  -- the order of the largest block
+  pub largest : ℕ
   -- what is noted of each page, and the lists: the free ones by their numbers, then further ones of pages that are not free
   pub rows : Rows
   -- the type of each pageblock
@@ -25,9 +27,12 @@ block_set a = blocks_of a.rows.states
 abbrev pub count_of : List (Option ℕ) → ℕ → ℕ
 count_of s k = count_by (is_order k) s
 
--- the free list of an order and a type, and a further list
-abbrev pub free_list_of : Blocks → ℕ → MigrateType → List ℕ
-free_list_of a k t = list_at a.rows.lists (list_number k t)
+-- the free lists; that of an order and a type, of which there is none for an order above the largest; and a further list
+abbrev pub free_lists : ℕ → Blocks → List (List ℕ)
+free_lists m a = take (lists_count m) a.rows.lists
+
+abbrev pub free_list_of : ℕ → Blocks → ℕ → MigrateType → List ℕ
+free_list_of m a k t = list_at (free_lists m a) (list_number k t)
 
 abbrev pub side_list_of : ℕ → Blocks → ℕ → List ℕ
 side_list_of m a q = list_at a.rows.lists (lists_count m + q)
@@ -40,6 +45,7 @@ list_of_block m a h k = list_number k (kind_at m a.kinds h)
 abbrev pub no_blocks : ℕ → ℕ → ℕ → Blocks
 no_blocks m pages side =
     record {
+      largest = m;
       rows = record { lists = replicate (lists_count m + side) []; states = replicate pages Tail };
       kinds = replicate (pageblocks_of m pages) Movable;
     }

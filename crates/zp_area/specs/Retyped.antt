@@ -26,4 +26,4 @@ all_relisted m a kinds =
 abbrev pub retyped : ℕ → Blocks → ℕ → MigrateType → Blocks
 retyped m a pageblock t =
     let kinds = slice_set a.kinds pageblock t in
-    record { rows = record a.rows { lists = all_relisted m a kinds }; kinds = kinds }
+    record a { rows = record a.rows { lists = all_relisted m a kinds }; kinds = kinds }

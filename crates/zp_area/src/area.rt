@@ -1,6 +1,6 @@
 //! The free area of a zone.
 ghost use Rattle.std.specs.Prelude.{ℕ, ◌≡◌, ◌<◌, ◌≤◌, ◌+◌, ◌^◌, ◌*◌, ◌/◌, ◌↔◌, false, length, slice_index_or, IfOk, Some, IfSome, IsTrue};
-ghost use Rattle.zp_model.specs.declared.constants.TheConstants.{LARGEST_ORDER, MAX_PAGES, PAGEBLOCK_PAGES};
+ghost use Rattle.zp_model.specs.declared.constants.TheConstants.{MAX_PAGES};
 ghost use Rattle.zp_model.specs.declared.migrate_type.MigrateType.TheVariants.{Movable};
 ghost use Rattle.zp_model.specs.declared.state.State.TheVariants.{Free};
 ghost use Rattle.zp_model.specs.Block.{IsBlock, has};
@@ -8,10 +8,10 @@ ghost use Rattle.zp_model.specs.BlockSet.{Starts, cover, lowest, largest_in};
 ghost use Rattle.zp_model.specs.Rows.{IsLoose, IsOn, IsRow, after, front, state_at};
 ghost use Rattle.zp_model.specs.Described.{IsLinkedAt};
 ghost use Rattle.zp_model.specs.Frames.{IsNote};
-ghost use Rattle.zp_model.specs.Area.{list_number, lists_count, size_in};
+ghost use Rattle.zp_model.specs.Area.{list_number, lists_count, pageblock_pages, size_in};
 ghost use Rattle.zp_tree.specs.Blocks.{IsBeside};
 ghost use Rattle.zp_area.specs.Given.{IsClearRun};
-ghost use Rattle.zp_area.specs.Blocks.{block_set, count_of, free_list_of, side_list_of, no_blocks, added, removed, noted, side_pushed, side_popped};
+ghost use Rattle.zp_area.specs.Blocks.{block_set, count_of, free_list_of, free_lists, side_list_of, no_blocks, added, removed, noted, side_pushed, side_popped};
 ghost use Rattle.zp_area.specs.Chains.{split_off, IsJoinedUp};
 ghost use Rattle.zp_area.specs.Retyped.{retyped};
 ghost use Rattle.zp_area.specs.OneSet.{IsOneSet};
@@ -23,17 +23,15 @@ use crate::{joins, splits};
 use std::alloc::{AllocError, Global};
 use std::marker::Model;
 use zp_links::Lists;
-use zp_model::{MAX_PAGES, MigrateType, ORDERS, Order, PAGEBLOCK_PAGES, PageAt, State, TYPES};
+use zp_model::{Largest, MAX_PAGES, MigrateType, Order, PageAt, State};
 use zp_table::PageTable;
 use zp_tree::{Meter, OrderTree};
-
-/// How many free lists there are. The further lists come after them.
-const FREE_LISTS: usize = TYPES * ORDERS;
 
 /// A set of free blocks that share no page, on lists by order and type, and further lists of pages that are not free.
 /// Contracts see what is noted of each page, the lists and the types of the pageblocks; the set is what is noted as free.
 #[derive(Drop)]
 pub struct FreeArea {
+    largest: Largest,
     lists: Lists,
     kinds: Vec<MigrateType>,
     tree: OrderTree,
@@ -42,31 +40,37 @@ pub struct FreeArea {
 }
 
 impl Model for FreeArea {
-    ghost use Rattle.zp_model.specs.declared.constants.TheConstants.{LARGEST_ORDER};
     ghost use Rattle.zp_area.specs.Blocks.{Blocks};
     ghost use Rattle.zp_area.specs.OneSet.{IsKept};
 
     ghost Value = { Blocks };
 
-    ghost view = { λ a. record { rows = a.lists; kinds = a.kinds.items } };
+    ghost view = { λ a. record { largest = a.largest; rows = a.lists; kinds = a.kinds.items } };
 
-    ghost invariant = { λ a. IsKept LARGEST_ORDER (record { rows = a.lists; kinds = a.kinds.items }) a.tree a.free_in.items };
+    ghost invariant = { λ a. IsKept a.largest (record { largest = a.largest; rows = a.lists; kinds = a.kinds.items }) a.tree a.free_in.items };
 }
 
 impl FreeArea {
-    /// An area of so many pages with no block, all pageblocks Movable, and so many empty further lists.
-    pub fn new(alloc: Global, pages: u32, side: usize) -> Result<FreeArea, AllocError>
+    /// An area of so many pages with no block, all pageblocks Movable, and so many empty further lists. No block will have an
+    /// order above the largest, and pageblocks are as large as a block of it.
+    pub fn new(
+        alloc: Global,
+        pages: u32,
+        largest: Largest,
+        side: usize,
+    ) -> Result<FreeArea, AllocError>
         requires pages { pages ≤ MAX_PAGES }
         requires side { side < 2 ^ 32 }
-        ensures { IfOk result (λ a. a ≡ no_blocks LARGEST_ORDER pages side) }
+        ensures { IfOk result (λ a. a ≡ no_blocks largest pages side) }
     {
-        let pageblocks = pages.div_ceil(PAGEBLOCK_PAGES) as usize;
+        let pageblocks = largest.pageblocks(pages);
         let kinds = Vec::from_elem(alloc, MigrateType::Movable, pageblocks)?;
         let free_in = Vec::from_elem(alloc, 0, pageblocks)?;
         let tree = OrderTree::new(alloc, pages)?;
         let table = PageTable::new(alloc, pages)?;
-        let lists = Lists::new(alloc, table, FREE_LISTS + side)?;
+        let lists = Lists::new(alloc, table, largest.lists() + side)?;
         Ok(FreeArea {
+            largest,
             lists,
             kinds,
             tree,
@@ -78,16 +82,23 @@ impl FreeArea {
     pub fn pages(&self) -> u32
         ensures pages { result ≡ length self.now.rows.states }
         ensures within { result ≤ MAX_PAGES }
-        ensures one { IsOneSet LARGEST_ORDER self.now }
+        ensures one { IsOneSet self.now.largest self.now }
         ensures row { IsRow self.now.rows.lists (length self.now.rows.states) }
     {
         self.lists.pages() as u32
     }
 
+    /// The order of the largest block.
+    pub fn largest(&self) -> Largest
+        ensures { result ≡ self.now.largest }
+    {
+        self.largest
+    }
+
     /// How many pageblocks there are. Each block lies in one of them.
     pub fn pageblocks(&self) -> usize
         ensures same { result ≡ length self.now.kinds }
-        ensures blocks { (h k : ℕ) → Starts (block_set self.now) h k → h / PAGEBLOCK_PAGES < result }
+        ensures blocks { (h k : ℕ) → Starts (block_set self.now) h k → h / pageblock_pages self.now.largest < result }
     {
         self.kinds.len()
     }
@@ -95,15 +106,15 @@ impl FreeArea {
     /// Takes a block into the set. Its head comes in front of the list of its order and its pageblock's type.
     #[inline]
     pub fn add(&mut self, at: PageAt, order: Order)
-        requires block { IsBlock LARGEST_ORDER (length self.old.rows.states) at order }
-        requires clear { IsClearRun LARGEST_ORDER self.old.rows.states self.old.rows.lists at order }
-        ensures after { self.new ≡ added LARGEST_ORDER self.old at order }
+        requires block { IsBlock self.old.largest (length self.old.rows.states) at order }
+        requires clear { IsClearRun self.old.largest self.old.rows.states self.old.rows.lists at order }
+        ensures after { self.new ≡ added self.old.largest self.old at order }
 
         // What the calls after it can rest on.
         ensures held { Starts (block_set self.new) at order }
-        ensures still_clear { (h k : ℕ) → IsClearRun LARGEST_ORDER self.old.rows.states self.old.rows.lists h k → IsBeside h k at order → IsClearRun LARGEST_ORDER self.new.rows.states self.new.rows.lists h k }
+        ensures still_clear { (h k : ℕ) → IsClearRun self.old.largest self.old.rows.states self.old.rows.lists h k → IsBeside h k at order → IsClearRun self.old.largest self.new.rows.states self.new.rows.lists h k }
     {
-        let pageblock = at.pageblock();
+        let pageblock = self.largest.pageblock_of(at);
         let list = list_of(order, self.kinds[pageblock]);
         self.lists.push_front_noted(list, at, State::Free(order));
         self.tree.set(at, order);
@@ -116,7 +127,7 @@ impl FreeArea {
     pub fn split_off(&mut self, at: PageAt, from: Order, to: Order)
         requires block { Starts (block_set self.old) at from }
         requires down { to ≤ from }
-        ensures { self.new ≡ split_off LARGEST_ORDER self.old at from to }
+        ensures { self.new ≡ split_off self.old.largest self.old at from to }
     {
         if to.number() < from.number() {
             self.split_down(at, from, to);
@@ -129,13 +140,14 @@ impl FreeArea {
     #[inline(always)]
     fn take_whole(&mut self, at: PageAt, order: Order)
         requires { Starts (block_set self.old) at order }
-        ensures { self.new ≡ removed LARGEST_ORDER self.old at order }
+        ensures { self.new ≡ removed self.old.largest self.old at order }
     {
         splits::take_whole(
             &mut self.lists,
             &self.kinds,
             &mut self.tree,
             &mut self.free_in,
+            self.largest,
             at,
             order,
         );
@@ -147,13 +159,14 @@ impl FreeArea {
     fn split_down(&mut self, at: PageAt, from: Order, to: Order)
         requires block { Starts (block_set self.old) at from }
         requires down { to < from }
-        ensures { self.new ≡ split_off LARGEST_ORDER self.old at from to }
+        ensures { self.new ≡ split_off self.old.largest self.old at from to }
     {
         splits::split_off(
             &mut self.lists,
             &self.kinds,
             &mut self.tree,
             &mut self.free_in,
+            self.largest,
             at,
             from,
             to,
@@ -164,11 +177,11 @@ impl FreeArea {
     /// grown to comes.
     #[inline(always)]
     pub fn join_up(&mut self, at: PageAt, order: Order)
-        requires block { IsBlock LARGEST_ORDER (length self.old.rows.states) at order }
-        requires clear { IsClearRun LARGEST_ORDER self.old.rows.states self.old.rows.lists at order }
-        ensures { (d : ℕ) × IsJoinedUp d LARGEST_ORDER self.old at order self.new }
+        requires block { IsBlock self.old.largest (length self.old.rows.states) at order }
+        requires clear { IsClearRun self.old.largest self.old.rows.states self.old.rows.lists at order }
+        ensures { (d : ℕ) × IsJoinedUp d self.old.largest self.old at order self.new }
     {
-        if joins::has_free_buddy(&self.lists, at, order) {
+        if joins::has_free_buddy(&self.lists, self.largest, at, order) {
             self.join_buddies(at, order);
         } else {
             self.add(at, order);
@@ -179,15 +192,16 @@ impl FreeArea {
     // (out of line, as most blocks have no free buddy, and a method)
     #[inline(never)]
     fn join_buddies(&mut self, at: PageAt, order: Order)
-        requires block { IsBlock LARGEST_ORDER (length self.old.rows.states) at order }
-        requires clear { IsClearRun LARGEST_ORDER self.old.rows.states self.old.rows.lists at order }
-        ensures { (d : ℕ) × IsJoinedUp d LARGEST_ORDER self.old at order self.new }
+        requires block { IsBlock self.old.largest (length self.old.rows.states) at order }
+        requires clear { IsClearRun self.old.largest self.old.rows.states self.old.rows.lists at order }
+        ensures { (d : ℕ) × IsJoinedUp d self.old.largest self.old at order self.new }
     {
         joins::join_up(
             &mut self.lists,
             &self.kinds,
             &mut self.tree,
             &mut self.free_in,
+            self.largest,
             at,
             order,
         );
@@ -196,11 +210,17 @@ impl FreeArea {
     /// Gives a pageblock a type. Where it is another one, its blocks go to the lists of the type, the highest in front.
     pub fn retype(&mut self, pageblock: usize, kind: MigrateType)
         requires { pageblock < length self.old.kinds }
-        ensures after { self.new ≡ retyped LARGEST_ORDER self.old pageblock kind }
+        ensures after { self.new ≡ retyped self.old.largest self.old pageblock kind }
         ensures same { kind ≡ slice_index_or self.old.kinds pageblock Movable → self.new ≡ self.old }
     {
         if self.kinds[pageblock] != kind {
-            retype(&mut self.lists, &mut self.kinds, pageblock, kind);
+            retype(
+                &mut self.lists,
+                &mut self.kinds,
+                self.largest,
+                pageblock,
+                kind,
+            );
         }
     }
 
@@ -215,6 +235,9 @@ impl FreeArea {
     pub fn count(&self, order: Order) -> u32
         ensures { result ≡ count_of (block_set self.now) order }
     {
+        if order.number() > self.largest.number() {
+            return 0;
+        }
         let unmovable = self.lists.len(list_of(order, MigrateType::Unmovable));
         let reclaimable = self.lists.len(list_of(order, MigrateType::Reclaimable));
         let movable = self.lists.len(list_of(order, MigrateType::Movable));
@@ -224,7 +247,7 @@ impl FreeArea {
     /// How many pages of a pageblock are in blocks.
     pub fn free_in(&self, pageblock: usize) -> u32
         requires { pageblock < length self.now.kinds }
-        ensures { result ≡ size_in LARGEST_ORDER (cover (block_set self.now)) pageblock }
+        ensures { result ≡ size_in self.now.largest (cover (block_set self.now)) pageblock }
     {
         self.free_in[pageblock]
     }
@@ -240,14 +263,14 @@ impl FreeArea {
     /// The largest order of a block in a pageblock. One node of the tree is read.
     pub fn largest_in(&self, pageblock: usize) -> Option<Order>
         requires { pageblock < length self.now.kinds }
-        ensures answer { result ≡ largest_in (block_set self.now) (pageblock * PAGEBLOCK_PAGES) LARGEST_ORDER }
-        ensures held { IfSome result (λ o. (h : ℕ) × Starts (block_set self.now) h o × (h / PAGEBLOCK_PAGES ≡ pageblock)) }
-        ensures most { (h k : ℕ) → Starts (block_set self.now) h k → h / PAGEBLOCK_PAGES ≡ pageblock → (o : ℕ) × (result ≡ Some o) × (k ≤ o) }
+        ensures answer { result ≡ largest_in (block_set self.now) (pageblock * pageblock_pages self.now.largest) self.now.largest }
+        ensures held { IfSome result (λ o. (h : ℕ) × Starts (block_set self.now) h o × (h / pageblock_pages self.now.largest ≡ pageblock)) }
+        ensures most { (h k : ℕ) → Starts (block_set self.now) h k → h / pageblock_pages self.now.largest ≡ pageblock → (o : ℕ) × (result ≡ Some o) × (k ≤ o) }
     {
         // a clause of this call says how many pageblocks there can be
         let _pages = self.pages();
-        let first = PageAt::at(pageblock as u32 * PAGEBLOCK_PAGES);
-        self.tree.largest_in(first, Order::largest())
+        let first = PageAt::at(pageblock as u32 * self.largest.pageblock_pages());
+        self.tree.largest_in(first, self.largest.order())
     }
 
     /// The block of this order or more with the least head.
@@ -261,18 +284,21 @@ impl FreeArea {
 
     /// The head in front of the list of an order and a type.
     pub fn front(&self, order: Order, kind: MigrateType) -> Option<PageAt>
-        ensures answer { result ≡ front (free_list_of self.now order kind) }
-        ensures on { IfSome result (IsOn self.now.rows.lists (list_number order kind)) }
+        ensures answer { result ≡ front (free_list_of self.now.largest self.now order kind) }
+        ensures on { IfSome result (IsOn (free_lists self.now.largest self.now) (list_number order kind)) }
         ensures starts { IfSome result (λ at. Starts (block_set self.now) at order) }
     {
+        if order.number() > self.largest.number() {
+            return None;
+        }
         self.lists.front(list_of(order, kind))
     }
 
     /// The head after this one on the list of an order and a type.
     pub fn after(&self, order: Order, kind: MigrateType, at: PageAt) -> Option<PageAt>
-        requires { IsOn self.now.rows.lists (list_number order kind) at }
-        ensures answer { result ≡ after at (free_list_of self.now order kind) }
-        ensures on { IfSome result (IsOn self.now.rows.lists (list_number order kind)) }
+        requires { IsOn (free_lists self.now.largest self.now) (list_number order kind) at }
+        ensures answer { result ≡ after at (free_list_of self.now.largest self.now order kind) }
+        ensures on { IfSome result (IsOn (free_lists self.now.largest self.now) (list_number order kind)) }
         ensures starts { IfSome result (λ at. Starts (block_set self.now) at order) }
     {
         self.lists.after(list_of(order, kind), at)
@@ -291,7 +317,7 @@ impl FreeArea {
         requires used { has (cover (block_set self.old)) at ≡ false }
         requires note { IsNote state }
         ensures after { self.new ≡ noted self.old at state }
-        ensures still_clear { (h k : ℕ) → IsClearRun LARGEST_ORDER self.old.rows.states self.old.rows.lists h k → IsClearRun LARGEST_ORDER self.new.rows.states self.new.rows.lists h k }
+        ensures still_clear { (h k : ℕ) → IsClearRun self.old.largest self.old.rows.states self.old.rows.lists h k → IsClearRun self.old.largest self.new.rows.states self.new.rows.lists h k }
     {
         self.lists.set_state(at, state);
     }
@@ -319,31 +345,31 @@ impl FreeArea {
 
     /// Puts a page that is in no block and on no list at the end of a further list.
     pub fn side_push_back(&mut self, list: usize, at: PageAt)
-        requires list { lists_count LARGEST_ORDER + list < length self.old.rows.lists }
+        requires list { lists_count self.old.largest + list < length self.old.rows.lists }
         requires page { at < length self.old.rows.states }
         requires used { has (cover (block_set self.old)) at ≡ false }
         requires loose { IsLoose self.old.rows.lists at }
-        ensures { self.new ≡ side_pushed LARGEST_ORDER self.old list at }
+        ensures { self.new ≡ side_pushed self.old.largest self.old list at }
     {
-        self.lists.push_back(FREE_LISTS + list, at);
+        self.lists.push_back(self.largest.lists() + list, at);
     }
 
     /// Takes the page in front of a further list.
     pub fn side_pop_front(&mut self, list: usize) -> Option<PageAt>
-        requires { lists_count LARGEST_ORDER + list < length self.old.rows.lists }
-        ensures answer { result ≡ front (side_list_of LARGEST_ORDER self.old list) }
-        ensures after { self.new ≡ side_popped LARGEST_ORDER self.old list }
+        requires { lists_count self.old.largest + list < length self.old.rows.lists }
+        ensures answer { result ≡ front (side_list_of self.old.largest self.old list) }
+        ensures after { self.new ≡ side_popped self.old.largest self.old list }
         ensures page { IfSome result (λ at. at < length self.new.rows.states) }
         ensures loose { IfSome result (IsLoose self.new.rows.lists) }
     {
-        self.lists.pop_front(FREE_LISTS + list)
+        self.lists.pop_front(self.largest.lists() + list)
     }
 
     /// The page in front of a further list.
     pub fn side_front(&self, list: usize) -> Option<PageAt>
-        requires { lists_count LARGEST_ORDER + list < length self.now.rows.lists }
-        ensures { result ≡ front (side_list_of LARGEST_ORDER self.now list) }
+        requires { lists_count self.now.largest + list < length self.now.rows.lists }
+        ensures { result ≡ front (side_list_of self.now.largest self.now list) }
     {
-        self.lists.front(FREE_LISTS + list)
+        self.lists.front(self.largest.lists() + list)
     }
 }

@@ -2,7 +2,6 @@
 //!
 //! In Linux: `__free_one_page`, with `page_is_buddy`.
 ghost use Rattle.std.specs.Prelude.{◌≡◌, ◌%◌, ◌^◌, ◌↔◌, ◌<◌, ℕ, false, length, IsTrue};
-ghost use Rattle.zp_model.specs.declared.constants.TheConstants.{LARGEST_ORDER};
 ghost use Rattle.zp_model.specs.declared.state.State.TheVariants.{Free};
 ghost use Rattle.zp_model.specs.Block.{IsBlock, IsBuddy};
 ghost use Rattle.zp_model.specs.Rows.{state_at};
@@ -12,7 +11,7 @@ ghost use Rattle.zp_area.specs.OneSet.{IsKept};
 
 use crate::splits::{put_in, take_out};
 use zp_links::Lists;
-use zp_model::{LARGEST_ORDER, MigrateType, Order, PageAt, State};
+use zp_model::{Largest, MigrateType, Order, PageAt, State};
 use zp_tree::OrderTree;
 
 /// Whether a block of this order starts at a page.
@@ -23,12 +22,12 @@ pub fn is_free(lists: &Lists, at: PageAt, order: Order) -> bool
 }
 
 /// Whether a block has a free buddy, with which it makes a larger one.
-pub fn has_free_buddy(lists: &Lists, at: PageAt, order: Order) -> bool
+pub fn has_free_buddy(lists: &Lists, largest: Largest, at: PageAt, order: Order) -> bool
     requires { at % 2 ^ order ≡ 0 }
-    ensures some { IsTrue result → (c : ℕ) × (d : ℕ) × (order < LARGEST_ORDER) × IsBuddy at order c d × (state_at lists.now.states c ≡ Free order) }
-    ensures none { result ≡ false → order < LARGEST_ORDER → (c d : ℕ) → IsBuddy at order c d → state_at lists.now.states c ≡ Free order → ⊥ }
+    ensures some { IsTrue result → (c : ℕ) × (d : ℕ) × (order < largest) × IsBuddy at order c d × (state_at lists.now.states c ≡ Free order) }
+    ensures none { result ≡ false → order < largest → (c d : ℕ) → IsBuddy at order c d → state_at lists.now.states c ≡ Free order → ⊥ }
 {
-    order.number() < LARGEST_ORDER && is_free(lists, at.buddy(order), order)
+    order.number() < largest.number() && is_free(lists, at.buddy(order), order)
 }
 
 /// Takes a block into the set, joined with its buddies as long as they are free. Each leaves its list; the head of what the block
@@ -39,21 +38,22 @@ pub fn join_up(
     kinds: &Vec<MigrateType>,
     tree: &mut OrderTree,
     free_in: &mut Vec<u32>,
+    largest: Largest,
     at: PageAt,
     order: Order,
 )
-    requires kept { IsKept LARGEST_ORDER (record { rows = lists.old; kinds = kinds.now.items }) tree.old free_in.old.items }
-    requires block { IsBlock LARGEST_ORDER (length lists.old.states) at order }
-    requires clear { IsClearRun LARGEST_ORDER lists.old.states lists.old.lists at order }
-    ensures kept { IsKept LARGEST_ORDER (record { rows = lists.new; kinds = kinds.now.items }) tree.new free_in.new.items }
-    ensures after { (d : ℕ) × IsJoinedUp d LARGEST_ORDER (record { rows = lists.old; kinds = kinds.now.items }) at order (record { rows = lists.new; kinds = kinds.now.items }) }
+    requires kept { IsKept largest (record { largest = largest; rows = lists.old; kinds = kinds.now.items }) tree.old free_in.old.items }
+    requires block { IsBlock largest (length lists.old.states) at order }
+    requires clear { IsClearRun largest lists.old.states lists.old.lists at order }
+    ensures kept { IsKept largest (record { largest = largest; rows = lists.new; kinds = kinds.now.items }) tree.new free_in.new.items }
+    ensures after { (d : ℕ) × IsJoinedUp d largest (record { largest = largest; rows = lists.old; kinds = kinds.now.items }) at order (record { largest = largest; rows = lists.new; kinds = kinds.now.items }) }
 {
-    let pageblock = at.pageblock();
+    let pageblock = largest.pageblock_of(at);
     let kind = kinds[pageblock];
     free_in[pageblock] += order.pages();
     let mut head = at;
     let mut joined = order;
-    'joins: while joined.number() < LARGEST_ORDER {
+    'joins: while joined.number() < largest.number() {
         let buddy = head.buddy(joined);
         if !is_free(lists, buddy, joined) {
             break;

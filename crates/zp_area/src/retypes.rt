@@ -2,24 +2,23 @@
 //!
 //! In Linux: `move_freepages_block`.
 ghost use Rattle.std.specs.Prelude.{◌≡◌, ◌≢◌, ◌<◌, ◌≤◌, ℕ, length, slice_index_or, slice_set};
-ghost use Rattle.zp_model.specs.declared.constants.TheConstants.{LARGEST_ORDER};
 ghost use Rattle.zp_model.specs.declared.state.State.TheVariants.{Free};
 ghost use Rattle.zp_model.specs.declared.migrate_type.MigrateType.TheVariants.{Movable};
 ghost use Rattle.zp_model.specs.Rows.{state_at, IsOn};
-ghost use Rattle.zp_model.specs.Area.{list_number, lists_count};
+ghost use Rattle.zp_model.specs.Area.{list_number};
 ghost use Rattle.zp_area.specs.Moved.{moved, pages_seen};
 ghost use Rattle.zp_area.specs.Retyped.{all_relisted};
 ghost use Rattle.zp_area.specs.OneSet.{IsOneSet};
 
 use crate::free_lists::list_of;
 use zp_links::Lists;
-use zp_model::{MigrateType, PAGEBLOCK_PAGES, PageAt, State};
+use zp_model::{Largest, MigrateType, PageAt, State};
 
 /// Moves the free block that starts at a page, if one does, to the front of the list of another type. Answers how many pages
 /// it has, or 1 where none starts.
 fn move_block(lists: &mut Lists, at: PageAt, from: MigrateType, to: MigrateType) -> u32
     requires page { at < length lists.old.states }
-    requires table { lists_count LARGEST_ORDER ≤ length lists.old.lists }
+    requires list { (k : ℕ) → state_at lists.old.states at ≡ Free k → list_number k to < length lists.old.lists }
     requires listed { (k : ℕ) → state_at lists.old.states at ≡ Free k → IsOn lists.old.lists (list_number k from) at }
     ensures after { lists.new ≡ moved lists.old at from to (state_at lists.old.states at) }
     ensures pages { result ≡ pages_seen (state_at lists.old.states at) }
@@ -37,17 +36,24 @@ fn move_block(lists: &mut Lists, at: PageAt, from: MigrateType, to: MigrateType)
 /// Gives a pageblock another type, and moves its free blocks to the lists of that type, the lowest first.
 #[cold]
 #[inline(never)]
-pub fn retype(lists: &mut Lists, kinds: &mut Vec<MigrateType>, pageblock: usize, kind: MigrateType)
-    requires one { IsOneSet LARGEST_ORDER (record { rows = lists.old; kinds = kinds.old.items }) }
+pub fn retype(
+    lists: &mut Lists,
+    kinds: &mut Vec<MigrateType>,
+    largest: Largest,
+    pageblock: usize,
+    kind: MigrateType,
+)
+    requires one { IsOneSet largest (record { largest = largest; rows = lists.old; kinds = kinds.old.items }) }
     requires pageblock { pageblock < length kinds.old.items }
     requires other { kind ≢ slice_index_or kinds.old.items pageblock Movable }
     ensures states { lists.new.states ≡ lists.old.states }
     ensures kinds { kinds.new.items ≡ slice_set kinds.old.items pageblock kind }
-    ensures lists { lists.new.lists ≡ all_relisted LARGEST_ORDER (record { rows = lists.old; kinds = kinds.old.items }) kinds.new.items }
+    ensures lists { lists.new.lists ≡ all_relisted largest (record { largest = largest; rows = lists.old; kinds = kinds.old.items }) kinds.new.items }
 {
     let from = kinds[pageblock];
-    let first = pageblock * PAGEBLOCK_PAGES as usize;
-    let end = lists.pages().min(first + PAGEBLOCK_PAGES as usize);
+    let size = largest.pageblock_pages() as usize;
+    let first = pageblock * size;
+    let end = lists.pages().min(first + size);
     let mut i = first;
     'pages: while i < end {
         let seen = move_block(lists, PageAt::at(i as u32), from, kind);

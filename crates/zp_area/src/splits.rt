@@ -2,24 +2,23 @@
 //!
 //! In Linux: `del_page_from_free_list` and `expand`.
 ghost use Rattle.std.specs.Prelude.{◌≡◌, ◌<◌, ◌≤◌, ◌+◌, ◌-◌, ◌^◌, length, slice_index, slice_set};
-ghost use Rattle.zp_model.specs.declared.constants.TheConstants.{LARGEST_ORDER};
 ghost use Rattle.zp_model.specs.declared.state.State.TheVariants.{Free, Tail};
 ghost use Rattle.zp_model.specs.BlockSet.{Starts};
 ghost use Rattle.zp_model.specs.Rows.{IsLoose, IsOn, with_state};
-ghost use Rattle.zp_model.specs.Area.{list_number, lists_count};
+ghost use Rattle.zp_model.specs.Area.{list_number};
 ghost use Rattle.zp_area.specs.Blocks.{block_set, put_in_front, removed, taken_off};
 ghost use Rattle.zp_area.specs.Chains.{split_off};
 ghost use Rattle.zp_area.specs.OneSet.{IsKept};
 
 use crate::free_lists::list_of;
 use zp_links::Lists;
-use zp_model::{MigrateType, Order, PageAt, State};
+use zp_model::{Largest, MigrateType, Order, PageAt, State};
 use zp_tree::OrderTree;
 
 /// Notes a block as free, and puts its head in front of its list.
 #[inline(always)]
 pub fn put_in(lists: &mut Lists, kind: MigrateType, at: PageAt, order: Order)
-    requires table { lists_count LARGEST_ORDER ≤ length lists.old.lists }
+    requires list { list_number order kind < length lists.old.lists }
     requires page { at < length lists.old.states }
     requires loose { IsLoose lists.old.lists at }
     ensures { lists.new ≡ put_in_front (with_state lists.old at (Free order)) (list_number order kind) at }
@@ -44,15 +43,16 @@ pub fn take_whole(
     kinds: &Vec<MigrateType>,
     tree: &mut OrderTree,
     free_in: &mut Vec<u32>,
+    largest: Largest,
     at: PageAt,
     order: Order,
 )
-    requires kept { IsKept LARGEST_ORDER (record { rows = lists.old; kinds = kinds.now.items }) tree.old free_in.old.items }
-    requires block { Starts (block_set (record { rows = lists.old; kinds = kinds.now.items })) at order }
-    ensures kept { IsKept LARGEST_ORDER (record { rows = lists.new; kinds = kinds.now.items }) tree.new free_in.new.items }
-    ensures after { (record { rows = lists.new; kinds = kinds.now.items }) ≡ removed LARGEST_ORDER (record { rows = lists.old; kinds = kinds.now.items }) at order }
+    requires kept { IsKept largest (record { largest = largest; rows = lists.old; kinds = kinds.now.items }) tree.old free_in.old.items }
+    requires block { Starts (block_set (record { largest = largest; rows = lists.old; kinds = kinds.now.items })) at order }
+    ensures kept { IsKept largest (record { largest = largest; rows = lists.new; kinds = kinds.now.items }) tree.new free_in.new.items }
+    ensures after { (record { largest = largest; rows = lists.new; kinds = kinds.now.items }) ≡ removed largest (record { largest = largest; rows = lists.old; kinds = kinds.now.items }) at order }
 {
-    let pageblock = at.pageblock();
+    let pageblock = largest.pageblock_of(at);
     let kind = kinds[pageblock];
     take_out(lists, kind, at, order);
     tree.clear(at, order);
@@ -67,17 +67,18 @@ pub fn split_off(
     kinds: &Vec<MigrateType>,
     tree: &mut OrderTree,
     free_in: &mut Vec<u32>,
+    largest: Largest,
     at: PageAt,
     from: Order,
     to: Order,
 )
-    requires kept { IsKept LARGEST_ORDER (record { rows = lists.old; kinds = kinds.now.items }) tree.old free_in.old.items }
-    requires block { Starts (block_set (record { rows = lists.old; kinds = kinds.now.items })) at from }
+    requires kept { IsKept largest (record { largest = largest; rows = lists.old; kinds = kinds.now.items }) tree.old free_in.old.items }
+    requires block { Starts (block_set (record { largest = largest; rows = lists.old; kinds = kinds.now.items })) at from }
     requires down { to < from }
-    ensures kept { IsKept LARGEST_ORDER (record { rows = lists.new; kinds = kinds.now.items }) tree.new free_in.new.items }
-    ensures after { (record { rows = lists.new; kinds = kinds.now.items }) ≡ split_off LARGEST_ORDER (record { rows = lists.old; kinds = kinds.now.items }) at from to }
+    ensures kept { IsKept largest (record { largest = largest; rows = lists.new; kinds = kinds.now.items }) tree.new free_in.new.items }
+    ensures after { (record { largest = largest; rows = lists.new; kinds = kinds.now.items }) ≡ split_off largest (record { largest = largest; rows = lists.old; kinds = kinds.now.items }) at from to }
 {
-    let pageblock = at.pageblock();
+    let pageblock = largest.pageblock_of(at);
     let kind = kinds[pageblock];
     take_out(lists, kind, at, from);
     tree.split(at, from, to);

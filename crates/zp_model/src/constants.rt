@@ -5,6 +5,9 @@
 /// The largest order that a zone's blocks can have. Each zone has a largest order of its own, this one at most.
 pub const LARGEST_ORDER: u8 = 10;
 
+/// The pages of a block of that order.
+pub const LARGEST_BLOCK_PAGES: u32 = 1 << LARGEST_ORDER;
+
 /// How many orders there are.
 pub const ORDERS: usize = LARGEST_ORDER as usize + 1;
 
@@ -29,8 +32,8 @@ pub const MAX_WORKERS: u32 = 32;
 /// The most zones of a row.
 pub const MAX_ZONES: usize = 4;
 
-/// What the base of a zone is a multiple of.
-pub const BASE_STEP: u32 = 1_024;
+/// What the base of a zone is a multiple of, so that blocks of all orders start at their multiples in absolute numbers too.
+pub const BASE_STEP: u32 = LARGEST_BLOCK_PAGES;
 
 /// The largest base of a zone.
 pub const BASE_LIMIT: u32 = 16_777_216;

@@ -2,7 +2,7 @@
 //!
 //! In Linux: `MAX_PAGE_ORDER` and `pageblock_order`, which are fixed when the kernel is built.
 ghost use Rattle.std.specs.Prelude.{◌≡◌, ◌≤◌, ◌*◌, ◌/◌, ◌↔◌, IfSome, IsSome};
-ghost use Rattle.zp_model.specs.declared.constants.TheConstants.{LARGEST_ORDER, MAX_PAGES};
+ghost use Rattle.zp_model.specs.declared.constants.TheConstants.{LARGEST_BLOCK_PAGES, LARGEST_ORDER, MAX_PAGES, ORDERS, TYPES};
 ghost use Rattle.zp_model.specs.Area.{lists_count, pageblock_pages, pageblocks_of};
 ghost use Rattle.zp_model.specs.Bounds.{IsLargest};
 ghost use Rattle.zp_model.specs.Choose.{claim_pages, least_movable_claim};
@@ -68,14 +68,16 @@ impl Largest {
 
     /// How many free lists a zone has: one for each order and type.
     pub const fn lists(self) -> usize
-        ensures { result ≡ lists_count self }
+        ensures lists { result ≡ lists_count self }
+        ensures within { result ≤ TYPES * ORDERS }
     {
         TYPES * (self.number as usize + 1)
     }
 
     /// How many pages a pageblock has, which is as large as the largest block.
     pub const fn pageblock_pages(self) -> u32
-        ensures { result ≡ pageblock_pages self }
+        ensures pages { result ≡ pageblock_pages self }
+        ensures within { result ≤ LARGEST_BLOCK_PAGES }
     {
         self.order().pages()
     }
@@ -90,8 +92,7 @@ impl Largest {
 
     /// The number of the pageblock that a page lies in.
     pub const fn pageblock_of(self, at: PageAt) -> usize
-        ensures pageblock { result ≡ at / pageblock_pages self }
-        ensures within { result * pageblock_pages self ≤ at }
+        ensures { result ≡ at / pageblock_pages self }
     {
         at.index() / self.pageblock_pages() as usize
     }

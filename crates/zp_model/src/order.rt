@@ -3,7 +3,7 @@
 //! In Linux: the `order` of `alloc_pages`.
 ghost use Rattle.std.specs.Prelude.{◌≡◌, ◌≤◌, ◌<◌, ◌^◌, ◌+◌, ℕ, IfSome, IsSome, ◌↔◌};
 
-use crate::constants::{LARGEST_ORDER, PAGEBLOCK_PAGES};
+use crate::constants::{LARGEST_BLOCK_PAGES, LARGEST_ORDER};
 use std::marker::Model;
 
 /// The order of a block, which has 2 to the order pages: 0 to `LARGEST_ORDER`.
@@ -100,7 +100,7 @@ impl Order {
     /// How many pages a block of this order has.
     pub const fn pages(self) -> u32
         ensures pages { result ≡ 2 ^ self }
-        ensures within { result ≤ PAGEBLOCK_PAGES }
+        ensures within { result ≤ LARGEST_BLOCK_PAGES }
     {
         1 << self.number
     }

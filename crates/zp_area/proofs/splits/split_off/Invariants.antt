@@ -1,4 +1,3 @@
-use Rattle.zp_model.specs.declared.constants.TheConstants.{LARGEST_ORDER}
 use Rattle.zp_area.specs.Blocks.{Blocks}
 use Rattle.zp_area.proofs.Splitting.{IsSplitting}
 use Rattle.zp_area.proofs.splits.split_off.Given as goal
@@ -6,9 +5,9 @@ use Rattle.zp_area.proofs.splits.split_off.Given as goal
 -- the high halves of the orders from `order` on are added
 abbrev pub invariant-halves : goal.invariant-halves
 invariant-halves l =
-    let a : Blocks = record { rows = l.fn.lists; kinds = l.kinds.items } in
-    let b : Blocks = record { rows = l.lists; kinds = l.kinds.items } in
-    IsSplitting LARGEST_ORDER a b l.free_in.items l.at l.to l.fn.from l.order
+    let a : Blocks = record { largest = l.fn.largest; rows = l.fn.lists; kinds = l.kinds.items } in
+    let b : Blocks = record { largest = l.fn.largest; rows = l.lists; kinds = l.kinds.items } in
+    IsSplitting l.fn.largest a b l.free_in.items l.at l.to l.fn.from l.order
 
 abbrev pub decreases-halves : goal.decreases-halves
 decreases-halves l = l.order

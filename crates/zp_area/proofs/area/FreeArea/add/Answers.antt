@@ -1,5 +1,5 @@
-use Rattle.std.proofs.Common.{arith}
-use Rattle.zp_model.specs.declared.constants.TheConstants.{LARGEST_ORDER}
+use Rattle.std.proofs.Common.{arith, refl}
+use Rattle.std.proofs.Math.Pow.{pow_mono}
 use Rattle.zp_area.specs.Blocks.{Blocks}
 use Rattle.zp_area.proofs.Keeping.{list_found, read_at}
 use Rattle.zp_area.proofs.Adding.{IsComing, added_starts, clear_beside, coming_apart, coming_by, coming_loose, kept_added, now_added}
@@ -7,47 +7,54 @@ use Rattle.zp_area.proofs.area.FreeArea.add.Goals as goal
 
 pub push_front_noted-requires-clause-loose : goal.push_front_noted-requires-clause-loose
 push_front_noted-requires-clause-loose c =
-    let a : Blocks = record { rows = c.self.inside.lists; kinds = c.self.inside.kinds.items } in
-    let x : IsComing LARGEST_ORDER a c.args.at c.args.order = coming_by LARGEST_ORDER a _ _ _ c.self.view_is c.self.invariant.one c.requires.block c.requires.clear in
+    let a : Blocks = record { largest = c.self.inside.largest; rows = c.self.inside.lists; kinds = c.self.inside.kinds.items } in
+    let x : IsComing c.self.inside.largest a c.args.at c.args.order = coming_by a _ _ _ c.self.view_is c.self.invariant.one c.requires.block c.requires.clear in
     coming_loose x
 
 pub set-requires-clause-apart : goal.set-requires-clause-apart
 set-requires-clause-apart c =
-    let a : Blocks = record { rows = c.self.inside.lists; kinds = c.self.inside.kinds.items } in
-    let x : IsComing LARGEST_ORDER a c.args.at c.args.order = coming_by LARGEST_ORDER a _ _ _ c.self.view_is c.self.invariant.one c.requires.block c.requires.clear in
+    let a : Blocks = record { largest = c.self.inside.largest; rows = c.self.inside.lists; kinds = c.self.inside.kinds.items } in
+    let x : IsComing c.self.inside.largest a c.args.at c.args.order = coming_by a _ _ _ c.self.view_is c.self.invariant.one c.requires.block c.requires.clear in
     rw c.self.invariant.same (coming_apart x)
 
 pub overflow_add-index_mut : goal.overflow_add-index_mut
 overflow_add-index_mut c =
-    let a : Blocks = record { rows = c.self.inside.lists; kinds = c.self.inside.kinds.items } in
-    let x : IsComing LARGEST_ORDER a c.args.at c.args.order = coming_by LARGEST_ORDER a _ _ _ c.self.view_is c.self.invariant.one c.requires.block c.requires.clear in
-    let r = read_at LARGEST_ORDER _ _ c.args.at c.args.order _ _ c.self.invariant.each x.block c.pageblock-pageblock.ensures c.index_mut.ensures.value in
-    omega (arith, r, c.pages.ensures.pages, (kept_added x _ _ c.self.invariant).fits)
+    let a : Blocks = record { largest = c.self.inside.largest; rows = c.self.inside.lists; kinds = c.self.inside.kinds.items } in
+    let x : IsComing c.self.inside.largest a c.args.at c.args.order = coming_by a _ _ _ c.self.view_is c.self.invariant.one c.requires.block c.requires.clear in
+    let r = read_at c.self.inside.largest _ _ c.args.at c.args.order _ _ c.self.invariant.each x.block c.pageblock_of-pageblock.ensures c.index_mut.ensures.value in
+    omega (arith, r, c.pages.ensures.pages, (kept_added x _ _ c.self.invariant).fits, pow_mono {i = c.self.inside.largest} {j = 10} (omega arith))
 
 pub invariant_of-self : goal.invariant_of-self
 invariant_of-self c =
-    let a : Blocks = record { rows = c.self.inside.lists; kinds = c.self.inside.kinds.items } in
-    let x : IsComing LARGEST_ORDER a c.args.at c.args.order = coming_by LARGEST_ORDER a _ _ _ c.self.view_is c.self.invariant.one c.requires.block c.requires.clear in
-    let r = read_at LARGEST_ORDER _ _ c.args.at c.args.order _ _ c.self.invariant.each x.block c.pageblock-pageblock.ensures c.index_mut.ensures.value in
-    let er = list_found LARGEST_ORDER a c.args.at c.args.order _ _ _ x.one x.block c.pageblock-pageblock.ensures c.index.ensures c.list_of-list.ensures.number in
+    let a : Blocks = record { largest = c.self.inside.largest; rows = c.self.inside.lists; kinds = c.self.inside.kinds.items } in
+    let x : IsComing c.self.inside.largest a c.args.at c.args.order = coming_by a _ _ _ c.self.view_is c.self.invariant.one c.requires.block c.requires.clear in
+    let r = read_at c.self.inside.largest _ _ c.args.at c.args.order _ _ c.self.invariant.each x.block c.pageblock_of-pageblock.ensures c.index_mut.ensures.value in
+    let er = list_found c.self.inside.largest a c.args.at c.args.order _ _ _ x.one x.block c.pageblock_of-pageblock.ensures c.index.ensures c.list_of-list.ensures.number in
     rw (
-      now_added LARGEST_ORDER a c.args.at c.args.order c.list_of-list.result c.push_front_noted.new.self c.push_front_noted.ensures.after er,
+      now_added c.self.inside.largest a c.args.at c.args.order c.list_of-list.result c.push_front_noted.new.self c.push_front_noted.ensures.after er,
       c.set.ensures.after,
-      c.pageblock-pageblock.ensures,
+      c.pageblock_of-pageblock.ensures,
       r,
       c.pages.ensures.pages,
     ) (kept_added x _ _ c.self.invariant).kept
 
 pub returns-clause-held : goal.returns-clause-held
 returns-clause-held c =
-    let a : Blocks = record { rows = c.self.inside.lists; kinds = c.self.inside.kinds.items } in
-    let x : IsComing LARGEST_ORDER a c.args.at c.args.order = coming_by LARGEST_ORDER a _ _ _ c.self.view_is c.self.invariant.one c.requires.block c.requires.clear in
-    let er = list_found LARGEST_ORDER a c.args.at c.args.order _ _ _ x.one x.block c.pageblock-pageblock.ensures c.index.ensures c.list_of-list.ensures.number in
-    rw (now_added LARGEST_ORDER a c.args.at c.args.order c.list_of-list.result c.push_front_noted.new.self c.push_front_noted.ensures.after er) (added_starts x)
+    let a : Blocks = record { largest = c.self.inside.largest; rows = c.self.inside.lists; kinds = c.self.inside.kinds.items } in
+    let x : IsComing c.self.inside.largest a c.args.at c.args.order = coming_by a _ _ _ c.self.view_is c.self.invariant.one c.requires.block c.requires.clear in
+    let er = list_found c.self.inside.largest a c.args.at c.args.order _ _ _ x.one x.block c.pageblock_of-pageblock.ensures c.index.ensures c.list_of-list.ensures.number in
+    rw (now_added c.self.inside.largest a c.args.at c.args.order c.list_of-list.result c.push_front_noted.new.self c.push_front_noted.ensures.after er) (added_starts x)
 
 pub returns-clause-still_clear : goal.returns-clause-still_clear
 returns-clause-still_clear c =
-    let a : Blocks = record { rows = c.self.inside.lists; kinds = c.self.inside.kinds.items } in
-    let x : IsComing LARGEST_ORDER a c.args.at c.args.order = coming_by LARGEST_ORDER a _ _ _ c.self.view_is c.self.invariant.one c.requires.block c.requires.clear in
-    let er = list_found LARGEST_ORDER a c.args.at c.args.order _ _ _ x.one x.block c.pageblock-pageblock.ensures c.index.ensures c.list_of-list.ensures.number in
-    rw (← c.self.view_is, now_added LARGEST_ORDER a c.args.at c.args.order c.list_of-list.result c.push_front_noted.new.self c.push_front_noted.ensures.after er) (clear_beside x)
+    let a : Blocks = record { largest = c.self.inside.largest; rows = c.self.inside.lists; kinds = c.self.inside.kinds.items } in
+    let x : IsComing c.self.inside.largest a c.args.at c.args.order = coming_by a _ _ _ c.self.view_is c.self.invariant.one c.requires.block c.requires.clear in
+    let er = list_found c.self.inside.largest a c.args.at c.args.order _ _ _ x.one x.block c.pageblock_of-pageblock.ensures c.index.ensures c.list_of-list.ensures.number in
+    rw (← c.self.view_is, now_added c.self.inside.largest a c.args.at c.args.order c.list_of-list.result c.push_front_noted.new.self c.push_front_noted.ensures.after er) (clear_beside x)
+
+pub returns-clause-after : goal.returns-clause-after
+returns-clause-after c =
+    let a : Blocks = record { largest = c.self.inside.largest; rows = c.self.inside.lists; kinds = c.self.inside.kinds.items } in
+    let x : IsComing c.self.inside.largest a c.args.at c.args.order = coming_by a _ _ _ c.self.view_is c.self.invariant.one c.requires.block c.requires.clear in
+    let er = list_found c.self.inside.largest a c.args.at c.args.order _ _ _ x.one x.block c.pageblock_of-pageblock.ensures c.index.ensures c.list_of-list.ensures.number in
+    rw (← c.self.view_is, now_added c.self.inside.largest a c.args.at c.args.order c.list_of-list.result c.push_front_noted.new.self c.push_front_noted.ensures.after er) refl

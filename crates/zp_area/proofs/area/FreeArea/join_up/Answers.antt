@@ -1,4 +1,13 @@
+use Rattle.zp_area.specs.Chains.{IsJoinable}
 use Rattle.zp_area.proofs.area.FreeArea.join_up.Goals as goal
 
 pub returns-else-has_free_buddy : goal.returns-else-has_free_buddy
-returns-else-has_free_buddy c = (0, (c.add.ensures.after, λ e d y. c.has_free_buddy.ensures.none c.if-has_free_buddy.false y.order e d y.buddy (rw (← c.self.view_is) at y.free)))
+returns-else-has_free_buddy c = (
+  0,
+  (
+    c.add.ensures.after,
+    λ e d y.
+        let z : IsJoinable c.self.inside.largest (record { largest = c.self.inside.largest; rows = c.self.inside.lists; kinds = c.self.inside.kinds.items }) c.args.at c.args.order e d = rw (← c.self.view_is) at y in
+        c.has_free_buddy.ensures.none c.if-has_free_buddy.false z.order e d z.buddy z.free,
+  ),
+)
