@@ -15,3 +15,4 @@ pub mod RelistedBy
 pub mod Relisting
 pub mod Retyping
 pub mod LargestInside
+pub mod SameLargest

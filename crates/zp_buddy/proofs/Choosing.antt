@@ -1,14 +1,14 @@
 -- What the looks at the free lists and at the pageblocks find is what the choice of a block asks for.
-use Rattle.std.proofs.Common.{ℕ, suc, zero, ◌+◌, ◌-◌, ◌/◌, ◌≡◌, ◌≢◌, ◌≤◌, ◌<◌, inl, inr, refl, sym, ◌∙◌, ap, arith, Bool, true, false, leb, max, not, ◌||◌, ◌&&◌, List, [], ◌∷◌, ◌++◌, length, drop, reverse, get_or, get_or-take, drop-cons, Option, Some, None, IfSome}
-use Rattle.std.specs.List.{find, range_with_len, slice_index_or}
+use Rattle.std.proofs.Common.{ℕ, suc, zero, ◌+◌, ◌-◌, ◌/◌, ◌≡◌, ◌≢◌, ◌≤◌, ◌<◌, ◌==◌, inl, inr, refl, sym, ◌∙◌, ap, arith, Bool, true, false, leb, max, not, ◌||◌, ◌&&◌, List, [], ◌∷◌, ◌++◌, length, drop, take, reverse, get_or, get_or-take, drop-cons, Option, Some, None, IfSome}
+use Rattle.std.specs.List.{find, range_with_len, slice_index_or, IsDistinct}
 use Rattle.std.specs.Option.{option_or}
 use Rattle.std.proofs.lemmas.Bool.{cases_Bool, cases_eq, eq-eqb, cases_lt, leb-true, le-leb, false≢true, both_ways}
-use Rattle.std.proofs.lemmas.List.{reverse-append}
+use Rattle.std.proofs.lemmas.List.{get_or_past, length-take, reverse-append}
 use Rattle.zp_model.specs.declared.migrate_type.MigrateType.{MigrateType}
 use Rattle.zp_model.specs.declared.migrate_type.MigrateType.TheVariants.{Movable}
 use Rattle.zp_model.specs.BlockSet.{Starts, cover, first_of, larger, orders_from}
 use Rattle.zp_model.specs.MigrateType.{foreign, same_type}
-use Rattle.zp_model.specs.Rows.{front, stands_in}
+use Rattle.zp_model.specs.Rows.{front, list_at, stands_in}
 use Rattle.zp_model.specs.Area.{Area, list_number, lists_count, free_list, kind_at, pageblock_pages, size_in}
 use Rattle.zp_model.specs.Choose.{own, claim, borrow, least_movable_claim, claim_pages, is_claimable}
 use Rattle.zp_model.specs.Frames.{Frames}
@@ -71,23 +71,42 @@ none_passes p (x ∷ xs) h e on t =
       | inr n ↦ elim (stands_cases h x xs on) [ inl same ↦ both_ways (p h) (rw same n) t | inr later ↦ none_passes p xs h (rw n at e) later t ]
     ]
 
--- the free lists of the area are those of its blocks
-lists_in : (m : ℕ) (a : Blocks) (o : ℕ) → o ≤ m → ◌≡◌ {A = MigrateType → List ℕ} (λ t. free_list (area_in m a) o t) (λ t. free_list_of a o t)
-lists_in m a o le = λ i t. get_or-take (lists_count m) a.rows.lists (list_number o t) [] (list_number_below m o t le) i
+-- the free list of an order that blocks can have is a list of the area, and each one has no page twice
+list_taken : (m : ℕ) (a : Blocks) (o : ℕ) (t : MigrateType) → o ≤ m → free_list_of m a o t ≡ list_at a.rows.lists (list_number o t)
+list_taken m a o t le = get_or-take (lists_count m) a.rows.lists (list_number o t) [] (list_number_below m o t le)
 
-pub list_of_frames : (m : ℕ) (a : Blocks) (f : Frames) (o : ℕ) (t : MigrateType) → frames_in m a ≡ f → o ≤ m → free_list_of a o t ≡ free_list f.area o t
-list_of_frames m a f o t e le = rw (← e) (sym (get_or-take (lists_count m) a.rows.lists (list_number o t) [] (list_number_below m o t le)))
+pub taken_distinct : (m : ℕ) (a : Blocks) (o : ℕ) (t : MigrateType) → ((r : ℕ) → IsDistinct (λ x y. x == y) (list_at a.rows.lists r)) → IsDistinct (λ x y. x == y) (free_list_of m a o t)
+unfolding IsDistinct
+taken_distinct m a o t each =
+    let r : ℕ = list_number o t in
+    elim (cases_lt r (lists_count m)) [
+      | inl lt ↦ rw (get_or-take (lists_count m) a.rows.lists r [] lt) (each r)
+      | inr ge ↦ rw (get_or_past (take (lists_count m) a.rows.lists) r [] (omega (arith, length-take (lists_count m) a.rows.lists))) tt
+    ]
 
-pub own_fronts : (m : ℕ) (a : Blocks) (k : ℕ) (t : MigrateType) → first_of (front_of_order a (t ∷ [])) (orders_from m k) ≡ own (area_in m a) k t
+-- what stands on a free list starts a block of the list's order
+pub on_starts : (m : ℕ) (a : Blocks) (h o : ℕ) (t : MigrateType) → IsOneSet m a → stands_in h (free_list_of m a o t) ≡ true → Starts (block_set a) h o
+on_starts m a h o t one on =
+    elim (cases_lt m o) [
+      | inl above ↦
+          let past : length (take (lists_count m) a.rows.lists) ≤ list_number o t = omega (arith, length-take (lists_count m) a.rows.lists) in
+          absurd (false≢true (rw (get_or_past (take (lists_count m) a.rows.lists) (list_number o t) [] past) at on))
+      | inr le ↦ (listed_starts m a h o t one le (rw (list_taken m a o t le) at on)).0
+    ]
+
+pub list_of_frames : (m : ℕ) (a : Blocks) (f : Frames) (o : ℕ) (t : MigrateType) → frames_in m a ≡ f → free_list_of m a o t ≡ free_list f.area o t
+list_of_frames m a f o t e = ap (λ (g : Frames). free_list g.area o t) e
+
+pub own_fronts : (m : ℕ) (a : Blocks) (k : ℕ) (t : MigrateType) → first_of (front_of_order m a (t ∷ [])) (orders_from m k) ≡ own (area_in m a) k t
 unfolding own
-own_fronts m a k t = first_same _ _ k (m + 1 - k) (λ o p q. only (front (free_list_of a o t)) ∙ ap (λ (g : MigrateType → List ℕ). front (g t)) (sym (lists_in m a o (omega arith))))
+own_fronts m a k t = first_same _ _ k (m + 1 - k) (λ o p q. only (front (free_list_of m a o t)))
   where
     only : (o : Option ℕ) → option_or o None ≡ o
     only o = grind arith
 
-pub borrow_fronts : (m : ℕ) (a : Blocks) (k : ℕ) (t : MigrateType) → first_of (front_of_order a (foreign t)) (orders_from m k) ≡ borrow (area_in m a) k t
+pub borrow_fronts : (m : ℕ) (a : Blocks) (k : ℕ) (t : MigrateType) → first_of (front_of_order m a (foreign t)) (orders_from m k) ≡ borrow (area_in m a) k t
 unfolding borrow
-borrow_fronts m a k t = first_same _ _ k (m + 1 - k) (λ o p q. ap (λ (g : MigrateType → List ℕ). first_of (λ f. front (g f)) (foreign t)) (sym (lists_in m a o (omega arith))))
+borrow_fronts m a k t = refl
 
 -- what is first among the foreign types is of another type than the request's, and where there is none, there is none of any other type
 found_foreign : (t : MigrateType) (g : MigrateType → Option ℕ) (h : ℕ) → first_of g (foreign t) ≡ Some h → (f : MigrateType) × (f ≢ t) × (g f ≡ Some h)
@@ -149,11 +168,10 @@ module _ (m : ℕ) (a : Blocks) (t : MigrateType) (n : ℕ) where
       )
 
 -- where a claim by a block of this order is possible at all, the free pages of its pageblock decide
-claim_half_free : (m : ℕ) (a : Blocks) (t : MigrateType) (o : ℕ) → o ≤ m →
+claim_half_free : (m : ℕ) (a : Blocks) (t : MigrateType) (o : ℕ) →
     (leb (least_movable_claim m) o || not (same_type t Movable)) ≡ true → half_free_of_order m a (foreign t) o ≡ claimable_of_order (area_in m a) t o
-claim_half_free m a t o le may =
-    ap (λ (p : ℕ → Bool). first_of (λ f. find p (free_list_of a o f)) (foreign t)) (λ i h. sym may i && is_half_free m a h)
-    ∙ ap (λ (g : MigrateType → List ℕ). first_of (λ f. find (is_claimable (area_in m a) t o) (g f)) (foreign t)) (sym (lists_in m a o le))
+claim_half_free m a t o may =
+    ap (λ (p : ℕ → Bool). first_of (λ f. find p (free_list_of m a o f)) (foreign t)) (λ i h. sym may i && is_half_free m a h)
 
 -- and where it is not, none may be claimed
 claim_never : (a : Area) (t : MigrateType) (o : ℕ) → (leb (least_movable_claim a.largest) o || not (same_type t Movable)) ≡ false → claimable_of_order a t o ≡ None
@@ -174,22 +192,22 @@ module _ (m : ℕ) (a : Blocks) (t : MigrateType) (one : IsOneSet m a) where
   -- a block on a foreign list in whose pageblock half of the pages are free
   half_free_in : (o h : ℕ) → o ≤ m → half_free_of_order m a (foreign t) o ≡ Some h → IsInClaimable m a t h o
   half_free_in o h le e =
-      let w = found_foreign t (λ f. find (is_half_free m a) (free_list_of a o f)) h e in
-      let found = found_at (is_half_free m a) (free_list_of a o w.0) h w.2 in
-      let here = listed_starts m a h o w.0 one le found.0 in
+      let w = found_foreign t (λ f. find (is_half_free m a) (free_list_of m a o f)) h e in
+      let found = found_at (is_half_free m a) (free_list_of m a o w.0) h w.2 in
+      let here = listed_starts m a h o w.0 one le (rw (list_taken m a o w.0 le) at found.0) in
       record { starts = here.0; other = rw here.1 w.1; enough = found.1 }
 
   half_free_none : (o h : ℕ) → o ≤ m → half_free_of_order m a (foreign t) o ≡ None → IsInClaimable m a t h o → ⊥
   half_free_none o h le e y =
       let f : MigrateType = kind_at m a.kinds h in
-      none_passes (is_half_free m a) (free_list_of a o f) h (none_foreign t (λ g. find (is_half_free m a) (free_list_of a o g)) e f y.other)
-      ((one.listed (list_number o f) (list_number_below m o f le)).from h (here_from m (block_set a) a.kinds (list_number o f) h o refl y.starts)) y.enough
+      none_passes (is_half_free m a) (free_list_of m a o f) h (none_foreign t (λ g. find (is_half_free m a) (free_list_of m a o g)) e f y.other)
+      (rw (list_taken m a o f le) ((one.listed (list_number o f) (list_number_below m o f le)).from h (here_from m (block_set a) a.kinds (list_number o f) h o refl y.starts))) y.enough
 
   -- no block of this order may be claimed where none is in a pageblock that may be
   order_unclaimed : (o : ℕ) → o ≤ m → ((h : ℕ) → IsInClaimable m a t h o → ⊥) → claimable_of_order (area_in m a) t o ≡ None
   order_unclaimed o le none =
       elim (cases_Bool (leb (least_movable_claim m) o || not (same_type t Movable))) [
-        | inl may ↦ sym (claim_half_free m a t o le may) ∙ by_find (half_free_of_order m a (foreign t) o) refl
+        | inl may ↦ sym (claim_half_free m a t o may) ∙ by_find (half_free_of_order m a (foreign t) o) refl
         | inr never ↦ claim_never (area_in m a) t o never
       ]
     where
@@ -216,15 +234,16 @@ module _ (m : ℕ) (a : Blocks) (t : MigrateType) (one : IsOneSet m a) where
       smaller p q r f e = grind arith
 
   -- the first block of the largest order that may be claimed is the one that is claimed
-  claimed_largest : (k n : ℕ) (r : Option ℕ) → IsLargestClaimable m a t (Some n) → n ≤ m → k ≤ n →
+  claimed_largest : (k n : ℕ) (r : Option ℕ) → IsLargestClaimable m a t (Some n) → k ≤ n →
       (leb (least_movable_claim m) n || not (same_type t Movable)) ≡ true → half_free_of_order m a (foreign t) n ≡ r → claim (area_in m a) k t ≡ r
   unfolding claim
-  claimed_largest k n None y le up may e = absurd (half_free_none n y.0.0 le e y.0.1)
-  claimed_largest k n (Some h) y le up may e =
-      back_some (claimable_of_order (area_in m a) t) k (m + 1 - k) n h up (omega arith) (sym (claim_half_free m a t n le may) ∙ e)
+  claimed_largest k n None y up may e = absurd (half_free_none n y.0.0 (one.blocks.block _ _ y.0.1.starts).order e y.0.1)
+  claimed_largest k n (Some h) y up may e =
+      let le : n ≤ m = (one.blocks.block _ _ y.0.1.starts).order in
+      back_some (claimable_of_order (area_in m a) t) k (m + 1 - k) n h up (omega arith) (sym (claim_half_free m a t n may) ∙ e)
       (λ o p q. order_unclaimed o (omega arith) (λ g z. omega (arith, y.1 g o z)))
 
-  pub claimed_found : (k n : ℕ) (r : Option FreeBlock) → IsLargestClaimable m a t (Some n) → n ≤ m → k ≤ n →
+  pub claimed_found : (k n : ℕ) (r : Option FreeBlock) → IsLargestClaimable m a t (Some n) → k ≤ n →
       (leb (least_movable_claim m) n || not (same_type t Movable)) ≡ true → IsFoundAs a n (half_free_of_order m a (foreign t) n) r → IsFoundAs a k (claim (area_in m a) k t) r
-  claimed_found k n None y le up may e = claimed_largest k n None y le up may e
-  claimed_found k n (Some b) y le up may e = (claimed_largest k n (Some b.head) y le up may e.0, record { enough = omega (arith, e.1.enough); starts = e.1.starts })
+  claimed_found k n None y up may e = claimed_largest k n None y up may e
+  claimed_found k n (Some b) y up may e = (claimed_largest k n (Some b.head) y up may e.0, record { enough = omega (arith, e.1.enough); starts = e.1.starts })

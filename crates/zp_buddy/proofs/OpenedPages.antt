@@ -186,7 +186,7 @@ module _ {m n : ℕ} {s : List State} {l : List (List ℕ)} (x : IsOpenedTo m n 
       let shorter : lists_count m + side - lists_count m ≡ side = omega arith in
       rw (take-replicate {X = List ℕ} (lists_count m) (lists_count m + side) [] (omega arith), drop-replicate {X = List ℕ} (lists_count m) (lists_count m + side) [], shorter) at (settled_frames (opened side le len))
 
-  pub opened_held : (side : ℕ) → n ≤ MAX_PAGES → length l ≡ lists_count m + side → IsHeld m (record { rows = record { states = s; lists = l }; kinds = all_movable m n }) n
+  pub opened_held : (side : ℕ) → n ≤ MAX_PAGES → length l ≡ lists_count m + side → IsHeld m (record { largest = m; rows = record { states = s; lists = l }; kinds = all_movable m n }) n
   unfolding size
   opened_held side le len = record {
     sound = settled_sound (opened side le len);

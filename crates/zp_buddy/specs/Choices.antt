@@ -21,8 +21,8 @@ abbrev pub frames_in : ℕ → Blocks → Frames
 frames_in m a = frames_of m a.rows.states a.kinds a.rows.lists
 
 -- the front of the first list of order o and of one of these types that is not empty
-abbrev pub front_of_order : Blocks → List MigrateType → ℕ → Option ℕ
-front_of_order a ts o = first_of (λ t. front (free_list_of a o t)) ts
+abbrev pub front_of_order : ℕ → Blocks → List MigrateType → ℕ → Option ℕ
+front_of_order m a ts o = first_of (λ t. front (free_list_of m a o t)) ts
 
 -- whether half of the pages of page h's pageblock are free
 abbrev pub is_half_free : ℕ → Blocks → ℕ → Bool
@@ -30,7 +30,7 @@ is_half_free m a h = leb (claim_pages m) (size_in m (cover (block_set a)) (h / p
 
 -- the first block of order o and of one of these types in whose pageblock half of the pages are free
 abbrev pub half_free_of_order : ℕ → Blocks → List MigrateType → ℕ → Option ℕ
-half_free_of_order m a ts o = first_of (λ t. find (is_half_free m a) (free_list_of a o t)) ts
+half_free_of_order m a ts o = first_of (λ t. find (is_half_free m a) (free_list_of m a o t)) ts
 
 -- the first block of order o and of a type foreign to t that may be claimed for t
 abbrev pub claimable_of_order : Area → MigrateType → ℕ → Option ℕ

@@ -2,7 +2,6 @@
 //!
 //! In Linux: the `free_area` of a `struct zone`, `__rmqueue` and `__free_one_page`.
 ghost use Rattle.std.specs.Prelude.{ℕ, ◌≡◌, ◌<◌, ◌≤◌, ◌++◌, ◌∷◌, [], ◌^◌, ◌↔◌, false, length, slice_get, slice_set, IfOk, IfSome, IsTrue};
-ghost use Rattle.zp_model.specs.declared.constants.TheConstants.{LARGEST_ORDER};
 ghost use Rattle.zp_model.specs.Block.{has, in_run, size};
 ghost use Rattle.zp_model.specs.Info.{counts_of};
 ghost use Rattle.zp_model.specs.Rows.{IsLoose, IsOn, after, front, list_at, rest, state_at};
@@ -20,7 +19,7 @@ use crate::takes::take_chosen;
 use std::alloc::{AllocError, Global};
 use std::marker::Model;
 use zp_area::{FreeArea, LinkedPage};
-use zp_model::{Counts, MAX_PAGES, MigrateType, ORDERS, Order, PageAt, State};
+use zp_model::{Counts, Largest, MAX_PAGES, MigrateType, ORDERS, Order, PageAt, State};
 
 /// The free blocks of a zone, what is noted of its other pages, and further lists of those pages. Contracts see the plain
 /// free area with these.
@@ -31,26 +30,30 @@ pub struct Buddy {
 }
 
 impl Model for Buddy {
-    ghost use Rattle.zp_model.specs.declared.constants.TheConstants.{LARGEST_ORDER};
     ghost use Rattle.zp_model.specs.Frames.{Frames};
     ghost use Rattle.zp_buddy.specs.Choices.{frames_in};
     ghost use Rattle.zp_buddy.specs.Held.{IsHeld};
 
     ghost Value = { Frames };
 
-    ghost view = { λ b. frames_in LARGEST_ORDER b.area };
+    ghost view = { λ b. frames_in b.area.largest b.area };
 
-    ghost invariant = { λ b. IsHeld LARGEST_ORDER b.area b.free };
+    ghost invariant = { λ b. IsHeld b.area.largest b.area b.free };
 }
 
 impl Buddy {
-    /// A zone of so many pages, all free, with so many empty further lists.
-    pub fn new(alloc: Global, pages: u32, side: usize) -> Result<Buddy, AllocError>
+    /// A zone of so many pages, all free, whose blocks have at most the largest order, with so many empty further lists.
+    pub fn new(
+        alloc: Global,
+        pages: u32,
+        largest: Largest,
+        side: usize,
+    ) -> Result<Buddy, AllocError>
         requires pages { pages ≤ MAX_PAGES }
         requires side { side < 2 ^ 32 }
-        ensures { IfOk result (λ b. b ≡ frames_opening LARGEST_ORDER pages side) }
+        ensures { IfOk result (λ b. b ≡ frames_opening largest pages side) }
     {
-        let mut area = FreeArea::new(alloc, pages, side)?;
+        let mut area = FreeArea::new(alloc, pages, largest, side)?;
         add_all_pages(&mut area);
         Ok(Buddy { area, free: pages })
     }
@@ -106,6 +109,13 @@ impl Buddy {
         self.free += order.pages();
     }
 
+    /// The order of the largest block.
+    pub fn largest(&self) -> Largest
+        ensures { result ≡ self.now.area.largest }
+    {
+        self.area.largest()
+    }
+
     /// How many pages the zone has. The frames of a buddy allocator note as free what is free.
     pub fn pages(&self) -> u32
         ensures pages { result ≡ length self.now.states }
@@ -133,7 +143,7 @@ impl Buddy {
     {
         // a clause of this call says that each pageblock has a type
         let _pages = self.area.pages();
-        self.area.type_of(at.pageblock())
+        self.area.type_of(self.area.largest().pageblock_of(at))
     }
 
     /// What is noted of a page.
@@ -222,7 +232,7 @@ impl Buddy {
         let mut order = Order::zero();
         'orders: loop {
             by_order[order.index()] = self.area.count(order);
-            if order == Order::largest() {
+            if order == self.area.largest().order() {
                 break;
             }
             order = order.higher();

@@ -3,16 +3,15 @@
 //! In Linux: `__rmqueue_smallest`, and `find_suitable_fallback` with `__rmqueue_fallback`.
 ghost use Rattle.std.specs.Prelude.{◌≡◌, ◌≤◌, ◌||◌, not, leb, IfSome};
 ghost use Rattle.std.specs.List.{find};
-ghost use Rattle.zp_model.specs.declared.constants.TheConstants.{LARGEST_ORDER};
 ghost use Rattle.zp_model.specs.declared.migrate_type.MigrateType.TheVariants.{Movable};
 ghost use Rattle.zp_model.specs.BlockSet.{first_of, larger, orders_from, Starts};
 ghost use Rattle.zp_model.specs.MigrateType.{same_type};
-ghost use Rattle.zp_model.specs.Choose.{own, claim, borrow};
+ghost use Rattle.zp_model.specs.Choose.{own, claim, borrow, least_movable_claim};
 ghost use Rattle.zp_area.specs.Blocks.{block_set, free_list_of};
 ghost use Rattle.zp_buddy.specs.Choices.{area_in, front_of_order, is_half_free, half_free_of_order, IsLargestClaimable, IsFoundAs, IsChosen};
 
 use zp_area::FreeArea;
-use zp_model::{CLAIM_PAGES, LEAST_MOVABLE_CLAIM, MigrateType, Order, PageAt};
+use zp_model::{Largest, MigrateType, Order, PageAt};
 
 /// A free block.
 #[derive(Clone, Copy, PartialEq, Eq, Debug, Drop)]
@@ -29,15 +28,15 @@ pub struct Choice {
 }
 
 /// Whether a request for this type may claim by a block of this order at all.
-fn may_claim(order: Order, kind: MigrateType) -> bool
-    ensures { result ≡ (leb LEAST_MOVABLE_CLAIM order || not (same_type kind Movable)) }
+fn may_claim(largest: Largest, order: Order, kind: MigrateType) -> bool
+    ensures { result ≡ (leb (least_movable_claim largest) order || not (same_type kind Movable)) }
 {
-    order.number() >= LEAST_MOVABLE_CLAIM || kind != MigrateType::Movable
+    order.number() >= largest.least_movable_claim() || kind != MigrateType::Movable
 }
 
 /// The block in front of the first list of this order and of one of these types that isn't empty.
 fn front_of(area: &FreeArea, order: Order, kinds: &[MigrateType]) -> Option<FreeBlock>
-    ensures { IsFoundAs area.now order (front_of_order area.now kinds.now order) result }
+    ensures { IsFoundAs area.now order (front_of_order area.now.largest area.now kinds.now order) result }
 {
     'kinds: for kind in kinds {
         if let Some(head) = area.front(order, *kind) {
@@ -49,44 +48,43 @@ fn front_of(area: &FreeArea, order: Order, kinds: &[MigrateType]) -> Option<Free
 
 /// The same over the orders from `order` on, the least first.
 fn first_front(area: &FreeArea, order: Order, kinds: &[MigrateType]) -> Option<FreeBlock>
-    ensures { IsFoundAs area.now order (first_of (front_of_order area.now kinds.now) (orders_from LARGEST_ORDER order)) result }
+    ensures { IsFoundAs area.now order (first_of (front_of_order area.now.largest area.now kinds.now) (orders_from area.now.largest order)) result }
 {
-    let mut found = order;
-    'orders: loop {
-        if let Some(block) = front_of(area, found, kinds) {
+    let mut number = order.number();
+    'orders: while number <= area.largest().number() {
+        if let Some(block) = front_of(area, Order::at(number), kinds) {
             return Some(block);
         }
-        if found == Order::largest() {
-            return None;
-        }
-        found = found.higher();
+        number += 1;
     }
+    None
 }
 
 /// The smallest block that serves of the request's own type.
 fn own_block(area: &FreeArea, order: Order, kind: MigrateType) -> Option<FreeBlock>
-    ensures { IsFoundAs area.now order (own (area_in LARGEST_ORDER area.now) order kind) result }
+    ensures { IsFoundAs area.now order (own (area_in area.now.largest area.now) order kind) result }
 {
     first_front(area, order, &[kind])
 }
 
 /// The smallest block that serves of another type.
 fn borrowed_block(area: &FreeArea, order: Order, kind: MigrateType) -> Option<FreeBlock>
-    ensures { IsFoundAs area.now order (borrow (area_in LARGEST_ORDER area.now) order kind) result }
+    ensures { IsFoundAs area.now order (borrow (area_in area.now.largest area.now) order kind) result }
 {
     first_front(area, order, &kind.fallbacks())
 }
 
 /// The first block of a list in whose pageblock half of the pages are free.
 fn half_free_on(area: &FreeArea, order: Order, kind: MigrateType) -> Option<PageAt>
-    ensures found { result ≡ find (is_half_free LARGEST_ORDER area.now) (free_list_of area.now order kind) }
+    ensures found { result ≡ find (is_half_free area.now.largest area.now) (free_list_of area.now.largest area.now order kind) }
     ensures starts { IfSome result (λ at. Starts (block_set area.now) at order) }
 {
     // a clause of this call says that no page stands twice
     let _pages = area.pages();
+    let largest = area.largest();
     let mut next = area.front(order, kind);
     'heads: while let Some(head) = next {
-        if area.free_in(head.pageblock()) >= CLAIM_PAGES {
+        if area.free_in(largest.pageblock_of(head)) >= largest.claim_pages() {
             return Some(head);
         }
         next = area.after(order, kind, head);
@@ -96,7 +94,7 @@ fn half_free_on(area: &FreeArea, order: Order, kind: MigrateType) -> Option<Page
 
 /// The first block of this order and of one of these types in whose pageblock half of the pages are free.
 fn half_free_of(area: &FreeArea, order: Order, kinds: &[MigrateType]) -> Option<FreeBlock>
-    ensures { IsFoundAs area.now order (half_free_of_order LARGEST_ORDER area.now kinds.now order) result }
+    ensures { IsFoundAs area.now order (half_free_of_order area.now.largest area.now kinds.now order) result }
 {
     'kinds: for kind in kinds {
         if let Some(head) = half_free_on(area, order, *kind) {
@@ -108,11 +106,12 @@ fn half_free_of(area: &FreeArea, order: Order, kinds: &[MigrateType]) -> Option<
 
 /// The largest order of a block in a pageblock of another type that has the free pages that a claim needs. No list is walked.
 fn largest_claimable(area: &FreeArea, kind: MigrateType) -> Option<Order>
-    ensures { IsLargestClaimable LARGEST_ORDER area.now kind result }
+    ensures { IsLargestClaimable area.now.largest area.now kind result }
 {
+    let enough = area.largest().claim_pages();
     let mut largest = None;
     'pageblocks: for pageblock in 0..area.pageblocks() {
-        if area.type_of(pageblock) != kind && area.free_in(pageblock) >= CLAIM_PAGES {
+        if area.type_of(pageblock) != kind && area.free_in(pageblock) >= enough {
             largest = larger(largest, area.largest_in(pageblock));
         }
     }
@@ -135,12 +134,12 @@ fn larger(one: Option<Order>, other: Option<Order>) -> Option<Order>
 #[cold]
 #[inline(never)]
 fn claimed_block(area: &FreeArea, order: Order, kind: MigrateType) -> Option<FreeBlock>
-    ensures { IsFoundAs area.now order (claim (area_in LARGEST_ORDER area.now) order kind) result }
+    ensures { IsFoundAs area.now order (claim (area_in area.now.largest area.now) order kind) result }
 {
     // a clause of this call says that the lists hold the heads of the blocks
     let _pages = area.pages();
     let largest = largest_claimable(area, kind)?;
-    if largest.number() < order.number() || !may_claim(largest, kind) {
+    if largest.number() < order.number() || !may_claim(area.largest(), largest, kind) {
         return None;
     }
     half_free_of(area, largest, &kind.fallbacks())
@@ -148,7 +147,7 @@ fn claimed_block(area: &FreeArea, order: Order, kind: MigrateType) -> Option<Fre
 
 /// The block that a request for a block of this order and type takes.
 pub fn choose(area: &FreeArea, order: Order, kind: MigrateType) -> Option<Choice>
-    ensures { IsChosen LARGEST_ORDER area.now order kind result }
+    ensures { IsChosen area.now.largest area.now order kind result }
 {
     if let Some(block) = own_block(area, order, kind) {
         return Some(Choice {

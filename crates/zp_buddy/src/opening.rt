@@ -2,7 +2,6 @@
 //!
 //! In Linux: `memmap_init` and `memblock_free_all`.
 ghost use Rattle.std.specs.Prelude.{◌≡◌, ◌<◌, ◌≤◌, ◌+◌, ◌^◌, length};
-ghost use Rattle.zp_model.specs.declared.constants.TheConstants.{LARGEST_ORDER};
 ghost use Rattle.zp_model.specs.Area.{lists_count};
 ghost use Rattle.zp_buddy.specs.Opened.{IsOpenedTo, all_movable};
 
@@ -25,16 +24,17 @@ fn fitting(most: Order, pages: u32) -> Order
 
 /// Adds all pages, in blocks as large as they can be, the lowest first.
 pub fn add_all_pages(area: &mut FreeArea)
-    requires table { lists_count LARGEST_ORDER ≤ length area.old.rows.lists }
-    requires movable { area.old.kinds ≡ all_movable LARGEST_ORDER (length area.old.rows.states) }
-    requires bare { IsOpenedTo LARGEST_ORDER (length area.old.rows.states) 0 area.old.rows.states area.old.rows.lists }
-    ensures opened { IsOpenedTo LARGEST_ORDER (length area.old.rows.states) (length area.old.rows.states) area.new.rows.states area.new.rows.lists }
+    requires table { lists_count area.old.largest ≤ length area.old.rows.lists }
+    requires movable { area.old.kinds ≡ all_movable area.old.largest (length area.old.rows.states) }
+    requires bare { IsOpenedTo area.old.largest (length area.old.rows.states) 0 area.old.rows.states area.old.rows.lists }
+    ensures largest { area.new.largest ≡ area.old.largest }
+    ensures opened { IsOpenedTo area.old.largest (length area.old.rows.states) (length area.old.rows.states) area.new.rows.states area.new.rows.lists }
     ensures table { length area.new.rows.lists ≡ length area.old.rows.lists }
     ensures kinds { area.new.kinds ≡ area.old.kinds }
 {
     let pages = area.pages();
     let mut at = 0;
-    let mut order = Order::largest();
+    let mut order = area.largest().order();
     'heads: while at < pages {
         order = fitting(order, pages - at);
         area.add(PageAt::at(at), order);

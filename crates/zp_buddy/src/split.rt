@@ -2,7 +2,6 @@
 //!
 //! In Linux: `del_page_from_free_list` and `expand`.
 ghost use Rattle.std.specs.Prelude.{◌≡◌, ◌≤◌, length};
-ghost use Rattle.zp_model.specs.declared.constants.TheConstants.{LARGEST_ORDER};
 ghost use Rattle.zp_model.specs.BlockSet.{Starts};
 ghost use Rattle.zp_model.specs.Frames.{with_area};
 ghost use Rattle.zp_model.specs.Take.{leave};
@@ -18,11 +17,12 @@ use zp_model::{Order, PageAt};
 pub fn take_block(area: &mut FreeArea, head: PageAt, found: Order, order: Order)
     requires down { order ≤ found }
     requires free { Starts (block_set area.old) head found }
-    requires sound { IsSound LARGEST_ORDER area.old.rows.states area.old.kinds area.old.rows.lists }
-    ensures sound { IsSound LARGEST_ORDER area.new.rows.states area.new.kinds area.new.rows.lists }
+    requires sound { IsSound area.old.largest area.old.rows.states area.old.kinds area.old.rows.lists }
+    ensures largest { area.new.largest ≡ area.old.largest }
+    ensures sound { IsSound area.old.largest area.new.rows.states area.new.kinds area.new.rows.lists }
     ensures pages { length area.new.rows.states ≡ length area.old.rows.states }
     ensures kinds { area.new.kinds ≡ area.old.kinds }
-    ensures after { frames_in LARGEST_ORDER area.new ≡ with_area (frames_in LARGEST_ORDER area.old) (leave (frames_in LARGEST_ORDER area.old).area head order) }
+    ensures after { frames_in area.old.largest area.new ≡ with_area (frames_in area.old.largest area.old) (leave (frames_in area.old.largest area.old).area head order) }
 {
     area.split_off(head, found, order);
 }

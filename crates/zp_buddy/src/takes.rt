@@ -2,7 +2,6 @@
 //!
 //! In Linux: `steal_suitable_fallback`, then `expand`.
 ghost use Rattle.std.specs.Prelude.{◌≡◌, length, Some};
-ghost use Rattle.zp_model.specs.declared.constants.TheConstants.{LARGEST_ORDER};
 ghost use Rattle.zp_model.specs.Frames.{with_area};
 ghost use Rattle.zp_model.specs.Take.{taken};
 ghost use Rattle.zp_buddy.specs.Sound.{IsSound};
@@ -16,12 +15,13 @@ use zp_model::{MigrateType, Order, PageAt};
 /// Takes the low run of order `order` of the chosen block, and answers its head. A pageblock that is claimed gets the request's type first.
 pub fn take_chosen(area: &mut FreeArea, chosen: Choice, order: Order, kind: MigrateType) -> PageAt
     requires chosen { IsFreeBlock area.old order chosen.block }
-    requires sound { IsSound LARGEST_ORDER area.old.rows.states area.old.kinds area.old.rows.lists }
-    ensures sound { IsSound LARGEST_ORDER area.new.rows.states area.new.kinds area.new.rows.lists }
+    requires sound { IsSound area.old.largest area.old.rows.states area.old.kinds area.old.rows.lists }
+    ensures largest { area.new.largest ≡ area.old.largest }
+    ensures sound { IsSound area.old.largest area.new.rows.states area.new.kinds area.new.rows.lists }
     ensures head { result ≡ chosen.block.head }
     ensures pages { length area.new.rows.states ≡ length area.old.rows.states }
     ensures typed { length area.new.kinds ≡ length area.old.kinds }
-    ensures after { frames_in LARGEST_ORDER area.new ≡ with_area (frames_in LARGEST_ORDER area.old) (taken (frames_in LARGEST_ORDER area.old).area order kind (Some (chosen_of chosen))) }
+    ensures after { frames_in area.old.largest area.new ≡ with_area (frames_in area.old.largest area.old) (taken (frames_in area.old.largest area.old).area order kind (Some (chosen_of chosen))) }
 {
     // clauses of this call say that each pageblock has a type, and after a change of type that the lists are of the set
     let _pages = area.pages();
@@ -30,7 +30,7 @@ pub fn take_chosen(area: &mut FreeArea, chosen: Choice, order: Order, kind: Migr
         take_block(area, head, found, order);
         return head;
     }
-    area.retype(head.pageblock(), kind);
+    area.retype(area.largest().pageblock_of(head), kind);
     let _pages = area.pages();
     take_block(area, head, found, order);
     head

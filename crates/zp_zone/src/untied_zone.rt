@@ -1,7 +1,6 @@
 //! A zone without its seats: its making, and what it tells.
 ghost use Rattle.std.specs.Prelude.{◌≡◌, ◌<◌, ◌≤◌, ◌+◌, ℕ, false, length, IfOk, IfErr, IfSome, IfNone, IsSome, OnOk, OnErr, IsTrue, ◌↔◌, ◌-◌};
 ghost use Rattle.std.specs.Option.{option_map};
-ghost use Rattle.zp_model.specs.declared.constants.TheConstants.{LARGEST_ORDER};
 ghost use Rattle.zp_model.specs.Block.{size};
 ghost use Rattle.zp_model.specs.Zone.{zone_opening, is_of, pages_of, posted_pages};
 ghost use Rattle.zp_zone.specs.Kept.{holding_of};
@@ -22,7 +21,7 @@ use std::alloc::Global;
 use std::marker::Model;
 use zp_buddy::Buddy;
 use zp_model::{
-    BASE_LIMIT, Counts, Level, MAX_PAGES, Name, Order, PageAt, PageNo, Refused, State, Worker,
+    BASE_LIMIT, Counts, Largest, Level, MAX_PAGES, Name, Order, PageAt, PageNo, Refused, State, Worker,
 };
 
 /// A zone without its seats: whoever calls names the worker. Contracts see its name and the plain zone, which is always
@@ -54,10 +53,10 @@ impl UntiedZone {
     pub fn new(alloc: Global, config: ZoneConfig<'_>, workers: u32) -> Result<UntiedZone, Refused>
         ensures good { OnOk result (IsGood (wanted config.entry.name.now config.entry.base config.entry.pages config.entry.min workers)) }
         ensures why { IfErr result (IsWhy (wanted config.entry.name.now config.entry.base config.entry.pages config.entry.min workers)) }
-        ensures zone { IfOk result (λ z. z ≡ record { name = config.entry.name.now; plain = zone_opening LARGEST_ORDER config.entry.base config.entry.pages config.entry.min workers }) }
+        ensures zone { IfOk result (λ z. z ≡ record { name = config.entry.name.now; plain = zone_opening config.entry.largest config.entry.base config.entry.pages config.entry.min workers }) }
     {
         let name = checked_name(config, workers)?;
-        let Ok(buddy) = Buddy::new(alloc, config.pages, workers as usize) else {
+        let Ok(buddy) = Buddy::new(alloc, config.pages, config.largest, workers as usize) else {
             return Err(Refused::Memory);
         };
         let zone = UntiedZone {
@@ -94,6 +93,13 @@ impl UntiedZone {
         ensures named { IsName result.now }
     {
         self.name.as_str()
+    }
+
+    /// The order of the zone's largest block, and of its pageblocks.
+    pub fn largest(&self) -> Largest
+        ensures { result ≡ self.now.plain.area.largest }
+    {
+        self.buddy.largest()
     }
 
     /// How many pages the zone has.

@@ -2,7 +2,6 @@
 //!
 //! In Linux: `struct zone`.
 ghost use Rattle.std.specs.Prelude.{◌≡◌, ◌<◌, ◌≤◌, ◌+◌, ◌-◌, ℕ, All, [], length, IfOk, IfErr, IfSome, IsSome, OnOk, ◌↔◌};
-ghost use Rattle.zp_model.specs.declared.constants.TheConstants.{LARGEST_ORDER};
 ghost use Rattle.zp_model.specs.Block.{size};
 ghost use Rattle.zp_model.specs.Zone.{zone_opening, pages_of, posted_pages, workers_of};
 ghost use Rattle.zp_model.specs.Mark.{level_of};
@@ -26,7 +25,7 @@ use crate::untied_zone::UntiedZone;
 pub use asking::page_reply;
 use std::alloc::Global;
 use std::marker::Model;
-use zp_model::{Counts, LONGEST_NAME, Level, MAX_PAGES, Order, PageNo, Refused};
+use zp_model::{Counts, LONGEST_NAME, Largest, Level, MAX_PAGES, Order, PageNo, Refused};
 use zp_tie::Keeper;
 
 /// A zone: pages that workers take and give back, each by its seat. Contracts see its name, the plain zone, which is always
@@ -60,7 +59,7 @@ impl Zone {
     ) -> Result<(Zone, Vec<Seat>), Refused>
         ensures good { OnOk result (IsGood (wanted config.entry.name.now config.entry.base config.entry.pages config.entry.min workers)) }
         ensures why { IfErr result (IsWhy (wanted config.entry.name.now config.entry.base config.entry.pages config.entry.min workers)) }
-        ensures zone { IfOk result (λ z. z.0 ≡ record { tie = z.0.tie; name = config.entry.name.now; plain = zone_opening LARGEST_ORDER config.entry.base config.entry.pages config.entry.min workers; entries = [] }) }
+        ensures zone { IfOk result (λ z. z.0 ≡ record { tie = z.0.tie; name = config.entry.name.now; plain = zone_opening config.entry.largest config.entry.base config.entry.pages config.entry.min workers; entries = [] }) }
         ensures seats { IfOk result (λ z. z.1.items ≡ seats_of z.0.tie (books z.0) workers) }
         ensures fits { IfOk result (λ z. All (IsSeatOf z.0) z.1.items) }
         ensures unused { IfOk result (λ z. All IsUnused z.1.items) }
@@ -102,6 +101,14 @@ impl Zone {
         ensures short { length result.now ≤ LONGEST_NAME }
     {
         self.untied.name()
+    }
+
+    /// The order of the zone's largest block, and of its pageblocks. Requests may ask for any order: of one above it there is no
+    /// block.
+    pub fn largest(&self) -> Largest
+        ensures { result ≡ self.now.plain.area.largest }
+    {
+        self.untied.largest()
     }
 
     /// How many pages the zone has.

@@ -1,22 +1,21 @@
 use Rattle.std.proofs.Common.{sym, arith, ◌∙◌}
-use Rattle.zp_model.specs.declared.constants.TheConstants.{LARGEST_ORDER}
 use Rattle.zp_buddy.proofs.Choosing.{nothing_claimed, too_small, may_not, claimed_found}
 use Rattle.zp_buddy.proofs.choice.claimed_block.Goals as goal
 use Rattle.zp_buddy.proofs.choice.claimed_block.Goals.{then-number-via-then-number, then-number-via-else-number+then-not-may_claim}
 
 pub returns-in_err-largest : goal.returns-in_err-largest
-returns-in_err-largest c = rw c.from_residual.ensures (nothing_claimed LARGEST_ORDER c.args.area.now c.args.kind c.pages-pages.ensures.one c.args.order c.in_err-largest.ensures)
+returns-in_err-largest c = rw c.from_residual.ensures (nothing_claimed c.args.area.now.largest c.args.area.now c.args.kind c.pages-pages.ensures.one c.args.order c.in_err-largest.ensures)
 
 pub returns-then-number : goal.returns-then-number
 returns-then-number c =
     let one = c.pages-pages.ensures.one in
     let y = c.in_ok-largest.ensures in
     elim c.then-number.branch [
-      | then-number-via-then-number w ↦ too_small LARGEST_ORDER c.args.area.now c.args.kind one c.args.order c.in_ok-largest.largest y (omega arith)
-      | then-number-via-else-number+then-not-may_claim w ↦ may_not LARGEST_ORDER c.args.area.now c.args.kind one c.args.order c.in_ok-largest.largest y (sym w.may_claim.ensures ∙ w.if-not-may_claim.true)
+      | then-number-via-then-number w ↦ too_small c.args.area.now.largest c.args.area.now c.args.kind one c.args.order c.in_ok-largest.largest y (omega arith)
+      | then-number-via-else-number+then-not-may_claim w ↦ may_not c.args.area.now.largest c.args.area.now c.args.kind one c.args.order c.in_ok-largest.largest y (rw w.largest.ensures at (sym w.may_claim.ensures ∙ w.if-not-may_claim.true))
     ]
 
 pub returns : goal.returns
 returns c =
-    claimed_found LARGEST_ORDER c.args.area.now c.args.kind c.pages-pages.ensures.one c.args.order c.in_ok-largest.largest c.half_free_of.result c.in_ok-largest.ensures (omega arith) (omega arith)
-    (sym c.may_claim.ensures ∙ c.if-not-may_claim.false) (rw (← c.fallbacks.ensures) c.half_free_of.ensures)
+    claimed_found c.args.area.now.largest c.args.area.now c.args.kind c.pages-pages.ensures.one c.args.order c.in_ok-largest.largest c.half_free_of.result c.in_ok-largest.ensures (omega arith)
+    (rw c.largest.ensures at (sym c.may_claim.ensures ∙ c.if-not-may_claim.false)) (rw (← c.fallbacks.ensures) c.half_free_of.ensures)

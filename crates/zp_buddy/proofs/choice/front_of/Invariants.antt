@@ -4,4 +4,4 @@ use Rattle.zp_buddy.proofs.choice.front_of.Given as goal
 
 -- what is looked for is of one of the types from the index on
 abbrev pub invariant-kinds : goal.invariant-kinds
-invariant-kinds l = front_of_order l.area l.kinds l.order ≡ front_of_order l.area (drop l.kind-index l.kinds) l.order
+invariant-kinds l = front_of_order l.area.largest l.area l.kinds l.order ≡ front_of_order l.area.largest l.area (drop l.kind-index l.kinds) l.order

@@ -1,6 +1,5 @@
 use Rattle.std.proofs.Common.{◌≡◌, length}
 use Rattle.std.specs.List.{find}
-use Rattle.zp_model.specs.declared.constants.TheConstants.{LARGEST_ORDER}
 use Rattle.zp_area.specs.Blocks.{free_list_of}
 use Rattle.zp_buddy.proofs.Walks.{list_from, IsNext}
 use Rattle.zp_buddy.specs.Choices.{is_half_free}
@@ -10,10 +9,10 @@ use Rattle.zp_buddy.proofs.choice.half_free_on.Given as goal
 abbrev pub invariant-heads : goal.invariant-heads
 invariant-heads l = record {
   rest :
-      find (is_half_free LARGEST_ORDER l.area) (free_list_of l.area l.order l.kind)
-      ≡ find (is_half_free LARGEST_ORDER l.area) (list_from l.next (free_list_of l.area l.order l.kind));
-  next : IsNext l.next (free_list_of l.area l.order l.kind);
+      find (is_half_free l.area.largest l.area) (free_list_of l.area.largest l.area l.order l.kind)
+      ≡ find (is_half_free l.area.largest l.area) (list_from l.next (free_list_of l.area.largest l.area l.order l.kind));
+  next : IsNext l.next (free_list_of l.area.largest l.area l.order l.kind);
 }
 
 abbrev pub decreases-heads : goal.decreases-heads
-decreases-heads l = length (list_from l.next (free_list_of l.area l.order l.kind))
+decreases-heads l = length (list_from l.next (free_list_of l.area.largest l.area l.order l.kind))

@@ -9,7 +9,6 @@ orders-preserved c =
     let i = c.orders.invariant in
     record {
       from = omega arith;
-      upto = omega arith;
       none = λ k lt le st. elim (cases_lt c.orders.larger k) [
         | inl last ↦
             let same : k ≡ c.higher-larger.result = omega arith in
@@ -20,5 +19,4 @@ orders-preserved c =
 
 pub returns : goal.returns
 returns c =
-    let last : c.orders.larger ≡ c.largest.result = eqb-true _ _ (not-false _ (sym c.ne.ensures ∙ c.orders-test.false)) in
     (λ e. absurd (false≢true e), λ w. absurd (c.orders.invariant.none w.0 w.1 (omega (arith, w.2)) w.3))

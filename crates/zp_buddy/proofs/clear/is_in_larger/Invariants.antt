@@ -1,5 +1,4 @@
 use Rattle.std.proofs.Common.{ℕ, ◌≤◌, ◌<◌, ◌-◌}
-use Rattle.zp_model.specs.declared.constants.TheConstants.{LARGEST_ORDER}
 use Rattle.zp_model.specs.Block.{head}
 use Rattle.zp_model.specs.BlockSet.{Starts}
 use Rattle.zp_area.specs.Blocks.{block_set}
@@ -9,9 +8,8 @@ use Rattle.zp_buddy.proofs.clear.is_in_larger.Given as goal
 abbrev pub invariant-orders : goal.invariant-orders
 invariant-orders l = record {
   from : l.fn.order ≤ l.larger;
-  upto : l.larger ≤ LARGEST_ORDER;
   none : (k : ℕ) → l.fn.order < k → k ≤ l.larger → Starts (block_set l.area) (head l.at k) k → ⊥;
 }
 
 abbrev pub decreases-orders : goal.decreases-orders
-decreases-orders l = LARGEST_ORDER - l.larger
+decreases-orders l = l.area.largest - l.larger

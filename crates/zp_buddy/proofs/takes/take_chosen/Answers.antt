@@ -1,8 +1,9 @@
-use Rattle.std.proofs.Common.{ap}
+use Rattle.std.proofs.Common.{ap, length}
 use Rattle.std.proofs.lemmas.Bool.{not-true, not-false}
-use Rattle.zp_model.specs.declared.constants.TheConstants.{LARGEST_ORDER}
 use Rattle.zp_model.specs.Take.{taken}
+use Rattle.zp_model.specs.Block.{IsBlock}
 use Rattle.zp_area.specs.Blocks.{Blocks}
+use Rattle.zp_area.proofs.Keeping.{blocks_length, typed_there}
 use Rattle.zp_buddy.specs.Choices.{frames_in}
 use Rattle.zp_buddy.proofs.Claiming.{retyped_frames}
 use Rattle.zp_buddy.proofs.Taking.{taken_claimed}
@@ -15,6 +16,12 @@ returns-then-not-chosen-clause-after c = rw (not-true _ c.if-not-chosen.true) c.
 pub returns-clause-after : goal.returns-clause-after
 returns-clause-after c =
     let a = c.args.area.now in
-    taken_claimed (frames_in LARGEST_ORDER a) (frames_in LARGEST_ORDER c.retype.new.self) _ c.args.order c.args.chosen.block.head c.pageblock.result c.args.kind c.args.chosen.claims
-    c.take_block-2.ensures.after (not-false _ c.if-not-chosen.false) c.pageblock.ensures
-    (rw c.retype.ensures.after (retyped_frames LARGEST_ORDER a c.pageblock.result c.args.kind c.requires.sound)) (ap (λ (q : Blocks). q.rows.states) c.retype.ensures.after)
+    taken_claimed (frames_in c.args.area.now.largest a) (frames_in c.args.area.now.largest c.retype.new.self) _ c.args.order c.args.chosen.block.head c.pageblock_of.result c.args.kind c.args.chosen.claims
+    (rw (ap (λ (q : Blocks). q.largest) c.retype.ensures.after) at c.take_block-2.ensures.after) (not-false _ c.if-not-chosen.false) (rw c.largest.ensures at c.pageblock_of.ensures)
+    (rw c.retype.ensures.after (retyped_frames c.args.area.now.largest a c.pageblock_of.result c.args.kind c.requires.sound)) (ap (λ (q : Blocks). q.rows.states) c.retype.ensures.after)
+
+pub retype-requires : goal.retype-requires
+retype-requires c =
+    let one = c.pages-pages.ensures.one in
+    let block : IsBlock c.args.area.now.largest (length c.args.area.now.rows.states) c.args.chosen.block.head c.args.chosen.block.order = rw (← blocks_length c.args.area.now.rows.states) (one.blocks.block _ _ c.requires.chosen.starts) in
+    rw (c.pageblock_of.ensures, c.largest.ensures) (typed_there c.args.area.now.largest c.args.area.now c.args.chosen.block.head c.args.chosen.block.order one block)

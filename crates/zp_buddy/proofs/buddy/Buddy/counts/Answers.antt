@@ -1,25 +1,30 @@
 use Rattle.std.proofs.Common.{ℕ, ◌≡◌, ◌<◌, inl, inr, List, Bool, get_or, set, get_or-set_same, get_or-set_other, length-set, arith, sym, ◌∙◌}
-use Rattle.std.proofs.lemmas.Bool.{cases_eq, eqb-true}
+use Rattle.std.proofs.lemmas.Bool.{cases_lt, cases_eq, eqb-true}
 use Rattle.std.proofs.lemmas.List.FromFn.{fill_by_all}
-use Rattle.zp_model.specs.declared.constants.TheConstants.{LARGEST_ORDER}
 use Rattle.zp_model.specs.BlockSet.{cover}
 use Rattle.zp_model.specs.Info.{blocks_of_order}
 use Rattle.zp_area.specs.Blocks.{block_set}
 use Rattle.zp_buddy.proofs.Framed.{count_maximal}
+use Rattle.zp_area.proofs.CountedLists.{count_above}
+use Rattle.zp_buddy.proofs.ClearByLooks.{one_held}
 use Rattle.zp_buddy.proofs.buddy.Buddy.counts.Goals as goal
 
 pub returns : goal.returns
 returns c =
     let i = c.orders.invariant in
     let a = c.self.inside.area in
+    let m = c.self.inside.area.largest in
     let u : List Bool = cover (block_set a) in
     let n : ℕ = c.count.result in
-    let last : c.orders.order ≡ c.largest.result = eqb-true _ _ (sym c.eq.ensures ∙ c.if-eq.true) in
+    let last : c.orders.order ≡ c.self.inside.area.largest = eqb-true _ _ (sym c.eq.ensures ∙ c.if-eq.true) ∙ c.order.ensures ∙ c.largest.ensures in
     let at : c.index.result ≡ c.orders.order = c.index.ensures.same in
-    let each : (j : ℕ) → j < 11 → get_or (set c.orders.by_order c.orders.order n) j 0 ≡ blocks_of_order LARGEST_ORDER u j = λ j below.
+    let each : (j : ℕ) → j < 11 → get_or (set c.orders.by_order c.orders.order n) j 0 ≡ blocks_of_order c.self.inside.area.largest u j = λ j below.
     elim (cases_eq j c.orders.order) [
-      | inl same ↦ rw same (get_or-set_same c.orders.by_order c.orders.order n 0 (omega (arith, i.orders)) ∙ c.count.ensures ∙ count_maximal LARGEST_ORDER a c.orders.order c.self.invariant.sound)
-      | inr ne ↦ get_or-set_other c.orders.by_order c.orders.order j n 0 ne ∙ i.counted j (omega arith) ∙ count_maximal LARGEST_ORDER a j c.self.invariant.sound
+      | inl same ↦ rw same (get_or-set_same c.orders.by_order c.orders.order n 0 (omega (arith, i.orders)) ∙ c.count.ensures ∙ count_maximal c.self.inside.area.largest a c.orders.order c.self.invariant.sound)
+      | inr ne ↦ get_or-set_other c.orders.by_order c.orders.order j n 0 ne ∙ elim (cases_lt j c.orders.order) [
+        | inl before ↦ i.counted j before
+        | inr past ↦ i.above j past ∙ sym (count_above m a j (one_held m a c.self.inside.free c.self.invariant) (omega arith))
+      ] ∙ count_maximal m a j c.self.invariant.sound
     ] in
-    let e = fill_by_all (blocks_of_order LARGEST_ORDER u) (set c.orders.by_order c.orders.order n) 11 0 (length-set _ _ _ ∙ i.orders) each in
+    let e = fill_by_all (blocks_of_order c.self.inside.area.largest u) (set c.orders.by_order c.orders.order n) 11 0 (length-set _ _ _ ∙ i.orders) each in
     rw (← c.self.view_is, at, e, c.self.invariant.counted)

@@ -1,5 +1,4 @@
 use Rattle.std.proofs.Common.{length-set}
-use Rattle.zp_model.specs.declared.constants.TheConstants.{LARGEST_ORDER}
 use Rattle.zp_area.proofs.Holding.{IsHolding, noted_set}
 use Rattle.zp_buddy.proofs.ClearByLooks.{one_held}
 use Rattle.zp_buddy.proofs.Settled.{noted_sound}
@@ -9,10 +8,10 @@ pub invariant_of-self : goal.invariant_of-self
 invariant_of-self c =
     let a = c.self.inside.area in
     let x = c.self.invariant in
-    let y : IsHolding LARGEST_ORDER a c.args.at c.args.state = record { one = one_held LARGEST_ORDER a _ x; used = rw (← c.self.view_is) at c.requires.used; note = c.requires.note } in
-    let e = noted_set LARGEST_ORDER a c.args.at c.args.state y in
+    let y : IsHolding c.self.inside.area.largest a c.args.at c.args.state = record { one = one_held c.self.inside.area.largest a _ x; used = rw (← c.self.view_is) at c.requires.used; note = c.requires.note } in
+    let e = noted_set c.self.inside.area.largest a c.args.at c.args.state y in
     rw c.hold.ensures.after (record {
-      sound = noted_sound LARGEST_ORDER a c.args.at c.args.state e x.sound;
+      sound = noted_sound c.self.inside.area.largest a c.args.at c.args.state e x.sound;
       typed = rw (length-set a.rows.states c.args.at c.args.state) x.typed;
       counted = rw e x.counted;
     })
@@ -20,8 +19,8 @@ invariant_of-self c =
 pub returns-clause-after : goal.returns-clause-after
 returns-clause-after c =
     let a = c.self.inside.area in
-    let y : IsHolding LARGEST_ORDER a c.args.at c.args.state = record { one = one_held LARGEST_ORDER a _ c.self.invariant; used = rw (← c.self.view_is) at c.requires.used; note = c.requires.note } in
-    rw (← c.self.view_is, c.hold.ensures.after, noted_set LARGEST_ORDER a c.args.at c.args.state y)
+    let y : IsHolding c.self.inside.area.largest a c.args.at c.args.state = record { one = one_held c.self.inside.area.largest a _ c.self.invariant; used = rw (← c.self.view_is) at c.requires.used; note = c.requires.note } in
+    rw (← c.self.view_is, c.hold.ensures.after, noted_set c.self.inside.area.largest a c.args.at c.args.state y)
 
 pub returns-clause-kept : goal.returns-clause-kept
 returns-clause-kept c h k x = rw (returns-clause-after c) (record { block = x.block; free = x.free; aside = x.aside })

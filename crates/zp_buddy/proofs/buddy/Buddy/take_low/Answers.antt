@@ -1,5 +1,4 @@
 use Rattle.std.proofs.Common.{length, arith, ap, sym, ◌∙◌}
-use Rattle.zp_model.specs.declared.constants.TheConstants.{LARGEST_ORDER}
 use Rattle.zp_model.specs.Area.{pageblocks_of}
 use Rattle.zp_model.specs.Take.{take_low_after, take_low_answer}
 use Rattle.zp_buddy.proofs.Taking.{clear_head, fewer, frames_stay, lowest_at, may_return, run_left, still_may}
@@ -8,13 +7,13 @@ use Rattle.zp_buddy.proofs.buddy.Buddy.take_low.Goals as goal
 pub returns-in_err-head-clause-answer : goal.returns-in_err-head-clause-answer
 unfolding take_low_answer
 returns-in_err-head-clause-answer c =
-    rw (c.from_residual.ensures, ← c.self.view_is, lowest_at LARGEST_ORDER c.self.inside.area c.args.order c.self.invariant.sound, ← c.in_err-head.ensures.answer)
+    rw (c.from_residual.ensures, ← c.self.view_is, lowest_at c.self.inside.area.largest c.self.inside.area c.args.order c.self.invariant.sound, ← c.in_err-head.ensures.answer)
 
 pub returns-in_err-head-clause-after : goal.returns-in_err-head-clause-after
 unfolding take_low_after take_low_answer
 returns-in_err-head-clause-after c =
     let a = c.self.inside.area in
-    rw (← c.self.view_is, lowest_at LARGEST_ORDER a c.args.order c.self.invariant.sound, ← c.in_err-head.ensures.answer) (frames_stay LARGEST_ORDER a c.self.invariant.sound)
+    rw (← c.self.view_is, lowest_at c.self.inside.area.largest a c.args.order c.self.invariant.sound, ← c.in_err-head.ensures.answer) (frames_stay c.self.inside.area.largest a c.self.invariant.sound)
 
 pub overflow_sub-self : goal.overflow_sub-self
 overflow_sub-self c =
@@ -24,29 +23,29 @@ overflow_sub-self c =
 pub invariant_of-self : goal.invariant_of-self
 invariant_of-self c =
     let x = run_left c.take_block.new.area c.in_ok-head.head c.in_ok-head.found c.args.order c.self.invariant c.in_ok-head.ensures.found.0 c.in_ok-head.ensures.found.1 c.take_block.ensures.after in
-    record {
+    rw c.take_block.ensures.largest (record {
       sound = c.take_block.ensures.sound;
-      typed = ap length c.take_block.ensures.kinds ∙ c.self.invariant.typed ∙ ap (pageblocks_of LARGEST_ORDER) (sym c.take_block.ensures.pages);
+      typed = ap length c.take_block.ensures.kinds ∙ c.self.invariant.typed ∙ ap (pageblocks_of c.self.inside.area.largest) (sym c.take_block.ensures.pages);
       counted = omega (arith, fewer x, c.pages-pages.ensures.pages);
-    }
+    })
 
 pub returns-clause-answer : goal.returns-clause-answer
 unfolding take_low_answer
-returns-clause-answer c = rw (← c.self.view_is, lowest_at LARGEST_ORDER c.self.inside.area c.args.order c.self.invariant.sound, ← c.in_ok-head.ensures.answer)
+returns-clause-answer c = rw (← c.self.view_is, lowest_at c.self.inside.area.largest c.self.inside.area c.args.order c.self.invariant.sound, ← c.in_ok-head.ensures.answer)
 
 pub returns-clause-after : goal.returns-clause-after
 unfolding take_low_after take_low_answer
 returns-clause-after c =
-    rw (← c.self.view_is, lowest_at LARGEST_ORDER c.self.inside.area c.args.order c.self.invariant.sound, ← c.in_ok-head.ensures.answer) c.take_block.ensures.after
+    rw (← c.self.view_is, lowest_at c.self.inside.area.largest c.self.inside.area c.args.order c.self.invariant.sound, ← c.in_ok-head.ensures.answer, c.take_block.ensures.largest) c.take_block.ensures.after
 
 pub returns-clause-clear : goal.returns-clause-clear
 returns-clause-clear c =
-    may_return (run_left c.take_block.new.area c.in_ok-head.head c.in_ok-head.found c.args.order c.self.invariant c.in_ok-head.ensures.found.0 c.in_ok-head.ensures.found.1 c.take_block.ensures.after)
+    rw c.take_block.ensures.largest (may_return (run_left c.take_block.new.area c.in_ok-head.head c.in_ok-head.found c.args.order c.self.invariant c.in_ok-head.ensures.found.0 c.in_ok-head.ensures.found.1 c.take_block.ensures.after))
 
 pub returns-clause-kept : goal.returns-clause-kept
 returns-clause-kept c =
-    rw (← c.self.view_is)
+    rw (← c.self.view_is, c.take_block.ensures.largest)
     (still_may (run_left c.take_block.new.area c.in_ok-head.head c.in_ok-head.found c.args.order c.self.invariant c.in_ok-head.ensures.found.0 c.in_ok-head.ensures.found.1 c.take_block.ensures.after))
 
 pub returns-clause-head : goal.returns-clause-head
-returns-clause-head c = clear_head LARGEST_ORDER c.take_block.new.area c.in_ok-head.head c.args.order (returns-clause-clear c)
+returns-clause-head c = clear_head c.take_block.new.area.largest c.take_block.new.area c.in_ok-head.head c.args.order (returns-clause-clear c)

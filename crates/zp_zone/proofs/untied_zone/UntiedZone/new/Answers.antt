@@ -1,5 +1,4 @@
 use Rattle.std.proofs.Common.{ap, ◌∙◌}
-use Rattle.zp_model.specs.declared.constants.TheConstants.{LARGEST_ORDER}
 use Rattle.zp_model.specs.Frames.{Frames}
 use Rattle.zp_model.specs.Zone.{zone_opening}
 use Rattle.zp_zone.specs.Kept.{plain_of}
@@ -16,5 +15,5 @@ invariant_of-zone c =
 pub returns-clause-zone : goal.returns-clause-zone
 returns-clause-zone c =
     ap (λ (f : Frames). named c.in_ok-name.name (plain_of f c.args.config.base c.args.config.min)) c.in-Ok.ensures
-    ∙ ap (λ z. named c.in_ok-name.name z) (plain-opening LARGEST_ORDER c.args.config.base c.args.config.pages c.args.config.min c.args.workers)
-    ∙ ap (λ q. named q (zone_opening LARGEST_ORDER c.args.config.base c.args.config.pages c.args.config.min c.args.workers)) c.in_ok-name.ensures.ok
+    ∙ ap (λ z. named c.in_ok-name.name z) (plain-opening c.args.config.largest c.args.config.base c.args.config.pages c.args.config.min c.args.workers)
+    ∙ ap (λ q. named q (zone_opening c.args.config.largest c.args.config.base c.args.config.pages c.args.config.min c.args.workers)) c.in_ok-name.ensures.ok

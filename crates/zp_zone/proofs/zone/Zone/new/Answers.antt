@@ -1,5 +1,4 @@
 use Rattle.std.proofs.Common.{sym, ap, ◌∙◌}
-use Rattle.zp_model.specs.declared.constants.TheConstants.{LARGEST_ORDER}
 use Rattle.zp_model.specs.Books.{Books, opened}
 use Rattle.zp_tie.specs.Ties.{Kept}
 use Rattle.zp_zone.specs.NamedZone.{NamedZone}
@@ -12,5 +11,5 @@ returns-clause-fits c =
 
 pub returns-clause-unused : goal.returns-clause-unused
 returns-clause-unused c =
-    seats_unused c.begin.new.self.tie _ LARGEST_ORDER c.args.config.base c.args.config.pages c.args.config.min c.args.workers c.args.workers c.begin.new.self.whole
+    seats_unused c.begin.new.self.tie _ c.args.config.largest c.args.config.base c.args.config.pages c.args.config.min c.args.workers c.args.workers c.begin.new.self.whole
     (ap (λ (k : Kept Books). k.whole) c.begin.ensures ∙ ap (λ (n : NamedZone). opened n.plain) c.in_ok-untied.ensures.zone) c.in-Ok-seats.ensures.seats
