@@ -1,6 +1,5 @@
 //! A journal's replay: a zone is made anew, and asked all that the journal says.
 ghost use Rattle.std.specs.Prelude.{◌≡◌, ◌↔◌, IsTrue, OnOk, IfOk, IfErr};
-ghost use Rattle.zp_model.specs.declared.constants.TheConstants.{LARGEST_ORDER};
 ghost use Rattle.zp_model.specs.Zone.{zone_opening};
 ghost use Rattle.zp_zone.specs.Making.{wanted, IsGood, IsWhy};
 ghost use Rattle.zp_journal.specs.Journals.{IsChecked};
@@ -30,7 +29,7 @@ pub fn replay_journal(
 ) -> Result<JournalCheck, Refused>
     ensures good { OnOk result (IsGood (wanted config.entry.name.now config.entry.base config.entry.pages config.entry.min workers)) }
     ensures why { IfErr result (IsWhy (wanted config.entry.name.now config.entry.base config.entry.pages config.entry.min workers)) }
-    ensures check { IfOk result (IsChecked config.entry.name.now (zone_opening LARGEST_ORDER config.entry.base config.entry.pages config.entry.min workers) journal.now.entries) }
+    ensures check { IfOk result (IsChecked config.entry.name.now (zone_opening config.entry.largest config.entry.base config.entry.pages config.entry.min workers) journal.now.entries) }
 {
     let (mut zone, mut seats) = Zone::new(alloc, config, workers)?;
     for number in 0..journal.len() {

@@ -21,7 +21,8 @@ use std::alloc::Global;
 use std::marker::Model;
 use zp_buddy::Buddy;
 use zp_model::{
-    BASE_LIMIT, Counts, Largest, Level, MAX_PAGES, Name, Order, PageAt, PageNo, Refused, State, Worker,
+    BASE_LIMIT, Counts, Largest, Level, MAX_PAGES, Name, Order, PageAt, PageNo, Refused, State,
+    Worker,
 };
 
 /// A zone without its seats: whoever calls names the worker. Contracts see its name and the plain zone, which is always
@@ -55,15 +56,22 @@ impl UntiedZone {
         ensures why { IfErr result (IsWhy (wanted config.entry.name.now config.entry.base config.entry.pages config.entry.min workers)) }
         ensures zone { IfOk result (λ z. z ≡ record { name = config.entry.name.now; plain = zone_opening config.entry.largest config.entry.base config.entry.pages config.entry.min workers }) }
     {
-        let name = checked_name(config, workers)?;
-        let Ok(buddy) = Buddy::new(alloc, config.pages, config.largest, workers as usize) else {
+        let ZoneConfig {
+            name,
+            base,
+            pages,
+            min,
+            largest,
+        } = config;
+        let name = checked_name(name, base, pages, min, workers)?;
+        let Ok(buddy) = Buddy::new(alloc, pages, largest, workers as usize) else {
             return Err(Refused::Memory);
         };
         let zone = UntiedZone {
             buddy,
             name,
-            base: config.base,
-            min: config.min,
+            base,
+            min,
             posted: 0,
         };
         Ok(zone)

@@ -1,6 +1,6 @@
 use Rattle.std.proofs.Common.{◌∙◌, [], sym, ap, subst, length, arith}
 use Rattle.std.proofs.lemmas.List.{length-replicate}
-use Rattle.zp_model.specs.declared.constants.TheConstants.{LARGEST_ORDER}
+
 use Rattle.zp_model.specs.Zone.{PlainZone, workers_of, zone_opening}
 use Rattle.zp_zone.specs.Seats.{ZoneState}
 use Rattle.zp_journal.specs.Asking.{AreSeatsOf}
@@ -21,13 +21,13 @@ loop-number-init c =
 
 pub returns-then-not-repeat-clause-check : goal.returns-then-not-repeat-clause-check
 returns-then-not-repeat-clause-check c =
-    let o : PlainZone = zone_opening LARGEST_ORDER c.args.config.base c.args.config.pages c.args.config.min c.args.workers in
+    let o : PlainZone = zone_opening c.args.config.largest c.args.config.base c.args.config.pages c.args.config.min c.args.workers in
     first_illegal c.args.config.name.now o c.args.journal.now.entries c.loop-number.number _ _ c.entry.result.now c.loop-number.zone
     (omega arith) (omega arith) (omega arith) c.entry.ensures c.loop-number.invariant.found c.if-not-repeat.ensures.repeated
 
 pub loop-number-preserved : goal.loop-number-preserved
 loop-number-preserved c =
-    let o : PlainZone = zone_opening LARGEST_ORDER c.args.config.base c.args.config.pages c.args.config.min c.args.workers in
+    let o : PlainZone = zone_opening c.args.config.largest c.args.config.base c.args.config.pages c.args.config.min c.args.workers in
     let told = c.if-not-repeat.ensures.repeated in
     record {
       found =
