@@ -31,7 +31,7 @@ pub fn replay_journal(
     ensures why { IfErr result (IsWhy (wanted config.entry.name.now config.entry.base config.entry.pages config.entry.min workers)) }
     ensures check { IfOk result (IsChecked config.entry.name.now (zone_opening config.entry.largest config.entry.base config.entry.pages config.entry.min workers) journal.now.entries) }
 {
-    let (mut zone, mut seats) = Zone::new(alloc, config, workers)?;
+    let (mut zone, mut seats) = Zone::new(alloc, ZoneConfig { ..config }, workers)?;
     for number in 0..journal.len() {
         if !repeat(&mut zone, &mut seats, journal.entry(number + 1)) {
             return Ok(JournalCheck::Differs(number + 1));

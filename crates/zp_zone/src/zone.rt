@@ -64,26 +64,12 @@ impl Zone {
         ensures fits { IfOk result (λ z. All (IsSeatOf z.0) z.1.items) }
         ensures unused { IfOk result (λ z. All IsUnused z.1.items) }
     {
-        let ZoneConfig {
-            name,
-            base,
-            pages,
-            min,
-            largest,
-        } = config;
-        let config = ZoneConfig {
-            name,
-            base,
-            pages,
-            min,
-            largest,
-        };
-        let untied = UntiedZone::new(alloc, config, workers)?;
+        let untied = UntiedZone::new(alloc, ZoneConfig { ..config }, workers)?;
         let Ok(mut keeper) = Keeper::<Books, Part, Parts>::new(alloc) else {
             return Err(Refused::Memory);
         };
         keeper.begin::<UntiedZone, Opens>(&untied);
-        let Ok(seats) = seats(alloc, &mut keeper, base, pages, workers) else {
+        let Ok(seats) = seats(alloc, &mut keeper, config.base, config.pages, workers) else {
             return Err(Refused::Memory);
         };
         Ok((Zone { untied, keeper }, seats))
