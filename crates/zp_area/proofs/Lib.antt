@@ -16,3 +16,7 @@ pub mod Relisting
 pub mod Retyping
 pub mod LargestInside
 pub mod SameLargest
+pub mod Scattered
+pub mod OnePageblock
+pub mod Indexing
+pub mod Claimable

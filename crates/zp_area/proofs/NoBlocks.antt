@@ -25,7 +25,7 @@ use Rattle.zp_area.proofs.OneBlock.{covered_around}
 pub replicate_at : {A : Type 0} (n i : ℕ) (a : A) → get_or (replicate n a) i a ≡ a
 replicate_at n i a = elim (cases_lt i n) [ inl lt ↦ get_or-replicate n i a a lt | inr ge ↦ get_or_past (replicate n a) i a (omega (arith, length-replicate n a)) ]
 
-tails_free : (n : ℕ) → blocks_of (replicate n Tail) ≡ replicate n None
+pub tails_free : (n : ℕ) → blocks_of (replicate n Tail) ≡ replicate n None
 tails_free zero = refl
 tails_free (suc n) = ap (λ (q : List (Option ℕ)). None ∷ q) (tails_free n)
 

@@ -6,3 +6,4 @@ pub mod Blocks
 pub mod Retyped
 pub mod OneSet
 pub mod Chains
+pub mod Claims

@@ -1,5 +1,5 @@
 //! The free area of a zone.
-ghost use Rattle.std.specs.Prelude.{ℕ, ◌≡◌, ◌<◌, ◌≤◌, ◌+◌, ◌^◌, ◌*◌, ◌/◌, ◌↔◌, false, length, slice_index_or, IfOk, Some, IfSome, IsTrue};
+ghost use Rattle.std.specs.Prelude.{ℕ, ◌≡◌, ◌≢◌, ◌<◌, ◌≤◌, ◌+◌, ◌^◌, ◌*◌, ◌/◌, ◌↔◌, false, length, slice_index_or, IfOk, Some, IfSome, IsTrue};
 ghost use Rattle.zp_model.specs.declared.constants.TheConstants.{MAX_PAGES};
 ghost use Rattle.zp_model.specs.declared.migrate_type.MigrateType.TheVariants.{Movable};
 ghost use Rattle.zp_model.specs.declared.state.State.TheVariants.{Free};
@@ -8,20 +8,22 @@ ghost use Rattle.zp_model.specs.BlockSet.{Starts, cover, lowest, largest_in};
 ghost use Rattle.zp_model.specs.Rows.{IsLoose, IsOn, IsRow, after, front, state_at};
 ghost use Rattle.zp_model.specs.Described.{IsLinkedAt};
 ghost use Rattle.zp_model.specs.Frames.{IsNote};
-ghost use Rattle.zp_model.specs.Area.{list_number, lists_count, pageblock_pages, size_in};
+ghost use Rattle.zp_model.specs.Area.{kind_at, list_number, lists_count, pageblock_pages, size_in};
 ghost use Rattle.zp_tree.specs.Blocks.{IsBeside};
 ghost use Rattle.zp_area.specs.Given.{IsClearRun};
 ghost use Rattle.zp_area.specs.Blocks.{block_set, count_of, free_list_of, free_lists, side_list_of, no_blocks, added, removed, noted, side_pushed, side_popped};
 ghost use Rattle.zp_area.specs.Chains.{split_off, IsJoinedUp};
 ghost use Rattle.zp_area.specs.Retyped.{retyped};
 ghost use Rattle.zp_area.specs.OneSet.{IsOneSet};
+ghost use Rattle.zp_area.specs.Claims.{IsLargestClaimable};
 
 use crate::free_lists::list_of;
 use crate::linked_page::LinkedPage;
 use crate::retypes::retype;
-use crate::{joins, splits};
+use crate::{joins, noting, splits};
 use std::alloc::{AllocError, Global};
 use std::marker::Model;
+use zp_claims::ClaimTable;
 use zp_links::Lists;
 use zp_model::{Largest, MAX_PAGES, MigrateType, Order, PageAt, State};
 use zp_table::PageTable;
@@ -37,17 +39,19 @@ pub struct FreeArea {
     tree: OrderTree,
     /// How many pages of each pageblock are in blocks.
     free_in: Vec<u32>,
+    /// What each pageblock is noted as for a claim.
+    claims: ClaimTable,
 }
 
 impl Model for FreeArea {
     ghost use Rattle.zp_area.specs.Blocks.{Blocks};
-    ghost use Rattle.zp_area.specs.OneSet.{IsKept};
+    ghost use Rattle.zp_area.specs.Claims.{IsIndexed};
 
     ghost Value = { Blocks };
 
     ghost view = { λ a. record { largest = a.largest; rows = a.lists; kinds = a.kinds.items } };
 
-    ghost invariant = { λ a. IsKept a.largest (record { largest = a.largest; rows = a.lists; kinds = a.kinds.items }) a.tree a.free_in.items };
+    ghost invariant = { λ a. IsIndexed (record { largest = a.largest; rows = a.lists; kinds = a.kinds.items }) a.tree a.free_in.items a.claims };
 }
 
 impl FreeArea {
@@ -66,6 +70,7 @@ impl FreeArea {
         let pageblocks = largest.pageblocks(pages);
         let kinds = Vec::from_elem(alloc, MigrateType::Movable, pageblocks)?;
         let free_in = Vec::from_elem(alloc, 0, pageblocks)?;
+        let claims = ClaimTable::new(alloc, pageblocks)?;
         let tree = OrderTree::new(alloc, pages)?;
         let table = PageTable::new(alloc, pages)?;
         let lists = Lists::new(alloc, table, largest.lists() + side)?;
@@ -75,6 +80,7 @@ impl FreeArea {
             kinds,
             tree,
             free_in,
+            claims,
         })
     }
 
@@ -119,6 +125,14 @@ impl FreeArea {
         self.lists.push_front_noted(list, at, State::Free(order));
         self.tree.set(at, order);
         self.free_in[pageblock] += order.pages();
+        noting::note(
+            &mut self.claims,
+            self.largest,
+            &self.tree,
+            &self.kinds,
+            &self.free_in,
+            pageblock,
+        );
     }
 
     /// Takes a block of order `from` out of the set, and its high halves down to order `to` into it, the largest first. Its low part
@@ -151,6 +165,14 @@ impl FreeArea {
             at,
             order,
         );
+        noting::note(
+            &mut self.claims,
+            self.largest,
+            &self.tree,
+            &self.kinds,
+            &self.free_in,
+            self.largest.pageblock_of(at),
+        );
     }
 
     /// The same of a block that is split.
@@ -170,6 +192,14 @@ impl FreeArea {
             at,
             from,
             to,
+        );
+        noting::note(
+            &mut self.claims,
+            self.largest,
+            &self.tree,
+            &self.kinds,
+            &self.free_in,
+            self.largest.pageblock_of(at),
         );
     }
 
@@ -205,6 +235,14 @@ impl FreeArea {
             at,
             order,
         );
+        noting::note(
+            &mut self.claims,
+            self.largest,
+            &self.tree,
+            &self.kinds,
+            &self.free_in,
+            self.largest.pageblock_of(at),
+        );
     }
 
     /// Gives a pageblock a type. Where it is another one, its blocks go to the lists of the type, the highest in front.
@@ -220,6 +258,14 @@ impl FreeArea {
                 self.largest,
                 pageblock,
                 kind,
+            );
+            noting::note(
+                &mut self.claims,
+                self.largest,
+                &self.tree,
+                &self.kinds,
+                &self.free_in,
+                pageblock,
             );
         }
     }
@@ -302,6 +348,32 @@ impl FreeArea {
         ensures starts { IfSome result (λ at. Starts (block_set self.now) at order) }
     {
         self.lists.after(list_of(order, kind), at)
+    }
+
+    /// Whether a block of this order lies in a pageblock of another type.
+    fn is_beside(&self, order: Order, kind: MigrateType) -> bool
+        ensures { IsTrue result ↔ ((h : ℕ) × Starts (block_set self.now) h order × (kind_at self.now.largest self.now.kinds h ≢ kind)) }
+    {
+        // a clause of this call says that the lists hold the heads of the blocks
+        let _pages = self.pages();
+        let [one, other] = kind.fallbacks();
+        self.front(order, one).is_some() || self.front(order, other).is_some()
+    }
+
+    /// The largest order of a block in a pageblock of another type that has the free pages that a claim needs. A block of half of a
+    /// pageblock or more gives it these pages; whether there are smaller ones only, what is noted of the pageblocks tells. None is looked at.
+    pub fn largest_claimable(&self, kind: MigrateType) -> Option<Order>
+        ensures { IsLargestClaimable self.now.largest self.now kind result }
+    {
+        let whole = self.largest.order();
+        if self.is_beside(whole, kind) {
+            return Some(whole);
+        }
+        let half = Order::at(self.largest.number() - 1);
+        if self.is_beside(half, kind) {
+            return Some(half);
+        }
+        self.claims.largest_beside(kind)
     }
 
     /// Whether a page stands on some list, a free or a further one. No list is walked.

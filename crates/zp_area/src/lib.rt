@@ -9,6 +9,7 @@ mod area;
 mod free_lists;
 mod joins;
 mod linked_page;
+mod noting;
 mod retypes;
 mod splits;
 

@@ -9,12 +9,12 @@ use Rattle.zp_area.proofs.area.FreeArea.count.Goals as goal
 counted : (c : After-len-movable) → c.len-unmovable.result + c.len-reclaimable.result + c.len-movable.result ≡ count_of (block_set (record { largest = c.self.inside.largest; rows = c.self.inside.lists; kinds = c.self.inside.kinds.items })) c.args.order
 counted c =
     let a : Blocks = record { largest = c.self.inside.largest; rows = c.self.inside.lists; kinds = c.self.inside.kinds.items } in
-    rw (c.len-unmovable.ensures, c.len-reclaimable.ensures, c.len-movable.ensures, c.list_of.ensures.number, c.list_of-2.ensures.number, c.list_of-3.ensures.number) (counted_lists c.self.inside.largest a c.args.order c.self.invariant.one (omega arith))
+    rw (c.len-unmovable.ensures, c.len-reclaimable.ensures, c.len-movable.ensures, c.list_of.ensures.number, c.list_of-2.ensures.number, c.list_of-3.ensures.number) (counted_lists c.self.inside.largest a c.args.order c.self.invariant.kept.one (omega arith))
 
 fits : (c : After-len-movable) → c.len-unmovable.result + c.len-reclaimable.result + c.len-movable.result ≤ MAX_PAGES
 fits c =
     let a : Blocks = record { largest = c.self.inside.largest; rows = c.self.inside.lists; kinds = c.self.inside.kinds.items } in
-    omega (arith, counted c, count-le c.self.inside.largest a c.args.order c.self.invariant.one)
+    omega (arith, counted c, count-le c.self.inside.largest a c.args.order c.self.invariant.kept.one)
 
 pub overflow_add-result : goal.overflow_add-result
 overflow_add-result c = omega (arith, fits (goal.at.overflow_add-result c).After-len-movable)
@@ -28,4 +28,4 @@ returns c = rw (← c.self.view_is) (counted (goal.at.returns c).After-len-movab
 pub returns-then-number : goal.returns-then-number
 returns-then-number c =
     let a : Blocks = record { largest = c.self.inside.largest; rows = c.self.inside.lists; kinds = c.self.inside.kinds.items } in
-    rw (← c.self.view_is) (sym (count_above c.self.inside.largest a c.args.order c.self.invariant.one (omega arith)))
+    rw (← c.self.view_is) (sym (count_above c.self.inside.largest a c.args.order c.self.invariant.kept.one (omega arith)))

@@ -1,7 +1,8 @@
 use Rattle.std.proofs.Common.{rules, ℕ, ◌≡◌, ◌+◌, ◌/◌, refl, ◌∙◌, ap, arith, replicate}
 use Rattle.std.specs.Int.{div_ceil}
 use Rattle.zp_model.specs.declared.migrate_type.MigrateType.TheVariants.{Movable}
-use Rattle.zp_area.proofs.NoBlocks.{kept_empty, blank_area}
+use Rattle.zp_area.proofs.Indexing.{indexed_empty}
+use Rattle.zp_area.proofs.NoBlocks.{blank_area}
 use Rattle.zp_area.proofs.area.FreeArea.new.Goals as goal
 
 pub invariant_of-result : goal.invariant_of-result
@@ -12,8 +13,9 @@ invariant_of-result c =
       blank_area c.args.largest c.args.pages c.args.side _ _ _ _ c.in_ok-table.ensures.table (ap (λ q. q + c.args.side) c.lists.ensures.lists) c.in_ok-lists.ensures.lists k,
       c.in_ok-tree.ensures.empty,
       c.in_ok-free_in.ensures.items_if_clones_equal (λ y e. search rules),
+      c.in_ok-claims.ensures,
       e,
-    ) (kept_empty c.args.largest c.args.pages c.args.side c.requires.pages c.requires.side)
+    ) (indexed_empty c.args.largest c.args.pages c.args.side c.requires.pages c.requires.side)
 
 pub returns : goal.returns
 returns c =

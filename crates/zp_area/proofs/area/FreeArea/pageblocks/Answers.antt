@@ -7,7 +7,7 @@ use Rattle.zp_area.proofs.area.FreeArea.pageblocks.Goals as goal
 
 pub returns-clause-blocks : goal.returns-clause-blocks
 returns-clause-blocks c = λ h k s.
-    let one = c.self.invariant.one in
+    let one = c.self.invariant.kept.one in
     let a : Blocks = record { largest = c.self.inside.largest; rows = c.self.inside.lists; kinds = c.self.inside.kinds.items } in
     let there : Starts (block_set a) h k = rw (← c.self.view_is) at s in
     let block : IsBlock c.self.inside.largest (length a.rows.states) h k = rw (← blocks_length c.self.inside.lists.states) (one.blocks.block h k there) in

@@ -1,19 +1,42 @@
-use Rattle.std.proofs.Common.{rules, ◌≡◌, sym, ◌∙◌}
+use Rattle.std.proofs.Common.{rules, ◌≡◌, ◌<◌, sym, ◌∙◌, ap, arith, length, length-set}
 use Rattle.std.proofs.lemmas.List.{get_or_default}
 use Rattle.zp_model.specs.declared.migrate_type.MigrateType.TheVariants.{Movable}
 use Rattle.zp_area.specs.Blocks.{Blocks}
+use Rattle.zp_area.specs.OneSet.{IsKept}
+use Rattle.zp_area.proofs.Indexing.{indexed_anew, pageblock_kept}
+use Rattle.zp_area.proofs.OnePageblock.{changed_retyped}
 use Rattle.zp_area.proofs.Retyping.{kept_retyped, retyped_by, retyped_same}
+use Rattle.zp_area.proofs.area.FreeArea.retype.Goals.{After-retype}
 use Rattle.zp_area.proofs.area.FreeArea.retype.Goals as goal
+
+kept : (c : After-retype) → IsKept c.self.inside.largest (record { largest = c.self.inside.largest; rows = c.retype.new.lists; kinds = c.retype.new.kinds.items }) c.self.inside.tree c.self.inside.free_in.items
+kept c =
+    let a : Blocks = record { largest = c.self.inside.largest; rows = c.self.inside.lists; kinds = c.self.inside.kinds.items } in
+    rw (retyped_by c.self.inside.largest a c.args.pageblock c.args.kind c.retype.new.lists _ c.retype.ensures.states c.retype.ensures.kinds c.retype.ensures.lists)
+    (kept_retyped c.self.inside.largest a _ _ c.args.pageblock c.args.kind c.self.invariant.kept)
+
+inside : (c : After-retype) → c.args.pageblock < length c.self.inside.kinds.items
+inside c = rw (← c.self.view_is) at c.requires
+
+pub note-requires-clause-pageblock : goal.note-requires-clause-pageblock
+note-requires-clause-pageblock c =
+    let before = (goal.at.note-requires-clause-pageblock c).After-retype in
+    pageblock_kept c.self.inside.largest _ _ _ _ (kept before) (omega (arith, inside before, ap length c.retype.ensures.kinds, length-set c.self.inside.kinds.items c.args.pageblock c.args.kind))
+
+pub note-requires-clause-room : goal.note-requires-clause-room
+note-requires-clause-room c = omega (arith, inside (goal.at.note-requires-clause-room c).After-retype, c.self.invariant.claimed.blocks)
 
 pub invariant_of-self : goal.invariant_of-self
 invariant_of-self c =
     let a : Blocks = record { largest = c.self.inside.largest; rows = c.self.inside.lists; kinds = c.self.inside.kinds.items } in
-    rw (retyped_by c.self.inside.largest a c.args.pageblock c.args.kind c.retype.new.lists _ c.retype.ensures.states c.retype.ensures.kinds c.retype.ensures.lists)
-    (kept_retyped c.self.inside.largest a _ _ c.args.pageblock c.args.kind c.self.invariant)
+    let before = (goal.at.invariant_of-self c).After-retype in
+    indexed_anew c.self.inside.largest c.args.pageblock _ _ _ _ _ _ _ _ _ _ c.self.invariant (kept before)
+    (rw (retyped_by c.self.inside.largest a c.args.pageblock c.args.kind c.retype.new.lists _ c.retype.ensures.states c.retype.ensures.kinds c.retype.ensures.lists) (changed_retyped c.self.inside.largest a c.args.pageblock c.args.kind))
+    (inside before) c.note.ensures
 
 pub returns-else-ne-clause-after : goal.returns-else-ne-clause-after
 returns-else-ne-clause-after c =
     let a : Blocks = record { largest = c.self.inside.largest; rows = c.self.inside.lists; kinds = c.self.inside.kinds.items } in
     let e : c.index.result.now ≡ c.args.kind = search rules in
-    rw (← c.self.view_is) (sym (retyped_same c.self.inside.largest a c.args.pageblock c.args.kind c.self.invariant.one
+    rw (← c.self.view_is) (sym (retyped_same c.self.inside.largest a c.args.pageblock c.args.kind c.self.invariant.kept.one
     (sym e ∙ c.index.ensures ∙ get_or_default c.self.inside.kinds.items c.args.pageblock c.index.result.now Movable (rw (← c.self.view_is) at c.requires))))

@@ -1,0 +1,55 @@
+-- The pageblocks that may be claimed, the largest order by which one may be, and what is noted of each pageblock for this (this profile). The
+-- largest block has order m.
+use Rattle.std.specs.Prelude.{ℕ, ◌+◌, ◌*◌, ◌/◌, ◌≡◌, ◌≢◌, ◌≤◌, ◌<◌, ◌&&◌, leb, ltb, cond, Bool, true, List, length, slice_index, slice_index_or, Option, None, Some}
+use Rattle.zp_model.specs.declared.constants.TheConstants.{MAX_PAGES}
+use Rattle.zp_model.specs.declared.migrate_type.MigrateType.{MigrateType}
+use Rattle.zp_model.specs.declared.migrate_type.MigrateType.TheVariants.{Movable}
+use Rattle.zp_model.specs.BlockSet.{Starts, cover, largest_in}
+use Rattle.zp_model.specs.Area.{kind_at, pageblock_pages, size_in}
+use Rattle.zp_model.specs.Choose.{claim_pages}
+use Rattle.zp_claims.specs.declared.claim.Claim.{Claim}
+use Rattle.zp_claims.specs.Noted.{noted_at}
+use Rattle.zp_area.specs.Blocks.{Blocks, block_set}
+use Rattle.zp_area.specs.OneSet.{IsKept}
+
+-- whether half of the pages of page h's pageblock are free
+abbrev pub is_half_free : ℕ → Blocks → ℕ → Bool
+is_half_free m a h = leb (claim_pages m) (size_in m (cover (block_set a)) (h / pageblock_pages m))
+
+-- a block of order j starts at h, in a pageblock of another type than t that has the free pages that a claim needs
+pub record IsInClaimable (m : ℕ) (a : Blocks) (t : MigrateType) (h j : ℕ) : Type 0 where
+  pub starts : Starts (block_set a) h j
+  pub other : kind_at m a.kinds h ≢ t
+  pub enough : is_half_free m a h ≡ true
+
+-- the largest order of such a block, where there is one
+abbrev pub IsLargestClaimable : ℕ → Blocks → MigrateType → Option ℕ → Type 0
+IsLargestClaimable m a t None = (h j : ℕ) → IsInClaimable m a t h j → ⊥
+IsLargestClaimable m a t (Some o) = ((h : ℕ) × IsInClaimable m a t h o) × ((h j : ℕ) → IsInClaimable m a t h j → j ≤ o)
+
+-- what is noted of a pageblock of type t, by whether half of its pages are free and by its largest block: where half are, and no block has half of
+-- its pages, the type and the largest order. A block of half of the pages is found in front of the lists.
+abbrev pub scattered : ℕ → Bool → MigrateType → Option ℕ → Option Claim
+scattered m enough t None = None
+scattered m enough t (Some o) = cond (enough && ltb (o + 1) m) (Some (record { kind = t; order = o })) None
+
+abbrev pub claim_of : ℕ → List (Option ℕ) → List MigrateType → ℕ → Option Claim
+claim_of m s kinds b =
+    scattered m (leb (claim_pages m) (size_in m (cover s) b)) (slice_index_or kinds b Movable) (largest_in s (b * pageblock_pages m) m)
+
+-- this is noted of each pageblock
+pub record IsClaimed (m : ℕ) (s : List (Option ℕ)) (kinds : List MigrateType) (claims : List (Option Claim)) : Type 0 where
+  pub blocks : length claims ≡ length kinds
+  pub each : (b : ℕ) → noted_at claims b ≡ claim_of m s kinds b
+
+-- all that is kept beside a set of blocks is of this set
+pub record IsIndexed (a : Blocks) (tree : List (Option ℕ)) (free_in : List ℕ) (claims : List (Option Claim)) : Type 0 where
+  pub kept : IsKept a.largest a tree free_in
+  pub claimed : IsClaimed a.largest (block_set a) a.kinds claims
+
+-- b is the number of a pageblock, and of its free pages there is the number
+pub record IsPageblock (m : ℕ) (s : List (Option ℕ)) (kinds : List MigrateType) (free_in : List ℕ) (b : ℕ) : Type 0 where
+  pub typed : b < length kinds
+  pub counted : b < length free_in
+  pub starts : b * pageblock_pages m < MAX_PAGES
+  pub free : slice_index free_in b ≡ size_in m (cover s) b
