@@ -1,23 +1,21 @@
 -- The largest order by which a pageblock of another type may be claimed, from the fronts of two orders' lists and from what is noted.
-use Rattle.std.proofs.Common.{ℕ, ◌+◌, ◌-◌, ◌*◌, ◌/◌, ◌^◌, ◌≡◌, ◌≢◌, ◌≤◌, ◌<◌, ◌⊎◌, inl, inr, refl, sym, ◌∙◌, ap, arith, leb, ltb, ◌&&◌, cond, Bool, true, false, List, [], ◌∷◌, length, take, get_or, get_or-take, length-take-le, Option, Some, None}
+use Rattle.std.proofs.Common.{ℕ, ◌+◌, ◌-◌, ◌*◌, ◌/◌, ◌^◌, ◌≡◌, ◌≢◌, ◌≤◌, ◌<◌, ◌⊎◌, inl, inr, refl, sym, ◌∙◌, ap, arith, ltb, ◌&&◌, Bool, true, List, [], ◌∷◌, take, get_or, get_or-take, length-take-le, Option, Some, None}
 use Rattle.std.specs.List.{slice_index_or}
 use Rattle.std.specs.Option.{is_some}
 use Rattle.std.proofs.Math.Pow.{pow_mono}
-use Rattle.std.proofs.lemmas.Bool.{cases_lt, cases_Bool, eq-eqb, and_parts, and_from, le-leb, ltb-true, lt-ltb, false≢true}
+use Rattle.std.proofs.lemmas.Bool.{cases_lt, cases_Bool, eq-eqb, and_parts, le-leb, lt-ltb, false≢true}
 use Rattle.std.proofs.lemmas.List.{get_or_past}
 use Rattle.zp_model.specs.declared.migrate_type.MigrateType.{MigrateType}
 use Rattle.zp_model.specs.declared.migrate_type.MigrateType.TheVariants.{Unmovable, Reclaimable, Movable}
-use Rattle.zp_model.specs.Area.{kind_at, list_number, lists_count, pageblock_pages, size_in}
-use Rattle.zp_model.specs.BlockSet.{Starts, cover, largest_in}
-use Rattle.zp_model.specs.Bounds.{IsLargest}
-use Rattle.zp_model.specs.Choose.{claim_pages}
+use Rattle.zp_model.specs.Area.{kind_at, list_number, lists_count, pageblock_pages}
+use Rattle.zp_model.specs.BlockSet.{Starts, largest_in}
 use Rattle.zp_model.specs.MigrateType.{foreign}
 use Rattle.zp_model.specs.Rows.{IsOn, front, list_at, stands_in}
 use Rattle.zp_model.proofs.TypeNumbers.{list_number_below}
 use Rattle.zp_claims.specs.declared.claim.Claim.{Claim}
-use Rattle.zp_claims.specs.Noted.{IsBeside, IsLargestBeside, noted_at}
+use Rattle.zp_claims.specs.Noted.{IsBeside, IsLargestBeside}
 use Rattle.zp_area.specs.Blocks.{Blocks, block_set, free_list_of}
-use Rattle.zp_area.specs.Claims.{IsClaimed, IsInClaimable, IsLargestClaimable, claim_of, is_half_free, scattered}
+use Rattle.zp_area.specs.Claims.{IsClaimed, IsInClaimable, IsLargestClaimable, is_half_free, scattered}
 use Rattle.zp_area.specs.OneSet.{IsKept, IsOneSet}
 use Rattle.zp_area.proofs.LargestInside.{pageblock_held, pageblock_most}
 use Rattle.zp_area.proofs.Listing.{listed_starts}

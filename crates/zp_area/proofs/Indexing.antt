@@ -1,5 +1,5 @@
 -- What is kept beside a set of blocks and noted of its pageblocks: of no block, when one pageblock has changed, and what the code reads of it.
-use Rattle.std.proofs.Common.{ℕ, ◌+◌, ◌*◌, ◌/◌, ◌^◌, ◌≡◌, ◌≤◌, ◌<◌, refl, sym, ◌∙◌, ap, arith, Bool, List, length, replicate, set, Option, Some, None}
+use Rattle.std.proofs.Common.{ℕ, ◌*◌, ◌/◌, ◌^◌, ◌≡◌, ◌≤◌, ◌<◌, refl, sym, ◌∙◌, arith, List, length, replicate, set, Option, Some, None}
 use Rattle.std.proofs.lemmas.List.{length-replicate}
 use Rattle.zp_model.specs.declared.constants.TheConstants.{MAX_PAGES}
 use Rattle.zp_model.specs.declared.migrate_type.MigrateType.{MigrateType}
@@ -12,7 +12,7 @@ use Rattle.zp_tree.proofs.BlockSets.{no_start}
 use Rattle.zp_claims.specs.declared.claim.Claim.{Claim}
 use Rattle.zp_area.specs.Blocks.{Blocks, block_set, no_blocks, noted}
 use Rattle.zp_area.specs.OneSet.{IsKept, IsOneSet}
-use Rattle.zp_area.specs.Claims.{IsClaimed, IsIndexed, IsPageblock, claim_of, scattered}
+use Rattle.zp_area.specs.Claims.{IsIndexed, IsPageblock, claim_of}
 use Rattle.zp_area.proofs.Holding.{IsHolding, kept_noted, noted_set}
 use Rattle.zp_area.proofs.Keeping.{blocks_length, starts_inside, typed_there}
 use Rattle.zp_area.proofs.LargestInside.{inside_held}

@@ -1,20 +1,19 @@
 -- What is to be noted of a pageblock is told by its own blocks and its type.
-use Rattle.std.proofs.Common.{ℕ, zero, suc, ◌+◌, ◌*◌, ◌/◌, ◌^◌, ◌≡◌, ◌≢◌, ◌≤◌, ◌<◌, inl, inr, refl, sym, ◌∙◌, ap, arith, leb, Bool, map, List, [], ◌∷◌, length, set, get_or, get_or-set_same, get_or-set_other, length-set, Option, Some, None}
+use Rattle.std.proofs.Common.{ℕ, zero, suc, ◌+◌, ◌*◌, ◌/◌, ◌^◌, ◌≡◌, ◌≢◌, ◌≤◌, ◌<◌, inl, inr, refl, sym, ◌∙◌, ap, arith, leb, map, List, ◌∷◌, length, set, get_or, get_or-set_same, get_or-set_other, length-set, Option, None}
 use Rattle.std.specs.List.{range_with_len, slice_index_or}
 use Rattle.std.proofs.lemmas.Bool.{cases_eq}
 use Rattle.zp_model.specs.declared.migrate_type.MigrateType.{MigrateType}
 use Rattle.zp_model.specs.declared.migrate_type.MigrateType.TheVariants.{Movable}
 use Rattle.zp_model.specs.Block.{has}
-use Rattle.zp_model.specs.BlockSet.{Starts, block_if, cover, greatest, largest_in, order_of}
+use Rattle.zp_model.specs.BlockSet.{block_if, cover, greatest, largest_in, order_of}
 use Rattle.zp_model.specs.Area.{pageblock_pages, size_in}
-use Rattle.zp_model.specs.Choose.{claim_pages}
 use Rattle.zp_model.proofs.Heads.{number_around, number_within}
 use Rattle.zp_model.proofs.Pages.{In}
 use Rattle.zp_laws.proofs.Counting.{one_if, same_tests, sums-same}
 use Rattle.zp_tree.specs.Blocks.{IsBlockSet}
 use Rattle.zp_claims.specs.declared.claim.Claim.{Claim}
 use Rattle.zp_area.specs.Blocks.{Blocks, block_set}
-use Rattle.zp_area.specs.Claims.{IsClaimed, claim_of, scattered}
+use Rattle.zp_area.specs.Claims.{IsClaimed, claim_of}
 use Rattle.zp_area.proofs.OneBlock.{around_covered, covered_around}
 
 -- the sets have the same blocks in pageblock b

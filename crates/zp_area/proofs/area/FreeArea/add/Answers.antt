@@ -1,4 +1,4 @@
-use Rattle.std.proofs.Common.{◌/◌, ◌+◌, ◌<◌, arith, length, refl, set, sym}
+use Rattle.std.proofs.Common.{◌+◌, ◌<◌, arith, length, refl, set, sym}
 use Rattle.std.proofs.Math.Pow.{pow_mono}
 use Rattle.zp_area.specs.Blocks.{Blocks}
 use Rattle.zp_area.specs.OneSet.{IsKept}

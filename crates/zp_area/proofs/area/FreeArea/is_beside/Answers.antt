@@ -1,11 +1,8 @@
-use Rattle.std.proofs.Common.{◌≡◌, true, ap, inl, inr, sym, ◌∙◌}
+use Rattle.std.proofs.Common.{◌≡◌, ap, inl, inr, sym, ◌∙◌}
 use Rattle.std.specs.Option.{is_some}
 use Rattle.std.proofs.lemmas.Bool.{both_ways}
-use Rattle.zp_model.specs.declared.migrate_type.MigrateType.TheVariants.{Unmovable}
-use Rattle.zp_model.specs.Rows.{front}
 use Rattle.zp_model.specs.MigrateType.{foreign}
-use Rattle.zp_area.specs.Blocks.{free_list_of}
-use Rattle.zp_area.proofs.Claimable.{HasBeside, beside_cases, beside_one, beside_other, fronts_of}
+use Rattle.zp_area.proofs.Claimable.{beside_cases, beside_one, beside_other, fronts_of}
 use Rattle.zp_area.proofs.area.FreeArea.is_beside.Goals.{After-is_some-else-is_some}
 use Rattle.zp_area.proofs.area.FreeArea.is_beside.Goals as goal
 

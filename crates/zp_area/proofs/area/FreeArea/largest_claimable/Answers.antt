@@ -1,9 +1,9 @@
-use Rattle.std.proofs.Common.{◌≡◌, ◌+◌, arith, sym, ◌∙◌, ap, Some}
+use Rattle.std.proofs.Common.{◌≡◌, arith, ◌∙◌, ap}
 use Rattle.std.proofs.lemmas.Bool.{both_ways}
 use Rattle.zp_area.specs.Blocks.{Blocks, block_set}
 use Rattle.zp_area.specs.Claims.{IsClaimed}
 use Rattle.zp_area.specs.OneSet.{IsKept}
-use Rattle.zp_area.proofs.Claimable.{HasBeside, half_claimable, noted_claimable, whole_claimable}
+use Rattle.zp_area.proofs.Claimable.{half_claimable, noted_claimable, whole_claimable}
 use Rattle.zp_area.proofs.area.FreeArea.largest_claimable.Goals.{After-is_beside}
 use Rattle.zp_area.proofs.area.FreeArea.largest_claimable.Goals as goal
 

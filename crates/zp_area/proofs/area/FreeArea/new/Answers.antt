@@ -1,5 +1,4 @@
-use Rattle.std.proofs.Common.{rules, ℕ, ◌≡◌, ◌+◌, ◌/◌, refl, ◌∙◌, ap, arith, replicate}
-use Rattle.std.specs.Int.{div_ceil}
+use Rattle.std.proofs.Common.{rules, ◌+◌, ◌∙◌, ap, replicate}
 use Rattle.zp_model.specs.declared.migrate_type.MigrateType.TheVariants.{Movable}
 use Rattle.zp_area.proofs.Indexing.{indexed_empty}
 use Rattle.zp_area.proofs.NoBlocks.{blank_area}
