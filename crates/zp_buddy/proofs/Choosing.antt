@@ -1,12 +1,12 @@
 -- What the looks at the free lists and at the pageblocks find is what the choice of a block asks for.
-use Rattle.std.proofs.Common.{ℕ, suc, zero, ◌+◌, ◌-◌, ◌/◌, ◌≡◌, ◌≢◌, ◌≤◌, ◌<◌, ◌==◌, inl, inr, refl, sym, ◌∙◌, ap, arith, Bool, true, false, leb, max, not, ◌||◌, ◌&&◌, List, [], ◌∷◌, ◌++◌, length, drop, take, reverse, get_or, get_or-take, drop-cons, Option, Some, None, IfSome}
-use Rattle.std.specs.List.{find, range_with_len, slice_index_or, IsDistinct}
+use Rattle.std.proofs.Common.{ℕ, suc, zero, ◌+◌, ◌-◌, ◌/◌, ◌≡◌, ◌≢◌, ◌≤◌, ◌<◌, ◌==◌, inl, inr, refl, sym, ◌∙◌, ap, arith, Bool, true, false, leb, not, ◌||◌, ◌&&◌, List, [], ◌∷◌, ◌++◌, length, drop, take, reverse, get_or, get_or-take, drop-cons, Option, Some, None}
+use Rattle.std.specs.List.{find, range_with_len, IsDistinct}
 use Rattle.std.specs.Option.{option_or}
 use Rattle.std.proofs.lemmas.Bool.{cases_Bool, cases_eq, eq-eqb, cases_lt, leb-true, le-leb, false≢true, both_ways}
 use Rattle.std.proofs.lemmas.List.{get_or_past, length-take, reverse-append}
 use Rattle.zp_model.specs.declared.migrate_type.MigrateType.{MigrateType}
 use Rattle.zp_model.specs.declared.migrate_type.MigrateType.TheVariants.{Movable}
-use Rattle.zp_model.specs.BlockSet.{Starts, cover, first_of, larger, orders_from}
+use Rattle.zp_model.specs.BlockSet.{Starts, first_of, orders_from}
 use Rattle.zp_model.specs.MigrateType.{foreign, same_type}
 use Rattle.zp_model.specs.Rows.{front, list_at, stands_in}
 use Rattle.zp_model.specs.Area.{Area, list_number, lists_count, free_list, kind_at, pageblock_pages, size_in}
@@ -14,9 +14,10 @@ use Rattle.zp_model.specs.Choose.{own, claim, borrow, least_movable_claim, claim
 use Rattle.zp_model.specs.Frames.{Frames}
 use Rattle.zp_model.proofs.Settles.{stands_cases, stands_later}
 use Rattle.zp_area.specs.Blocks.{Blocks, block_set, free_list_of}
+use Rattle.zp_area.specs.Claims.{is_half_free, IsInClaimable, IsLargestClaimable}
 use Rattle.zp_area.specs.OneSet.{IsOneSet}
 use Rattle.zp_area.proofs.Listing.{listed_starts, here_from}
-use Rattle.zp_buddy.specs.Choices.{area_in, frames_in, front_of_order, is_half_free, half_free_of_order, claimable_of_order, IsInClaimable, IsLargestClaimable, IsFoundAs}
+use Rattle.zp_buddy.specs.Choices.{area_in, frames_in, front_of_order, half_free_of_order, claimable_of_order, IsFoundAs}
 use Rattle.zp_buddy.specs.declared.choice.FreeBlock.{FreeBlock}
 use Rattle.zp_buddy.proofs.Settled.{find_never}
 use Rattle.zp_model.proofs.TypeNumbers.{list_number_below}
@@ -114,58 +115,6 @@ found_foreign t g h e = grind arith
 
 none_foreign : (t : MigrateType) (g : MigrateType → Option ℕ) → first_of g (foreign t) ≡ None → (f : MigrateType) → f ≢ t → g f ≡ None
 none_foreign t g e f ne = grind arith
-
--- the largest order of a block that may be claimed for t, among the first n pageblocks
-abbrev pub IsLargestBelow : ℕ → Blocks → MigrateType → ℕ → Option ℕ → Type 0
-IsLargestBelow m a t n None = (h j : ℕ) → IsInClaimable m a t h j → h / pageblock_pages m < n → ⊥
-IsLargestBelow m a t n (Some o) = ((h : ℕ) × IsInClaimable m a t h o) × ((h j : ℕ) → IsInClaimable m a t h j → h / pageblock_pages m < n → j ≤ o)
-
-module _ (m : ℕ) (a : Blocks) (t : MigrateType) (n : ℕ) where
-  -- a pageblock that may not be claimed adds nothing
-  pub largest_same : (o : Option ℕ) → IsLargestBelow m a t n o → ((h j : ℕ) → IsInClaimable m a t h j → h / pageblock_pages m ≡ n → ⊥) → IsLargestBelow m a t (n + 1) o
-  largest_same None x out = λ h j y lt. elim (cases_eq (h / pageblock_pages m) n) [ inl same ↦ out h j y same | inr ne ↦ x h j y (omega arith) ]
-  largest_same (Some o) x out = (
-    x.0,
-    λ h j y lt. elim (cases_eq (h / pageblock_pages m) n) [ inl same ↦ absurd (out h j y same) | inr ne ↦ x.1 h j y (omega arith) ],
-  )
-
-  -- one of the request's own type, and one with too few free pages
-  pub out_by_type : slice_index_or a.kinds n Movable ≡ t → (h j : ℕ) → IsInClaimable m a t h j → h / pageblock_pages m ≡ n → ⊥
-  out_by_type e h j x there = x.other (rw there e)
-
-  pub out_by_pages : size_in m (cover (block_set a)) n < claim_pages m → (h j : ℕ) → IsInClaimable m a t h j → h / pageblock_pages m ≡ n → ⊥
-  out_by_pages few h j x there = omega (arith, rw there at (leb-true (claim_pages m) _ x.enough))
-
-  -- one that may be claimed adds the largest order of its blocks
-  pub largest_more : (o p : Option ℕ) → IsLargestBelow m a t n o → slice_index_or a.kinds n Movable ≢ t → claim_pages m ≤ size_in m (cover (block_set a)) n →
-      IfSome p (λ k. (h : ℕ) × Starts (block_set a) h k × (h / pageblock_pages m ≡ n)) →
-      ((h k : ℕ) → Starts (block_set a) h k → h / pageblock_pages m ≡ n → (j : ℕ) × (p ≡ Some j) × (k ≤ j)) → IsLargestBelow m a t (n + 1) (larger o p)
-  largest_more o None x other enough held most =
-      rw (stays o) (largest_same o x (λ h j z e. let w = most h j z.starts e in let none : None ≡ Some w.0 = w.1 in cc))
-    where
-      stays : (o : Option ℕ) → larger o None ≡ o
-      stays o = grind arith
-  largest_more o (Some k) x other enough held most = go o x
-    where
-      here : IsInClaimable m a t held.0 k
-      here = record { starts = held.1; other = rw held.2 other; enough = rw held.2 (le-leb _ _ enough) }
-
-      there : (h j : ℕ) → IsInClaimable m a t h j → h / pageblock_pages m ≡ n → j ≤ k
-      there h j z e =
-          let w = most h j z.starts e in
-          let some : Some k ≡ Some w.0 = w.1 in
-          let same : k ≡ w.0 = cc in
-          omega (arith, w.2)
-
-      go : (o : Option ℕ) → IsLargestBelow m a t n o → IsLargestBelow m a t (n + 1) (larger o (Some k))
-      go None x = ((held.0, here), λ h j z lt. elim (cases_eq (h / pageblock_pages m) n) [ inl same ↦ there h j z same | inr ne ↦ absurd (x h j z (omega arith)) ])
-      go (Some o) x = (
-        elim (cases_lt o k) [
-          | inl lt ↦ let e : max o k ≡ k = omega arith in rw e (held.0, here)
-          | inr ge ↦ let e : max o k ≡ o = omega arith in rw e x.0
-        ],
-        λ h j z lt. elim (cases_eq (h / pageblock_pages m) n) [ inl same ↦ omega (arith, there h j z same) | inr ne ↦ omega (arith, x.1 h j z (omega arith)) ],
-      )
 
 -- where a claim by a block of this order is possible at all, the free pages of its pageblock decide
 claim_half_free : (m : ℕ) (a : Blocks) (t : MigrateType) (o : ℕ) →

@@ -1,15 +1,16 @@
 -- What the looks at a free area find. The largest block has order m.
-use Rattle.std.specs.Prelude.{ℕ, ◌≡◌, ◌≢◌, ◌≤◌, ◌/◌, leb, Bool, true, List, Option, None, Some}
+use Rattle.std.specs.Prelude.{ℕ, ◌≡◌, ◌≤◌, List, Option, None, Some}
 use Rattle.std.specs.List.{find}
 use Rattle.zp_model.specs.declared.migrate_type.MigrateType.{MigrateType}
 use Rattle.zp_model.specs.MigrateType.{foreign}
-use Rattle.zp_model.specs.BlockSet.{Starts, cover, first_of}
+use Rattle.zp_model.specs.BlockSet.{Starts, first_of}
 use Rattle.zp_model.specs.Rows.{front}
-use Rattle.zp_model.specs.Area.{Area, free_list, kind_at, pageblock_pages, size_in}
-use Rattle.zp_model.specs.Choose.{Chosen, choose, claim_pages, is_claimable}
+use Rattle.zp_model.specs.Area.{Area, free_list}
+use Rattle.zp_model.specs.Choose.{Chosen, choose, is_claimable}
 use Rattle.zp_model.specs.Frames.{Frames}
 use Rattle.zp_buddy.specs.Sound.{area_of, frames_of}
 use Rattle.zp_area.specs.Blocks.{Blocks, block_set, free_list_of}
+use Rattle.zp_area.specs.Claims.{is_half_free}
 use Rattle.zp_buddy.specs.declared.choice.FreeBlock.{FreeBlock}
 use Rattle.zp_buddy.specs.declared.choice.Choice.{Choice}
 
@@ -24,10 +25,6 @@ frames_in m a = frames_of m a.rows.states a.kinds a.rows.lists
 abbrev pub front_of_order : ℕ → Blocks → List MigrateType → ℕ → Option ℕ
 front_of_order m a ts o = first_of (λ t. front (free_list_of m a o t)) ts
 
--- whether half of the pages of page h's pageblock are free
-abbrev pub is_half_free : ℕ → Blocks → ℕ → Bool
-is_half_free m a h = leb (claim_pages m) (size_in m (cover (block_set a)) (h / pageblock_pages m))
-
 -- the first block of order o and of one of these types in whose pageblock half of the pages are free
 abbrev pub half_free_of_order : ℕ → Blocks → List MigrateType → ℕ → Option ℕ
 half_free_of_order m a ts o = first_of (λ t. find (is_half_free m a) (free_list_of m a o t)) ts
@@ -35,17 +32,6 @@ half_free_of_order m a ts o = first_of (λ t. find (is_half_free m a) (free_list
 -- the first block of order o and of a type foreign to t that may be claimed for t
 abbrev pub claimable_of_order : Area → MigrateType → ℕ → Option ℕ
 claimable_of_order a t o = first_of (λ f. find (is_claimable a t o) (free_list a o f)) (foreign t)
-
--- a block of order j starts at h, in a pageblock of another type than t that has the free pages that a claim needs
-pub record IsInClaimable (m : ℕ) (a : Blocks) (t : MigrateType) (h j : ℕ) : Type 0 where
-  pub starts : Starts (block_set a) h j
-  pub other : kind_at m a.kinds h ≢ t
-  pub enough : is_half_free m a h ≡ true
-
--- the largest order of such a block, where there is one
-abbrev pub IsLargestClaimable : ℕ → Blocks → MigrateType → Option ℕ → Type 0
-IsLargestClaimable m a t None = (h j : ℕ) → IsInClaimable m a t h j → ⊥
-IsLargestClaimable m a t (Some o) = ((h : ℕ) × IsInClaimable m a t h o) × ((h j : ℕ) → IsInClaimable m a t h j → j ≤ o)
 
 -- a block of the set that has order k or more
 pub record IsFreeBlock (a : Blocks) (k : ℕ) (b : FreeBlock) : Type 0 where

@@ -4,11 +4,12 @@
 ghost use Rattle.std.specs.Prelude.{◌≡◌, ◌≤◌, ◌||◌, not, leb, IfSome};
 ghost use Rattle.std.specs.List.{find};
 ghost use Rattle.zp_model.specs.declared.migrate_type.MigrateType.TheVariants.{Movable};
-ghost use Rattle.zp_model.specs.BlockSet.{first_of, larger, orders_from, Starts};
+ghost use Rattle.zp_model.specs.BlockSet.{first_of, orders_from, Starts};
 ghost use Rattle.zp_model.specs.MigrateType.{same_type};
 ghost use Rattle.zp_model.specs.Choose.{own, claim, borrow, least_movable_claim};
 ghost use Rattle.zp_area.specs.Blocks.{block_set, free_list_of};
-ghost use Rattle.zp_buddy.specs.Choices.{area_in, front_of_order, is_half_free, half_free_of_order, IsLargestClaimable, IsFoundAs, IsChosen};
+ghost use Rattle.zp_area.specs.Claims.{is_half_free};
+ghost use Rattle.zp_buddy.specs.Choices.{area_in, front_of_order, half_free_of_order, IsFoundAs, IsChosen};
 
 use zp_area::FreeArea;
 use zp_model::{Largest, MigrateType, Order, PageAt};
@@ -104,33 +105,8 @@ fn half_free_of(area: &FreeArea, order: Order, kinds: &[MigrateType]) -> Option<
     None
 }
 
-/// The largest order of a block in a pageblock of another type that has the free pages that a claim needs. No list is walked.
-fn largest_claimable(area: &FreeArea, kind: MigrateType) -> Option<Order>
-    ensures { IsLargestClaimable area.now.largest area.now kind result }
-{
-    let enough = area.largest().claim_pages();
-    let mut largest = None;
-    'pageblocks: for pageblock in 0..area.pageblocks() {
-        if area.type_of(pageblock) != kind && area.free_in(pageblock) >= enough {
-            largest = larger(largest, area.largest_in(pageblock));
-        }
-    }
-    largest
-}
-
-/// The larger of two orders, where there are any.
-fn larger(one: Option<Order>, other: Option<Order>) -> Option<Order>
-    ensures { result ≡ larger one other }
-{
-    match (one, other) {
-        (Some(first), Some(second)) if first.number() < second.number() => Some(second),
-        (None, _) => other,
-        _ => one,
-    }
-}
-
-/// The largest block of another type that may be claimed. Its order is told by the pageblocks, so that lists of that order alone
-/// are walked, and none where there is no such block.
+/// The largest block of another type that may be claimed. Its order is known beforehand, so that lists of that order alone are
+/// walked, and none where there is no such block.
 #[cold]
 #[inline(never)]
 fn claimed_block(area: &FreeArea, order: Order, kind: MigrateType) -> Option<FreeBlock>
@@ -138,7 +114,7 @@ fn claimed_block(area: &FreeArea, order: Order, kind: MigrateType) -> Option<Fre
 {
     // a clause of this call says that the lists hold the heads of the blocks
     let _pages = area.pages();
-    let largest = largest_claimable(area, kind)?;
+    let largest = area.largest_claimable(kind)?;
     if largest.number() < order.number() || !may_claim(area.largest(), largest, kind) {
         return None;
     }

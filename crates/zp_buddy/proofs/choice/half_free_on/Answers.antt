@@ -4,7 +4,7 @@ use Rattle.zp_model.specs.Block.{IsBlock}
 use Rattle.zp_model.specs.BlockSet.{Starts}
 use Rattle.zp_area.specs.Blocks.{block_set, free_list_of}
 use Rattle.zp_area.proofs.Keeping.{blocks_length, typed_there}
-use Rattle.zp_buddy.specs.Choices.{is_half_free}
+use Rattle.zp_area.specs.Claims.{is_half_free}
 use Rattle.zp_buddy.proofs.Choosing.{on_starts, taken_distinct}
 use Rattle.zp_buddy.proofs.Walks.{from_after, next_after}
 use Rattle.zp_buddy.proofs.choice.half_free_on.Goals.{In-Some}

@@ -2,7 +2,7 @@ use Rattle.std.proofs.Common.{◌≡◌, length}
 use Rattle.std.specs.List.{find}
 use Rattle.zp_area.specs.Blocks.{free_list_of}
 use Rattle.zp_buddy.proofs.Walks.{list_from, IsNext}
-use Rattle.zp_buddy.specs.Choices.{is_half_free}
+use Rattle.zp_area.specs.Claims.{is_half_free}
 use Rattle.zp_buddy.proofs.choice.half_free_on.Given as goal
 
 -- what is looked for stands from the next page on

@@ -1,5 +1,5 @@
-use Rattle.std.proofs.Common.{◌≡◌, inl, inr, arith, sym, ◌∙◌}
-use Rattle.std.proofs.lemmas.Bool.{both_ways, cases_lt, eqb-true, false≢true, not-false}
+use Rattle.std.proofs.Common.{◌≡◌, inl, inr, arith}
+use Rattle.std.proofs.lemmas.Bool.{both_ways, cases_lt, false≢true}
 use Rattle.zp_model.specs.Block.{head}
 use Rattle.zp_area.proofs.NotedBlocks.{starts-to}
 use Rattle.zp_buddy.proofs.clear.is_in_larger.Goals as goal

@@ -1,4 +1,4 @@
-use Rattle.std.proofs.Common.{List, ℕ, ap, ◌∙◌, arith}
+use Rattle.std.proofs.Common.{List, ℕ, ap, ◌∙◌}
 use Rattle.zp_model.specs.Rows.{after}
 use Rattle.zp_model.specs.Area.{free_list}
 use Rattle.zp_buddy.proofs.Walks.{next_after}

@@ -1,4 +1,4 @@
-use Rattle.std.proofs.Common.{ap, ◌∙◌, arith}
+use Rattle.std.proofs.Common.{ap, ◌∙◌}
 use Rattle.zp_model.specs.Rows.{front}
 use Rattle.zp_model.specs.Area.{free_list}
 use Rattle.zp_buddy.proofs.Walks.{next_front}
