@@ -19,7 +19,7 @@ pub fn show<W: Writer>(zone: &Zone, writer: &mut W) -> Result<Memory, WriteFault
     let counts = zone.counts();
     Ok(Memory {
         free_pages: counts.free,
-        largest_blocks: counts.by_order[10],
+        largest_blocks: counts.by_order[zone.largest().order().index()],
         level: zone.level(),
     })
 }

@@ -1,7 +1,7 @@
 //! The first caller: one zone, one page.
 
 use std::alloc::Global;
-use zp_model::{Mark, MigrateType, Order, Refused};
+use zp_model::{Largest, Mark, MigrateType, Order, Refused};
 use zp_zone::{Zone, ZoneConfig};
 
 /// Makes a zone, takes one page of it, and gives the page back. Answers how many pages are free then.
@@ -11,6 +11,7 @@ pub fn one_page(alloc: Global) -> Result<u32, Refused> {
         base: 0,
         pages: 4096,
         min: 64,
+        largest: Largest::usual(),
     };
     let (mut zone, mut seats) = Zone::new(alloc, config, 1)?;
     let seat = &mut seats[0];

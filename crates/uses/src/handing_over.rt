@@ -35,7 +35,7 @@ pub fn receive(zone: &mut Zone, receiver: &mut Seat) -> Option<Block>
 fn zone_of_two(alloc: Global, config: ZoneConfig<'_>) -> Option<(Zone, Seat, Seat)>
     ensures { IfSome result (λ z. IsSeatOf z.0 z.1 × IsSeatOf z.0 z.2) }
 {
-    let (zone, mut seats) = Zone::new(alloc, config, 2).ok()?;
+    let (zone, mut seats) = Zone::new(alloc, ZoneConfig { ..config }, 2).ok()?;
     match (seats.pop(), seats.pop()) {
         (Some(receiver), Some(giver)) => Some((zone, giver, receiver)),
         _ => None,
@@ -57,6 +57,6 @@ fn pass(zone: &mut Zone, giver: &mut Seat, receiver: &mut Seat, order: Order) ->
 
 /// A zone with two workers, where a block goes from the one to the other, who gives it back: how many pages are free then.
 pub fn relay(alloc: Global, config: ZoneConfig<'_>, order: Order) -> Option<u32> {
-    let (mut zone, mut giver, mut receiver) = zone_of_two(alloc, config)?;
+    let (mut zone, mut giver, mut receiver) = zone_of_two(alloc, ZoneConfig { ..config })?;
     pass(&mut zone, &mut giver, &mut receiver, order)
 }

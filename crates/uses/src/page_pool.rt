@@ -17,7 +17,7 @@ pub struct PagePool {
 
 impl PagePool {
     pub fn new(alloc: Global, config: ZoneConfig<'_>) -> Result<PagePool, Refused> {
-        let (mut zone, mut seats) = Zone::new(alloc, config, 1)?;
+        let (mut zone, mut seats) = Zone::new(alloc, ZoneConfig { ..config }, 1)?;
         let Some(mut seat) = seats.pop() else {
             return Err(Refused::BadWorkers);
         };

@@ -59,7 +59,7 @@ fn opened(alloc: Global, config: ZoneConfig<'_>) -> Option<(Zone, Desk, Desk)>
     ensures first { IfSome result (λ o. IsReady (key_of o.0 ∷ []) o.1) }
     ensures second { IfSome result (λ o. IsReady (key_of o.0 ∷ []) o.2) }
 {
-    let Ok((zone, mut seats)) = Zone::new(alloc, config, 2) else {
+    let Ok((zone, mut seats)) = Zone::new(alloc, ZoneConfig { ..config }, 2) else {
         return None;
     };
     let (Some(second), Some(first)) = (seats.pop(), seats.pop()) else {
@@ -94,7 +94,7 @@ fn outcome(
     zone: &Zone,
     journal: &Journal,
 ) -> Option<SharedRun> {
-    let check = replay_journal(alloc, config, 2, journal).ok()?;
+    let check = replay_journal(alloc, ZoneConfig { ..config }, 2, journal).ok()?;
     Some(SharedRun {
         free_pages: zone.counts().free,
         requests: journal.len(),
@@ -109,7 +109,7 @@ pub fn share_a_zone<R: Threads + Wait + Sync>(
     alloc: Global,
     config: ZoneConfig<'_>,
 ) -> Option<SharedRun> {
-    let (zone, first, second) = opened(alloc, config)?;
+    let (zone, first, second) = opened(alloc, ZoneConfig { ..config })?;
     let (zone, journal) = run(rt, alloc, zone, &mut [first, second])?;
-    outcome(alloc, config, &zone, &journal)
+    outcome(alloc, ZoneConfig { ..config }, &zone, &journal)
 }

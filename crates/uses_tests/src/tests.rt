@@ -4,9 +4,9 @@ ghost use Rattle.std.specs.Prelude.{ℕ, None};
 use arrayvec::ArrayVec;
 use std::test::*;
 use uses::{
-    PagePool, give_run, one_page, relay, share_a_zone, show, take_below, take_huge_page, take_two,
+    HugePool, PagePool, give_run, one_page, relay, share_a_zone, show, take_below, take_huge_page, take_two,
 };
-use zp_model::{Level, Order, PageNo};
+use zp_model::{Largest, Level, Order, PageNo};
 use zp_text::{WriteFault, Writer};
 use zp_zone::{Zone, ZoneConfig};
 
@@ -15,6 +15,7 @@ const DMA: ZoneConfig<'static> = ZoneConfig {
     base: 0,
     pages: 1024,
     min: 511,
+    largest: Largest::usual(),
 };
 
 #[test]
@@ -33,6 +34,26 @@ fn a_pool_gives_pages_and_takes_its_own_back(rt: HostRuntime) -> Result<(), Fail
     assert!(rt; pool.put(page));
     assert!(rt; !pool.put(page));
     assert_eq!(rt; pool.free_pages(), 1024);
+    Ok(())
+}
+
+#[test]
+fn a_pool_of_huge_blocks_has_no_larger_ones(rt: HostRuntime) -> Result<(), Fail> {
+    let made = HugePool::new(rt.alloc(), 4);
+    let mut pool = made.ok().ok_or("the pool can be made")?;
+    assert_eq!(rt; pool.free_blocks(), 4);
+    for page in [1536, 1024, 512, 0] {
+        assert!(rt; pool.take() == Some(PageNo::new(page)));
+    }
+    assert!(rt; pool.take().is_none());
+    assert!(rt; pool.put(PageNo::new(0)));
+    assert!(rt; pool.put(PageNo::new(512)));
+    assert!(rt; !pool.put(PageNo::new(512)));
+    assert!(rt; !pool.put(PageNo::new(1025)));
+    assert_eq!(rt; pool.free_blocks(), 2);
+    assert!(rt; HugePool::new(rt.alloc(), 0).is_err());
+    assert!(rt; HugePool::new(rt.alloc(), 128).is_ok());
+    assert!(rt; HugePool::new(rt.alloc(), 129).is_err());
     Ok(())
 }
 
