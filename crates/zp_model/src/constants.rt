@@ -11,17 +11,8 @@ pub const LARGEST_BLOCK_PAGES: u32 = 1 << LARGEST_ORDER;
 /// How many orders there are.
 pub const ORDERS: usize = LARGEST_ORDER as usize + 1;
 
-/// The pages of a pageblock, which is as large as the largest block.
-pub const PAGEBLOCK_PAGES: u32 = 1 << LARGEST_ORDER;
-
 /// How many migrate types there are.
 pub const TYPES: usize = 3;
-
-/// The least order of a free block that a Movable request may claim a pageblock by, half of the largest.
-pub const LEAST_MOVABLE_CLAIM: u8 = LARGEST_ORDER / 2;
-
-/// The free pages that a pageblock has to have for a claim, half of its pages.
-pub const CLAIM_PAGES: u32 = PAGEBLOCK_PAGES / 2;
 
 /// The largest number of pages of a zone.
 pub const MAX_PAGES: u32 = 65536;

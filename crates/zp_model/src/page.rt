@@ -5,7 +5,7 @@ ghost use Rattle.std.specs.Prelude.{◌≡◌, ◌<◌, ◌≤◌, ◌+◌, ◌-
 ghost use Rattle.zp_model.specs.Block.{head, IsBuddy};
 
 use crate::Order;
-use crate::constants::{MAX_PAGES, PAGEBLOCK_PAGES};
+use crate::constants::MAX_PAGES;
 use std::marker::Model;
 
 /// A page, counted from the zone's base: 0 to 65,535.
@@ -61,13 +61,6 @@ impl PageAt {
         ensures within { result < MAX_PAGES }
     {
         self.number as usize
-    }
-
-    /// The number of the pageblock that the page lies in.
-    pub const fn pageblock(self) -> usize
-        ensures { result ≡ self / PAGEBLOCK_PAGES }
-    {
-        self.index() / PAGEBLOCK_PAGES as usize
     }
 
     /// The head of the aligned run of this order that the page lies in.
