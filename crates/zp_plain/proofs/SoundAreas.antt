@@ -1,24 +1,21 @@
 -- Areas that are opened, changed and settled are sound.
-use Rattle.std.proofs.Common.{ℕ, ◌≡◌, ◌≤◌, refl, sym, ◌∙◌, ap, arith, Bool, List, length, length-set, ◌+◌, ◌-◌, ◌/◌, ◌%◌, ◌^◌, ◌<◌, ◌==◌, inl, inr, true, [], replicate}
+use Rattle.std.proofs.Common.{ℕ, ◌≡◌, ◌≤◌, refl, sym, ◌∙◌, ap, arith, Bool, List, length, length-set, ◌==◌, inl, inr, true, [], replicate}
 use Rattle.zp_model.specs.declared.constants.TheConstants.{MAX_PAGES}
 use Rattle.zp_model.specs.declared.migrate_type.MigrateType.{MigrateType}
-use Rattle.zp_model.specs.Area.{Area, pageblocks_of, settle, lists_count, opening, pageblock_pages}
+use Rattle.zp_model.specs.Area.{Area, pageblocks_of, settle, lists_count, opening}
 use Rattle.zp_model.specs.Take.{give, leave, retype}
 use Rattle.zp_model.specs.Lawful.{IsListedArea}
 use Rattle.zp_model.proofs.Covers.{length-with, length-without}
 use Rattle.zp_laws.proofs.Settling.{belongs_below, opening_lists}
 use Rattle.zp_laws.proofs.Areas.{free-give, kinds-give, lists-give, free-leave, kinds-leave, lists-leave, free-retype, kinds-retype, lists-retype, largest-give, largest-leave, largest-retype}
 use Rattle.zp_plain.specs.Sound.{IsSoundArea, IsTable}
-use Rattle.std.specs.Int.{div_ceil}
 use Rattle.std.specs.List.{IsDistinct}
-use Rattle.std.proofs.lemmas.Nat.{shr_split, pow_pos, mod_below}
-use Rattle.std.proofs.lemmas.Bool.{cases_lt, cases_eq, false≢true}
+use Rattle.std.proofs.lemmas.Bool.{cases_lt, false≢true}
 use Rattle.std.proofs.lemmas.List.{get_or-replicate, get_or_past, length-replicate}
 use Rattle.zp_model.specs.declared.migrate_type.MigrateType.TheVariants.{Movable}
 use Rattle.zp_model.specs.declared.state.State.TheVariants.{Tail}
 use Rattle.zp_model.specs.Rows.{list_at, stands_in}
 use Rattle.zp_model.specs.Frames.{IsFramed, with_area}
-use Rattle.zp_model.proofs.Heads.{number_within}
 use Rattle.zp_laws.proofs.Opening.{free-opening, largest-opening, kinds-opening}
 use Rattle.zp_plain.proofs.Framed.{framed_with}
 
@@ -52,16 +49,6 @@ sound_leave a h k x =
 pub sound_retype : (a : Area) (b : ℕ) (t : MigrateType) → IsSoundArea a → IsSoundArea (retype a b t)
 sound_retype a b t x =
     sound_as a (retype a b t) x (largest-retype a b t) (ap length (free-retype a b t)) (ap length (kinds-retype a b t) ∙ length-set a.kinds b t) (lists-retype a b t x.lists)
-
--- how many pageblocks n pages take up, as code reckons it
-pub round_up : (m n : ℕ) → div_ceil n (pageblock_pages m) ≡ pageblocks_of m n
-round_up m n =
-    let s = shr_split n m in
-    let r : n % 2 ^ m < 2 ^ m = mod_below n (2 ^ m) (pow_pos m) in
-    elim (cases_eq (n % 2 ^ m) 0) [
-      | inl even ↦ omega (arith, number_within (n / 2 ^ m) m (n + (2 ^ m - 1)) (omega arith) (omega arith))
-      | inr some ↦ omega (arith, number_within (n / 2 ^ m + 1) m (n + (2 ^ m - 1)) (omega arith) (omega arith))
-    ]
 
 none_at : (n r : ℕ) → list_at (replicate n []) r ≡ []
 none_at n r = elim (cases_lt r n) [

@@ -1,41 +1,47 @@
 //! Free lists and what settling makes of them: what `Area.antt` says, list by list.
 ghost use Rattle.std.specs.Prelude.{◌≡◌, ◌<◌, ◌≤◌, ◌==◌, ◌&&◌, ◌/◌, ℕ, true, not, [], ◌++◌, length, filter};
 ghost use Rattle.std.specs.List.{IsDistinct};
-ghost use Rattle.zp_model.specs.declared.constants.TheConstants.{LARGEST_ORDER, MAX_PAGES, PAGEBLOCK_PAGES};
+ghost use Rattle.zp_model.specs.declared.constants.TheConstants.{MAX_PAGES};
 ghost use Rattle.zp_model.specs.Rows.{stands_in};
-ghost use Rattle.zp_model.specs.Area.{Area, belongs, falling, kind_at, list_number, lists_count, pageblocks_of, settle, settled, size_in};
+ghost use Rattle.zp_model.specs.Area.{Area, belongs, falling, kind_at, list_number, lists_count, pageblock_pages, pageblocks_of, settle, settled, size_in};
 ghost use Rattle.zp_plain.specs.Sound.{IsTable};
 
 use crate::block::{has, is_max, order_of};
 use crate::page_row::PageRow;
 use std::mem;
-use zp_model::{MAX_PAGES, MigrateType, ORDERS, Order, PAGEBLOCK_PAGES, PageAt, TYPES};
+use zp_model::{Largest, MAX_PAGES, MigrateType, Order, PageAt, TYPES};
 
 /// The number of the free list of an order and a type.
 pub fn list_of(order: Order, kind: MigrateType) -> usize
-    ensures number { result ≡ list_number order kind }
-    ensures within { result < lists_count LARGEST_ORDER }
+    ensures { result ≡ list_number order kind }
 {
-    TYPES * usize::from(order.number()) + kind.number()
+    TYPES * order.index() + kind.number()
 }
 
 /// The type of a page's pageblock.
-pub fn kind_at(kinds: &[MigrateType], head: PageAt) -> MigrateType
-    requires { head / PAGEBLOCK_PAGES < length kinds.now }
-    ensures { result ≡ kind_at LARGEST_ORDER kinds.now head }
+pub fn kind_at(largest: Largest, kinds: &[MigrateType], head: PageAt) -> MigrateType
+    requires { head / pageblock_pages largest < length kinds.now }
+    ensures { result ≡ kind_at largest kinds.now head }
 {
-    kinds[head.pageblock()]
+    kinds[largest.pageblock_of(head)]
 }
 
 /// Whether a page belongs on a list.
 #[tactic(auto, unfolding(zp_model::specs::Area::belongs))]
-fn belongs(free: &[bool], kinds: &[MigrateType], list: usize, head: PageAt) -> bool
+fn belongs(
+    largest: Largest,
+    free: &[bool],
+    kinds: &[MigrateType],
+    list: usize,
+    head: PageAt,
+) -> bool
     requires head { head < length free.now }
-    requires typed { length kinds.now ≡ pageblocks_of LARGEST_ORDER (length free.now) }
-    requires list { list < lists_count LARGEST_ORDER }
-    ensures { result ≡ belongs LARGEST_ORDER free.now kinds.now list head }
+    requires typed { length kinds.now ≡ pageblocks_of largest (length free.now) }
+    requires list { list < lists_count largest }
+    ensures { result ≡ belongs largest free.now kinds.now list head }
 {
-    is_max(free, head, order_of(list / TYPES)) && kind_at(kinds, head).number() == list % TYPES
+    is_max(largest, free, head, order_of(list / TYPES))
+        && kind_at(largest, kinds, head).number() == list % TYPES
 }
 
 /// Whether a page stands on a list.
@@ -46,44 +52,65 @@ pub fn stands_in(page: PageAt, pages: &[PageAt]) -> bool
 }
 
 /// Whether a page belongs on a list and is not on the old one.
-fn is_fresh(free: &[bool], kinds: &[MigrateType], list: usize, old: &[PageAt], head: PageAt) -> bool
+fn is_fresh(
+    largest: Largest,
+    free: &[bool],
+    kinds: &[MigrateType],
+    list: usize,
+    old: &[PageAt],
+    head: PageAt,
+) -> bool
     requires small { length free.now ≤ MAX_PAGES }
     requires head { head < length free.now }
-    requires typed { length kinds.now ≡ pageblocks_of LARGEST_ORDER (length free.now) }
-    requires list { list < lists_count LARGEST_ORDER }
-    ensures { result ≡ (belongs LARGEST_ORDER free.now kinds.now list head && not (stands_in head old.now)) }
+    requires typed { length kinds.now ≡ pageblocks_of largest (length free.now) }
+    requires list { list < lists_count largest }
+    ensures { result ≡ (belongs largest free.now kinds.now list head && not (stands_in head old.now)) }
 {
-    belongs(free, kinds, list, head) && !stands_in(head, old)
+    belongs(largest, free, kinds, list, head) && !stands_in(head, old)
 }
 
 /// Puts the heads that belong on a list and are not on the old one onto an empty list, the highest first.
-fn put_fresh(free: &[bool], kinds: &[MigrateType], list: usize, old: &[PageAt], new: &mut PageRow)
+fn put_fresh(
+    largest: Largest,
+    free: &[bool],
+    kinds: &[MigrateType],
+    list: usize,
+    old: &[PageAt],
+    new: &mut PageRow,
+)
     requires small { length free.now ≤ MAX_PAGES }
-    requires typed { length kinds.now ≡ pageblocks_of LARGEST_ORDER (length free.now) }
-    requires list { list < lists_count LARGEST_ORDER }
+    requires typed { length kinds.now ≡ pageblocks_of largest (length free.now) }
+    requires list { list < lists_count largest }
     requires empty { new.old ≡ [] }
-    ensures { new.new ≡ filter (λ h. belongs LARGEST_ORDER free.now kinds.now list h && not (stands_in h old.now)) (falling (length free.now)) }
+    ensures { new.new ≡ filter (λ h. belongs largest free.now kinds.now list h && not (stands_in h old.now)) (falling (length free.now)) }
 {
     let mut left = free.len();
     'fresh: while left > 0 {
         left -= 1;
         let head = PageAt::at(left as u32);
-        if is_fresh(free, kinds, list, old, head) {
+        if is_fresh(largest, free, kinds, list, old, head) {
             new.push(head);
         }
     }
 }
 
 /// Puts those of the old heads that still belong on a list behind the fresh ones, in their old order.
-fn put_kept(free: &[bool], kinds: &[MigrateType], list: usize, old: &[PageAt], new: &mut PageRow)
-    requires typed { length kinds.now ≡ pageblocks_of LARGEST_ORDER (length free.now) }
-    requires list { list < lists_count LARGEST_ORDER }
+fn put_kept(
+    largest: Largest,
+    free: &[bool],
+    kinds: &[MigrateType],
+    list: usize,
+    old: &[PageAt],
+    new: &mut PageRow,
+)
+    requires typed { length kinds.now ≡ pageblocks_of largest (length free.now) }
+    requires list { list < lists_count largest }
     requires inside { (p : ℕ) → stands_in p old.now ≡ true → p < length free.now }
-    requires room { length (new.old ++ filter (belongs LARGEST_ORDER free.now kinds.now list) old.now) ≤ MAX_PAGES }
-    ensures { new.new ≡ new.old ++ filter (belongs LARGEST_ORDER free.now kinds.now list) old.now }
+    requires room { length (new.old ++ filter (belongs largest free.now kinds.now list) old.now) ≤ MAX_PAGES }
+    ensures { new.new ≡ new.old ++ filter (belongs largest free.now kinds.now list) old.now }
 {
     'kept: for head in old {
-        if belongs(free, kinds, list, *head) {
+        if belongs(largest, free, kinds, list, *head) {
             new.push(*head);
         }
     }
@@ -91,39 +118,53 @@ fn put_kept(free: &[bool], kinds: &[MigrateType], list: usize, old: &[PageAt], n
 
 /// Writes a list, settled: first the heads that belong and are not on the old one, the highest first, then those of the old
 /// ones that still belong, in their old order.
-fn settle_list(free: &[bool], kinds: &[MigrateType], list: usize, old: &[PageAt], new: &mut PageRow)
+fn settle_list(
+    largest: Largest,
+    free: &[bool],
+    kinds: &[MigrateType],
+    list: usize,
+    old: &[PageAt],
+    new: &mut PageRow,
+)
     requires small { length free.now ≤ MAX_PAGES }
-    requires typed { length kinds.now ≡ pageblocks_of LARGEST_ORDER (length free.now) }
-    requires list { list < lists_count LARGEST_ORDER }
+    requires typed { length kinds.now ≡ pageblocks_of largest (length free.now) }
+    requires list { list < lists_count largest }
     requires distinct { IsDistinct (λ x y. x == y) old.now }
     requires inside { (p : ℕ) → stands_in p old.now ≡ true → p < length free.now }
     requires empty { new.old ≡ [] }
-    ensures { new.new ≡ settled LARGEST_ORDER free.now kinds.now list old.now }
+    ensures { new.new ≡ settled largest free.now kinds.now list old.now }
 {
-    put_fresh(free, kinds, list, old, new);
-    put_kept(free, kinds, list, old, new);
+    put_fresh(largest, free, kinds, list, old, new);
+    put_kept(largest, free, kinds, list, old, new);
 }
 
 /// Settles the lists.
-pub fn settle(free: &[bool], kinds: &[MigrateType], lists: &mut Vec<PageRow>, scratch: &mut PageRow)
-    requires { IsTable LARGEST_ORDER free.now kinds.now lists.old.items }
-    ensures { lists.new.items ≡ (settle (record { largest = LARGEST_ORDER; free = free.now; kinds = kinds.now; lists = lists.old.items })).lists }
+pub fn settle(
+    largest: Largest,
+    free: &[bool],
+    kinds: &[MigrateType],
+    lists: &mut Vec<PageRow>,
+    scratch: &mut PageRow,
+)
+    requires { IsTable largest free.now kinds.now lists.old.items }
+    ensures { lists.new.items ≡ (settle (record { largest = largest; free = free.now; kinds = kinds.now; lists = lists.old.items })).lists }
 {
-    'lists: for list in 0..TYPES * ORDERS {
+    'lists: for list in 0..largest.lists() {
         scratch.clear();
-        settle_list(free, kinds, list, lists[list].as_slice(), scratch);
+        settle_list(largest, free, kinds, list, lists[list].as_slice(), scratch);
         mem::swap(&mut lists[list], scratch);
     }
 }
 
 /// How many pages of a pageblock are in the set.
-pub fn size_in(set: &[bool], pageblock: usize) -> u32
+pub fn size_in(largest: Largest, set: &[bool], pageblock: usize) -> u32
     requires { pageblock < MAX_PAGES }
-    ensures { result ≡ size_in LARGEST_ORDER set.now pageblock }
+    ensures { result ≡ size_in largest set.now pageblock }
 {
-    let first = pageblock * PAGEBLOCK_PAGES as usize;
+    let length = largest.pageblock_pages() as usize;
+    let first = pageblock * length;
     let mut pages = 0;
-    'pages: for i in first..first + PAGEBLOCK_PAGES as usize {
+    'pages: for i in first..first + length {
         if has(set, i) {
             pages += 1;
         }

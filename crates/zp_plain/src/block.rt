@@ -3,7 +3,7 @@ ghost use Rattle.std.specs.Prelude.{◌≡◌, ◌<◌, ◌≤◌, ◌+◌, leng
 ghost use Rattle.zp_model.specs.declared.constants.TheConstants.{LARGEST_ORDER, MAX_PAGES};
 ghost use Rattle.zp_model.specs.Block.{has, has_run, in_run, is_max, head as head_of, size, with_run, without};
 
-use zp_model::{Order, PageAt};
+use zp_model::{Largest, Order, PageAt};
 
 /// Whether a page is in the set.
 pub fn has(set: &[bool], page: usize) -> bool
@@ -37,14 +37,15 @@ fn has_double(set: &[bool], head: PageAt, order: Order) -> bool
     )
 }
 
-/// Whether this is a maximal block of the set.
+/// Whether this is a maximal block of the set, where no block has an order above the largest.
 #[tactic(auto, unfolding(zp_model::specs::Block::is_max))]
-pub fn is_max(set: &[bool], head: PageAt, order: Order) -> bool
-    ensures { result ≡ is_max LARGEST_ORDER set.now head order }
+pub fn is_max(largest: Largest, set: &[bool], head: PageAt, order: Order) -> bool
+    ensures { result ≡ is_max largest set.now head order }
 {
-    head.number() % order.pages() == 0
+    order.number() <= largest.number()
+        && head.number() % order.pages() == 0
         && has_run(set, head, order)
-        && (order == Order::largest() || !has_double(set, head, order))
+        && (order.number() == largest.number() || !has_double(set, head, order))
 }
 
 /// The order of this number.
@@ -52,7 +53,7 @@ pub fn order_of(number: usize) -> Order
     requires { number ≤ LARGEST_ORDER }
     ensures { result ≡ number }
 {
-    Order::new(number as u8).unwrap()
+    Order::at(number as u8)
 }
 
 /// Whether a page lies in the run.

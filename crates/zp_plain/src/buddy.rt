@@ -1,6 +1,5 @@
 //! The free area of one zone.
 ghost use Rattle.std.specs.Prelude.{ℕ, ◌≡◌, ◌<◌, ◌≤◌, ◌^◌, ◌↔◌, false, length, slice_set, IfOk, IfSome, IsTrue};
-ghost use Rattle.zp_model.specs.declared.constants.TheConstants.{LARGEST_ORDER};
 ghost use Rattle.zp_model.specs.Block.{has, size};
 ghost use Rattle.zp_model.specs.Info.{counts_of};
 ghost use Rattle.zp_model.specs.Rows.{IsOn, after, front, state_at};
@@ -16,7 +15,7 @@ use crate::page_row::{PageRow, empty_rows};
 use crate::take::PlainArea;
 use std::alloc::{AllocError, Global};
 use std::marker::Model;
-use zp_model::{Counts, MAX_PAGES, MigrateType, Order, PageAt, State};
+use zp_model::{Counts, Largest, MAX_PAGES, MigrateType, Order, PageAt, State};
 
 /// The free area of a zone, what is noted of its pages, and further lists of pages that are not free. Contracts see the
 /// plain free area with these.
@@ -38,16 +37,21 @@ impl Model for Buddy {
 }
 
 impl Buddy {
-    /// A zone of so many pages, all free, with so many empty further lists.
-    pub fn new(alloc: Global, pages: u32, side: usize) -> Result<Buddy, AllocError>
+    /// A zone of so many pages, all free, whose largest block has this order, with so many empty further lists.
+    pub fn new(
+        alloc: Global,
+        pages: u32,
+        largest: Largest,
+        side: usize,
+    ) -> Result<Buddy, AllocError>
         requires pages { pages ≤ MAX_PAGES }
         requires side { side < 2 ^ 32 }
-        ensures { IfOk result (λ b. b ≡ frames_opening LARGEST_ORDER pages side) }
+        ensures { IfOk result (λ b. b ≡ frames_opening largest pages side) }
     {
-        let area = PlainArea::new(alloc, pages)?;
+        let area = PlainArea::new(alloc, pages, largest)?;
         let sides = empty_rows(alloc, side)?;
         let mut notes = Vec::from_elem(alloc, State::Tail, pages as usize)?;
-        restate_all(area.marks(), &mut notes);
+        restate_all(largest, area.marks(), &mut notes);
         Ok(Buddy { area, notes, sides })
     }
 
@@ -67,7 +71,7 @@ impl Buddy {
         let chosen = choose(&self.area, order, kind)?;
         let head = chosen.head;
         self.area.take_chosen(chosen, order, kind);
-        restate_all(self.area.marks(), &mut self.notes);
+        restate_all(self.area.largest(), self.area.marks(), &mut self.notes);
         Some(head)
     }
 
@@ -83,7 +87,7 @@ impl Buddy {
         ensures kept { (h k : ℕ) → IsClear self.old h k → IsClear self.new h k }
     {
         let head = self.area.take_low(order)?;
-        restate_all(self.area.marks(), &mut self.notes);
+        restate_all(self.area.largest(), self.area.marks(), &mut self.notes);
         Some(head)
     }
 
@@ -99,7 +103,8 @@ impl Buddy {
     pub fn is_clear(&self, at: PageAt, order: Order) -> bool
         ensures { IsTrue result ↔ IsClear self.now at order }
     {
-        is_clear(self.area.marks(), &self.sides, at, order)
+        let largest = self.area.largest();
+        is_clear(largest, self.area.marks(), &self.sides, at, order)
     }
 
     /// Gives back a block.
@@ -109,7 +114,7 @@ impl Buddy {
     {
         self.area.give(at, order);
         self.notes[at.index()] = State::Tail;
-        restate_all(self.area.marks(), &mut self.notes);
+        restate_all(self.area.largest(), self.area.marks(), &mut self.notes);
     }
 
     /// How many pages the zone has. What is noted as free is what is free.
@@ -171,6 +176,6 @@ impl Buddy {
     pub fn counts(&self) -> Counts
         ensures { result ≡ counts_of self.now.area.largest self.now.area.free }
     {
-        counts(self.area.marks())
+        counts(self.area.largest(), self.area.marks())
     }
 }

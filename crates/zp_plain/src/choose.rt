@@ -9,7 +9,7 @@ ghost use Rattle.zp_plain.specs.Chosen.{as_chosen, claimable_at, front_at};
 use crate::area::size_in;
 use crate::block::order_of;
 use crate::take::PlainArea;
-use zp_model::{CLAIM_PAGES, LEAST_MOVABLE_CLAIM, MigrateType, Order, PageAt};
+use zp_model::{MigrateType, Order, PageAt};
 
 /// A chosen block's head, and whether its pageblock is claimed.
 #[derive(Clone, Copy, Drop)]
@@ -35,7 +35,7 @@ fn first_front(area: &PlainArea, order: Order, kinds: &[MigrateType]) -> Option<
     ensures { result ≡ first_of (λ o. first_of (front_at area.now o) kinds.now) (orders_from area.now.largest order) }
 {
     let end = area.orders();
-    'orders: for number in usize::from(order.number())..end {
+    'orders: for number in order.index()..end {
         if let Some(head) = front_of(area, order_of(number), kinds) {
             return Some(head);
         }
@@ -61,9 +61,9 @@ fn borrow(area: &PlainArea, order: Order, kind: MigrateType) -> Option<PageAt>
 fn is_claimable(area: &PlainArea, kind: MigrateType, order: Order, head: PageAt) -> bool
     ensures { result ≡ is_claimable area.now kind order head }
 {
-    let free = area.marks();
-    (order.number() >= LEAST_MOVABLE_CLAIM || kind != MigrateType::Movable)
-        && size_in(free, head.pageblock()) >= CLAIM_PAGES
+    let largest = area.largest();
+    (order.number() >= largest.least_movable_claim() || kind != MigrateType::Movable)
+        && size_in(largest, area.marks(), largest.pageblock_of(head)) >= largest.claim_pages()
 }
 
 /// The first block of a list that may be claimed.
@@ -105,7 +105,7 @@ fn claim(area: &PlainArea, order: Order, kind: MigrateType) -> Option<PageAt>
     ensures { result ≡ claim area.now order kind }
 {
     let mut left = area.orders();
-    'orders: while left > usize::from(order.number()) {
+    'orders: while left > order.index() {
         left -= 1;
         if let Some(head) = claimable_of(area, kind, order_of(left), &kind.fallbacks()) {
             return Some(head);

@@ -1,6 +1,6 @@
 //! What is noted of each page, and which blocks are clear: what `Frames.antt` says, page by page.
 ghost use Rattle.std.specs.Prelude.{◌≡◌, ◌≤◌, ◌+◌, ◌^◌, ◌↔◌, ℕ, true, length, IsTrue};
-ghost use Rattle.zp_model.specs.declared.constants.TheConstants.{LARGEST_ORDER, MAX_PAGES};
+ghost use Rattle.zp_model.specs.declared.constants.TheConstants.{MAX_PAGES};
 ghost use Rattle.zp_model.specs.Block.{IsBlock};
 ghost use Rattle.zp_model.specs.Rows.{list_at, stands_in};
 ghost use Rattle.zp_model.specs.Frames.{restate, restated, IsClear};
@@ -10,7 +10,7 @@ use crate::area::stands_in;
 use crate::block::has;
 use crate::block_set::block_at;
 use crate::page_row::PageRow;
-use zp_model::{MAX_PAGES, Order, PageAt, State};
+use zp_model::{Largest, MAX_PAGES, Order, PageAt, State};
 
 /// What is noted of a page that heads this free block, or none.
 fn restate(block: Option<Order>, note: State) -> State
@@ -28,21 +28,23 @@ fn restate(block: Option<Order>, note: State) -> State
 }
 
 /// Notes of each page whether it heads a free block.
-pub fn restate_all(free: &[bool], notes: &mut Vec<State>)
+pub fn restate_all(largest: Largest, free: &[bool], notes: &mut Vec<State>)
     requires pages { length notes.old.items ≡ length free.now }
     requires small { length free.now ≤ MAX_PAGES }
-    ensures { notes.new.items ≡ restated LARGEST_ORDER free.now notes.old.items }
+    ensures { notes.new.items ≡ restated largest free.now notes.old.items }
 {
     'pages: for i in 0..notes.len() {
-        notes[i] = restate(block_at(free, PageAt::at(i as u32)), notes[i]);
+        notes[i] = restate(block_at(largest, free, PageAt::at(i as u32)), notes[i]);
     }
 }
 
 /// Whether this is a block of a zone of so many pages.
-fn is_block(pages: usize, head: PageAt, order: Order) -> bool
-    ensures { IsTrue result ↔ IsBlock LARGEST_ORDER pages head order }
+fn is_block(largest: Largest, pages: usize, head: PageAt, order: Order) -> bool
+    ensures { IsTrue result ↔ IsBlock largest pages head order }
 {
-    head.number() % order.pages() == 0 && head.index() + order.pages() as usize <= pages
+    order.number() <= largest.number()
+        && head.number() % order.pages() == 0
+        && head.index() + order.pages() as usize <= pages
 }
 
 /// Whether a page stands on a further list.
@@ -71,9 +73,15 @@ fn is_clear_run(free: &[bool], sides: &[PageRow], head: PageAt, order: Order) ->
 }
 
 /// Whether this is a block of the zone of which no page is free or on a further list.
-pub fn is_clear(free: &[bool], sides: &[PageRow], head: PageAt, order: Order) -> bool
+pub fn is_clear(
+    largest: Largest,
+    free: &[bool],
+    sides: &[PageRow],
+    head: PageAt,
+    order: Order,
+) -> bool
     requires { length free.now ≤ MAX_PAGES }
-    ensures { IsTrue result ↔ IsClear (open_frames LARGEST_ORDER free.now sides.now) head order }
+    ensures { IsTrue result ↔ IsClear (open_frames largest free.now sides.now) head order }
 {
-    is_block(free.len(), head, order) && is_clear_run(free, sides, head, order)
+    is_block(largest, free.len(), head, order) && is_clear_run(free, sides, head, order)
 }

@@ -1,33 +1,33 @@
 //! Counts of free blocks: what `Info.antt` says.
 ghost use Rattle.std.specs.Prelude.{◌≡◌, ◌≤◌, length};
-ghost use Rattle.zp_model.specs.declared.constants.TheConstants.{LARGEST_ORDER, MAX_PAGES};
+ghost use Rattle.zp_model.specs.declared.constants.TheConstants.{MAX_PAGES};
 ghost use Rattle.zp_model.specs.Info.{blocks_of_order, counts_of};
 
 use crate::block::{is_max, order_of, size};
-use zp_model::{Counts, ORDERS, Order, PageAt};
+use zp_model::{Counts, Largest, ORDERS, Order, PageAt};
 
 /// How many maximal blocks of this order the set has.
-fn blocks_of_order(set: &[bool], order: Order) -> u32
+fn blocks_of_order(largest: Largest, set: &[bool], order: Order) -> u32
     requires { length set.now ≤ MAX_PAGES }
-    ensures { result ≡ blocks_of_order LARGEST_ORDER set.now order }
+    ensures { result ≡ blocks_of_order largest set.now order }
 {
     let mut blocks = 0;
     'heads: for i in 0..set.len() {
-        if is_max(set, PageAt::at(i as u32), order) {
+        if is_max(largest, set, PageAt::at(i as u32), order) {
             blocks += 1;
         }
     }
     blocks
 }
 
-/// How many maximal blocks of each order the free pages have, and how many free pages there are.
-pub fn counts(free: &[bool]) -> Counts
+/// How many maximal blocks of each order the free pages have, none above the largest, and how many free pages there are.
+pub fn counts(largest: Largest, free: &[bool]) -> Counts
     requires { length free.now ≤ MAX_PAGES }
-    ensures { result ≡ counts_of LARGEST_ORDER free.now }
+    ensures { result ≡ counts_of largest free.now }
 {
     let mut by_order = [0u32; ORDERS];
     'orders: for k in 0..ORDERS {
-        by_order[k] = blocks_of_order(free, order_of(k));
+        by_order[k] = blocks_of_order(largest, free, order_of(k));
     }
     Counts {
         by_order,

@@ -1,30 +1,29 @@
 use Rattle.std.proofs.Common.{◌≡◌, ◌&&◌, ℕ, not, length, List, Bool, arith, sym, ◌∙◌}
 use Rattle.std.proofs.lemmas.List.{append-nil}
-use Rattle.zp_model.specs.declared.constants.TheConstants.{LARGEST_ORDER}
 use Rattle.zp_model.specs.declared.migrate_type.MigrateType.{MigrateType}
 use Rattle.zp_model.specs.Rows.{stands_in}
 use Rattle.zp_model.specs.Area.{belongs}
 use Rattle.zp_plain.proofs.Settled.{put, skip, room, falling_begins, length-falling-le}
 use Rattle.zp_plain.proofs.area.put_fresh.Goals as goal
 
-abbrev fresh_on : List Bool → List MigrateType → ℕ → List ℕ → ℕ → Bool
-fresh_on free kinds list old h = belongs LARGEST_ORDER free kinds list h && not (stands_in h old)
+abbrev fresh_on : ℕ → List Bool → List MigrateType → ℕ → List ℕ → ℕ → Bool
+fresh_on m free kinds list old h = belongs m free kinds list h && not (stands_in h old)
 
 pub push-requires : goal.push-requires
 push-requires c =
-    let lt = room (fresh_on c.args.free.now c.args.kinds.now c.args.list c.args.old.now) _ _ _ _ _ (falling_begins _ _ c.at-head.ensures c.fresh-test.true) c.fresh.invariant.fresh (sym c.is_fresh.ensures ∙ c.if-is_fresh.true) in
-    omega (arith, lt, length-falling-le (fresh_on c.args.free.now c.args.kinds.now c.args.list c.args.old.now) (length c.args.free.now))
+    let lt = room (fresh_on c.args.largest c.args.free.now c.args.kinds.now c.args.list c.args.old.now) _ _ _ _ _ (falling_begins _ _ c.at-head.ensures c.fresh-test.true) c.fresh.invariant.fresh (sym c.is_fresh.ensures ∙ c.if-is_fresh.true) in
+    omega (arith, lt, length-falling-le (fresh_on c.args.largest c.args.free.now c.args.kinds.now c.args.list c.args.old.now) (length c.args.free.now))
 
 pub fresh-preserved-then-is_fresh : goal.fresh-preserved-then-is_fresh
 fresh-preserved-then-is_fresh c = record {
   within = omega (arith, c.fresh.invariant.within);
-  fresh = rw c.push.ensures (put (fresh_on c.args.free.now c.args.kinds.now c.args.list c.args.old.now) _ _ _ _ _ (falling_begins _ _ c.at-head.ensures c.fresh-test.true) c.fresh.invariant.fresh (sym c.is_fresh.ensures ∙ c.if-is_fresh.true));
+  fresh = rw c.push.ensures (put (fresh_on c.args.largest c.args.free.now c.args.kinds.now c.args.list c.args.old.now) _ _ _ _ _ (falling_begins _ _ c.at-head.ensures c.fresh-test.true) c.fresh.invariant.fresh (sym c.is_fresh.ensures ∙ c.if-is_fresh.true));
 }
 
 pub fresh-preserved : goal.fresh-preserved
 fresh-preserved c = record {
   within = omega (arith, c.fresh.invariant.within);
-  fresh = skip (fresh_on c.args.free.now c.args.kinds.now c.args.list c.args.old.now) _ _ _ _ _ (falling_begins _ _ c.at-head.ensures c.fresh-test.true) c.fresh.invariant.fresh (sym c.is_fresh.ensures ∙ c.if-is_fresh.false);
+  fresh = skip (fresh_on c.args.largest c.args.free.now c.args.kinds.now c.args.list c.args.old.now) _ _ _ _ _ (falling_begins _ _ c.at-head.ensures c.fresh-test.true) c.fresh.invariant.fresh (sym c.is_fresh.ensures ∙ c.if-is_fresh.false);
 }
 
 pub returns : goal.returns

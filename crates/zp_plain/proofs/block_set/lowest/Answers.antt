@@ -1,7 +1,6 @@
 use Rattle.std.proofs.Common.{ℕ, ◌≡◌, length, arith, refl, sym, ◌∙◌, ap}
 use Rattle.std.specs.Prelude.{leb}
 use Rattle.std.specs.List.{find}
-use Rattle.zp_model.specs.declared.constants.TheConstants.{LARGEST_ORDER}
 use Rattle.zp_model.specs.Block.{is_max}
 use Rattle.zp_model.specs.BlockSet.{block_if, orders_from}
 use Rattle.zp_plain.proofs.Looking.{look, look_at, lowest_all, range_here, range_none}
@@ -9,13 +8,13 @@ use Rattle.zp_plain.proofs.block_set.lowest.Goals.{After-block_if}
 use Rattle.zp_plain.proofs.block_set.lowest.Goals as goal
 
 pub pages-init : goal.pages-init
-pages-init c = lowest_all LARGEST_ORDER c.args.free.now c.args.order
+pages-init c = lowest_all c.args.largest c.args.free.now c.args.order
 
 -- the look at the page
-seen : (c : After-block_if) → look LARGEST_ORDER c.args.free.now c.args.order c.pages.i ≡ c.block_if.result
+seen : (c : After-block_if) → look c.args.largest c.args.free.now c.args.order c.pages.i ≡ c.block_if.result
 seen c =
-    look_at LARGEST_ORDER c.args.free.now c.args.order c.pages.i (omega arith)
-    ∙ ap (λ (h : ℕ). block_if (λ g j. leb c.args.order j) h (find (is_max LARGEST_ORDER c.args.free.now h) (orders_from LARGEST_ORDER 0))) (sym c.at.ensures) ∙ sym c.block_if.ensures
+    look_at c.args.largest c.args.free.now c.args.order c.pages.i (omega arith)
+    ∙ ap (λ (h : ℕ). block_if (λ g j. leb c.args.order j) h (find (is_max c.args.largest c.args.free.now h) (orders_from c.args.largest 0))) (sym c.at.ensures) ∙ sym c.block_if.ensures
 
 pub returns-in-Some : goal.returns-in-Some
 returns-in-Some c =

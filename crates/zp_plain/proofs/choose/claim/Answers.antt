@@ -10,7 +10,7 @@ pub returns-in-Some : goal.returns-in-Some
 unfolding claim
 returns-in-Some c =
     let f : ℕ → Option ℕ = λ o. first_of (claimable_at c.args.area.now c.args.kind o) (foreign c.args.kind) in
-    let lt : c.args.order < c.orders.left = omega (arith, c.from.ensures, c.number.ensures.same) in
+    let lt : c.args.order < c.orders.left = omega (arith, c.index.ensures.same) in
     let e : f c.order_of.result ≡ Some c.in-Some.head = rw (← c.fallbacks.ensures) (sym c.claimable_of.ensures ∙ c.in-Some.is) in
     sym (c.orders.invariant.rest
     ∙ back_left f c.args.order c.orders.left c.order_of.result c.order_of.ensures lt ∙ rw e refl)
@@ -18,10 +18,9 @@ returns-in-Some c =
 pub orders-preserved : goal.orders-preserved
 orders-preserved c =
     let f : ℕ → Option ℕ = λ o. first_of (claimable_at c.args.area.now c.args.kind o) (foreign c.args.kind) in
-    let lt : c.args.order < c.orders.left = omega (arith, c.from.ensures, c.number.ensures.same) in
+    let lt : c.args.order < c.orders.left = omega (arith, c.index.ensures.same) in
     let e : f c.order_of.result ≡ None = rw (← c.fallbacks.ensures) (sym c.claimable_of.ensures ∙ c.in_default.is) in
     record {
-      from = omega arith;
       within = omega (arith, c.orders.invariant.within);
       rest = c.orders.invariant.rest ∙ back_left f c.args.order c.orders.left c.order_of.result c.order_of.ensures lt ∙ rw e refl;
     }
@@ -29,5 +28,5 @@ orders-preserved c =
 pub returns : goal.returns
 unfolding claim
 returns c =
-    let last : c.orders.left ≤ c.args.order = omega (arith, c.orders.invariant.from, c.from.ensures, c.number.ensures.same) in
+    let last : c.orders.left ≤ c.args.order = omega (arith, c.index.ensures.same) in
     sym (c.orders.invariant.rest ∙ rw (range_none c.args.order c.orders.left last) refl)

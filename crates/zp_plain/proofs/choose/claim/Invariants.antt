@@ -8,7 +8,6 @@ use Rattle.zp_plain.proofs.choose.claim.Given as goal
 -- what is looked for is of one of the orders below `left`
 abbrev pub invariant-orders : goal.invariant-orders
 invariant-orders l = record {
-  from : l.order ≤ l.left;
   within : l.left ≤ 11;
   rest :
       first_of (λ o. first_of (claimable_at l.area l.kind o) (foreign l.kind)) (reverse (orders_from l.area.largest l.order))

@@ -2,7 +2,6 @@ use Rattle.std.proofs.Common.{◌≡◌, length, arith, sym, ◌∙◌, ap, get_
 use Rattle.std.specs.List.{find}
 use Rattle.std.proofs.lemmas.List.{get_or_default}
 use Rattle.std.proofs.lemmas.List.FromFn.{fill_by_all}
-use Rattle.zp_model.specs.declared.constants.TheConstants.{LARGEST_ORDER}
 use Rattle.zp_model.specs.declared.state.State.TheVariants.{Tail}
 use Rattle.zp_model.specs.Block.{is_max}
 use Rattle.zp_model.specs.BlockSet.{max_blocks, orders_from}
@@ -14,8 +13,8 @@ use Rattle.zp_plain.proofs.frames.restate_all.Goals as goal
 pub pages-preserved : goal.pages-preserved
 pages-preserved c =
     let n = c.pages.invariant.pages in
-    let block : c.block_at.result ≡ get_or (max_blocks LARGEST_ORDER c.args.free.now) c.pages.i None =
-    c.block_at.ensures ∙ ap (λ h. find (is_max LARGEST_ORDER c.args.free.now h) (orders_from LARGEST_ORDER 0)) c.at.ensures ∙ sym (max_block LARGEST_ORDER c.args.free.now c.pages.i (omega arith)) in
+    let block : c.block_at.result ≡ get_or (max_blocks c.args.largest c.args.free.now) c.pages.i None =
+    c.block_at.ensures ∙ ap (λ h. find (is_max c.args.largest c.args.free.now h) (orders_from c.args.largest 0)) c.at.ensures ∙ sym (max_block c.args.largest c.args.free.now c.pages.i (omega arith)) in
     let note : c.index.result.now ≡ state_at c.args.notes.now.items c.pages.i =
     c.index.ensures ∙ get_or_default c.pages.notes.items c.pages.i _ Tail (omega arith) ∙ c.pages.invariant.left c.pages.i (omega arith) in
     record {
@@ -29,5 +28,5 @@ pages-preserved c =
 pub returns : goal.returns
 unfolding restated
 returns c =
-    fill_by_all (λ h. restate (get_or (max_blocks LARGEST_ORDER c.args.free.now) h None) (state_at c.args.notes.now.items h)) c.pages.notes.items (length c.args.notes.now.items) Tail
+    fill_by_all (λ h. restate (get_or (max_blocks c.args.largest c.args.free.now) h None) (state_at c.args.notes.now.items h)) c.pages.notes.items (length c.args.notes.now.items) Tail
     c.pages.invariant.pages (λ j lt. c.pages.invariant.done j (omega arith))

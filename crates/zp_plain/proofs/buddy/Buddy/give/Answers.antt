@@ -15,7 +15,7 @@ restate_all-requires-clause-pages c =
 after : (c : goal.After-restate_all) →
     (let f : Frames = record { area = c.give.new.self; states = c.restate_all.new.notes.items; sides = c.self.inside.sides.items } in f)
     ≡ given (record { area = c.self.inside.area; states = c.self.inside.notes.items; sides = c.self.inside.sides.items }) c.args.at c.args.order
-after c = written _ _ _ _ _ _ _ (rw c.index.ensures.same at c.restate_all.ensures) c.marks.ensures.marks c.marks.ensures.largest c.give.ensures.after
+after c = written _ _ _ _ _ _ _ (rw c.index.ensures.same at c.restate_all.ensures) c.marks.ensures.marks (sym c.largest.ensures) c.give.ensures.after
 
 pub returns : goal.returns
 returns c = after c ∙ ap (λ f. given f c.args.at c.args.order) c.self.view_is

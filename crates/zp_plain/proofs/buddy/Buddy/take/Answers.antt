@@ -49,7 +49,7 @@ after : (c : goal.After-restate_all) →
     (let f : Frames = record { area = c.take_chosen.new.self; states = c.restate_all.new.notes.items; sides = c.self.inside.sides.items } in f)
     ≡ with_area (record { area = c.self.inside.area; states = c.self.inside.notes.items; sides = c.self.inside.sides.items })
     (taken c.self.inside.area c.args.order c.args.kind (Some (as_chosen c.in_ok-chosen.chosen)))
-after c = written _ _ _ _ _ _ _ c.restate_all.ensures c.marks.ensures.marks c.marks.ensures.largest c.take_chosen.ensures
+after c = written _ _ _ _ _ _ _ c.restate_all.ensures c.marks.ensures.marks (sym c.largest.ensures) c.take_chosen.ensures
 
 pub returns-clause-answer : goal.returns-clause-answer
 returns-clause-answer c =

@@ -40,7 +40,7 @@ after : (c : goal.After-restate_all) →
     (let f : Frames = record { area = c.take_low.new.self; states = c.restate_all.new.notes.items; sides = c.self.inside.sides.items } in f)
     ≡ with_area (record { area = c.self.inside.area; states = c.self.inside.notes.items; sides = c.self.inside.sides.items })
     (leave c.self.inside.area c.in_ok-head.head c.args.order)
-after c = written _ _ _ _ _ _ _ c.restate_all.ensures c.marks.ensures.marks c.marks.ensures.largest (after_some _ _ _ _ c.in_ok-head.ensures.answer c.in_ok-head.ensures.after)
+after c = written _ _ _ _ _ _ _ c.restate_all.ensures c.marks.ensures.marks (sym c.largest.ensures) (after_some _ _ _ _ c.in_ok-head.ensures.answer c.in_ok-head.ensures.after)
 
 without : (c : goal.After-restate_all) →
     IsWithout (record { area = c.self.inside.area; states = c.self.inside.notes.items; sides = c.self.inside.sides.items })

@@ -1,5 +1,4 @@
 use Rattle.std.proofs.Common.{◌≡◌, length, ◌∙◌, ap, sym, subst}
-use Rattle.zp_model.specs.declared.constants.TheConstants.{LARGEST_ORDER}
 use Rattle.zp_model.specs.Area.{Area}
 use Rattle.zp_model.specs.Take.{give}
 use Rattle.zp_model.proofs.Covers.{length-with}
@@ -13,10 +12,10 @@ settle-requires c =
     (ap length c.deref-2.ensures.value)
 
 after : (c : goal.After-settle) →
-    (let a : Area = record { largest = LARGEST_ORDER; free = c.add_run.new.set.items; kinds = c.self.inside.kinds.items; lists = c.settle.new.lists.items } in a)
-    ≡ give (record { largest = LARGEST_ORDER; free = c.self.inside.free.items; kinds = c.self.inside.kinds.items; lists = c.self.inside.lists.items }) c.args.head c.args.order
+    (let a : Area = record { largest = c.self.inside.largest; free = c.add_run.new.set.items; kinds = c.self.inside.kinds.items; lists = c.settle.new.lists.items } in a)
+    ≡ give (record { largest = c.self.inside.largest; free = c.self.inside.free.items; kinds = c.self.inside.kinds.items; lists = c.self.inside.lists.items }) c.args.head c.args.order
 unfolding give
-after c = rw c.add_run.ensures (settled_as LARGEST_ORDER _ _ _ _ _ _ (c.deref.ensures.value ∙ c.add_run.ensures) c.deref-2.ensures.value c.settle.ensures)
+after c = rw c.add_run.ensures (settled_as c.self.inside.largest _ _ _ _ _ _ (c.deref.ensures.value ∙ c.add_run.ensures) c.deref-2.ensures.value c.settle.ensures)
 
 pub returns-clause-after : goal.returns-clause-after
 returns-clause-after c = after c ∙ ap (λ a. give a c.args.head c.args.order) c.self.view_is

@@ -1,5 +1,4 @@
 use Rattle.std.proofs.Common.{◌≡◌, length, ◌∙◌, ap, sym, subst}
-use Rattle.zp_model.specs.declared.constants.TheConstants.{LARGEST_ORDER}
 use Rattle.zp_model.specs.Area.{Area}
 use Rattle.zp_model.specs.Take.{leave}
 use Rattle.zp_model.proofs.Covers.{length-without}
@@ -13,10 +12,10 @@ settle-requires c =
     (ap length c.deref-2.ensures.value)
 
 after : (c : goal.After-settle) →
-    (let a : Area = record { largest = LARGEST_ORDER; free = c.remove_run.new.set.items; kinds = c.self.inside.kinds.items; lists = c.settle.new.lists.items } in a)
-    ≡ leave (record { largest = LARGEST_ORDER; free = c.self.inside.free.items; kinds = c.self.inside.kinds.items; lists = c.self.inside.lists.items }) c.args.head c.args.order
+    (let a : Area = record { largest = c.self.inside.largest; free = c.remove_run.new.set.items; kinds = c.self.inside.kinds.items; lists = c.settle.new.lists.items } in a)
+    ≡ leave (record { largest = c.self.inside.largest; free = c.self.inside.free.items; kinds = c.self.inside.kinds.items; lists = c.self.inside.lists.items }) c.args.head c.args.order
 unfolding leave
-after c = rw c.remove_run.ensures (settled_as LARGEST_ORDER _ _ _ _ _ _ (c.deref.ensures.value ∙ c.remove_run.ensures) c.deref-2.ensures.value c.settle.ensures)
+after c = rw c.remove_run.ensures (settled_as c.self.inside.largest _ _ _ _ _ _ (c.deref.ensures.value ∙ c.remove_run.ensures) c.deref-2.ensures.value c.settle.ensures)
 
 pub returns : goal.returns
 returns c = after c ∙ ap (λ a. leave a c.args.head c.args.order) c.self.view_is

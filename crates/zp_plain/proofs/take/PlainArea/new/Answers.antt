@@ -1,30 +1,30 @@
-use Rattle.std.proofs.Common.{rules, ◌≡◌, true, replicate, ap, sym, subst, ◌∙◌}
-use Rattle.zp_model.specs.declared.constants.TheConstants.{LARGEST_ORDER}
+use Rattle.std.proofs.Common.{rules, ◌≡◌, true, [], replicate, ap, sym, subst, ◌∙◌}
 use Rattle.zp_model.specs.declared.migrate_type.MigrateType.TheVariants.{Movable}
-use Rattle.zp_model.specs.Area.{Area, opening, pageblocks_of}
+use Rattle.zp_model.specs.Area.{Area, lists_count, opening, pageblocks_of}
 use Rattle.zp_plain.specs.Sound.{IsSoundArea}
-use Rattle.zp_plain.proofs.SoundAreas.{settled_as, round_up, table_none, sound_opening}
+use Rattle.zp_plain.proofs.SoundAreas.{settled_as, table_none, sound_opening}
 use Rattle.zp_plain.proofs.take.PlainArea.new.Goals as goal
 
 pub settle-requires : goal.settle-requires
 settle-requires c =
     let u : c.in_ok-free.free.items ≡ replicate c.args.pages true = c.in_ok-free.ensures.items_if_clones_equal (λ y k. search rules) in
-    let k : c.in_ok-kinds.kinds.items ≡ replicate (pageblocks_of LARGEST_ORDER c.args.pages) Movable =
-    c.in_ok-kinds.ensures.items_if_clones_equal (λ y k. search rules) ∙ ap (λ q. replicate q Movable) (c.div_ceil.ensures ∙ round_up LARGEST_ORDER c.args.pages) in
-    rw (c.deref.ensures.value, u, c.deref-2.ensures.value, k, c.in_ok-lists.ensures) (table_none LARGEST_ORDER c.args.pages c.requires)
+    let k : c.in_ok-kinds.kinds.items ≡ replicate (pageblocks_of c.args.largest c.args.pages) Movable =
+    c.in_ok-kinds.ensures.items_if_clones_equal (λ y k. search rules) ∙ ap (λ q. replicate q Movable) c.pageblocks.ensures in
+    rw (c.deref.ensures.value, u, c.deref-2.ensures.value, k, c.in_ok-lists.ensures, c.lists.ensures) (table_none c.args.largest c.args.pages c.requires)
 
 after : (c : goal.After-settle) →
-    (let a : Area = record { largest = LARGEST_ORDER; free = c.in_ok-free.free.items; kinds = c.in_ok-kinds.kinds.items; lists = c.settle.new.lists.items } in a) ≡ opening LARGEST_ORDER c.args.pages
+    (let a : Area = record { largest = c.args.largest; free = c.in_ok-free.free.items; kinds = c.in_ok-kinds.kinds.items; lists = c.settle.new.lists.items } in a) ≡ opening c.args.largest c.args.pages
 unfolding opening
 after c =
     let u : c.in_ok-free.free.items ≡ replicate c.args.pages true = c.in_ok-free.ensures.items_if_clones_equal (λ y k. search rules) in
-    let k : c.in_ok-kinds.kinds.items ≡ replicate (pageblocks_of LARGEST_ORDER c.args.pages) Movable =
-    c.in_ok-kinds.ensures.items_if_clones_equal (λ y k. search rules) ∙ ap (λ q. replicate q Movable) (c.div_ceil.ensures ∙ round_up LARGEST_ORDER c.args.pages) in
-    rw (u, k, ← c.in_ok-lists.ensures) (settled_as LARGEST_ORDER _ _ _ _ _ _ (c.deref.ensures.value ∙ u) (c.deref-2.ensures.value ∙ k) c.settle.ensures)
+    let k : c.in_ok-kinds.kinds.items ≡ replicate (pageblocks_of c.args.largest c.args.pages) Movable =
+    c.in_ok-kinds.ensures.items_if_clones_equal (λ y k. search rules) ∙ ap (λ q. replicate q Movable) c.pageblocks.ensures in
+    let e : c.in_ok-lists.lists.items ≡ replicate (lists_count c.args.largest) [] = c.in_ok-lists.ensures ∙ ap (λ q. replicate q []) c.lists.ensures in
+    rw (u, k, ← e) (settled_as c.args.largest _ _ _ _ _ _ (c.deref.ensures.value ∙ u) (c.deref-2.ensures.value ∙ k) c.settle.ensures)
 
 pub returns : goal.returns
 returns c = after c
 
 pub invariant_of-result : goal.invariant_of-result
 invariant_of-result c =
-    subst IsSoundArea (sym (after c)) (sound_opening LARGEST_ORDER c.args.pages c.requires)
+    subst IsSoundArea (sym (after c)) (sound_opening c.args.largest c.args.pages c.requires)

@@ -1,5 +1,4 @@
 use Rattle.std.proofs.Common.{◌≡◌, length, set, ◌∙◌, ap, sym, subst, length-set}
-use Rattle.zp_model.specs.declared.constants.TheConstants.{LARGEST_ORDER}
 use Rattle.zp_model.specs.Area.{Area}
 use Rattle.zp_model.specs.Take.{retype}
 use Rattle.zp_plain.specs.Sound.{IsSoundArea}
@@ -12,10 +11,10 @@ settle-requires c =
     (ap length c.deref-2.ensures.value ∙ length-set c.self.inside.kinds.items c.args.pageblock c.args.kind)
 
 after : (c : goal.After-settle) →
-    (let a : Area = record { largest = LARGEST_ORDER; free = c.self.inside.free.items; kinds = set c.self.inside.kinds.items c.args.pageblock c.args.kind; lists = c.settle.new.lists.items } in a)
-    ≡ retype (record { largest = LARGEST_ORDER; free = c.self.inside.free.items; kinds = c.self.inside.kinds.items; lists = c.self.inside.lists.items }) c.args.pageblock c.args.kind
+    (let a : Area = record { largest = c.self.inside.largest; free = c.self.inside.free.items; kinds = set c.self.inside.kinds.items c.args.pageblock c.args.kind; lists = c.settle.new.lists.items } in a)
+    ≡ retype (record { largest = c.self.inside.largest; free = c.self.inside.free.items; kinds = c.self.inside.kinds.items; lists = c.self.inside.lists.items }) c.args.pageblock c.args.kind
 unfolding retype
-after c = settled_as LARGEST_ORDER _ _ _ _ _ _ c.deref.ensures.value c.deref-2.ensures.value c.settle.ensures
+after c = settled_as c.self.inside.largest _ _ _ _ _ _ c.deref.ensures.value c.deref-2.ensures.value c.settle.ensures
 
 pub returns : goal.returns
 returns c = after c ∙ ap (λ a. retype a c.args.pageblock c.args.kind) c.self.view_is

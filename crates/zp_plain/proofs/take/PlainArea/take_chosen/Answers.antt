@@ -1,11 +1,12 @@
-use Rattle.std.proofs.Common.{◌/◌, Bool, arith, sym, ◌∙◌, ap, cond}
+use Rattle.std.proofs.Common.{◌/◌, Bool, sym, ◌∙◌, ap, cond}
 use Rattle.zp_model.specs.Area.{Area, pageblock_pages}
 use Rattle.zp_model.specs.Take.{leave, retype, taken}
+use Rattle.zp_model.proofs.Heads.{number_lt}
 use Rattle.zp_plain.proofs.take.PlainArea.take_chosen.Goals as goal
 use Rattle.zp_plain.proofs.take.PlainArea.take_chosen.Goals.{then-claims, else-claims}
 
 pub retype-requires : goal.retype-requires
-retype-requires c = omega (arith, rw c.marks-marks.ensures.largest at c.marks-marks.ensures.sound.typed, c.pageblock.ensures)
+retype-requires c = rw (c.pageblock_of-pageblock.ensures.pageblock, c.largest.ensures, c.marks-marks.ensures.sound.typed) (number_lt _ _ _ c.requires)
 
 pub returns : goal.returns
 unfolding taken
@@ -15,8 +16,8 @@ returns c =
       | then-claims w ↦
           c.leave.ensures
           ∙ ap (λ a. leave a c.args.chosen.head c.args.order)
-          (w.self-is ∙ w.retype.ensures ∙ ap (λ i. retype c.args.self.now i c.args.kind) w.pageblock.ensures
-          ∙ ap (λ m. retype c.args.self.now (c.args.chosen.head / pageblock_pages m) c.args.kind) (sym c.marks-marks.ensures.largest))
+          (w.self-is ∙ w.retype.ensures ∙ ap (λ i. retype c.args.self.now i c.args.kind) (w.pageblock_of-pageblock.ensures.pageblock
+          ∙ ap (λ m. c.args.chosen.head / pageblock_pages m) w.largest.ensures))
           ∙ ap (λ b. leave (R b) c.args.chosen.head c.args.order) (sym w.if-claims.true)
       | else-claims w ↦
           c.leave.ensures
