@@ -4,7 +4,7 @@ ghost use Rattle.zp_model.specs.declared.constants.TheConstants.{MAX_PAGES};
 
 use std::alloc::{AllocError, Global};
 use std::process::Abort;
-use zp_model::{MAX_PAGES, MigrateType, ORDERS, Order, PageAt, State, Worker};
+use zp_model::{Largest, MAX_PAGES, MigrateType, ORDERS, Order, PageAt, State, Worker};
 
 /// How many further lists a pair has.
 const SIDES: usize = 2;
@@ -17,12 +17,13 @@ pub struct Pair {
 }
 
 impl Pair {
-    pub fn new(alloc: Global, pages: u32) -> Result<Pair, AllocError>
+    /// Two new zones of so many pages, whose largest blocks have this order.
+    pub fn new(alloc: Global, pages: u32, largest: Largest) -> Result<Pair, AllocError>
         requires { pages ≤ MAX_PAGES }
     {
         Ok(Pair {
-            buddy: zp_buddy::Buddy::new(alloc, pages, SIDES)?,
-            plain: zp_plain::Buddy::new(alloc, pages, SIDES)?,
+            buddy: zp_buddy::Buddy::new(alloc, pages, largest, SIDES)?,
+            plain: zp_plain::Buddy::new(alloc, pages, largest, SIDES)?,
         })
     }
 
@@ -98,7 +99,7 @@ impl Pair {
         }
     }
 
-    /// Compares each free list, block by block.
+    /// Compares each free list, block by block. Those of orders above the largest are empty.
     fn compare_lists(&self, rt: &impl Abort) {
         for number in 0..ORDERS as u8 {
             let order = Order::new(number).expect(rt, "no order");

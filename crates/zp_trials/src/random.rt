@@ -1,6 +1,4 @@
 //! The same random requests of both allocators, and the same answers.
-ghost use Rattle.std.specs.Prelude.{◌≤◌};
-ghost use Rattle.zp_model.specs.declared.constants.TheConstants.{MAX_PAGES};
 
 use crate::pair::Pair;
 use rand_core::Rng;
@@ -8,7 +6,7 @@ use rand_pcg::Pcg32;
 use std::alloc::AllocGlobal;
 use std::process::Abort;
 use std::test::Fail;
-use zp_model::{MigrateType, Order, PageAt};
+use zp_model::{Largest, MAX_PAGES, MigrateType, Order, PageAt};
 
 /// How many random requests there are, for blocks below which order, and after how many of them the two are compared whole.
 #[derive(Clone, Copy, Drop)]
@@ -80,50 +78,67 @@ pub fn ask_at_random(
     Ok(())
 }
 
-/// The same of a new zone.
+/// The same of a new zone with this largest order.
 fn compare_at_random(
     rt: &(impl Abort + AllocGlobal),
+    largest: u8,
     pages: u32,
     requests: Requests,
-) -> Result<(), Fail>
-    requires { pages ≤ MAX_PAGES }
-{
-    let mut pair = Pair::new(rt.alloc(), pages)?;
+) -> Result<(), Fail> {
+    let largest = Largest::new(largest).expect(rt, "no largest order");
+    assert!(rt; pages <= MAX_PAGES);
+    let mut pair = Pair::new(rt.alloc(), pages, largest)?;
     ask_at_random(rt, &mut pair, pages, requests)
 }
 
+/// Orders above the largest are asked for, too. All but one of the zones end in a short pageblock.
 #[test]
 fn small_zones_agree(rt: HostRuntime) -> Result<(), Fail> {
-    for (pages, count, orders) in [
-        (1, 2_000, 2),
-        (8, 8_000, 4),
-        (13, 10_000, 5),
-        (100, 10_000, 7),
+    for (largest, pages, count, orders) in [
+        (1, 1, 1_000, 3),
+        (1, 2, 1_000, 3),
+        (1, 7, 5_000, 3),
+        (1, 31, 5_000, 3),
+        (2, 3, 1_000, 4),
+        (2, 10, 5_000, 4),
+        (2, 41, 5_000, 4),
+        (3, 13, 5_000, 5),
+        (3, 52, 5_000, 5),
+        (3, 93, 4_000, 11),
+        (5, 31, 4_000, 6),
+        (5, 75, 4_000, 7),
+        (5, 150, 4_000, 8),
+        (10, 1, 1_000, 2),
+        (10, 8, 4_000, 4),
+        (10, 13, 5_000, 5),
+        (10, 100, 5_000, 7),
     ] {
         let requests = Requests {
             count,
             orders,
             every: 1,
         };
-        compare_at_random(&rt, pages, requests)?;
+        compare_at_random(&rt, largest, pages, requests)?;
     }
     Ok(())
 }
 
 #[test]
 fn zones_of_a_few_pageblocks_agree(rt: HostRuntime) -> Result<(), Fail> {
-    for (pages, count, orders, every) in [
-        (1023, 5_000, 10, 1),
-        (1024, 5_000, 11, 1),
-        (2500, 2_000, 11, 1),
-        (4096, 1_000, 11, 7),
+    for (largest, pages, count, orders, every) in [
+        (9, 1100, 3_000, 11, 1),
+        (9, 2047, 2_000, 11, 3),
+        (10, 1023, 3_000, 10, 1),
+        (10, 1024, 3_000, 11, 1),
+        (10, 2500, 1_500, 11, 2),
+        (10, 4096, 1_000, 11, 7),
     ] {
         let requests = Requests {
             count,
             orders,
             every,
         };
-        compare_at_random(&rt, pages, requests)?;
+        compare_at_random(&rt, largest, pages, requests)?;
     }
     Ok(())
 }
@@ -135,5 +150,5 @@ fn the_largest_zone_agrees(rt: HostRuntime) -> Result<(), Fail> {
         orders: 11,
         every: 50,
     };
-    compare_at_random(&rt, 65_536, requests)
+    compare_at_random(&rt, 10, 65_536, requests)
 }

@@ -1,11 +1,12 @@
-//! Zones of four pageblocks whose free blocks are scattered, so that a request looks long for a pageblock that it may claim.
+//! Zones of four pageblocks whose free blocks are scattered, so that a request looks long for a pageblock that it may claim. Each
+//! stands for all largest orders from 2 on: where a pageblock has two pages, one free page is enough for a claim.
 
 use crate::pair::Pair;
 use crate::random::{Requests, ask_at_random};
 use std::alloc::AllocGlobal;
 use std::process::Abort;
 use std::test::Fail;
-use zp_model::{MigrateType, Order, PageAt};
+use zp_model::{LARGEST_ORDER, Largest, MigrateType, Order, PageAt};
 
 const UNMOVABLE: MigrateType = MigrateType::Unmovable;
 
@@ -13,27 +14,25 @@ const RECLAIMABLE: MigrateType = MigrateType::Reclaimable;
 
 const MOVABLE: MigrateType = MigrateType::Movable;
 
-/// The pages of the zones.
-const PAGES: u32 = 4096;
-
-/// The type of a pageblock, and how many of its blocks are free.
+/// The type of a pageblock, the order of its free blocks, and how many there are.
 #[derive(Clone, Copy, Drop)]
-struct Scattered(MigrateType, u32);
+struct Scattered(MigrateType, u8, u32);
 
 /// A zone of these pageblocks, the highest first, in each of which so many blocks of an order are free: every second one from
 /// its first page on. They came back in this order, so that the highest of the lowest pageblock stands in front.
 fn scatter(
     rt: &(impl Abort + AllocGlobal),
-    order: Order,
+    largest: Largest,
     pageblocks: &[Scattered],
 ) -> Result<Pair, Fail> {
-    let mut pair = Pair::new(rt.alloc(), PAGES)?;
-    let mut heads: Vec<(PageAt, u32)> = Vec::new(rt.alloc());
-    for Scattered(kind, blocks) in pageblocks {
-        let head = pair.take(rt, Order::largest(), *kind);
-        heads.push((head.expect(rt, "no pageblock"), *blocks))?;
+    let mut pair = Pair::new(rt.alloc(), 4 * largest.order().pages(), largest)?;
+    let mut heads: Vec<(PageAt, u8, u32)> = Vec::new(rt.alloc());
+    for Scattered(kind, order, blocks) in pageblocks {
+        let head = pair.take(rt, largest.order(), *kind);
+        heads.push((head.expect(rt, "no pageblock"), *order, *blocks))?;
     }
-    for (head, blocks) in &heads {
+    for (head, order, blocks) in &heads {
+        let order = Order::new(*order).expect(rt, "no order");
         for block in 0..(*blocks).min(512) {
             let page = head.number() + 2 * block * order.pages();
             let at = PageAt::new(page).expect(rt, "no page");
@@ -47,83 +46,147 @@ fn scatter(
 /// Takes blocks of this order for these types, which are these, in turn; and then makes requests at random.
 fn compare_scattered(
     rt: &(impl Abort + AllocGlobal),
+    largest: Largest,
     order: u8,
     pageblocks: &[Scattered],
     requests: &[(MigrateType, Option<u32>)],
 ) -> Result<(), Fail> {
     let order = Order::new(order).expect(rt, "no order");
-    let mut pair = scatter(rt, order, pageblocks)?;
+    let mut pair = scatter(rt, largest, pageblocks)?;
     for (kind, expected) in requests {
         let page = pair.take(rt, order, *kind).map(|at| at.number());
-        assert_eq!(rt; page, *expected);
+        assert_eq!(rt; page, *expected, "largest order {}", largest.number());
         pair.compare(rt);
     }
     let at_random = Requests {
-        count: 300,
-        orders: 7,
+        count: 100,
+        orders: largest.number() + 2,
         every: 5,
     };
-    ask_at_random(rt, &mut pair, PAGES, at_random)
+    ask_at_random(rt, &mut pair, 4 * largest.order().pages(), at_random)
 }
 
-/// The pageblocks start at the pages 3072, 2048, 1024 and 0. With 512 free pages one may be claimed, with 511 not.
+/// With half of its pages free a pageblock may be claimed, with one fewer not. The blocks of those that may not stand in front.
 #[test]
 fn pages_are_claimed_late_in_a_list(rt: HostRuntime) -> Result<(), Fail> {
-    compare_scattered(
-        &rt,
-        0,
-        &[
-            Scattered(MOVABLE, 512),
-            Scattered(MOVABLE, 512),
-            Scattered(MOVABLE, 511),
-            Scattered(MOVABLE, 511),
-        ],
-        &[
-            (UNMOVABLE, Some(3070)),
-            (RECLAIMABLE, Some(4094)),
-            (UNMOVABLE, Some(3068)),
-            (RECLAIMABLE, Some(4092)),
-            (MOVABLE, Some(1020)),
-        ],
-    )
+    for number in 2..=LARGEST_ORDER {
+        let largest = Largest::new(number).expect(&rt, "no largest order");
+        let pages = largest.order().pages();
+        assert!(rt; pages >= 4);
+        let half = pages / 2;
+        compare_scattered(
+            &rt,
+            largest,
+            0,
+            &[
+                Scattered(MOVABLE, 0, half),
+                Scattered(MOVABLE, 0, half),
+                Scattered(MOVABLE, 0, half - 1),
+                Scattered(MOVABLE, 0, half - 1),
+            ],
+            &[
+                (UNMOVABLE, Some(3 * pages - 2)),
+                (RECLAIMABLE, Some(4 * pages - 2)),
+                (UNMOVABLE, Some(3 * pages - 4)),
+                (RECLAIMABLE, Some(4 * pages - 4)),
+                (MOVABLE, Some(pages - 4)),
+            ],
+        )?;
+    }
+    Ok(())
 }
 
+/// The largest block lies in a pageblock with too few free pages: the claim is by a single page. The next type may not claim by the
+/// pages that are left, and borrows one.
+#[test]
+fn pages_are_claimed_below_larger_blocks(rt: HostRuntime) -> Result<(), Fail> {
+    for number in 2..=LARGEST_ORDER {
+        let largest = Largest::new(number).expect(&rt, "no largest order");
+        let pages = largest.order().pages();
+        assert!(rt; pages >= 4);
+        compare_scattered(
+            &rt,
+            largest,
+            0,
+            &[
+                Scattered(MOVABLE, number - 2, 1),
+                Scattered(MOVABLE, 0, pages / 2),
+                Scattered(MOVABLE, 0, 0),
+                Scattered(MOVABLE, 0, 0),
+            ],
+            &[
+                (UNMOVABLE, Some(3 * pages - 2)),
+                (RECLAIMABLE, Some(3 * pages - 4)),
+                (MOVABLE, Some(3 * pages)),
+            ],
+        )?;
+    }
+    Ok(())
+}
+
+/// Movable claims by no block below the least order: it borrows the front of the first other type.
+#[test]
+fn smaller_blocks_are_borrowed(rt: HostRuntime) -> Result<(), Fail> {
+    for number in 2..=LARGEST_ORDER {
+        let largest = Largest::new(number).expect(&rt, "no largest order");
+        let pages = largest.order().pages();
+        let least = largest.least_movable_claim();
+        assert!(rt; 1 <= least && least <= 5);
+        let apart = 1 << least;
+        assert!(rt; 2 * apart <= pages);
+        compare_scattered(
+            &rt,
+            largest,
+            least - 1,
+            &[
+                Scattered(UNMOVABLE, least - 1, pages / apart),
+                Scattered(RECLAIMABLE, least - 1, pages / apart),
+                Scattered(MOVABLE, 0, 0),
+                Scattered(MOVABLE, 0, 0),
+            ],
+            &[
+                (MOVABLE, Some(3 * pages - apart)),
+                (MOVABLE, Some(3 * pages - 2 * apart)),
+            ],
+        )?;
+    }
+    Ok(())
+}
+
+/// By a block of the least order Movable claims: it passes over the Reclaimable pageblocks, less than half of which is free, and
+/// claims the Unmovable one. Where no pageblock may be claimed, it borrows.
 #[test]
 fn blocks_are_claimed_or_borrowed(rt: HostRuntime) -> Result<(), Fail> {
-    // Movable claims by no block below order 5: it borrows the front of the first other type.
-    compare_scattered(
-        &rt,
-        4,
-        &[
-            Scattered(UNMOVABLE, 32),
-            Scattered(RECLAIMABLE, 32),
-            Scattered(MOVABLE, 0),
-            Scattered(MOVABLE, 0),
-        ],
-        &[(MOVABLE, Some(3040)), (MOVABLE, Some(3008))],
-    )?;
-    // At order 5 it passes over the Reclaimable pageblocks, of which 480 pages are free, and claims the Unmovable one.
-    compare_scattered(
-        &rt,
-        5,
-        &[
-            Scattered(UNMOVABLE, 16),
-            Scattered(RECLAIMABLE, 15),
-            Scattered(RECLAIMABLE, 15),
-            Scattered(MOVABLE, 0),
-        ],
-        &[(MOVABLE, Some(4032)), (MOVABLE, Some(3968))],
-    )?;
-    // Where no pageblock may be claimed, it borrows.
-    compare_scattered(
-        &rt,
-        5,
-        &[
-            Scattered(UNMOVABLE, 15),
-            Scattered(RECLAIMABLE, 15),
-            Scattered(RECLAIMABLE, 15),
-            Scattered(MOVABLE, 0),
-        ],
-        &[(MOVABLE, Some(1920)), (UNMOVABLE, Some(3968))],
-    )
+    for number in 3..=LARGEST_ORDER {
+        let largest = Largest::new(number).expect(&rt, "no largest order");
+        let pages = largest.order().pages();
+        let least = largest.least_movable_claim();
+        assert!(rt; least <= 5);
+        let apart = 2 << least;
+        assert!(rt; 2 * apart <= pages);
+        let half = pages / apart;
+        let fewer = Scattered(RECLAIMABLE, least, half - 1);
+        let none = Scattered(MOVABLE, 0, 0);
+        compare_scattered(
+            &rt,
+            largest,
+            least,
+            &[Scattered(UNMOVABLE, least, half), fewer, fewer, none],
+            &[
+                (MOVABLE, Some(4 * pages - apart)),
+                (MOVABLE, Some(4 * pages - 2 * apart)),
+            ],
+        )?;
+        compare_scattered(
+            &rt,
+            largest,
+            least,
+            &[Scattered(UNMOVABLE, least, half - 1), fewer, fewer, none],
+            &[
+                (MOVABLE, Some(2 * pages - 2 * apart)),
+                (UNMOVABLE, Some(4 * pages - 2 * apart)),
+            ],
+        )?;
+    }
+    Ok(())
 }

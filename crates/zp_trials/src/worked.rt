@@ -1,12 +1,10 @@
 //! Requests whose answers follow by hand from the rules: both allocators give these, and agree after each.
-ghost use Rattle.std.specs.Prelude.{◌≤◌};
-ghost use Rattle.zp_model.specs.declared.constants.TheConstants.{MAX_PAGES};
 
 use crate::pair::Pair;
 use std::alloc::AllocGlobal;
 use std::process::Abort;
 use std::test::Fail;
-use zp_model::{MigrateType, Order, PageAt};
+use zp_model::{Largest, MAX_PAGES, MigrateType, Order, PageAt};
 
 const UNMOVABLE: MigrateType = MigrateType::Unmovable;
 
@@ -25,36 +23,39 @@ enum Step {
     Give(u32, u8),
 }
 
-/// Makes the steps in turn, and compares the two after each.
-fn compare_steps(rt: &(impl Abort + AllocGlobal), pages: u32, steps: &[Step]) -> Result<(), Fail>
-    requires { pages ≤ MAX_PAGES }
-{
-    let mut pair = Pair::new(rt.alloc(), pages)?;
-    for step in steps {
-        match *step {
-            Step::Take(order, kind, expected) => {
-                let order = Order::new(order).expect(rt, "no order");
-                let head = pair.take(rt, order, kind);
-                let page = match head {
-                    Some(at) => Some(at.number()),
-                    None => None,
-                };
-                assert_eq!(rt; page, expected, "of {pages} pages");
-            }
-            Step::Low(order, expected) => {
-                let order = Order::new(order).expect(rt, "no order");
-                let page = match pair.take_low(rt, order) {
-                    Some(at) => Some(at.number()),
-                    None => None,
-                };
-                assert_eq!(rt; page, expected, "of {pages} pages");
-            }
-            Step::Give(page, order) => {
-                let at = PageAt::new(page).expect(rt, "no page");
-                let order = Order::new(order).expect(rt, "no order");
-                assert!(rt; pair.give(rt, at, order), "page {page} of {pages}");
-            }
+/// Makes a step of both, and compares the answer.
+fn make_step(rt: &impl Abort, pair: &mut Pair, step: Step) {
+    match step {
+        Step::Take(order, kind, expected) => {
+            let order = Order::new(order).expect(rt, "no order");
+            let page = pair.take(rt, order, kind).map(|at| at.number());
+            assert_eq!(rt; page, expected);
         }
+        Step::Low(order, expected) => {
+            let order = Order::new(order).expect(rt, "no order");
+            let page = pair.take_low(rt, order).map(|at| at.number());
+            assert_eq!(rt; page, expected);
+        }
+        Step::Give(page, order) => {
+            let at = PageAt::new(page).expect(rt, "no page");
+            let order = Order::new(order).expect(rt, "no order");
+            assert!(rt; pair.give(rt, at, order), "page {page}");
+        }
+    }
+}
+
+/// Makes the steps in turn of a new zone of so many pages with this largest order, and compares the two after each.
+fn compare_steps(
+    rt: &(impl Abort + AllocGlobal),
+    largest: u8,
+    pages: u32,
+    steps: &[Step],
+) -> Result<(), Fail> {
+    let largest = Largest::new(largest).expect(rt, "no largest order");
+    assert!(rt; pages <= MAX_PAGES);
+    let mut pair = Pair::new(rt.alloc(), pages, largest)?;
+    for step in steps {
+        make_step(rt, &mut pair, *step);
         pair.compare(rt);
     }
     Ok(())
@@ -64,11 +65,13 @@ fn compare_steps(rt: &(impl Abort + AllocGlobal), pages: u32, steps: &[Step]) ->
 fn worked_requests_are_answered_alike(rt: HostRuntime) -> Result<(), Fail> {
     compare_steps(
         &rt,
+        10,
         4096,
         &[Step::Take(0, MOVABLE, Some(3072)), Step::Give(3072, 0)],
     )?;
     compare_steps(
         &rt,
+        10,
         4096,
         &[
             Step::Take(0, UNMOVABLE, Some(3072)),
@@ -78,6 +81,7 @@ fn worked_requests_are_answered_alike(rt: HostRuntime) -> Result<(), Fail> {
     )?;
     compare_steps(
         &rt,
+        10,
         8,
         &[
             Step::Take(0, UNMOVABLE, Some(0)),
@@ -90,6 +94,7 @@ fn worked_requests_are_answered_alike(rt: HostRuntime) -> Result<(), Fail> {
     )?;
     compare_steps(
         &rt,
+        10,
         1024,
         &[
             Step::Take(9, MOVABLE, Some(0)),
@@ -101,6 +106,7 @@ fn worked_requests_are_answered_alike(rt: HostRuntime) -> Result<(), Fail> {
     )?;
     compare_steps(
         &rt,
+        10,
         1023,
         &[
             Step::Take(10, MOVABLE, None),
@@ -108,10 +114,24 @@ fn worked_requests_are_answered_alike(rt: HostRuntime) -> Result<(), Fail> {
             Step::Take(9, MOVABLE, None),
         ],
     )?;
-    compare_steps(&rt, 13, &[Step::Take(2, MOVABLE, Some(8))])?;
-    // The lowest block is split, though the block in front of a list would do; a smaller one does not stand in its way.
+    compare_steps(&rt, 10, 13, &[Step::Take(2, MOVABLE, Some(8))])?;
     compare_steps(
         &rt,
+        10,
+        1,
+        &[
+            Step::Take(0, RECLAIMABLE, Some(0)),
+            Step::Take(0, RECLAIMABLE, None),
+        ],
+    )
+}
+
+/// The lowest block is split, though the block in front of a list would do; a smaller one does not stand in its way.
+#[test]
+fn the_lowest_blocks_are_taken(rt: HostRuntime) -> Result<(), Fail> {
+    compare_steps(
+        &rt,
+        10,
         4096,
         &[
             Step::Take(0, UNMOVABLE, Some(3072)),
@@ -125,6 +145,7 @@ fn worked_requests_are_answered_alike(rt: HostRuntime) -> Result<(), Fail> {
     )?;
     compare_steps(
         &rt,
+        10,
         13,
         &[
             Step::Take(0, MOVABLE, Some(12)),
@@ -137,11 +158,177 @@ fn worked_requests_are_answered_alike(rt: HostRuntime) -> Result<(), Fail> {
     )?;
     compare_steps(
         &rt,
-        1,
+        2,
+        11,
         &[
-            Step::Take(0, RECLAIMABLE, Some(0)),
-            Step::Take(0, RECLAIMABLE, None),
+            Step::Take(0, UNMOVABLE, Some(4)),
+            Step::Low(3, None),
+            Step::Low(2, Some(0)),
+            Step::Low(2, None),
+            Step::Low(1, Some(6)),
+            Step::Low(0, Some(5)),
+            Step::Low(0, Some(8)),
+            Step::Low(1, None),
+            Step::Low(0, Some(9)),
+            Step::Low(0, Some(10)),
+            Step::Low(0, None),
         ],
-    )?;
-    Ok(())
+    )
+}
+
+/// Pageblocks of two pages: the last one, which is short, has page 4. Any free page lets a type claim its pageblock.
+#[test]
+fn blocks_of_two_pages_are_the_largest(rt: HostRuntime) -> Result<(), Fail> {
+    compare_steps(
+        &rt,
+        1,
+        5,
+        &[
+            Step::Take(2, MOVABLE, None),
+            Step::Low(2, None),
+            Step::Take(0, UNMOVABLE, Some(2)),
+            Step::Take(0, RECLAIMABLE, Some(0)),
+            Step::Take(0, MOVABLE, Some(4)),
+            // There are only single pages now, and Movable claims by these too.
+            Step::Take(1, MOVABLE, None),
+            Step::Take(0, MOVABLE, Some(1)),
+            Step::Take(0, MOVABLE, Some(3)),
+            Step::Take(0, UNMOVABLE, None),
+            Step::Give(2, 0),
+            Step::Give(3, 0),
+            Step::Give(0, 0),
+            Step::Give(1, 0),
+            // Two free buddies of the largest order are not joined.
+            Step::Take(2, MOVABLE, None),
+            Step::Take(1, MOVABLE, Some(0)),
+        ],
+    )
+}
+
+/// Pageblocks of four pages: of the last one there are pages 8 and 9.
+#[test]
+fn blocks_of_four_pages_are_the_largest(rt: HostRuntime) -> Result<(), Fail> {
+    compare_steps(
+        &rt,
+        2,
+        10,
+        &[
+            Step::Take(3, MOVABLE, None),
+            Step::Take(2, UNMOVABLE, Some(4)),
+            Step::Take(2, MOVABLE, Some(0)),
+            // The short pageblock is claimed with two free pages; with one free page it is not, and page 9 is borrowed.
+            Step::Take(0, RECLAIMABLE, Some(8)),
+            Step::Take(0, UNMOVABLE, Some(9)),
+            Step::Take(0, UNMOVABLE, None),
+            // Movable claims by no single page, and Reclaimable does.
+            Step::Give(5, 0),
+            Step::Give(7, 0),
+            Step::Take(0, MOVABLE, Some(7)),
+            Step::Give(7, 0),
+            Step::Take(0, RECLAIMABLE, Some(7)),
+            // By two pages Movable claims.
+            Step::Give(4, 0),
+            Step::Take(1, MOVABLE, Some(4)),
+            Step::Give(0, 2),
+            Step::Give(4, 1),
+            Step::Give(6, 0),
+            Step::Give(7, 0),
+            // Two free buddies of the largest order are not joined.
+            Step::Take(3, MOVABLE, None),
+            Step::Take(2, MOVABLE, Some(4)),
+        ],
+    )
+}
+
+/// Pageblocks of eight pages: of the last one there are pages 16 to 20.
+#[test]
+fn blocks_of_eight_pages_are_the_largest(rt: HostRuntime) -> Result<(), Fail> {
+    compare_steps(
+        &rt,
+        3,
+        21,
+        &[
+            Step::Take(4, MOVABLE, None),
+            Step::Take(2, RECLAIMABLE, Some(8)),
+            Step::Take(3, UNMOVABLE, Some(0)),
+            // The high half of the Reclaimable pageblock is free, which is enough for a claim; the three pages left are not.
+            Step::Take(0, UNMOVABLE, Some(12)),
+            Step::Take(2, MOVABLE, Some(16)),
+            Step::Take(2, MOVABLE, None),
+            Step::Take(1, MOVABLE, Some(14)),
+            Step::Low(0, Some(13)),
+            Step::Low(0, Some(20)),
+            Step::Low(0, None),
+            Step::Give(8, 2),
+            Step::Give(12, 0),
+            Step::Give(13, 0),
+            Step::Give(14, 1),
+            Step::Give(0, 3),
+            // Two free buddies of the largest order are not joined.
+            Step::Take(4, UNMOVABLE, None),
+            Step::Give(16, 2),
+            Step::Give(20, 0),
+            Step::Take(3, UNMOVABLE, Some(0)),
+        ],
+    )
+}
+
+/// Pageblocks of 32 pages: of the last one there are 11.
+#[test]
+fn blocks_of_32_pages_are_the_largest(rt: HostRuntime) -> Result<(), Fail> {
+    compare_steps(
+        &rt,
+        5,
+        75,
+        &[
+            Step::Take(6, UNMOVABLE, None),
+            Step::Take(10, MOVABLE, None),
+            Step::Take(4, UNMOVABLE, Some(32)),
+            Step::Take(5, RECLAIMABLE, Some(0)),
+            // The 16 free pages of the Unmovable pageblock are enough for a claim; the 15 left are not.
+            Step::Take(0, RECLAIMABLE, Some(48)),
+            Step::Take(4, MOVABLE, None),
+            Step::Take(3, MOVABLE, Some(64)),
+            Step::Take(3, MOVABLE, Some(56)),
+            Step::Take(2, UNMOVABLE, Some(52)),
+            Step::Low(1, Some(50)),
+            Step::Low(1, Some(72)),
+            Step::Give(32, 4),
+            Step::Give(48, 0),
+            Step::Give(50, 1),
+            Step::Give(52, 2),
+            Step::Give(56, 3),
+            Step::Give(0, 5),
+            // Two free buddies of the largest order are not joined.
+            Step::Take(6, RECLAIMABLE, None),
+            Step::Take(5, RECLAIMABLE, Some(0)),
+        ],
+    )
+}
+
+/// Pageblocks of 512 pages: of the last one there are 76.
+#[test]
+fn blocks_of_512_pages_are_the_largest(rt: HostRuntime) -> Result<(), Fail> {
+    compare_steps(
+        &rt,
+        9,
+        1100,
+        &[
+            Step::Take(10, MOVABLE, None),
+            Step::Take(8, UNMOVABLE, Some(512)),
+            Step::Take(9, RECLAIMABLE, Some(0)),
+            // The 256 free pages of the Unmovable pageblock are enough for a claim; the 255 left are not.
+            Step::Take(0, RECLAIMABLE, Some(768)),
+            Step::Take(4, MOVABLE, Some(1024)),
+            Step::Take(6, MOVABLE, Some(832)),
+            Step::Give(768, 0),
+            Step::Take(4, MOVABLE, Some(1040)),
+            Step::Give(832, 6),
+            Step::Give(512, 8),
+            Step::Give(0, 9),
+            // Two free buddies of the largest order are not joined.
+            Step::Take(10, RECLAIMABLE, None),
+            Step::Take(9, RECLAIMABLE, Some(0)),
+        ],
+    )
 }
