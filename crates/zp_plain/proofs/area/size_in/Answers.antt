@@ -16,7 +16,7 @@ pages-init c =
     record {
       within = omega arith;
       counted =
-          let e = count_all c.args.largest c.args.set.now c.args.pageblock pages (c.args.pageblock * pages + pages - c.args.pageblock * pages) c.pageblock_pages-length.ensures (omega arith) in
+          let e = count_all c.args.largest c.args.set.now c.args.pageblock pages (c.args.pageblock * pages + pages - c.args.pageblock * pages) c.pageblock_pages-length.ensures.pages (omega arith) in
           omega (arith, e);
     }
 

@@ -10,7 +10,7 @@ settle-requires c =
     let u : c.in_ok-free.free.items ≡ replicate c.args.pages true = c.in_ok-free.ensures.items_if_clones_equal (λ y k. search rules) in
     let k : c.in_ok-kinds.kinds.items ≡ replicate (pageblocks_of c.args.largest c.args.pages) Movable =
     c.in_ok-kinds.ensures.items_if_clones_equal (λ y k. search rules) ∙ ap (λ q. replicate q Movable) c.pageblocks.ensures in
-    rw (c.deref.ensures.value, u, c.deref-2.ensures.value, k, c.in_ok-lists.ensures, c.lists.ensures) (table_none c.args.largest c.args.pages c.requires)
+    rw (c.deref.ensures.value, u, c.deref-2.ensures.value, k, c.in_ok-lists.ensures, c.lists.ensures.lists) (table_none c.args.largest c.args.pages c.requires)
 
 after : (c : goal.After-settle) →
     (let a : Area = record { largest = c.args.largest; free = c.in_ok-free.free.items; kinds = c.in_ok-kinds.kinds.items; lists = c.settle.new.lists.items } in a) ≡ opening c.args.largest c.args.pages
@@ -19,7 +19,7 @@ after c =
     let u : c.in_ok-free.free.items ≡ replicate c.args.pages true = c.in_ok-free.ensures.items_if_clones_equal (λ y k. search rules) in
     let k : c.in_ok-kinds.kinds.items ≡ replicate (pageblocks_of c.args.largest c.args.pages) Movable =
     c.in_ok-kinds.ensures.items_if_clones_equal (λ y k. search rules) ∙ ap (λ q. replicate q Movable) c.pageblocks.ensures in
-    let e : c.in_ok-lists.lists.items ≡ replicate (lists_count c.args.largest) [] = c.in_ok-lists.ensures ∙ ap (λ q. replicate q []) c.lists.ensures in
+    let e : c.in_ok-lists.lists.items ≡ replicate (lists_count c.args.largest) [] = c.in_ok-lists.ensures ∙ ap (λ q. replicate q []) c.lists.ensures.lists in
     rw (u, k, ← e) (settled_as c.args.largest _ _ _ _ _ _ (c.deref.ensures.value ∙ u) (c.deref-2.ensures.value ∙ k) c.settle.ensures)
 
 pub returns : goal.returns

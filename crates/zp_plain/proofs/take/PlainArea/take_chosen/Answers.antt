@@ -6,7 +6,7 @@ use Rattle.zp_plain.proofs.take.PlainArea.take_chosen.Goals as goal
 use Rattle.zp_plain.proofs.take.PlainArea.take_chosen.Goals.{then-claims, else-claims}
 
 pub retype-requires : goal.retype-requires
-retype-requires c = rw (c.pageblock_of-pageblock.ensures.pageblock, c.largest.ensures, c.marks-marks.ensures.sound.typed) (number_lt _ _ _ c.requires)
+retype-requires c = rw (c.pageblock_of-pageblock.ensures, c.largest.ensures, c.marks-marks.ensures.sound.typed) (number_lt _ _ _ c.requires)
 
 pub returns : goal.returns
 unfolding taken
@@ -16,7 +16,7 @@ returns c =
       | then-claims w ↦
           c.leave.ensures
           ∙ ap (λ a. leave a c.args.chosen.head c.args.order)
-          (w.self-is ∙ w.retype.ensures ∙ ap (λ i. retype c.args.self.now i c.args.kind) (w.pageblock_of-pageblock.ensures.pageblock
+          (w.self-is ∙ w.retype.ensures ∙ ap (λ i. retype c.args.self.now i c.args.kind) (w.pageblock_of-pageblock.ensures
           ∙ ap (λ m. c.args.chosen.head / pageblock_pages m) w.largest.ensures))
           ∙ ap (λ b. leave (R b) c.args.chosen.head c.args.order) (sym w.if-claims.true)
       | else-claims w ↦
