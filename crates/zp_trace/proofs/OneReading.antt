@@ -1,10 +1,11 @@
 -- A text is read in one way: of the lines that may stand next it begins with one at most, so it writes one trace, or has one bad line.
-use Rattle.std.proofs.Common.{ℕ, ◌≡◌, List, [], ◌∷◌, ◌++◌, get_or, refl, sym, ap, subst, ◌∙◌, arith, append_assoc, ◌⊎◌, inl, inr, length, length-append}
+use Rattle.std.proofs.Common.{ℕ, ◌≡◌, Option, Some, None, IfSome, List, [], ◌∷◌, ◌++◌, get_or, refl, sym, ap, subst, ◌∙◌, arith, append_assoc, ◌⊎◌, inl, inr, length, length-append}
 use Rattle.std.specs.Fmt.{decimal}
 use Rattle.zp_model.specs.declared.migrate_type.MigrateType.{MigrateType}
 use Rattle.zp_model.specs.declared.migrate_type.MigrateType.TheVariants.{Unmovable, Reclaimable, Movable}
 use Rattle.zp_model.specs.declared.mark.Mark.{Mark}
 use Rattle.zp_model.specs.declared.mark.Mark.TheVariants as mark
+use Rattle.zp_model.specs.Bounds.{IsLargest}
 use Rattle.zp_trace.specs.declared.line.ZoneLine.{ZoneLine}
 use Rattle.zp_trace.specs.declared.line.Call.{Call}
 use Rattle.zp_trace.specs.declared.line.Call.TheVariants.{Info, Alloc, Low, Free, Post, Collect, Drain}
@@ -13,7 +14,7 @@ use Rattle.zp_trace.specs.declared.trace.Header.{Header}
 use Rattle.zp_trace.specs.declared.trace.Trace.{Trace}
 use Rattle.zp_trace.specs.Lines.{Line}
 use Rattle.zp_trace.specs.Lines as line
-use Rattle.zp_trace.specs.Spelling.{line_feed, joined, AreWords, line_words, line_text, zone_words, kind_word, mark_word, call_words, command_words, text_of}
+use Rattle.zp_trace.specs.Spelling.{line_feed, joined, AreWords, line_words, line_text, largest_words, zone_words, kind_word, mark_word, call_words, command_words, text_of}
 use Rattle.zp_trace.specs.Grammar.{IsZoneLine, IsHeader, IsCallOf, IsCommandOf, IsAllowedAfter, IsBeginning, lines_of, IsTraceText, IsBadLine}
 use Rattle.zp_trace.proofs.WordLists.{zone_are_words, workers_are_words, lists_are_words, command_are_words, words_are_line}
 use Rattle.zp_trace.proofs.Numbers.{same_number}
@@ -22,14 +23,22 @@ use Rattle.zp_trace.proofs.CommandLines.{same_trace}
 use Rattle.zp_trace.proofs.BadLines.{zones_are_no_trace, workers_are_no_trace}
 use Rattle.std.proofs.lemmas.List.{append-nil}
 
--- words of a zone line and of a call say which they are of
+-- words of a largest order, of a zone line and of a call say which they are of
+same_largest : (a b : Option ℕ) → IfSome a IsLargest → IfSome b IsLargest → largest_words a ≡ largest_words b → a ≡ b
+same_largest None None p q e = refl
+same_largest None (Some n) p q e = cc
+same_largest (Some m) None p q e = cc
+same_largest (Some m) (Some n) p q e = ap (λ (k : ℕ). Some k) (same_number (decimal m) m n (omega (arith, p.1)) (omega (arith, q.1)) refl cc)
+
 pub same_zone : (z w : ZoneLine) → IsZoneLine z → IsZoneLine w → zone_words z ≡ zone_words w → z ≡ w
 same_zone z w p q e =
     let name : z.name ≡ w.name = cc in
     let base = same_number (decimal z.base) z.base w.base (omega (arith, p.1.1)) (omega (arith, q.1.1)) refl cc in
     let pages = same_number (decimal z.pages) z.pages w.pages (omega (arith, p.2.1)) (omega (arith, q.2.1)) refl cc in
     let min = same_number (decimal z.min) z.min w.min (omega (arith, p.2.1, p.3)) (omega (arith, q.2.1, q.3)) refl cc in
-    λ i. record { name = name i; base = base i; pages = pages i; min = min i }
+    let words : largest_words z.largest ≡ largest_words w.largest = cc in
+    let largest = same_largest z.largest w.largest p.4 q.4 words in
+    λ i. record { name = name i; base = base i; pages = pages i; min = min i; largest = largest i }
 
 -- the types have different first letters
 first_letter : (k j : MigrateType) → kind_word k ≡ kind_word j → get_or (kind_word k) 0 0 ≡ get_or (kind_word j) 0 0

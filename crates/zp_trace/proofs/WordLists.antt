@@ -1,12 +1,12 @@
 -- Words of a line: they are what cutting their line gives, and each line's words are words.
-use Rattle.std.proofs.Common.{ℕ, ◌≡◌, ◌≢◌, ◌<◌, List, [], ◌∷◌, ◌++◌, length, false, eqb, refl, sym, ap, ◌∙◌, arith, append_assoc, length-append, ◌≤◌, subst, lit≤, IsTrue, get_or, Option, Some, None, IfNone, rules}
+use Rattle.std.proofs.Common.{ℕ, ◌≡◌, ◌≢◌, ◌<◌, List, [], ◌∷◌, ◌++◌, length, false, eqb, refl, sym, ap, ◌∙◌, arith, append_assoc, length-append, ◌≤◌, subst, lit≤, IsTrue, get_or, drop, Option, Some, None, IfNone, IfSome, IsSome, rules}
 use Rattle.std.specs.Borrow.{Bor}
 use Rattle.std.specs.List.{All, slice_split, AllByRecursion}
 use Rattle.std.proofs.lemmas.Bool.Decides.{nat_tests}
 use Rattle.std.proofs.lemmas.List.{map-append, length-map, get_or-map}
 use Rattle.std.proofs.lemmas.List.Elements.{All-weaker, All-from_recursion, recursion_from_All}
 use Rattle.std.proofs.lemmas.List.Splits.{slice_split_at, slice_split_none, length-slice_split, join_with_byte-slice_split}
-use Rattle.zp_trace.specs.Spelling.{space, spelled, line_feed, joined, IsWord, AreWords, zone_words, workers_words, lists_words, call_words, command_words, kind_word, mark_word}
+use Rattle.zp_trace.specs.Spelling.{space, spelled, line_feed, joined, IsWord, AreWords, largest_words, zone_words, workers_words, lists_words, call_words, command_words, kind_word, mark_word}
 use Rattle.std.specs.Char.{is_ascii_alphanumeric}
 use Rattle.std.specs.Fmt.{decimal}
 use Rattle.std.specs.Str.Parse.{AllDigits}
@@ -17,7 +17,7 @@ use Rattle.zp_model.specs.declared.migrate_type.MigrateType.{MigrateType}
 use Rattle.zp_model.specs.declared.migrate_type.MigrateType.TheVariants.{Unmovable, Reclaimable, Movable}
 use Rattle.zp_model.specs.declared.mark.Mark.{Mark}
 use Rattle.zp_model.specs.declared.mark.Mark.TheVariants as mark
-use Rattle.zp_model.specs.Bounds.{IsCrew, AreLists}
+use Rattle.zp_model.specs.Bounds.{IsCrew, IsLargest, AreLists}
 use Rattle.zp_trace.specs.declared.line.ZoneLine.{ZoneLine}
 use Rattle.zp_trace.specs.declared.line.Call.{Call}
 use Rattle.zp_trace.specs.declared.line.Call.TheVariants.{Info, Alloc, Low, Free, Post, Collect, Drain}
@@ -148,6 +148,11 @@ pub at_none : {T : Type 0} (r : Option T) {P : Type 0} → P → IfNone r P
 at_none None p = p
 at_none (Some x) p = tt
 
+-- and what holds where there is none
+pub where_none : {T : Type 0} (r : Option T) {P : Type 0} → ((IsSome r → ⊥) → P) → IfNone r P
+where_none None f = f (λ some. cc)
+where_none (Some x) f = tt
+
 -- and what follows from it
 pub none_weaker : {T : Type 0} (r : Option T) {P Q : Type 0} → (P → Q) → IfNone r P → IfNone r Q
 none_weaker None f p = f p
@@ -167,9 +172,14 @@ pub four : (ws : List (Bor (List ℕ))) (q : Bor (List ℕ)) → 4 ≤ length ws
 four (r ∷ s ∷ t ∷ u ∷ []) q least below = λ a b c d. cc
 four ws q least below = absurd (omega arith)
 
-pub five : (ws : List (Bor (List ℕ))) (q : Bor (List ℕ)) → 5 ≤ length ws → length ws < 6 → {a b c d e : List ℕ} → (get_or ws 0 q).now ≡ a → (get_or ws 1 q).now ≡ b → (get_or ws 2 q).now ≡ c → (get_or ws 3 q).now ≡ d → (get_or ws 4 q).now ≡ e → spelled ws ≡ a ∷ b ∷ c ∷ d ∷ e ∷ []
-five (r ∷ s ∷ t ∷ u ∷ v ∷ []) q least below = λ a b c d e. cc
-five ws q least below = absurd (omega arith)
+pub five_and : (ws : List (Bor (List ℕ))) (q : Bor (List ℕ)) → 5 ≤ length ws → {a b c d e : List ℕ} {more : List (List ℕ)} → (get_or ws 0 q).now ≡ a → (get_or ws 1 q).now ≡ b → (get_or ws 2 q).now ≡ c → (get_or ws 3 q).now ≡ d → (get_or ws 4 q).now ≡ e → spelled (drop 5 ws) ≡ more → spelled ws ≡ a ∷ b ∷ c ∷ d ∷ e ∷ more
+five_and (r ∷ s ∷ t ∷ u ∷ v ∷ ws) q least = λ a b c d e more. cc
+five_and ws q least = absurd (omega arith)
+
+-- and what stands after five
+pub after_five : (ws : List (Bor (List ℕ))) (a b c d e : List ℕ) (more : List (List ℕ)) → spelled ws ≡ a ∷ b ∷ c ∷ d ∷ e ∷ more → spelled (drop 5 ws) ≡ more
+after_five (r ∷ s ∷ t ∷ u ∷ v ∷ ws) a b c d e more same = cc
+after_five ws a b c d e more same = cc
 
 pub six : (ws : List (Bor (List ℕ))) (q : Bor (List ℕ)) → 6 ≤ length ws → length ws < 7 → {a b c d e f : List ℕ} → (get_or ws 0 q).now ≡ a → (get_or ws 1 q).now ≡ b → (get_or ws 2 q).now ≡ c → (get_or ws 3 q).now ≡ d → (get_or ws 4 q).now ≡ e → (get_or ws 5 q).now ≡ f → spelled ws ≡ a ∷ b ∷ c ∷ d ∷ e ∷ f ∷ []
 six (r ∷ s ∷ t ∷ u ∷ v ∷ w ∷ []) q least below = λ a b c d e f. cc
@@ -179,9 +189,15 @@ six ws q least below = absurd (omega arith)
 abbrev pub nowhere : Bor (List ℕ)
 nowhere = record { ref_ptr = (0, 0); now = [] }
 
+-- at most one word names a largest order
+pub largest_is_words : (named : Option ℕ) → IfSome named IsLargest → (length (largest_words named) ≤ 1) × AllByRecursion IsWord (largest_words named)
+largest_is_words None is = (omega arith, tt)
+largest_is_words (Some m) is = (omega arith, (number_is_word m (omega (arith, is.1)), tt))
+
 pub zone_are_words : (z : ZoneLine) → IsZoneLine z → AreWords (zone_words z)
 zone_are_words z is =
-    (omega arith, omega arith, (search rules, (name_is_word z.name is.0, (number_is_word z.base (omega (arith, is.1.1)), (number_is_word z.pages (omega (arith, is.2.1)), (number_is_word z.min (omega (arith, is.2.1, is.3)), tt))))))
+    let largest = largest_is_words z.largest is.4 in
+    (omega arith, omega (arith, largest.0), (search rules, (name_is_word z.name is.0, (number_is_word z.base (omega (arith, is.1.1)), (number_is_word z.pages (omega (arith, is.2.1)), (number_is_word z.min (omega (arith, is.2.1, is.3)), largest.1))))))
 
 pub workers_are_words : (n : ℕ) → IsCrew n → AreWords (workers_words n)
 workers_are_words n is =

@@ -1,7 +1,7 @@
 -- Which lines may stand after which, what the text of a trace is, and which line of a text is its bad line.
-use Rattle.std.specs.Prelude.{ℕ, ◌+◌, ◌≡◌, ◌≢◌, ◌<◌, ◌≤◌, List, [], ◌∷◌, ◌++◌, length, map, All, Any, Option, Some, None}
+use Rattle.std.specs.Prelude.{ℕ, ◌+◌, ◌≡◌, ◌≢◌, ◌<◌, ◌≤◌, List, [], ◌∷◌, ◌++◌, length, map, All, Any, Option, Some, None, IfSome, unwrap_or}
 use Rattle.zp_model.specs.declared.constants.TheConstants.{LARGEST_ORDER, MAX_ZONES}
-use Rattle.zp_model.specs.Bounds.{IsBase, IsPages, IsCrew, AreLists}
+use Rattle.zp_model.specs.Bounds.{IsBase, IsPages, IsLargest, IsCrew, AreLists}
 use Rattle.zp_model.specs.Naming.{IsName}
 use Rattle.zp_trace.specs.declared.bounds.TheConstants.{MOST_LINES}
 use Rattle.zp_trace.specs.declared.line.ZoneLine.{ZoneLine}
@@ -15,7 +15,11 @@ use Rattle.zp_trace.specs.Lines as line
 use Rattle.zp_trace.specs.Spelling.{line_text, text_of, header_of}
 
 abbrev pub IsZoneLine : ZoneLine → Type 0
-IsZoneLine z = IsName z.name × IsBase z.base × IsPages z.pages × (z.min ≤ z.pages)
+IsZoneLine z = IsName z.name × IsBase z.base × IsPages z.pages × (z.min ≤ z.pages) × IfSome z.largest IsLargest
+
+-- the largest order of the zone that a line declares: the one that it names, else the usual one
+abbrev pub declared_largest : ZoneLine → ℕ
+declared_largest z = unwrap_or z.largest LARGEST_ORDER
 
 -- a zone that has another name, and begins at the other's end or above it
 abbrev pub IsAbove : ZoneLine → ZoneLine → Type 0

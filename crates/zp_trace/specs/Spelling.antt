@@ -1,5 +1,5 @@
 -- What the text of each line is: words, each two of them parted by one space, and a line feed.
-use Rattle.std.specs.Prelude.{ℕ, ◌<◌, ◌≤◌, List, [], ◌∷◌, ◌++◌, length, map, codes}
+use Rattle.std.specs.Prelude.{ℕ, ◌<◌, ◌≤◌, List, [], ◌∷◌, ◌++◌, length, map, codes, Option, Some, None}
 use Rattle.std.specs.List.{join_with_byte, flat_map, AllByRecursion}
 use Rattle.std.specs.Fmt.{decimal}
 use Rattle.std.specs.Borrow.{Bor}
@@ -38,8 +38,13 @@ IsWord word = AllByRecursion (λ b. space < b) word
 abbrev pub AreWords : List (List ℕ) → Type 0
 AreWords words = (0 < length words) × (length words ≤ MOST_WORDS) × AllByRecursion IsWord words
 
+-- the word of a largest order, on a line that names one
+abbrev pub largest_words : Option ℕ → List (List ℕ)
+largest_words None = []
+largest_words (Some m) = decimal m ∷ []
+
 abbrev pub zone_words : ZoneLine → List (List ℕ)
-zone_words z = codes "zone" ∷ z.name ∷ decimal z.base ∷ decimal z.pages ∷ decimal z.min ∷ []
+zone_words z = codes "zone" ∷ z.name ∷ decimal z.base ∷ decimal z.pages ∷ decimal z.min ∷ largest_words z.largest
 
 abbrev pub workers_words : ℕ → List (List ℕ)
 workers_words n = codes "workers" ∷ decimal n ∷ []

@@ -1,22 +1,34 @@
 //! The lines before the worker lines, from their words.
-ghost use Rattle.std.specs.Prelude.{◌≡◌, ◌<◌, ◌≤◌, ◌+◌, ◌↔◌, ℕ, length, All, IsTrue, IfSome, IfNone};
+ghost use Rattle.std.specs.Prelude.{◌≡◌, ◌<◌, ◌≤◌, ◌+◌, ◌↔◌, ℕ, Option, length, All, IsTrue, IfSome, IfNone};
 ghost use Rattle.zp_model.specs.declared.constants.TheConstants.{MAX_ZONES};
 ghost use Rattle.zp_trace.specs.declared.line.ZoneLine.{ZoneLine};
-ghost use Rattle.zp_model.specs.Bounds.{IsCrew, AreLists};
-ghost use Rattle.zp_trace.specs.Spelling.{spelled, zone_words, workers_words, lists_words};
+ghost use Rattle.zp_model.specs.Bounds.{IsCrew, IsLargest, AreLists};
+ghost use Rattle.zp_trace.specs.Spelling.{spelled, largest_words, zone_words, workers_words, lists_words};
 ghost use Rattle.zp_trace.specs.Grammar.{IsZoneLine, IsAbove};
 
 use crate::line::ZoneLine;
 use crate::number::parse_number;
-use crate::values::{base_of, crew_of, is_text, min_of, pages_of};
-use zp_model::{LONGEST_LIST, MAX_BATCH, MAX_ZONES, Name};
+use crate::values::{base_of, crew_of, is_text, largest_of, min_of, pages_of};
+use zp_model::{LONGEST_LIST, Largest, MAX_BATCH, MAX_ZONES, Name};
+
+/// The largest order that such words name, which are no words where a line names none.
+fn named_largest(words: &[&[u8]]) -> Option<Option<Largest>>
+    ensures some { IfSome result (λ named. IfSome named IsLargest × (spelled words.now ≡ largest_words named)) }
+    ensures none { IfNone result ((named : Option ℕ) → IfSome named IsLargest → spelled words.now ≡ largest_words named → ⊥) }
+{
+    match words {
+        [] => Some(None),
+        [word] => Some(Some(largest_of(word)?)),
+        _ => None,
+    }
+}
 
 /// The zone that such words declare.
 pub fn zone_of(words: &[&[u8]]) -> Option<ZoneLine>
     ensures some { IfSome result (λ z. IsZoneLine z × (spelled words.now ≡ zone_words z)) }
     ensures none { IfNone result ((z : ZoneLine) → IsZoneLine z → spelled words.now ≡ zone_words z → ⊥) }
 {
-    let [keyword, name, base, pages, min] = words else {
+    let [keyword, name, base, pages, min, more @ ..] = words else {
         return None;
     };
     if !is_text(keyword, "zone") {
@@ -26,11 +38,13 @@ pub fn zone_of(words: &[&[u8]]) -> Option<ZoneLine>
     let base = base_of(base)?;
     let pages = pages_of(pages)?;
     let min = min_of(min, pages)?;
+    let largest = named_largest(more)?;
     Some(ZoneLine {
         name,
         base,
         pages,
         min,
+        largest,
     })
 }
 

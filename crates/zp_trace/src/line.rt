@@ -1,8 +1,8 @@
 //! The lines of a trace.
 ghost use Rattle.std.specs.Prelude.{◌≡◌};
-ghost use Rattle.zp_trace.specs.Grammar.{bound_label};
+ghost use Rattle.zp_trace.specs.Grammar.{bound_label, declared_largest};
 
-use zp_model::{Mark, MigrateType, Name, Order, Worker};
+use zp_model::{Largest, Mark, MigrateType, Name, Order, Worker};
 
 /// The line that declares a zone.
 #[derive(Clone, Copy, PartialEq, Eq, Debug, Drop)]
@@ -13,6 +13,20 @@ pub struct ZoneLine {
     pub pages: u32,
     /// The least mark, in pages.
     pub min: u32,
+    /// The largest order, where the line names one.
+    pub largest: Option<Largest>,
+}
+
+impl ZoneLine {
+    /// The zone's largest order: the one that the line names, else the usual one.
+    pub fn declared_largest(&self) -> Largest
+        ensures { result ≡ declared_largest self.now }
+    {
+        match self.largest {
+            Some(largest) => largest,
+            None => Largest::usual(),
+        }
+    }
 }
 
 /// What a worker line asks for.

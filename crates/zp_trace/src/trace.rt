@@ -40,7 +40,20 @@ impl ZoneLines {
         ensures ok { OnOk result (self.new ≡ self.old ++ line ∷ []) }
         ensures err { OnErr result (self.new ≡ self.old) }
     {
-        self.lines.push(line)?;
+        let ZoneLine {
+            name,
+            base,
+            pages,
+            min,
+            largest,
+        } = line;
+        self.lines.push(ZoneLine {
+            name,
+            base,
+            pages,
+            min,
+            largest,
+        })?;
         Ok(())
     }
 

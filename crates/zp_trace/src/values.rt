@@ -3,12 +3,13 @@ ghost use Rattle.std.specs.Prelude.{◌≡◌, ◌<◌, ◌≤◌, ◌↔◌, �
 ghost use Rattle.std.specs.Fmt.{decimal};
 ghost use Rattle.zp_model.specs.declared.migrate_type.MigrateType.{MigrateType};
 ghost use Rattle.zp_model.specs.declared.mark.Mark.{Mark};
-ghost use Rattle.zp_model.specs.Bounds.{IsBase, IsPages, IsCrew};
+ghost use Rattle.zp_model.specs.Bounds.{IsBase, IsPages, IsLargest, IsCrew};
 ghost use Rattle.zp_trace.specs.Spelling.{kind_word, mark_word};
 
 use crate::number::parse_number;
 use zp_model::{
-    BASE_LIMIT, BASE_STEP, LARGEST_ORDER, MAX_PAGES, MAX_WORKERS, Mark, MigrateType, Order, Worker,
+    BASE_LIMIT, BASE_STEP, LARGEST_ORDER, Largest, MAX_PAGES, MAX_WORKERS, Mark, MigrateType,
+    Order, Worker,
 };
 
 pub fn is_word(word: &[u8], other: &[u8]) -> bool
@@ -57,6 +58,19 @@ pub fn min_of(word: &[u8], pages: u32) -> Option<u32>
 {
     let min = parse_number(word)?;
     if min <= pages { Some(min) } else { None }
+}
+
+/// A zone's largest order.
+pub fn largest_of(word: &[u8]) -> Option<Largest>
+    ensures some { IfSome result (λ m. IsLargest m × (word.now ≡ decimal m)) }
+    ensures none { IfNone result ((m : ℕ) → IsLargest m → word.now ≡ decimal m → ⊥) }
+{
+    let largest = parse_number(word)?;
+    if largest <= LARGEST_ORDER as u32 {
+        Largest::new(largest as u8)
+    } else {
+        None
+    }
 }
 
 /// How many workers there are.

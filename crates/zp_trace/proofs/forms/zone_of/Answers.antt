@@ -1,11 +1,12 @@
-use Rattle.std.proofs.Common.{List, ℕ, ◌≡◌, sym, arith, subst, refl, ◌∙◌}
+use Rattle.std.proofs.Common.{List, ℕ, ◌≡◌, sym, ap, arith, subst, refl, ◌∙◌}
+use Rattle.std.proofs.lemmas.List.{take_rest}
 use Rattle.std.specs.Fmt.{decimal}
 use Rattle.zp_trace.specs.declared.line.ZoneLine.{ZoneLine}
 use Rattle.zp_model.specs.Naming.{IsName}
-use Rattle.zp_trace.specs.Spelling.{spelled, zone_words}
+use Rattle.zp_trace.specs.Spelling.{spelled, largest_words, zone_words}
 use Rattle.zp_trace.specs.Grammar.{IsZoneLine}
 use Rattle.zp_trace.proofs.Numbers.{same_number}
-use Rattle.zp_trace.proofs.WordLists.{at_none, word_at, five, nowhere}
+use Rattle.zp_trace.proofs.WordLists.{at_none, word_at, after_five, five_and, nowhere}
 use Rattle.zp_trace.proofs.forms.zone_of.Goals as goal
 
 -- no zone line has these words
@@ -25,4 +26,9 @@ returns-in_err-min-clause-none c =
 
 pub returns-clause-some : goal.returns-clause-some
 returns-clause-some c =
-    ((subst IsName (sym c.in_ok-name.ensures.some) (c.in_ok-name.ensures.when.0 refl), c.in_ok-base.ensures.some.0, c.in_ok-pages.ensures.some.0, c.in_ok-min.ensures.some.0), five c.args.words.now nowhere c.in-len5.len_at_least c.in-len5.len_below (c.if-not-is_text.ensures.0 refl) (sym c.in_ok-name.ensures.some) c.in_ok-base.ensures.some.1 c.in_ok-pages.ensures.some.1 c.in_ok-min.ensures.some.1)
+    ((subst IsName (sym c.in_ok-name.ensures.some) (c.in_ok-name.ensures.when.0 refl), c.in_ok-base.ensures.some.0, c.in_ok-pages.ensures.some.0, c.in_ok-min.ensures.some.0, c.in_ok-largest.ensures.some.0), five_and c.args.words.now nowhere c.in-len5-up.len_at_least (c.if-not-is_text.ensures.0 refl) (sym c.in_ok-name.ensures.some) c.in_ok-base.ensures.some.1 c.in_ok-pages.ensures.some.1 c.in_ok-min.ensures.some.1 (ap spelled (sym (take_rest c.args.words.now 5)) ∙ c.in_ok-largest.ensures.some.1))
+
+pub returns-in_err-largest-clause-none : goal.returns-in_err-largest-clause-none
+returns-in_err-largest-clause-none c =
+    at_none _ {P = NoZone (spelled c.args.words.now)} (λ z is e. c.in_err-largest.ensures.none z.largest is.4
+    (ap spelled (take_rest c.args.words.now 5) ∙ after_five c.args.words.now _ _ _ _ _ (largest_words z.largest) e))
