@@ -42,7 +42,9 @@ pub record IsCall (zs : List ZoneState) (s t : ShareState) (i : ℕ) (z : ZoneSt
 -- whatever comes of the request, the zone's key stays
 key-kept : (e : Option Refused) (r : Request) (q : Reply) (z y : ZoneState) (a b : ZoneShareState) → ComesOf e r q z y a b → key_of y ≡ key_of z
 key-kept (Some e) r q z y a b x = ap key_of x.1.zone
-key-kept None r q z y a b x = ap key_of x.zone ∙ ap (λ n. let k : ZoneKey = record { tie = z.tie; name = z.name; workers = n } in k) (step-same z.plain a.seat.worker r).workers
+key-kept None r q z y a b x =
+    let kept = step-same z.plain a.seat.worker r in
+    ap key_of x.zone ∙ (λ i. record { tie = z.tie; name = z.name; largest = kept.largest i; workers = kept.workers i })
 
 -- where nothing changed, the answer and the zones are those of a refusal; and a section is the step of the zone at its place
 comes_told : (e : Option Refused) (r : Request) (q : Reply) (zs : List ZoneState) (s t : ShareState) (i : ℕ) (z y : ZoneState) → IsCall zs s t i z →

@@ -44,14 +44,15 @@ plain s = record { batch = s.batch; high_len = s.high_len; zones = map plain_sha
 abbrev pub world : List NamedZone → ShareState → World
 world zones s = record { zones = zones; share = plain s }
 
--- what of a zone never changes: its tie, its name, and the number of its workers
+-- what of a zone never changes: its tie, its name, its largest order, and the number of its workers
 pub record ZoneKey : Type 0 where
   pub tie : TableId
   pub name : List ℕ
+  pub largest : ℕ
   pub workers : ℕ
 
 abbrev pub key_of : ZoneState → ZoneKey
-key_of z = record { tie = z.tie; name = z.name; workers = workers_of z.plain }
+key_of z = record { tie = z.tie; name = z.name; largest = z.plain.area.largest; workers = workers_of z.plain }
 
 -- the zone without its tie and its entries
 abbrev pub named_zone : ZoneState → NamedZone
@@ -66,7 +67,7 @@ IsShareOf keys s = ties_of s ≡ map (λ (k : ZoneKey). k.tie) keys
 
 -- past the end of a row there is no zone, and no worker
 abbrev pub no_key : ZoneKey
-no_key = record { tie = no_tie; name = []; workers = 0 }
+no_key = record { tie = no_tie; name = []; largest = 0; workers = 0 }
 
 abbrev pub workers_at : List ZoneKey → ℕ → ℕ
 workers_at keys i = (slice_index_or keys i no_key).workers

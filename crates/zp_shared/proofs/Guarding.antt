@@ -36,7 +36,8 @@ seat_at keys i z s key fits =
 -- the zone's key stays
 key_kept : (r : Request) (q : Reply) (z y : ZoneState) (a b : ZoneShareState) → IsSection r q z y a b → key_of y ≡ key_of z
 key_kept r q z y a b made =
-    ap key_of made.zone ∙ ap (λ n. let k : ZoneKey = record { tie = z.tie; name = z.name; workers = n } in k) (step-same z.plain a.seat.worker r).workers
+    let kept = step-same z.plain a.seat.worker r in
+    ap key_of made.zone ∙ (λ i. record { tie = z.tie; name = z.name; largest = kept.largest i; workers = kept.workers i })
 
 -- the share is one of the row still
 share_kept : (keys : List ZoneKey) (r : Request) (q : Reply) (z y : ZoneState) (s t : ShareState) (i : ℕ) → IsShareOf keys s →
