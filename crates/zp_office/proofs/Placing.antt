@@ -1,5 +1,5 @@
 -- The places of labels and of zones' names.
-use Rattle.std.proofs.Common.{ℕ, ◌≡◌, ◌<◌, ◌≤◌, Bool, true, false, List, [], sym, ap, ◌∙◌, arith, length, get_or}
+use Rattle.std.proofs.Common.{ℕ, ◌≡◌, ◌<◌, ◌≤◌, Bool, true, false, List, [], None, sym, ap, ◌∙◌, arith, length, get_or}
 use Rattle.std.specs.List.{position_or_len}
 use Rattle.std.specs.Str.{bytes_eq}
 use Rattle.std.proofs.lemmas.List.{length-map, get_or-map}
@@ -43,6 +43,6 @@ number_here zones name i z b lt is before e t =
 pub number_nowhere : (zones : List ZoneLine) (name : List ℕ) (i : ℕ) → length zones ≤ i → ((k : ℕ) (d : ZoneLine) → k < i → bytes_eq (get_or zones k d).name name ≡ false) →
     length zones ≡ number_of (names_of zones) name
 number_nowhere zones name i ge before =
-    let d : ZoneLine = record { name = []; base = 0; pages = 0; min = 0 } in
+    let d : ZoneLine = record { name = []; base = 0; pages = 0; min = 0; largest = None } in
     let same : length (names_of zones) ≡ length zones = length-map zones (λ (z : ZoneLine). z.name) in
     sym same ∙ none_is (λ n. bytes_eq n name) (names_of zones) [] (λ k below. name_at zones name k d (omega (arith, below, same)) ∙ before k d (omega (arith, below, same)))

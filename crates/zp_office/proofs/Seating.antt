@@ -217,7 +217,7 @@ crew_is h zs ss most e f g fit =
 
     each : (k : ℕ) (d : ZoneState) → k < length zs → workers_of (get_or zs k d).plain ≡ h.workers
     each k d lt =
-        let line : ZoneLine = record { name = []; base = 0; pages = 0; min = 0 } in
+        let line : ZoneLine = record { name = []; base = 0; pages = 0; min = 0; largest = None } in
         let y : NamedZone = declared_zone h.workers line in
         ap (λ (x : NamedZone). workers_of x.plain) (sym (get_or-map named_zone zs k d y lt) ∙ ap (λ l. get_or l k y) e ∙ get_or-map (declared_zone h.workers) h.zones k line y (omega (arith, lt, zones_count h.workers h.zones zs e)))
         ∙ length-replicate h.workers empty

@@ -76,6 +76,7 @@ fn declared_zone(alloc: Global, line: &ZoneLine, workers: u32) -> Result<(Zone, 
         base: line.base,
         pages: line.pages,
         min: line.min,
+        largest: line.declared_largest(),
     };
     Zone::new(alloc, config, workers)
 }

@@ -6,18 +6,23 @@ use Rattle.std.proofs.lemmas.List.{length-map}
 use Rattle.std.proofs.lemmas.Slice.Zip.{length-zip, get_or-zip}
 use Rattle.zp_model.specs.declared.counts.Counts.{Counts}
 use Rattle.zp_model.specs.Info.{info_line}
+use Rattle.zp_zone.specs.NamedZone.{NamedZone}
 use Rattle.zp_zone.specs.Seats.{ZoneState}
 use Rattle.zp_share.specs.Shares.{named_zone}
 
-abbrev pub names : List ZoneState → List (List ℕ)
-names zs = map (λ (z : ZoneState). z.name) zs
+-- the zones by their names
+pub named_place : (zs : List ZoneState) (i : ℕ) → i < length zs → i < length (map named_zone zs)
+named_place zs i lt = omega (arith, lt, length-map zs named_zone)
 
--- the line of a zone with this name and these counts
-abbrev pub line_of : List ℕ × Counts → List ℕ
-line_of p = info_line p.0 p.1
+pub named_there : (zs : List ZoneState) (i : ℕ) (z : ZoneState) → z ≡ get_or zs i z → named_zone z ≡ get_or (map named_zone zs) i (named_zone z)
+named_there zs i z is = ap named_zone is ∙ sym (get_or-map named_zone zs i z)
 
-pub pair_place : (zs : List ZoneState) (cs : List Counts) (i : ℕ) → i < length zs → i < length cs → i < length (zip (names zs) cs)
-pair_place zs cs i zone counts = omega (arith, length-zip (names zs) cs, length-map zs (λ (z : ZoneState). z.name))
+-- the line of a zone with these counts
+abbrev pub line_of : NamedZone × Counts → List ℕ
+line_of p = info_line p.0.name p.0.plain.area.largest p.1
+
+pub pair_place : (zs : List ZoneState) (cs : List Counts) (i : ℕ) → i < length zs → i < length cs → i < length (zip (map named_zone zs) cs)
+pair_place zs cs i zone counts = omega (arith, length-zip (map named_zone zs) cs, length-map zs named_zone)
 
 abbrev pub no_counts : Counts
 no_counts = record { by_order = []; free = 0 }
@@ -29,16 +34,8 @@ get_or-any (x ∷ xs) zero d e lt = refl
 get_or-any (x ∷ xs) (suc i) d e lt = get_or-any xs i d e (omega (arith, lt))
 
 pub pair_there : (zs : List ZoneState) (cs : List Counts) (i : ℕ) (z : ZoneState) → i < length zs → i < length cs → z ≡ get_or zs i z →
-    (z.name, get_or cs i no_counts) ≡ get_or (zip (names zs) cs) i (z.name, get_or cs i no_counts)
+    (named_zone z, get_or cs i no_counts) ≡ get_or (zip (map named_zone zs) cs) i (named_zone z, get_or cs i no_counts)
 pair_there zs cs i z zone counts is =
-    let first : z.name ≡ get_or (names zs) i z.name = ap (λ (y : ZoneState). y.name) is ∙ sym (get_or-map (λ (y : ZoneState). y.name) zs i z) in
-    ap (λ n. (n, get_or cs i no_counts)) first
-    ∙ ap (λ d. (get_or (names zs) i z.name, d)) (get_or-any cs i no_counts (get_or cs i no_counts) counts)
-    ∙ sym (get_or-zip (names zs) cs i (z.name, get_or cs i no_counts) (omega (arith, zone, length-map zs (λ (y : ZoneState). y.name))) counts)
-
--- the zones by their names
-pub named_place : (zs : List ZoneState) (i : ℕ) → i < length zs → i < length (map named_zone zs)
-named_place zs i lt = omega (arith, lt, length-map zs named_zone)
-
-pub named_there : (zs : List ZoneState) (i : ℕ) (z : ZoneState) → z ≡ get_or zs i z → named_zone z ≡ get_or (map named_zone zs) i (named_zone z)
-named_there zs i z is = ap named_zone is ∙ sym (get_or-map named_zone zs i z)
+    ap (λ n. (n, get_or cs i no_counts)) (named_there zs i z is)
+    ∙ ap (λ d. (get_or (map named_zone zs) i (named_zone z), d)) (get_or-any cs i no_counts (get_or cs i no_counts) counts)
+    ∙ sym (get_or-zip (map named_zone zs) cs i (named_zone z, get_or cs i no_counts) (omega (arith, zone, length-map zs named_zone)) counts)

@@ -3,7 +3,6 @@ use Rattle.std.proofs.Common.{ℕ, zero, suc, ◌+◌, ◌≡◌, ◌≤◌, ◌
 use Rattle.std.specs.Prelude.{None, slice_get}
 use Rattle.std.specs.List.{flat_map, range_with_len}
 use Rattle.std.proofs.Math.ListN.{get_or-map}
-use Rattle.std.proofs.lemmas.Simd.{map-map}
 use Rattle.std.proofs.lemmas.Option.{slice_get_read}
 use Rattle.std.proofs.lemmas.List.FromFn.{length-range_with_len}
 use Rattle.std.proofs.lemmas.Bool.{cases_eq, eq-eqb, ne_eqb}
@@ -11,15 +10,13 @@ use Rattle.std.proofs.lemmas.List.{get_or-set_same, get_or-set_other, length-set
 use Rattle.std.proofs.lemmas.List.Sums.{sum_by-cons}
 use Rattle.zp_laws.proofs.Counting.{one_if}
 use Rattle.zp_trace.specs.declared.line.CommandLine.{CommandLine}
-use Rattle.zp_office.specs.Offices.{OfficeState, desk_of, names_in, turns, workers_in}
+use Rattle.zp_office.specs.Offices.{OfficeState, desk_of, turns, workers_in}
 use Rattle.zp_office.specs.declared.reply.CommandReply.{CommandReply}
 use Rattle.zp_zone.specs.NamedZone.{NamedZone}
-use Rattle.zp_zone.specs.Seats.{ZoneState}
-use Rattle.zp_share.specs.Shares.{named_zone}
 use Rattle.zp_office.proofs.Commands.{turn-last}
 use Rattle.zp_replay.specs.Output.{replies_text, reply_at, text_of, turn_text}
 use Rattle.zp_replay.specs.Replies.{reply_text}
-use Rattle.zp_replay.proofs.Infos.{get_or-any, names}
+use Rattle.zp_replay.proofs.Infos.{get_or-any}
 
 -- the numbers are how often each worker had its turn
 abbrev pub AreCounted : List ℕ → List ℕ → Type 0
@@ -97,21 +94,18 @@ turns_end o cs i le =
     (take_all i (range_with_len 0 (length (workers_in cs))) (omega (arith, le, length-range_with_len 0 (length (workers_in cs)), length-map cs (λ (b : CommandLine). b.worker))))
 
 -- the text of a reply that is there, and of none
-pub told_is : (o : OfficeState) (w place : ℕ) (qs : List CommandReply) (q : CommandReply) (names : List (List ℕ)) → qs ≡ (desk_of o w).replies → place < length qs → q ≡ get_or qs place q → names ≡ names_in o →
-    reply_text names w q ≡ reply_at o w place
-told_is o w place qs q names e lt is same =
-    ap (λ ns. reply_text ns w q) same
-    ∙ ap (text_of (names_in o) w) (sym (slice_get_read qs (length qs) place q refl lt is))
-    ∙ ap (λ rs. text_of (names_in o) w (slice_get rs place)) e
+pub told_is : (o : OfficeState) (w place : ℕ) (qs : List CommandReply) (q : CommandReply) (zones : List NamedZone) → qs ≡ (desk_of o w).replies → place < length qs → q ≡ get_or qs place q → zones ≡ o.zones →
+    reply_text zones w q ≡ reply_at o w place
+told_is o w place qs q zones e lt is same =
+    ap (λ zs. reply_text zs w q) same
+    ∙ ap (text_of o.zones w) (sym (slice_get_read qs (length qs) place q refl lt is))
+    ∙ ap (λ rs. text_of o.zones w (slice_get rs place)) e
 
 pub none_is : (o : OfficeState) (w place : ℕ) (qs : List CommandReply) → qs ≡ (desk_of o w).replies → length qs ≤ place → [] ≡ reply_at o w place
 none_is o w place qs e le =
-    ap (text_of (names_in o) w) (sym (none qs place le)) ∙ ap (λ rs. text_of (names_in o) w (slice_get rs place)) e
+    ap (text_of o.zones w) (sym (none qs place le)) ∙ ap (λ rs. text_of o.zones w (slice_get rs place)) e
   where
     none : (rs : List CommandReply) (i : ℕ) → length rs ≤ i → slice_get rs i ≡ None
     none [] i le = refl
     none (r ∷ rs) zero le = absurd (omega (arith, le))
     none (r ∷ rs) (suc i) le = none rs i (omega (arith, le))
-
-pub names_are : (zones : List ZoneState) (o : OfficeState) → map named_zone zones ≡ o.zones → names zones ≡ names_in o
-names_are zones o e = sym (map-map (λ (z : NamedZone). z.name) named_zone zones) ∙ ap (λ zs. map (λ (z : NamedZone). z.name) zs) e

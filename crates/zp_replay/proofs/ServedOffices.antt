@@ -10,7 +10,7 @@ use Rattle.zp_zone.specs.Seats.{ZoneState}
 use Rattle.zp_share.specs.ZoneShares.{ZoneShareState}
 use Rattle.zp_share.specs.Shares.{ZoneKey, key_of, named_zone}
 use Rattle.zp_office.specs.Desks.{DeskState, PlainDesk, IsAnswerTo, plain_desk}
-use Rattle.zp_office.specs.Offices.{OfficeState, AreDesksOf, desk_of, in_order, names_in, next_done, no_desk, opened_desk, opened_office}
+use Rattle.zp_office.specs.Offices.{OfficeState, AreDesksOf, desk_of, in_order, largest_in, names_in, next_done, no_desk, opened_desk, opened_office}
 use Rattle.zp_replay.specs.Serving.{IsDeskServed, IsOfficeServed, IsServed}
 
 pub if_ok : {T E : Type 0} (P Q : T → Type 0) (r : Result T E) → ((x : T) → P x → Q x) → IfOk r P → IfOk r Q
@@ -63,6 +63,8 @@ pub served_is : (t : Trace) (zs : List ZoneState) (ds : List DeskState) (o : Off
 served_is t zs ds o zones desks are s =
     let names : names_in o ≡ names_in (opened_office t) =
     s.names ∙ sym (map-map (λ (z : NamedZone). z.name) named_zone zs) ∙ ap (λ (ns : List NamedZone). map (λ (z : NamedZone). z.name) ns) zones in
+    let largest : largest_in o ≡ largest_in (opened_office t) =
+    s.largest ∙ sym (map-map (λ (z : NamedZone). z.plain.area.largest) named_zone zs) ∙ ap (λ (ns : List NamedZone). map (λ (z : NamedZone). z.plain.area.largest) ns) zones in
     let many : length zs ≡ length o.zones =
     sym (length-map zs (λ (z : ZoneState). z.name)) ∙ ap length (sym s.names) ∙ length-map o.zones (λ (z : NamedZone). z.name) in
     let zip : AllZip (IsPlainServed (length o.zones)) (opened_office t).desks o.desks =
@@ -74,6 +76,7 @@ served_is t zs ds o zones desks are s =
     (zip_get (IsPlainServed (length o.zones)) (opened_office t).desks o.desks w no_desk no_desk zip (omega (arith, lt, opened_length t))) in
     record {
       names = names;
+      largest = largest;
       workers = zip_length (IsPlainServed (length o.zones)) (opened_office t).desks o.desks zip ∙ opened_length t;
       scripts = λ w lt. (one w lt).0;
       answers = λ w lt. (one w lt).1;

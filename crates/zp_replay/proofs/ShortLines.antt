@@ -1,5 +1,5 @@
 -- No line of a trace has more than 40 bytes, and no trace more than 4,096 lines.
-use Rattle.std.proofs.Common.{ℕ, ◌+◌, ◌*◌, ◌≡◌, ◌≤◌, ◌<◌, List, [], ◌∷◌, ◌++◌, length, map, codes, refl, sym, ap, subst, ◌∙◌, append_assoc, arith, length-append}
+use Rattle.std.proofs.Common.{ℕ, ◌+◌, ◌*◌, ◌≡◌, ◌≤◌, ◌<◌, Option, Some, None, IfSome, List, [], ◌∷◌, ◌++◌, length, map, codes, refl, sym, ap, subst, ◌∙◌, append_assoc, arith, length-append}
 use Rattle.std.specs.Fmt.{decimal}
 use Rattle.std.proofs.lemmas.Fmt.{length-decimal-le}
 use Rattle.std.proofs.lemmas.List.{append-nil, length-map}
@@ -7,7 +7,7 @@ use Rattle.zp_model.specs.declared.migrate_type.MigrateType.{MigrateType}
 use Rattle.zp_model.specs.declared.migrate_type.MigrateType.TheVariants.{Unmovable, Reclaimable, Movable}
 use Rattle.zp_model.specs.declared.mark.Mark.{Mark}
 use Rattle.zp_model.specs.declared.mark.Mark.TheVariants as mark
-use Rattle.zp_model.specs.Bounds.{IsCrew, AreLists}
+use Rattle.zp_model.specs.Bounds.{IsCrew, IsLargest, AreLists}
 use Rattle.zp_model.specs.declared.constants.TheConstants.{LARGEST_ORDER, MAX_PAGES, MAX_WORKERS, BASE_LIMIT, LONGEST_NAME}
 use Rattle.zp_trace.specs.declared.bounds.TheConstants.{MOST_LINES}
 use Rattle.zp_trace.specs.declared.line.ZoneLine.{ZoneLine}
@@ -18,7 +18,7 @@ use Rattle.zp_trace.specs.declared.trace.Header.{Header}
 use Rattle.zp_trace.specs.declared.trace.Trace.{Trace}
 use Rattle.zp_trace.specs.Lines.{Line}
 use Rattle.zp_trace.specs.Lines as line
-use Rattle.zp_trace.specs.Spelling.{space, line_feed, joined, kind_word, call_words, header_of, mark_word, line_text, text_of}
+use Rattle.zp_trace.specs.Spelling.{space, line_feed, joined, largest_words, kind_word, call_words, header_of, mark_word, line_text, text_of}
 use Rattle.zp_trace.specs.Grammar.{IsZoneLine, IsHeader, IsDeclared, IsCallOf, IsCommandOf, IsAllowedAfter, IsBeginning, lines_of}
 use Rattle.zp_trace.proofs.HeaderLines.{header_is, zones_are_few}
 
@@ -36,6 +36,14 @@ length-joined w (v ∷ ws) =
 length-line : (w : List ℕ) (ws : List (List ℕ)) → length (joined (w ∷ ws) ++ line_feed ∷ []) ≡ spaced (w ∷ ws)
 length-line w ws = omega (arith, length-append (joined (w ∷ ws)) (line_feed ∷ []), length-joined w ws)
 
+order_short : (k : ℕ) → k ≤ LARGEST_ORDER → length (decimal k) ≤ 2
+order_short k le = length-decimal-le 2 k (omega arith) (omega arith) (omega arith)
+
+-- the word of a largest order and the space before it
+largest_short : (named : Option ℕ) → IfSome named IsLargest → spaced (largest_words named) ≤ 3
+largest_short None is = omega arith
+largest_short (Some m) is = omega (arith, order_short m is.1)
+
 zone_short : (z : ZoneLine) → IsZoneLine z → length (line_text (line.Zone z)) ≤ 40
 zone_short z is =
     let name : length z.name ≤ LONGEST_NAME = is.0.1 in
@@ -45,7 +53,7 @@ zone_short z is =
     let b : length (decimal z.base) ≤ 8 = length-decimal-le 8 z.base (omega arith) (omega arith) (omega arith) in
     let p : length (decimal z.pages) ≤ 5 = length-decimal-le 5 z.pages (omega arith) (omega arith) (omega arith) in
     let m : length (decimal z.min) ≤ 5 = length-decimal-le 5 z.min (omega arith) (omega arith) (omega arith) in
-    omega (arith, length-line (codes "zone") (z.name ∷ decimal z.base ∷ decimal z.pages ∷ decimal z.min ∷ []))
+    omega (arith, largest_short z.largest is.4, length-line (codes "zone") (z.name ∷ decimal z.base ∷ decimal z.pages ∷ decimal z.min ∷ largest_words z.largest))
 
 worker_short : (w : ℕ) → w ≤ MAX_WORKERS → length (decimal w) ≤ 2
 worker_short w le = length-decimal-le 2 w (omega arith) (omega arith) (omega arith)
@@ -68,9 +76,6 @@ length-mark_word : (m : Mark) → length (mark_word m) ≡ 3
 length-mark_word mark.Low = refl
 length-mark_word mark.Min = refl
 length-mark_word mark.Any = refl
-
-order_short : (k : ℕ) → k ≤ LARGEST_ORDER → length (decimal k) ≤ 2
-order_short k le = length-decimal-le 2 k (omega arith) (omega arith) (omega arith)
 
 -- a declared zone has a name
 declared_short : (h : Header) (name : List ℕ) → IsHeader h → IsDeclared h name → length name ≤ LONGEST_NAME

@@ -63,14 +63,15 @@ desks_served [] (e ∷ es) zip = absurd zip
 desks_served (d ∷ ds) [] zip = absurd zip
 desks_served (d ∷ ds) (e ∷ es) zip = ((zip.0.script, zip.0.answers), desks_served ds es zip.1)
 
--- zones with the same keys have the same names
-names_stay : (zones new : List ZoneState) → map key_of new ≡ map key_of zones → map (λ (z : ZoneState). z.name) new ≡ map (λ (z : ZoneState). z.name) zones
-names_stay zones new keys =
-    sym (map-map (λ (k : ZoneKey). k.name) key_of new) ∙ ap (λ ks. map (λ (k : ZoneKey). k.name) ks) keys ∙ map-map (λ (k : ZoneKey). k.name) key_of zones
+-- zones with the same keys have the same of all that a key says
+keys_say : {X : Type 0} (part : ZoneKey → X) (zones new : List ZoneState) → map key_of new ≡ map key_of zones →
+    map (λ (z : ZoneState). part (key_of z)) new ≡ map (λ (z : ZoneState). part (key_of z)) zones
+keys_say part zones new keys = sym (map-map part key_of new) ∙ ap (map part) keys ∙ map-map part key_of zones
 
 pub office_served : (zones new : List ZoneState) (ds es : List DeskState) → map key_of new ≡ map key_of zones → AllZip IsWorked ds es → IsOfficeServed zones ds (office_of new es)
 office_served zones new ds es keys zip =
     record {
-      names = map-map (λ (z : NamedZone). z.name) named_zone new ∙ names_stay zones new keys;
+      names = map-map (λ (z : NamedZone). z.name) named_zone new ∙ keys_say (λ (k : ZoneKey). k.name) zones new keys;
+      largest = map-map (λ (z : NamedZone). z.plain.area.largest) named_zone new ∙ keys_say (λ (k : ZoneKey). k.largest) zones new keys;
       desks = desks_served ds es zip;
     }

@@ -7,12 +7,13 @@ use Rattle.zp_model.specs.declared.mark.Level.TheVariants.{High, Low, Min, Short
 use Rattle.zp_model.specs.Mark.{level_of}
 use Rattle.zp_model.specs.Zone.{pages_of}
 use Rattle.zp_trace.specs.declared.trace.Trace.{Trace}
+use Rattle.zp_zone.specs.NamedZone.{NamedZone}
 use Rattle.zp_share.specs.declared.gathering.Totals.{Totals}
 use Rattle.zp_share.specs.Commands.{zone_at}
 use Rattle.zp_share.specs.Gathering.{totals_of, owns_at}
 use Rattle.zp_office.specs.declared.reply.CommandReply.{CommandReply}
 use Rattle.zp_office.specs.Crews.{CrewState}
-use Rattle.zp_office.specs.Offices.{OfficeState, crew_in, desk_of, in_order, names_in, opened_office, turns, workers_in}
+use Rattle.zp_office.specs.Offices.{OfficeState, crew_in, desk_of, in_order, opened_office, turns, workers_in}
 use Rattle.zp_replay.specs.Replies.{line_feed, info_of, reply_text}
 
 abbrev pub level_word : Level → List ℕ
@@ -46,13 +47,13 @@ abbrev pub total_lines : CrewState → List ℕ
 total_lines c = flat_map (total_of c) (range_with_len 0 (length c.zones))
 
 -- what the output says of a reply, where there is one
-abbrev pub text_of : List (List ℕ) → ℕ → Option CommandReply → List ℕ
-text_of names worker None = []
-text_of names worker (Some q) = reply_text names worker q
+abbrev pub text_of : List NamedZone → ℕ → Option CommandReply → List ℕ
+text_of zones worker None = []
+text_of zones worker (Some q) = reply_text zones worker q
 
 -- the text of worker w's reply at this place among its replies
 abbrev pub reply_at : OfficeState → ℕ → ℕ → List ℕ
-reply_at o w place = text_of (names_in o) w (slice_get (desk_of o w).replies place)
+reply_at o w place = text_of o.zones w (slice_get (desk_of o w).replies place)
 
 -- the text of the reply to the command of turn i: its worker has as many replies before it as it had turns
 abbrev pub turn_text : OfficeState → List ℕ → ℕ → List ℕ

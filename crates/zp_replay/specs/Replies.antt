@@ -28,13 +28,13 @@ reply_line worker q = decimal worker ++ (codes ": " ++ (reply_words q ++ line_fe
 
 -- the info line of a zone
 abbrev pub info_of : NamedZone → List ℕ
-info_of z = info_line z.name (counts_of z.plain.area.largest z.plain.area.free)
+info_of z = info_line z.name z.plain.area.largest (counts_of z.plain.area.largest z.plain.area.free)
 
--- the info lines of zones with these names and these counts
-abbrev pub info_lines : List (List ℕ) → List Counts → List ℕ
-info_lines names counts = flat_map (λ (p : List ℕ × Counts). info_line p.0 p.1) (zip names counts)
+-- the info lines of these zones, with these counts
+abbrev pub info_lines : List NamedZone → List Counts → List ℕ
+info_lines zones counts = flat_map (λ (p : NamedZone × Counts). info_line p.0.name p.0.plain.area.largest p.1) (zip zones counts)
 
--- what the output says of a reply, where the zones have these names
-abbrev pub reply_text : List (List ℕ) → ℕ → CommandReply → List ℕ
-reply_text names worker (Info counts) = info_lines names counts
-reply_text names worker q = reply_line worker q
+-- what the output says of a reply, where these are the zones
+abbrev pub reply_text : List NamedZone → ℕ → CommandReply → List ℕ
+reply_text zones worker (Info counts) = info_lines zones counts
+reply_text zones worker q = reply_line worker q

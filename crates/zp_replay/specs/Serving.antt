@@ -11,7 +11,7 @@ use Rattle.zp_zone.specs.Seats.{ZoneState}
 use Rattle.zp_journal.specs.Journals.{JournalState}
 use Rattle.zp_office.specs.Desks.{DeskState, PlainDesk, IsAnswerTo}
 use Rattle.zp_office.specs.Scripts.{script_of}
-use Rattle.zp_office.specs.Offices.{OfficeState, desk_of, in_order, names_in, opened_office, workers_in}
+use Rattle.zp_office.specs.Offices.{OfficeState, desk_of, in_order, largest_in, names_in, opened_office, workers_in}
 use Rattle.zp_replay.specs.Replaying.{AddUp, IsBadLineCut, IsTraceRead}
 use Rattle.zp_replay.specs.Judging.{JudgedJournal, IsJudged, ending}
 use Rattle.zp_replay.specs.Output.{output, report}
@@ -23,6 +23,7 @@ IsServedInOrder t o = o ≡ in_order (opened_office t) (workers_in t.commands)
 -- an office of a trace whose workers have each carried out their commands, whoever came first: each command has its reply
 pub record IsServed (t : Trace) (o : OfficeState) : Type 0 where
   pub names : names_in o ≡ names_in (opened_office t)
+  pub largest : largest_in o ≡ largest_in (opened_office t)
   pub workers : length o.desks ≡ t.header.workers
   pub scripts : (w : ℕ) → w < t.header.workers → (desk_of o w).script ≡ script_of t w
   pub answers : (w : ℕ) → w < t.header.workers → AllZip (IsAnswerTo (length o.zones)) (script_of t w) (desk_of o w).replies
@@ -38,6 +39,7 @@ IsDeskServed d e = (e.script ≡ d.script) × AllZip (IsAnswerTo (length d.share
 -- these zones and desks, when all scripts were carried out
 pub record IsOfficeServed (zs : List ZoneState) (ds : List DeskState) (o : OfficeState) : Type 0 where
   pub names : names_in o ≡ map (λ (z : ZoneState). z.name) zs
+  pub largest : largest_in o ≡ map (λ (z : ZoneState). z.plain.area.largest) zs
   pub desks : AllZip IsDeskServed ds o.desks
 
 -- the entries are all that was asked of the zone since its opening

@@ -55,6 +55,7 @@ impl ZoneJournal {
             base: line.base,
             pages: line.pages,
             min: line.min,
+            largest: line.declared_largest(),
         };
         let verdict = match replay_journal(alloc, config, workers, &journal) {
             Ok(check) => verdict_in(&check),

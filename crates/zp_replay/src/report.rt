@@ -3,7 +3,6 @@ ghost use Rattle.std.specs.Prelude.{ℕ, ◌≡◌, ◌<◌, ◌≤◌, ◌++◌
 ghost use Rattle.std.specs.List.{flat_map};
 ghost use Rattle.zp_model.specs.declared.counts.Counts.{Counts};
 ghost use Rattle.zp_trace.specs.declared.line.CommandLine.{CommandLine};
-ghost use Rattle.zp_zone.specs.Seats.{ZoneState};
 ghost use Rattle.zp_text.specs.Streams.{IsWritten, IsBegun};
 ghost use Rattle.zp_share.specs.Commands.{zone_at};
 ghost use Rattle.zp_share.specs.Gathering.{AddsUp, owns_at, totals_of};
@@ -92,9 +91,9 @@ fn write_reply<W: Writer>(
     worker: Worker,
     reply: &CommandReply,
 ) -> Result<(), WriteFault>
-    ensures ok { OnOk result (IsWritten (W.contents writer.old) (W.contents writer.new) (reply_text (map (λ (z : ZoneState). z.name) zones.now) worker reply.now)) }
+    ensures ok { OnOk result (IsWritten (W.contents writer.old) (W.contents writer.new) (reply_text (map named_zone zones.now) worker reply.now)) }
     ensures calm { OnOk result (W.failures writer.new ≡ W.failures writer.old) }
-    ensures err { OnErr result (IsBegun (W.contents writer.old) (W.contents writer.new) (reply_text (map (λ (z : ZoneState). z.name) zones.now) worker reply.now)) }
+    ensures err { OnErr result (IsBegun (W.contents writer.old) (W.contents writer.new) (reply_text (map named_zone zones.now) worker reply.now)) }
     ensures failed { OnErr result (W.failures writer.old < W.failures writer.new) }
 {
     match reply {
@@ -109,13 +108,14 @@ fn write_info_lines<W: Writer>(
     zones: &[Zone],
     counts: &[Counts],
 ) -> Result<(), WriteFault>
-    ensures ok { OnOk result (IsWritten (W.contents writer.old) (W.contents writer.new) (info_lines (map (λ (z : ZoneState). z.name) zones.now) counts.now)) }
+    ensures ok { OnOk result (IsWritten (W.contents writer.old) (W.contents writer.new) (info_lines (map named_zone zones.now) counts.now)) }
     ensures calm { OnOk result (W.failures writer.new ≡ W.failures writer.old) }
-    ensures err { OnErr result (IsBegun (W.contents writer.old) (W.contents writer.new) (info_lines (map (λ (z : ZoneState). z.name) zones.now) counts.now)) }
+    ensures err { OnErr result (IsBegun (W.contents writer.old) (W.contents writer.new) (info_lines (map named_zone zones.now) counts.now)) }
     ensures failed { OnErr result (W.failures writer.old < W.failures writer.new) }
 {
     for at in 0..zones.len().min(counts.len()) {
-        write_counts(writer, zones[at].name(), &counts[at])?;
+        let zone = &zones[at];
+        write_counts(writer, zone.name(), zone.largest(), &counts[at])?;
     }
     Ok(())
 }

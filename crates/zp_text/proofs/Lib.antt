@@ -1,3 +1,4 @@
 pub mod Words
+pub mod InfoLines
 pub mod Numbered
 pub mod Written

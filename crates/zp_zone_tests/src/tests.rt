@@ -8,7 +8,7 @@ mod requests;
 use arrayvec::ArrayVec;
 use std::process::Abort;
 use std::test::*;
-use zp_model::{Counts, Level, Mark, MigrateType, Order, Refused};
+use zp_model::{Counts, Largest, Level, Mark, MigrateType, Order, Refused};
 use zp_text::{WriteFault, Writer, write_counts};
 use zp_zone::{Seat, Zone, ZoneConfig};
 
@@ -18,6 +18,7 @@ fn config(name: &str, base: u32, pages: u32, min: u32) -> ZoneConfig<'_> {
         base,
         pages,
         min,
+        largest: Largest::usual(),
     }
 }
 
@@ -56,10 +57,11 @@ fn the_bounds_are_those_of_the_rules(rt: HostRuntime) {
     let bounds = [
         (u32::from(zp_model::LARGEST_ORDER), 10),
         (zp_model::ORDERS as u32, 11),
-        (zp_model::PAGEBLOCK_PAGES, 1_024),
+        (u32::from(Largest::usual().number()), 10),
+        (Largest::usual().pageblock_pages(), 1_024),
         (zp_model::TYPES as u32, 3),
-        (u32::from(zp_model::LEAST_MOVABLE_CLAIM), 5),
-        (zp_model::CLAIM_PAGES, 512),
+        (u32::from(Largest::usual().least_movable_claim()), 5),
+        (Largest::usual().claim_pages(), 512),
         (zp_model::MAX_PAGES, 65_536),
         (zp_model::MAX_WORKERS, 32),
         (zp_model::BASE_LIMIT, 16_777_216),
@@ -155,7 +157,7 @@ impl Writer for Kept {
 }
 
 #[test]
-fn a_line_has_its_numbers_right_aligned_or_whole(rt: HostRuntime) {
+fn a_line_has_its_numbers_right_aligned_or_whole(rt: HostRuntime) -> Result<(), Fail> {
     let counts = Counts {
         by_order: [
             0,
@@ -172,11 +174,24 @@ fn a_line_has_its_numbers_right_aligned_or_whole(rt: HostRuntime) {
         ],
         free: 0,
     };
-    let mut writer = Kept {
-        bytes: ArrayVec::new(),
-    };
-    assert!(rt; write_counts(&mut writer, "DMA", &counts).is_ok());
-    let line =
-        "Node 0, zone      DMA      0      1     12  65535 999999 1000000 4294967295      7      0      0     64 \n";
-    assert!(rt; writer.bytes.as_slice() == line.as_bytes());
+    let lines = [
+        (1, "Node 0, zone      DMA      0      1 \n"),
+        (
+            3,
+            "Node 0, zone      DMA      0      1     12  65535 \n",
+        ),
+        (
+            10,
+            "Node 0, zone      DMA      0      1     12  65535 999999 1000000 4294967295      7      0      0     64 \n",
+        ),
+    ];
+    for (number, line) in lines {
+        let largest = Largest::new(number).ok_or("a zone can have this largest order")?;
+        let mut writer = Kept {
+            bytes: ArrayVec::new(),
+        };
+        assert!(rt; write_counts(&mut writer, "DMA", largest, &counts).is_ok());
+        assert!(rt; writer.bytes.as_slice() == line.as_bytes(), "largest order {number}");
+    }
+    Ok(())
 }

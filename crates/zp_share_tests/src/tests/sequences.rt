@@ -6,7 +6,7 @@ ghost use Rattle.zp_share.specs.Shares.{IsShareOf, key_of};
 use std::alloc::{AllocGlobal, Global};
 use std::process::Abort;
 use std::test::*;
-use zp_model::{Mark, MigrateType, Order, PageNo, Refused};
+use zp_model::{Largest, Mark, MigrateType, Order, PageNo, Refused};
 use zp_share::{ListConfig, PlainZones, Share, Zones, alloc, drain_all, free};
 use zp_zone::{Zone, ZoneConfig};
 
@@ -55,6 +55,7 @@ fn hand_with(alloc: Global, pages: u32, min: u32, lists: ListConfig) -> Result<H
         base: 0,
         pages,
         min,
+        largest: Largest::usual(),
     };
     let (zone, seats) = Zone::new(alloc, config, 1)?;
     let Ok(mut zones) = Vec::with_capacity(alloc, 1) else {

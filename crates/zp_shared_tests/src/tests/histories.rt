@@ -8,6 +8,7 @@ use std::test::*;
 use std::thread::Threads;
 use std::time::Clock;
 use zp_journal::{Journal, JournalCheck, replay_journal};
+use zp_model::Largest;
 use zp_zone::ZoneConfig;
 
 /// What a replay comes to: how many pages are free at the end, the number of the entry that differs, or that of the refusal.
@@ -26,12 +27,21 @@ fn replayed(alloc: Global, config: ZoneConfig<'_>, workers: u32, journal: &Journ
     }
 }
 
-const DMA: ZoneConfig<'static> = ZoneConfig {
-    name: "DMA",
-    base: 0,
-    pages: 4096,
-    min: 0,
-};
+fn dma() -> ZoneConfig<'static> {
+    ZoneConfig {
+        name: "DMA",
+        base: 0,
+        pages: 4096,
+        min: 0,
+        largest: Largest::usual(),
+    }
+}
+
+/// The same zone with another largest order.
+fn of_largest(number: u8) -> Option<ZoneConfig<'static>> {
+    let largest = Largest::new(number)?;
+    Some(ZoneConfig { largest, ..dma() })
+}
 
 /// The journal of the one zone of a trace whose workers run.
 fn journal_of<R: Clock + Sync + Threads + Wait>(
@@ -45,7 +55,7 @@ fn journal_of<R: Clock + Sync + Threads + Wait>(
 
 /// Worker 1 takes two single pages, from the highest block down, the second held to the low mark. Another zone would have answered
 /// otherwise: with a least mark of 4096 pages the low mark is 5120, another base moves all pages, of 2048 pages the highest block is 1024,
-/// and a zone of one worker has no worker 1.
+/// with a largest order of 9 it is 3584 and with one of 1 it is 4094, and a zone of one worker has no worker 1.
 #[test]
 fn a_journal_is_of_its_zone(rt: HostRuntime) {
     let text =
@@ -54,13 +64,19 @@ fn a_journal_is_of_its_zone(rt: HostRuntime) {
         assert!(rt; false, "the workers run");
         return;
     };
+    let (Some(order_9), Some(order_1)) = (of_largest(9), of_largest(1)) else {
+        assert!(rt; false, "a zone can have these largest orders");
+        return;
+    };
     let cases = [
-        (DMA, 2, Found::Legal(4094)),
-        (ZoneConfig { min: 4096, ..DMA }, 2, Found::Differs(2)),
-        (ZoneConfig { base: 4096, ..DMA }, 2, Found::Differs(1)),
-        (ZoneConfig { pages: 2048, ..DMA }, 2, Found::Differs(1)),
-        (DMA, 1, Found::Differs(1)),
-        (DMA, 33, Found::Refused(5)),
+        (dma(), 2, Found::Legal(4094)),
+        (ZoneConfig { min: 4096, ..dma() }, 2, Found::Differs(2)),
+        (ZoneConfig { base: 4096, ..dma() }, 2, Found::Differs(1)),
+        (ZoneConfig { pages: 2048, ..dma() }, 2, Found::Differs(1)),
+        (order_9, 2, Found::Differs(1)),
+        (order_1, 2, Found::Differs(1)),
+        (dma(), 1, Found::Differs(1)),
+        (dma(), 33, Found::Refused(5)),
     ];
     for (number, (config, workers, expected)) in cases.into_iter().enumerate() {
         let found = replayed(rt.alloc(), config, workers, &journal);
