@@ -7,7 +7,7 @@ use crate::bench::NoMemory;
 use crate::random::Checksum;
 use crate::source::{BlockSource, config};
 use std::alloc::Global;
-use zp_model::{Mark, MigrateType, Order, PageNo};
+use zp_model::{Largest, Mark, MigrateType, Order, PageNo};
 use zp_share::{ListConfig, PlainZones, Share, Zones, alloc, free};
 use zp_zone::Zone;
 
@@ -103,7 +103,7 @@ impl Hand {
     /// Over a zone of so many pages, marks 0, with lists of the longest settings.
     fn new(alloc: Global, pages: u32) -> Result<Hand, NoMemory> {
         let mut zones = Vec::with_capacity(alloc, 1)?;
-        let (zone, seats) = Zone::new(alloc, config(pages), 1)?;
+        let (zone, seats) = Zone::new(alloc, config(pages, Largest::usual()), 1)?;
         zones.push_reserved(zone);
         let share = Share::new(alloc, seats, lists()?)?;
         Ok(Hand {

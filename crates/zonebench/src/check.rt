@@ -2,7 +2,7 @@
 
 use crate::bench::{Bench, NoMemory};
 use crate::cached::{Cached, PastLists};
-use crate::seated::Seated;
+use crate::seated::{Largest1, Largest4, Largest9, Seated};
 use crate::source::BlockSource;
 use crate::workload::{SIZES, Workload};
 use crate::worst;
@@ -73,5 +73,10 @@ pub fn print_all(rt: &impl Print, alloc: Global) -> anyhow::Result<()> {
     print_sums::<Cached>(rt, alloc, "cached press", &Workload::Press, 100_000)?;
     print_sums::<Cached>(rt, alloc, "cached burst", &Workload::Burst, 2)?;
     print_sums::<PastLists>(rt, alloc, "past lists churn", &Workload::Churn, 100_000)?;
-    worst::print_sums(rt, alloc)
+    worst::print_sums(rt, alloc)?;
+    print_sums::<Largest9>(rt, alloc, "largest 9 pairs 0", &hot, 1000)?;
+    print_sums::<Largest9>(rt, alloc, "largest 9 churn", &Workload::Churn, 100_000)?;
+    print_sums::<Largest4>(rt, alloc, "largest 4 pairs 0", &hot, 1000)?;
+    print_sums::<Largest4>(rt, alloc, "largest 4 churn", &Workload::Churn, 100_000)?;
+    print_sums::<Largest1>(rt, alloc, "largest 1 burst", &Workload::Burst, 2)
 }

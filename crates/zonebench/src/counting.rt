@@ -6,7 +6,7 @@ use crate::bench::NoMemory;
 use crate::cached::{Cached, PastLists};
 use crate::check::{Sum, sum_of};
 use crate::locked::{self, SECTIONS};
-use crate::seated::Seated;
+use crate::seated::{Largest1, Largest4, Largest9, Seated};
 use crate::workload::Workload;
 use std::alloc::Global;
 use std::rt::Clock;
@@ -21,7 +21,7 @@ and divide the difference in instructions by that in calls";
 /// The names of workloads, as a message has them.
 const NAMES: &str =
     "pairs-0, pairs-4, pairs-9, pairs-10, runs, churn, press, burst, scattered and claims, and each with cached- or past-lists- before it, \
-and pairs with locked- before them";
+or with largest-9-, largest-4- or largest-1- for a zone of that largest order, and pairs with locked- before them";
 
 /// The way on which the blocks of a workload come and go.
 #[derive(Clone, Copy, PartialEq, Eq, Debug, Drop)]
@@ -29,6 +29,9 @@ pub enum Way {
     Seated,
     Cached,
     PastLists,
+    Largest9,
+    Largest4,
+    Largest1,
 }
 
 impl Way {
@@ -38,6 +41,12 @@ impl Way {
             (Way::Cached, rest)
         } else if let Some(rest) = name.strip_prefix("past-lists-") {
             (Way::PastLists, rest)
+        } else if let Some(rest) = name.strip_prefix("largest-9-") {
+            (Way::Largest9, rest)
+        } else if let Some(rest) = name.strip_prefix("largest-4-") {
+            (Way::Largest4, rest)
+        } else if let Some(rest) = name.strip_prefix("largest-1-") {
+            (Way::Largest1, rest)
         } else {
             (Way::Seated, name)
         }
@@ -58,6 +67,9 @@ impl Way {
             Way::Seated => sum_of::<Seated>(alloc, workload, pages, ops),
             Way::Cached => sum_of::<Cached>(alloc, workload, pages, ops),
             Way::PastLists => sum_of::<PastLists>(alloc, workload, pages, ops),
+            Way::Largest9 => sum_of::<Largest9>(alloc, workload, pages, ops),
+            Way::Largest4 => sum_of::<Largest4>(alloc, workload, pages, ops),
+            Way::Largest1 => sum_of::<Largest1>(alloc, workload, pages, ops),
         }
     }
 }

@@ -2,10 +2,13 @@
 
 use crate::bench::{Bench, NoMemory};
 use crate::source::BlockSource;
-use zp_model::{MigrateType, Order, PAGEBLOCK_PAGES};
+use zp_model::{LARGEST_BLOCK_PAGES, MigrateType, Order};
 
 /// The pages of the zone.
 pub const PAGES: u32 = 65_536;
+
+/// The pages of a pageblock, at the usual largest order.
+pub const PAGEBLOCK_PAGES: u32 = LARGEST_BLOCK_PAGES;
 
 /// The pageblocks of the zone.
 pub const PAGEBLOCKS: u32 = PAGES / PAGEBLOCK_PAGES;

@@ -13,7 +13,7 @@ use std::marker::Brand;
 use std::rt::Clock;
 use std::sync::Wait;
 use std::time::{Duration, Instant};
-use zp_model::Order;
+use zp_model::{Largest, Order};
 use zp_shared::{Naming, OpenedZone};
 use zp_zone::{Seat, Zone};
 
@@ -63,7 +63,7 @@ pub fn pairs<R: Wait + Clock>(
     order: Order,
     pairs: u32,
 ) -> anyhow::Result<TimedSections> {
-    match Zone::new(alloc, config(pages), 1) {
+    match Zone::new(alloc, config(pages, Largest::usual()), 1) {
         Ok((zone, seats)) => {
             let opened = OpenedZone::new(alloc, zone, SECTIONS).map_err(NoMemory::from)?;
             pairs_as::<Brand, R>(rt, alloc, opened, seats, order, pairs)

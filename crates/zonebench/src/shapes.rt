@@ -2,11 +2,11 @@
 
 use crate::bench::{Bench, LentBlock, NoMemory};
 use crate::cached::PastLists;
-use crate::grounds::{Ground, PAGEBLOCKS, PAGES};
+use crate::grounds::{Ground, PAGEBLOCK_PAGES, PAGEBLOCKS, PAGES};
 use crate::seated::Seated;
 use crate::source::BlockSource;
 use std::alloc::Global;
-use zp_model::{MigrateType, Order, PAGEBLOCK_PAGES, PageNo};
+use zp_model::{MigrateType, Order, PageNo};
 
 /// A request in a zone of `PAGES` pages.
 pub trait Shape {

@@ -4,7 +4,7 @@ ghost use Rattle.std.specs.Prelude.{◌≡◌};
 
 use crate::bench::NoMemory;
 use std::alloc::Global;
-use zp_model::{MigrateType, Order, PageNo};
+use zp_model::{Largest, MigrateType, Order, PageNo};
 use zp_zone::ZoneConfig;
 
 /// A zone from page 0 on, with nothing lent at first, and the way on which its blocks are taken and given back.
@@ -19,8 +19,8 @@ pub trait BlockSource: Drop {
     fn give(&mut self, page: PageNo, order: Order);
 }
 
-/// A zone of so many pages from page 0 on, marks 0.
-pub fn config(pages: u32) -> ZoneConfig<'static>
+/// A zone of so many pages from page 0 on, marks 0, of this largest order.
+pub fn config(pages: u32, largest: Largest) -> ZoneConfig<'static>
     ensures base { result.base ≡ 0 }
     ensures pages { result.pages ≡ pages }
     ensures min { result.min ≡ 0 }
@@ -30,5 +30,6 @@ pub fn config(pages: u32) -> ZoneConfig<'static>
         base: 0,
         pages,
         min: 0,
+        largest,
     }
 }

@@ -16,7 +16,7 @@ use std::rt::Clock;
 use std::sync::Wait;
 use std::thread::{Threads, map_vec};
 use std::time::{Duration, Instant};
-use zp_model::Order;
+use zp_model::{Largest, Order};
 use zp_share::Share;
 use zp_shared::{BoardReader, LockedZones, Naming, OpenedZone, SharedZone, share_zones};
 use zp_zone::{Seat, Zone, ZoneConfig};
@@ -191,6 +191,7 @@ pub fn time<R: Threads + Wait + Clock + Sync>(
         base: 0,
         pages,
         min: 0,
+        largest: Largest::usual(),
     };
     match Zone::new(alloc, config, workers) {
         Ok((zone, seats)) => {

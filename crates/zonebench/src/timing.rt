@@ -5,7 +5,7 @@ use crate::board::BoardBench;
 use crate::cached::{Cached, PastLists};
 use crate::counting::HOW_TO_COUNT;
 use crate::locked::{self, SECTIONS};
-use crate::seated::Seated;
+use crate::seated::{Largest4, Largest9, Seated};
 use crate::source::BlockSource;
 use crate::threads;
 use crate::workload::{SIZES, Workload};
@@ -244,7 +244,18 @@ fn print_table(rt: &(impl Print + Eprint + Clock), alloc: Global) -> anyhow::Res
         &Workload::Claims,
         [CALLS / 2; 3],
     )?;
+    print_largest_lines(rt, alloc)?;
     print_share_lines(rt, alloc)
+}
+
+/// Prints the table's lines of zones of other largest orders.
+fn print_largest_lines(rt: &(impl Print + Eprint + Clock), alloc: Global) -> anyhow::Result<()> {
+    println!(rt; "largest order 9")?;
+    print_pairs::<Largest9>(rt, alloc, &[("pairs of order 0", 0)])?;
+    print_mixed::<Largest9>(rt, alloc)?;
+    println!(rt; "largest order 4")?;
+    print_pairs::<Largest4>(rt, alloc, &[("pairs of order 0", 0)])?;
+    print_mixed::<Largest4>(rt, alloc)
 }
 
 /// Prints the table's lines of a worker's share.
