@@ -7,7 +7,6 @@ use Rattle.zp_text.specs.Streams.{IsWritten, IsBegun}
 use Rattle.zp_replay.specs.Inputs.{IsRead}
 use Rattle.zp_replay.specs.Output.{bad_line, output}
 use Rattle.zp_replay.specs.declared.traces.Input.{Input}
-use Rattle.zp_replay.specs.declared.traces.Input.TheVariants as Input
 use Rattle.zp_replay.specs.Replaying.{IsBadLineCut, IsInputOf, IsParsed, IsRefusedAt, IsTraceRead, IsUnanswered}
 use Rattle.zp_replay.specs.Serving.{IsCutShort, IsReplayed, IsReportCut, IsReported, IsTraceReported, IsTraceReportBegun}
 use Rattle.zp_replay.specs.declared.input.TheConstants.{INPUT_LIMIT}

@@ -1,4 +1,4 @@
-use Rattle.std.proofs.Common.{◌<◌, get_or, length, map, refl, ap, arith}
+use Rattle.std.proofs.Common.{◌<◌, ◌∙◌, get_or, length, map, refl, ap, arith}
 use Rattle.std.specs.List.{flat_map, zip}
 use Rattle.std.proofs.lemmas.List.{take_all, length-map}
 use Rattle.std.proofs.lemmas.Slice.Zip.{length-zip}
