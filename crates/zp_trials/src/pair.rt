@@ -89,13 +89,15 @@ impl Pair {
         assert!(rt; counts.by_order.as_slice() == plain_counts.by_order.as_slice());
     }
 
-    /// Compares what is noted of each page.
+    /// Compares what is noted of each page, and the type of its pageblock.
     fn compare_notes(&self, rt: &impl Abort) {
         assert_eq!(rt; self.buddy.pages(), self.plain.pages());
         for number in 0..self.buddy.pages().min(self.plain.pages()) {
             let at = PageAt::at(number);
             let note = self.buddy.holding(at);
             assert!(rt; note == self.plain.holding(at), "page {number}");
+            let kind = self.buddy.type_of(at);
+            assert!(rt; kind == self.plain.type_of(at), "page {number}");
         }
     }
 

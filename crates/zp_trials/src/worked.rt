@@ -21,6 +21,8 @@ enum Step {
     Low(u8, Option<u32>),
     /// The block of this order at this page comes back.
     Give(u32, u8),
+    /// No block of this order at this page may come back, though all its pages are out.
+    Keep(u32, u8),
 }
 
 /// Makes a step of both, and compares the answer.
@@ -40,6 +42,11 @@ fn make_step(rt: &impl Abort, pair: &mut Pair, step: Step) {
             let at = PageAt::new(page).expect(rt, "no page");
             let order = Order::new(order).expect(rt, "no order");
             assert!(rt; pair.give(rt, at, order), "page {page}");
+        }
+        Step::Keep(page, order) => {
+            let at = PageAt::new(page).expect(rt, "no page");
+            let order = Order::new(order).expect(rt, "no order");
+            assert!(rt; !pair.give(rt, at, order), "page {page}");
         }
     }
 }
@@ -201,6 +208,8 @@ fn blocks_of_two_pages_are_the_largest(rt: HostRuntime) -> Result<(), Fail> {
             // Two free buddies of the largest order are not joined.
             Step::Take(2, MOVABLE, None),
             Step::Take(1, MOVABLE, Some(0)),
+            Step::Take(1, MOVABLE, Some(2)),
+            Step::Keep(0, 2),
         ],
     )
 }
@@ -236,6 +245,8 @@ fn blocks_of_four_pages_are_the_largest(rt: HostRuntime) -> Result<(), Fail> {
             // Two free buddies of the largest order are not joined.
             Step::Take(3, MOVABLE, None),
             Step::Take(2, MOVABLE, Some(4)),
+            Step::Take(2, MOVABLE, Some(0)),
+            Step::Keep(0, 3),
         ],
     )
 }
@@ -269,6 +280,8 @@ fn blocks_of_eight_pages_are_the_largest(rt: HostRuntime) -> Result<(), Fail> {
             Step::Give(16, 2),
             Step::Give(20, 0),
             Step::Take(3, UNMOVABLE, Some(0)),
+            Step::Take(3, UNMOVABLE, Some(8)),
+            Step::Keep(0, 4),
         ],
     )
 }
@@ -302,6 +315,8 @@ fn blocks_of_32_pages_are_the_largest(rt: HostRuntime) -> Result<(), Fail> {
             // Two free buddies of the largest order are not joined.
             Step::Take(6, RECLAIMABLE, None),
             Step::Take(5, RECLAIMABLE, Some(0)),
+            Step::Take(5, RECLAIMABLE, Some(32)),
+            Step::Keep(0, 6),
         ],
     )
 }
@@ -329,6 +344,8 @@ fn blocks_of_512_pages_are_the_largest(rt: HostRuntime) -> Result<(), Fail> {
             // Two free buddies of the largest order are not joined.
             Step::Take(10, RECLAIMABLE, None),
             Step::Take(9, RECLAIMABLE, Some(0)),
+            Step::Take(9, RECLAIMABLE, Some(512)),
+            Step::Keep(0, 10),
         ],
     )
 }
