@@ -4,7 +4,8 @@ ghost use Rattle.std.specs.Prelude.{ℕ, None};
 use arrayvec::ArrayVec;
 use std::test::*;
 use uses::{
-    HugePool, PagePool, give_run, one_page, relay, share_a_zone, show, take_below, take_huge_page, take_two,
+    HugePool, PagePool, give_run, one_page, relay, share_a_zone, show, take_below, take_huge_page,
+    take_two,
 };
 use zp_model::{Largest, Level, Order, PageNo};
 use zp_text::{WriteFault, Writer};

@@ -75,8 +75,6 @@ pub fn print_all(rt: &impl Print, alloc: Global) -> anyhow::Result<()> {
     print_sums::<PastLists>(rt, alloc, "past lists churn", &Workload::Churn, 100_000)?;
     worst::print_sums(rt, alloc)?;
     print_sums::<Largest9>(rt, alloc, "largest 9 pairs 0", &hot, 1000)?;
-    print_sums::<Largest9>(rt, alloc, "largest 9 churn", &Workload::Churn, 100_000)?;
     print_sums::<Largest4>(rt, alloc, "largest 4 pairs 0", &hot, 1000)?;
-    print_sums::<Largest4>(rt, alloc, "largest 4 churn", &Workload::Churn, 100_000)?;
-    print_sums::<Largest1>(rt, alloc, "largest 1 burst", &Workload::Burst, 2)
+    print_sums::<Largest1>(rt, alloc, "largest 1 pairs 0", &hot, 1000)
 }

@@ -176,10 +176,7 @@ fn a_line_has_its_numbers_right_aligned_or_whole(rt: HostRuntime) -> Result<(), 
     };
     let lines = [
         (1, "Node 0, zone      DMA      0      1 \n"),
-        (
-            3,
-            "Node 0, zone      DMA      0      1     12  65535 \n",
-        ),
+        (3, "Node 0, zone      DMA      0      1     12  65535 \n"),
         (
             10,
             "Node 0, zone      DMA      0      1     12  65535 999999 1000000 4294967295      7      0      0     64 \n",
@@ -191,7 +188,10 @@ fn a_line_has_its_numbers_right_aligned_or_whole(rt: HostRuntime) -> Result<(), 
             bytes: ArrayVec::new(),
         };
         assert!(rt; write_counts(&mut writer, "DMA", largest, &counts).is_ok());
-        assert!(rt; writer.bytes.as_slice() == line.as_bytes(), "largest order {number}");
+        assert!(rt;
+            writer.bytes.as_slice() == line.as_bytes(),
+            "largest order {number}"
+        );
     }
     Ok(())
 }

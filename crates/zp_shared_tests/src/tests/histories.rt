@@ -71,8 +71,22 @@ fn a_journal_is_of_its_zone(rt: HostRuntime) {
     let cases = [
         (dma(), 2, Found::Legal(4094)),
         (ZoneConfig { min: 4096, ..dma() }, 2, Found::Differs(2)),
-        (ZoneConfig { base: 4096, ..dma() }, 2, Found::Differs(1)),
-        (ZoneConfig { pages: 2048, ..dma() }, 2, Found::Differs(1)),
+        (
+            ZoneConfig {
+                base: 4096,
+                ..dma()
+            },
+            2,
+            Found::Differs(1),
+        ),
+        (
+            ZoneConfig {
+                pages: 2048,
+                ..dma()
+            },
+            2,
+            Found::Differs(1),
+        ),
         (order_9, 2, Found::Differs(1)),
         (order_1, 2, Found::Differs(1)),
         (dma(), 1, Found::Differs(1)),
