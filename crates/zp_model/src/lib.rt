@@ -25,9 +25,8 @@ mod worker;
 pub use block::Block;
 pub use blocks_law::{each_page_in_one_block, unjoined_blocks_are_maximal};
 pub use constants::{
-    BASE_LIMIT, BASE_STEP, LARGEST_BLOCK_PAGES, LARGEST_ORDER, LONGEST_LIST,
-    LONGEST_NAME, MAX_BATCH, MAX_PAGES, MAX_WORKERS, MAX_ZONES, NAME_PLACES, NUMBER_PLACES, ORDERS,
-    TYPES,
+    BASE_LIMIT, BASE_STEP, LARGEST_BLOCK_PAGES, LARGEST_ORDER, LONGEST_LIST, LONGEST_NAME,
+    MAX_BATCH, MAX_PAGES, MAX_WORKERS, MAX_ZONES, NAME_PLACES, NUMBER_PLACES, ORDERS, TYPES,
 };
 pub use counts::Counts;
 pub use entry::Entry;

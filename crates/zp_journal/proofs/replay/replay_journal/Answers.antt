@@ -1,6 +1,5 @@
 use Rattle.std.proofs.Common.{◌∙◌, [], sym, ap, subst, length, arith}
 use Rattle.std.proofs.lemmas.List.{length-replicate}
-
 use Rattle.zp_model.specs.Zone.{PlainZone, workers_of, zone_opening}
 use Rattle.zp_zone.specs.Seats.{ZoneState}
 use Rattle.zp_journal.specs.Asking.{AreSeatsOf}

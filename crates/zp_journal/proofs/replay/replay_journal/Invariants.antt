@@ -1,5 +1,4 @@
 use Rattle.std.proofs.Common.{take}
-
 use Rattle.zp_model.specs.Zone.{zone_opening}
 use Rattle.zp_journal.specs.declared.replay.JournalCheck.TheVariants.{Legal}
 use Rattle.zp_journal.specs.Journals.{IsChecked}
