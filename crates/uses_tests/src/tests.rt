@@ -11,12 +11,13 @@ use zp_model::{Largest, Level, Order, PageNo};
 use zp_text::{WriteFault, Writer};
 use zp_zone::{Zone, ZoneConfig};
 
-fn dma() -> ZoneConfig<'static> {
+/// A zone of one pageblock, with this least mark.
+fn dma(min: u32) -> ZoneConfig<'static> {
     ZoneConfig {
         name: "DMA",
         base: 0,
         pages: 1024,
-        min: 511,
+        min,
         largest: Largest::usual(),
     }
 }
@@ -28,7 +29,7 @@ fn one_page_is_taken_and_given_back(rt: HostRuntime) {
 
 #[test]
 fn a_pool_gives_pages_and_takes_its_own_back(rt: HostRuntime) -> Result<(), Fail> {
-    let made = PagePool::new(rt.alloc(), dma());
+    let made = PagePool::new(rt.alloc(), dma(511));
     let mut pool = made.ok().ok_or("the pool can be made")?;
     let page = pool.take().ok_or("there is a page")?;
     assert!(rt; page == PageNo::new(0));
@@ -62,7 +63,7 @@ fn a_pool_of_huge_blocks_has_no_larger_ones(rt: HostRuntime) -> Result<(), Fail>
 
 #[test]
 fn a_huge_page_is_whole_or_single(rt: HostRuntime) -> Result<(), Fail> {
-    let made = Zone::new(rt.alloc(), ZoneConfig { min: 200, ..dma() }, 1);
+    let made = Zone::new(rt.alloc(), dma(200), 1);
     let (mut zone, mut seats) = made.ok().ok_or("the zone can be made")?;
     let huge = Order::new(9).ok_or("9 is an order")?;
     let seat = &mut seats[0];
@@ -88,13 +89,13 @@ fn a_block_goes_from_worker_to_worker(rt: HostRuntime) {
         assert!(rt; false, "2 is an order");
         return;
     };
-    let free = relay(rt.alloc(), dma(), two);
+    let free = relay(rt.alloc(), dma(511), two);
     assert!(rt; free == Some(1024));
 }
 
 #[test]
 fn a_block_below_a_limit_is_kept(rt: HostRuntime) -> Result<(), Fail> {
-    let made = Zone::new(rt.alloc(), dma(), 1);
+    let made = Zone::new(rt.alloc(), dma(511), 1);
     let (mut zone, mut seats) = made.ok().ok_or("the zone can be made")?;
     let order = Order::new(4).ok_or("4 is an order")?;
     let seat = &mut seats[0];
@@ -110,7 +111,7 @@ fn a_block_below_a_limit_is_kept(rt: HostRuntime) -> Result<(), Fail> {
 
 #[test]
 fn two_workers_share_a_zone(rt: HostRuntime) -> Result<(), Fail> {
-    let config = ZoneConfig { min: 0, ..dma() };
+    let config = dma(0);
     let run = share_a_zone(&rt, rt.alloc(), config).ok_or("the zone can be shared")?;
     assert_eq!(rt; run.free_pages, 1024);
     assert_eq!(rt; run.requests, 4);
@@ -139,7 +140,7 @@ impl Writer for Kept {
 
 #[test]
 fn a_zone_is_shown(rt: HostRuntime) -> Result<(), Fail> {
-    let made = Zone::new(rt.alloc(), dma(), 1);
+    let made = Zone::new(rt.alloc(), dma(511), 1);
     let (zone, _seats) = made.ok().ok_or("the zone can be made")?;
     let mut writer = Kept {
         bytes: ArrayVec::new(),

@@ -12,18 +12,33 @@ use zp_model::{Counts, Largest, Level, Mark, MigrateType, Order, Refused};
 use zp_text::{WriteFault, Writer, write_counts};
 use zp_zone::{Seat, Zone, ZoneConfig};
 
-fn config(name: &str, base: u32, pages: u32, min: u32) -> ZoneConfig<'_> {
-    ZoneConfig {
+/// What a zone of the usual largest order is made with.
+#[derive(Clone, Copy, Drop)]
+struct Making<'a> {
+    name: &'a str,
+    base: u32,
+    pages: u32,
+    min: u32,
+}
+
+fn config(name: &str, base: u32, pages: u32, min: u32) -> Making<'_> {
+    Making {
         name,
         base,
         pages,
         min,
-        largest: Largest::usual(),
     }
 }
 
 /// The number that a zone is refused with, or 0 where it is made.
-fn refusal(rt: &HostRuntime, config: ZoneConfig<'_>, workers: u32) -> u8 {
+fn refusal(rt: &HostRuntime, making: Making<'_>, workers: u32) -> u8 {
+    let config = ZoneConfig {
+        name: making.name,
+        base: making.base,
+        pages: making.pages,
+        min: making.min,
+        largest: Largest::usual(),
+    };
     match Zone::new(rt.alloc(), config, workers) {
         Ok(_) => 0,
         Err(refused) => refused.number(),
@@ -119,7 +134,14 @@ fn marks_are_rounded_down(rt: HostRuntime) -> Result<(), Fail> {
         (8, 10, 12),
         (9, 11, 13),
     ] {
-        let (mut zone, mut seats) = Zone::new(rt.alloc(), config("DMA", 0, 64, min), 1)?;
+        let config = ZoneConfig {
+            name: "DMA",
+            base: 0,
+            pages: 64,
+            min,
+            largest: Largest::usual(),
+        };
+        let (mut zone, mut seats) = Zone::new(rt.alloc(), config, 1)?;
         let seat = &mut seats[0];
         let found = (
             free_below_high(&mut zone, seat),

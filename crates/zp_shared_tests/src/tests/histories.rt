@@ -19,28 +19,25 @@ enum Found {
     Refused(u8),
 }
 
-fn replayed(alloc: Global, config: ZoneConfig<'_>, workers: u32, journal: &Journal) -> Found {
-    match replay_journal(alloc, config, workers, journal) {
+/// What a zone named DMA is made with: its base, its pages, its least mark and its largest order.
+type Making = (u32, u32, u32, u8);
+
+/// What the journal's replay by this zone finds. None where a zone cannot have the largest order.
+fn replayed(alloc: Global, making: Making, workers: u32, journal: &Journal) -> Option<Found> {
+    let (base, pages, min, largest) = making;
+    let config = ZoneConfig {
+        name: "DMA",
+        base,
+        pages,
+        min,
+        largest: Largest::new(largest)?,
+    };
+    let found = match replay_journal(alloc, config, workers, journal) {
         Ok(JournalCheck::Legal(zone)) => Found::Legal(zone.counts().free),
         Ok(JournalCheck::Differs(number)) => Found::Differs(number),
         Err(refused) => Found::Refused(refused.number()),
-    }
-}
-
-fn dma() -> ZoneConfig<'static> {
-    ZoneConfig {
-        name: "DMA",
-        base: 0,
-        pages: 4096,
-        min: 0,
-        largest: Largest::usual(),
-    }
-}
-
-/// The same zone with another largest order.
-fn of_largest(number: u8) -> Option<ZoneConfig<'static>> {
-    let largest = Largest::new(number)?;
-    Some(ZoneConfig { largest, ..dma() })
+    };
+    Some(found)
 }
 
 /// The journal of the one zone of a trace whose workers run.
@@ -64,36 +61,18 @@ fn a_journal_is_of_its_zone(rt: HostRuntime) {
         assert!(rt; false, "the workers run");
         return;
     };
-    let (Some(order_9), Some(order_1)) = (of_largest(9), of_largest(1)) else {
-        assert!(rt; false, "a zone can have these largest orders");
-        return;
-    };
     let cases = [
-        (dma(), 2, Found::Legal(4094)),
-        (ZoneConfig { min: 4096, ..dma() }, 2, Found::Differs(2)),
-        (
-            ZoneConfig {
-                base: 4096,
-                ..dma()
-            },
-            2,
-            Found::Differs(1),
-        ),
-        (
-            ZoneConfig {
-                pages: 2048,
-                ..dma()
-            },
-            2,
-            Found::Differs(1),
-        ),
-        (order_9, 2, Found::Differs(1)),
-        (order_1, 2, Found::Differs(1)),
-        (dma(), 1, Found::Differs(1)),
-        (dma(), 33, Found::Refused(5)),
+        ((0, 4096, 0, 10), 2, Found::Legal(4094)),
+        ((0, 4096, 4096, 10), 2, Found::Differs(2)),
+        ((4096, 4096, 0, 10), 2, Found::Differs(1)),
+        ((0, 2048, 0, 10), 2, Found::Differs(1)),
+        ((0, 4096, 0, 9), 2, Found::Differs(1)),
+        ((0, 4096, 0, 1), 2, Found::Differs(1)),
+        ((0, 4096, 0, 10), 1, Found::Differs(1)),
+        ((0, 4096, 0, 10), 33, Found::Refused(5)),
     ];
-    for (number, (config, workers, expected)) in cases.into_iter().enumerate() {
-        let found = replayed(rt.alloc(), config, workers, &journal);
-        assert_eq!(rt; found, expected, "case {number}");
+    for (number, (making, workers, expected)) in cases.into_iter().enumerate() {
+        let found = replayed(rt.alloc(), making, workers, &journal);
+        assert!(rt; found == Some(expected), "case {number}");
     }
 }

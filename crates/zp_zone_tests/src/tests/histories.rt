@@ -50,7 +50,7 @@ pub(super) type Told = (u32, Noted, Option<u32>, Option<u32>);
 /// What is asked of a zone of two workers, and what it tells then: its free pages, those in posted blocks, and some pages.
 #[derive(Clone, Copy, Drop)]
 pub(super) struct History<'a> {
-    pub(super) config: ZoneConfig<'a>,
+    pub(super) config: Making<'a>,
     pub(super) asked: &'a [Asked<'a>],
     pub(super) free: u32,
     pub(super) posted: u32,
@@ -146,7 +146,14 @@ fn compare(rt: &impl Abort, zone: &Zone, history: &History<'_>) {
 /// A new zone answers all of the history as it says, and tells then what it says.
 pub(super) fn expect(rt: &(impl Abort + AllocGlobal), history: &History<'_>) -> Result<(), Fail> {
     let journal = journal_of(rt, history.asked)?;
-    match replay_journal(rt.alloc(), history.config, 2, &journal)? {
+    let config = ZoneConfig {
+        name: history.config.name,
+        base: history.config.base,
+        pages: history.config.pages,
+        min: history.config.min,
+        largest: Largest::usual(),
+    };
+    match replay_journal(rt.alloc(), config, 2, &journal)? {
         JournalCheck::Legal(zone) => compare(rt, &zone, history),
         JournalCheck::Differs(number) => assert!(rt; false, "entry {number} differs"),
     }
