@@ -135,25 +135,27 @@ impl FreeArea {
         );
     }
 
-    /// Takes a block of order `from` out of the set, and its high halves down to order `to` into it, the largest first. Its low part
-    /// of order `to` is in no block then.
+    /// Takes a block of order `from`, in a pageblock of this type, out of the set, and its high halves down to order `to` into it, the
+    /// largest first. Its low part of order `to` is in no block then.
     #[inline(always)]
-    pub fn split_off(&mut self, at: PageAt, from: Order, to: Order)
+    pub fn split_off(&mut self, at: PageAt, from: Order, to: Order, kind: MigrateType)
         requires block { Starts (block_set self.old) at from }
+        requires typed { kind ≡ kind_at self.old.largest self.old.kinds at }
         requires down { to ≤ from }
         ensures { self.new ≡ split_off self.old.largest self.old at from to }
     {
         if to.number() < from.number() {
-            self.split_down(at, from, to);
+            self.split_down(at, from, to, kind);
         } else {
-            self.take_whole(at, from);
+            self.take_whole(at, from, kind);
         }
     }
 
     /// Takes a block of this order out of the set whole.
     #[inline(always)]
-    fn take_whole(&mut self, at: PageAt, order: Order)
-        requires { Starts (block_set self.old) at order }
+    fn take_whole(&mut self, at: PageAt, order: Order, kind: MigrateType)
+        requires block { Starts (block_set self.old) at order }
+        requires typed { kind ≡ kind_at self.old.largest self.old.kinds at }
         ensures { self.new ≡ removed self.old.largest self.old at order }
     {
         splits::take_whole(
@@ -162,6 +164,7 @@ impl FreeArea {
             &mut self.tree,
             &mut self.free_in,
             self.largest,
+            kind,
             at,
             order,
         );
@@ -178,8 +181,9 @@ impl FreeArea {
     /// The same of a block that is split.
     // (out of line: most blocks are taken whole, which is the shorter way; and a method, as one pointer in a loop is less than four)
     #[inline(never)]
-    fn split_down(&mut self, at: PageAt, from: Order, to: Order)
+    fn split_down(&mut self, at: PageAt, from: Order, to: Order, kind: MigrateType)
         requires block { Starts (block_set self.old) at from }
+        requires typed { kind ≡ kind_at self.old.largest self.old.kinds at }
         requires down { to < from }
         ensures { self.new ≡ split_off self.old.largest self.old at from to }
     {
@@ -189,6 +193,7 @@ impl FreeArea {
             &mut self.tree,
             &mut self.free_in,
             self.largest,
+            kind,
             at,
             from,
             to,
@@ -333,6 +338,7 @@ impl FreeArea {
         ensures answer { result ≡ front (free_list_of self.now.largest self.now order kind) }
         ensures on { IfSome result (IsOn (free_lists self.now.largest self.now) (list_number order kind)) }
         ensures starts { IfSome result (λ at. Starts (block_set self.now) at order) }
+        ensures typed { IfSome result (λ at. kind ≡ kind_at self.now.largest self.now.kinds at) }
     {
         if order.number() > self.largest.number() {
             return None;
@@ -346,6 +352,7 @@ impl FreeArea {
         ensures answer { result ≡ after at (free_list_of self.now.largest self.now order kind) }
         ensures on { IfSome result (IsOn (free_lists self.now.largest self.now) (list_number order kind)) }
         ensures starts { IfSome result (λ at. Starts (block_set self.now) at order) }
+        ensures typed { IfSome result (λ at. kind ≡ kind_at self.now.largest self.now.kinds at) }
     {
         self.lists.after(list_of(order, kind), at)
     }
@@ -362,8 +369,9 @@ impl FreeArea {
 
     /// The largest order of a block in a pageblock of another type that has the free pages that a claim needs. A block of half of a
     /// pageblock or more gives it these pages; whether there are smaller ones only, what is noted of the pageblocks tells. None is looked at.
-    pub fn largest_claimable(&self, kind: MigrateType) -> Option<Order>
-        ensures { IsLargestClaimable self.now.largest self.now kind result }
+    pub fn largest_claimable(&mut self, kind: MigrateType) -> Option<Order>
+        ensures answer { IsLargestClaimable self.old.largest self.old kind result }
+        ensures same { self.new ≡ self.old }
     {
         let whole = self.largest.order();
         if self.is_beside(whole, kind) {

@@ -5,7 +5,7 @@ ghost use Rattle.std.specs.Prelude.{◌≡◌, ◌<◌, ◌≤◌, ◌+◌, ◌-
 ghost use Rattle.zp_model.specs.declared.state.State.TheVariants.{Free, Tail};
 ghost use Rattle.zp_model.specs.BlockSet.{Starts};
 ghost use Rattle.zp_model.specs.Rows.{IsLoose, IsOn, with_state};
-ghost use Rattle.zp_model.specs.Area.{list_number};
+ghost use Rattle.zp_model.specs.Area.{kind_at, list_number};
 ghost use Rattle.zp_area.specs.Blocks.{block_set, put_in_front, removed, taken_off};
 ghost use Rattle.zp_area.specs.Chains.{split_off};
 ghost use Rattle.zp_area.specs.OneSet.{IsKept};
@@ -36,7 +36,7 @@ pub fn take_out(lists: &mut Lists, kind: MigrateType, at: PageAt, order: Order)
     lists.remove_noted(list_of(order, kind), at, State::Tail);
 }
 
-/// Takes the block of this order at a page out of the set whole.
+/// Takes the block of this order at a page, in a pageblock of this type, out of the set whole.
 #[inline(always)]
 pub fn take_whole(
     lists: &mut Lists,
@@ -44,23 +44,24 @@ pub fn take_whole(
     tree: &mut OrderTree,
     free_in: &mut Vec<u32>,
     largest: Largest,
+    kind: MigrateType,
     at: PageAt,
     order: Order,
 )
     requires kept { IsKept largest (record { largest = largest; rows = lists.old; kinds = kinds.now.items }) tree.old free_in.old.items }
     requires block { Starts (block_set (record { largest = largest; rows = lists.old; kinds = kinds.now.items })) at order }
+    requires typed { kind ≡ kind_at largest kinds.now.items at }
     ensures kept { IsKept largest (record { largest = largest; rows = lists.new; kinds = kinds.now.items }) tree.new free_in.new.items }
     ensures after { (record { largest = largest; rows = lists.new; kinds = kinds.now.items }) ≡ removed largest (record { largest = largest; rows = lists.old; kinds = kinds.now.items }) at order }
 {
     let pageblock = largest.pageblock_of(at);
-    let kind = kinds[pageblock];
     take_out(lists, kind, at, order);
     tree.clear(at, order);
     free_in[pageblock] -= order.pages();
 }
 
-/// Takes the block of order `from` at `at` out of the set, and its high halves down to order `to` into it. The tree changes once,
-/// and so does the number of free pages of the pageblock.
+/// Takes the block of order `from` at `at`, in a pageblock of this type, out of the set, and its high halves down to order `to` into it.
+/// The tree changes once, and so does the number of free pages of the pageblock.
 #[inline(always)]
 pub fn split_off(
     lists: &mut Lists,
@@ -68,18 +69,19 @@ pub fn split_off(
     tree: &mut OrderTree,
     free_in: &mut Vec<u32>,
     largest: Largest,
+    kind: MigrateType,
     at: PageAt,
     from: Order,
     to: Order,
 )
     requires kept { IsKept largest (record { largest = largest; rows = lists.old; kinds = kinds.now.items }) tree.old free_in.old.items }
     requires block { Starts (block_set (record { largest = largest; rows = lists.old; kinds = kinds.now.items })) at from }
+    requires typed { kind ≡ kind_at largest kinds.now.items at }
     requires down { to < from }
     ensures kept { IsKept largest (record { largest = largest; rows = lists.new; kinds = kinds.now.items }) tree.new free_in.new.items }
     ensures after { (record { largest = largest; rows = lists.new; kinds = kinds.now.items }) ≡ split_off largest (record { largest = largest; rows = lists.old; kinds = kinds.now.items }) at from to }
 {
     let pageblock = largest.pageblock_of(at);
-    let kind = kinds[pageblock];
     take_out(lists, kind, at, from);
     tree.split(at, from, to);
     let mut order = from;

@@ -1,36 +1,20 @@
 use Rattle.std.proofs.Common.{◌≡◌, ◌+◌, ◌/◌, ◌^◌, length, slice_index, arith}
 use Rattle.zp_model.specs.Block.{IsBlock}
-use Rattle.zp_model.specs.Area.{kind_at}
 use Rattle.zp_area.specs.Blocks.{Blocks}
-use Rattle.zp_area.proofs.Keeping.{blocks_length, counted_there, kind_found, read_at, typed_there}
+use Rattle.zp_area.proofs.Keeping.{blocks_length, counted_there, read_at}
 use Rattle.zp_area.proofs.Adding.{coming_loose}
 use Rattle.zp_area.proofs.OneBlock.{head_below}
 use Rattle.zp_area.proofs.Splitting.{IsSplitting, block_on, half_coming, half_kind, split_begins, split_ends, split_goes}
-use Rattle.zp_area.proofs.splits.split_off.Goals.{After-index-kind, After-lower-order, After-index_mut}
+use Rattle.zp_area.proofs.splits.split_off.Goals.{After-lower-order, After-index_mut, Start}
 use Rattle.zp_area.proofs.splits.split_off.Goals as goal
 
-block : (c : After-index-kind) → IsBlock c.args.largest (length c.args.lists.now.states) c.args.at c.args.from
+block : (c : Start) → IsBlock c.args.largest (length c.args.lists.now.states) c.args.at c.args.from
 block c = rw (← blocks_length c.args.lists.now.states) (c.requires.kept.one.blocks.block _ _ c.requires.block)
-
-kind : (c : After-index-kind) → c.index-kind.result.now ≡ kind_at c.args.largest c.args.kinds.now.items c.args.at
-kind c =
-    let a : Blocks = record { largest = c.args.largest; rows = c.args.lists.now; kinds = c.args.kinds.now.items } in
-    kind_found c.args.largest a c.args.at c.args.from _ _ c.requires.kept.one (block c) c.pageblock_of-pageblock.ensures c.index-kind.ensures
-
-pub index-kind-requires : goal.index-kind-requires
-index-kind-requires c =
-    let a : Blocks = record { largest = c.args.largest; rows = c.args.lists.now; kinds = c.args.kinds.now.items } in
-    omega (
-      arith,
-      c.pageblock_of-pageblock.ensures,
-      typed_there c.args.largest a c.args.at c.args.from c.requires.kept.one
-          (rw (← blocks_length c.args.lists.now.states) (c.requires.kept.one.blocks.block _ _ c.requires.block)),
-    )
 
 pub take_out-requires-clause-on : goal.take_out-requires-clause-on
 take_out-requires-clause-on c =
     let a : Blocks = record { largest = c.args.largest; rows = c.args.lists.now; kinds = c.args.kinds.now.items } in
-    rw (kind (goal.at.take_out-requires-clause-on c).After-index-kind) (block_on c.args.largest a c.args.at c.args.from c.requires.kept.one c.requires.block)
+    rw c.requires.typed (block_on c.args.largest a c.args.at c.args.from c.requires.kept.one c.requires.block)
 
 -- one half is still to be split off
 half : (c : After-lower-order) → IsSplitting c.args.largest (record { largest = c.args.largest; rows = c.args.lists.now; kinds = c.args.kinds.now.items }) (record { largest = c.args.largest; rows = c.halves.lists; kinds = c.args.kinds.now.items }) c.args.free_in.now.items c.args.at c.args.to c.args.from (c.lower-order.result + 1)
@@ -39,7 +23,7 @@ half c = rw c.lower-order.ensures c.halves.invariant
 pub halves-init : goal.halves-init
 halves-init c =
     let a : Blocks = record { largest = c.args.largest; rows = c.args.lists.now; kinds = c.args.kinds.now.items } in
-    rw (c.take_out.ensures, kind (goal.at.halves-init c).After-index-kind)
+    rw (c.take_out.ensures, c.requires.typed)
     (split_begins c.args.largest a _ _ c.args.at c.args.to c.args.from c.requires.kept c.requires.block (omega arith))
 
 pub put_in-requires-clause-page : goal.put_in-requires-clause-page
@@ -57,10 +41,9 @@ put_in-requires-clause-loose c =
 pub halves-preserved : goal.halves-preserved
 halves-preserved c =
     let x = half (goal.at.halves-preserved c).After-lower-order in
-    let before = (goal.at.halves-preserved c).After-index-kind in
     let e : c.at-high.result ≡ c.args.at + 2 ^ c.lower-order.result = omega arith in
-    rw (c.put_in.ensures, e, half_kind c.lower-order.result x c.index-kind.result.now (kind before))
-    (split_goes c.lower-order.result x (omega arith) (counted_there c.args.largest _ _ c.args.at c.args.from c.requires.kept.each (block before)))
+    rw (c.put_in.ensures, e, half_kind c.lower-order.result x c.args.kind c.requires.typed)
+    (split_goes c.lower-order.result x (omega arith) (counted_there c.args.largest _ _ c.args.at c.args.from c.requires.kept.each (block (goal.at.halves-preserved c).Start)))
 
 -- the loop has come down to the order that is wanted
 whole : (c : After-index_mut) → IsSplitting c.args.largest (record { largest = c.args.largest; rows = c.args.lists.now; kinds = c.args.kinds.now.items }) (record { largest = c.args.largest; rows = c.halves.lists; kinds = c.args.kinds.now.items }) c.args.free_in.now.items c.args.at c.args.to c.args.from c.args.to
@@ -72,10 +55,10 @@ read c b = read_at c.args.largest _ _ c.args.at c.args.from _ _ c.requires.kept.
 pub overflow_sub-index_mut : goal.overflow_sub-index_mut
 overflow_sub-index_mut c =
     let now = (goal.at.overflow_sub-index_mut c).After-index_mut in
-    omega (arith, read now (block (goal.at.overflow_sub-index_mut c).After-index-kind), (whole now).most, c.pages-2.ensures.pages)
+    omega (arith, read now (block (goal.at.overflow_sub-index_mut c).Start), (whole now).most, c.pages-2.ensures.pages)
 
 pub returns-clause-kept : goal.returns-clause-kept
 returns-clause-kept c =
     let now = (goal.at.returns-clause-kept c).After-index_mut in
     let a : Blocks = record { largest = c.args.largest; rows = c.args.lists.now; kinds = c.args.kinds.now.items } in
-    rw (c.split.ensures, c.requires.kept.same, c.pageblock_of-pageblock.ensures, read now (block (goal.at.returns-clause-kept c).After-index-kind), c.pages-2.ensures.pages) (split_ends c.args.largest a _ _ c.args.at c.args.to c.args.from (whole now)).0
+    rw (c.split.ensures, c.requires.kept.same, c.pageblock_of-pageblock.ensures, read now (block (goal.at.returns-clause-kept c).Start), c.pages-2.ensures.pages) (split_ends c.args.largest a _ _ c.args.at c.args.to c.args.from (whole now)).0

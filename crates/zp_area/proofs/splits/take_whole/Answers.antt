@@ -1,55 +1,39 @@
 use Rattle.std.proofs.Common.{◌^◌, ◌≡◌, ◌/◌, length, refl, slice_index, arith}
 use Rattle.zp_model.specs.Block.{IsBlock}
-use Rattle.zp_model.specs.Area.{kind_at}
 use Rattle.zp_area.specs.Blocks.{Blocks}
-use Rattle.zp_area.proofs.Keeping.{blocks_length, counted_there, kind_found, read_at, typed_there}
+use Rattle.zp_area.proofs.Keeping.{blocks_length, counted_there, read_at}
 use Rattle.zp_area.proofs.Removing.{kept_removed}
 use Rattle.zp_area.proofs.Splitting.{block_on}
-use Rattle.zp_area.proofs.splits.take_whole.Goals.{After-index-kind, After-index_mut}
+use Rattle.zp_area.proofs.splits.take_whole.Goals.{After-index_mut, Start}
 use Rattle.zp_area.proofs.splits.take_whole.Goals as goal
 
-block : (c : After-index-kind) → IsBlock c.args.largest (length c.args.lists.now.states) c.args.at c.args.order
+block : (c : Start) → IsBlock c.args.largest (length c.args.lists.now.states) c.args.at c.args.order
 block c = rw (← blocks_length c.args.lists.now.states) (c.requires.kept.one.blocks.block _ _ c.requires.block)
-
-kind : (c : After-index-kind) → c.index-kind.result.now ≡ kind_at c.args.largest c.args.kinds.now.items c.args.at
-kind c =
-    let a : Blocks = record { largest = c.args.largest; rows = c.args.lists.now; kinds = c.args.kinds.now.items } in
-    kind_found c.args.largest a c.args.at c.args.order _ _ c.requires.kept.one (block c) c.pageblock_of-pageblock.ensures c.index-kind.ensures
-
-pub index-kind-requires : goal.index-kind-requires
-index-kind-requires c =
-    let a : Blocks = record { largest = c.args.largest; rows = c.args.lists.now; kinds = c.args.kinds.now.items } in
-    omega (
-      arith,
-      c.pageblock_of-pageblock.ensures,
-      typed_there c.args.largest a c.args.at c.args.order c.requires.kept.one
-          (rw (← blocks_length c.args.lists.now.states) (c.requires.kept.one.blocks.block _ _ c.requires.block)),
-    )
 
 pub take_out-requires-clause-on : goal.take_out-requires-clause-on
 take_out-requires-clause-on c =
     let a : Blocks = record { largest = c.args.largest; rows = c.args.lists.now; kinds = c.args.kinds.now.items } in
-    rw (kind (goal.at.take_out-requires-clause-on c).After-index-kind) (block_on c.args.largest a c.args.at c.args.order c.requires.kept.one c.requires.block)
+    rw c.requires.typed (block_on c.args.largest a c.args.at c.args.order c.requires.kept.one c.requires.block)
 
 read : (c : After-index_mut) → IsBlock c.args.largest (length c.args.lists.now.states) c.args.at c.args.order → c.index_mut.result.now ≡ slice_index c.args.free_in.now.items (c.args.at / 2 ^ c.args.largest)
 read c b = read_at c.args.largest _ _ c.args.at c.args.order _ _ c.requires.kept.each b c.pageblock_of-pageblock.ensures c.index_mut.ensures.value
 
 pub index_mut-requires : goal.index_mut-requires
 index_mut-requires c =
-    omega (arith, c.pageblock_of-pageblock.ensures, counted_there c.args.largest _ _ c.args.at c.args.order c.requires.kept.each (block (goal.at.index_mut-requires c).After-index-kind))
+    omega (arith, c.pageblock_of-pageblock.ensures, counted_there c.args.largest _ _ c.args.at c.args.order c.requires.kept.each (block (goal.at.index_mut-requires c).Start))
 
 pub returns-clause-after : goal.returns-clause-after
-returns-clause-after c = rw (c.take_out.ensures, kind (goal.at.returns-clause-after c).After-index-kind) refl
+returns-clause-after c = rw (c.take_out.ensures, c.requires.typed) refl
 
 pub overflow_sub-index_mut : goal.overflow_sub-index_mut
 overflow_sub-index_mut c =
     let now = (goal.at.overflow_sub-index_mut c).After-index_mut in
-    let before = (goal.at.overflow_sub-index_mut c).After-index-kind in
+    let before = (goal.at.overflow_sub-index_mut c).Start in
     omega (arith, read now (block before), c.pages.ensures.pages, (kept_removed c.args.largest _ c.args.at c.args.order c.requires.kept.one c.requires.block _ _ c.requires.kept).most)
 
 pub returns-clause-kept : goal.returns-clause-kept
 returns-clause-kept c =
     let now = (goal.at.returns-clause-kept c).After-index_mut in
-    let before = (goal.at.returns-clause-kept c).After-index-kind in
-    rw (c.take_out.ensures, kind before, c.clear.ensures.after, c.pageblock_of-pageblock.ensures, read now (block before), c.pages.ensures.pages)
+    let before = (goal.at.returns-clause-kept c).Start in
+    rw (c.take_out.ensures, c.requires.typed, c.clear.ensures.after, c.pageblock_of-pageblock.ensures, read now (block before), c.pages.ensures.pages)
     (kept_removed c.args.largest _ c.args.at c.args.order c.requires.kept.one c.requires.block _ _ c.requires.kept).kept

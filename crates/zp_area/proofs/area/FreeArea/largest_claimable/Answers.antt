@@ -16,21 +16,21 @@ kept c = rw (← c.self.view_is) c.self.invariant.kept
 claimed : (c : After-is_beside) → IsClaimed c.args.self.now.largest (block_set c.args.self.now) c.args.self.now.kinds c.self.inside.claims
 claimed c = rw (← c.self.view_is) c.self.invariant.claimed
 
-pub returns-then-is_beside : goal.returns-then-is_beside
-returns-then-is_beside c =
-    let before = (goal.at.returns-then-is_beside c).After-is_beside in
+pub returns-then-is_beside-clause-answer : goal.returns-then-is_beside-clause-answer
+returns-then-is_beside-clause-answer c =
+    let before = (goal.at.returns-then-is_beside-clause-answer c).After-is_beside in
     whole_claimable c.args.self.now.largest c.args.self.now _ _ (kept before) c.args.kind c.order-whole.result (whole before) (c.is_beside.ensures.0 c.if-is_beside.true)
 
-pub returns-then-is_beside-2 : goal.returns-then-is_beside-2
-returns-then-is_beside-2 c =
-    let before = (goal.at.returns-then-is_beside-2 c).After-is_beside in
+pub returns-then-is_beside-2-clause-answer : goal.returns-then-is_beside-2-clause-answer
+returns-then-is_beside-2-clause-answer c =
+    let before = (goal.at.returns-then-is_beside-2-clause-answer c).After-is_beside in
     half_claimable c.args.self.now.largest c.args.self.now _ _ (kept before) c.args.kind c.order-whole.result c.at-half.result (whole before) (omega (arith, whole before))
     (λ w. both_ways c.is_beside.result c.if-is_beside.false (c.is_beside.ensures.1 w))
     (c.is_beside-2.ensures.0 c.if-is_beside-2.true)
 
-pub returns : goal.returns
-returns c =
-    let before = (goal.at.returns c).After-is_beside in
+pub returns-clause-answer : goal.returns-clause-answer
+returns-clause-answer c =
+    let before = (goal.at.returns-clause-answer c).After-is_beside in
     noted_claimable c.args.self.now.largest c.args.self.now _ _ (kept before) c.args.kind c.order-whole.result c.at-half.result (whole before) (omega (arith, whole before))
     (λ w. both_ways c.is_beside.result c.if-is_beside.false (c.is_beside.ensures.1 w))
     (λ w. both_ways c.is_beside-2.result c.if-is_beside-2.false (c.is_beside-2.ensures.1 w))

@@ -7,7 +7,7 @@ use Rattle.zp_area.proofs.area.FreeArea.take_whole.Goals.{After-pageblock_of}
 use Rattle.zp_area.proofs.area.FreeArea.take_whole.Goals as goal
 
 starts : (c : After-pageblock_of) → Starts (block_set (record { largest = c.self.inside.largest; rows = c.self.inside.lists; kinds = c.self.inside.kinds.items })) c.args.at c.args.order
-starts c = rw (← c.self.view_is) at c.requires
+starts c = rw (← c.self.view_is) at c.requires.block
 
 there : (c : After-pageblock_of) → c.pageblock_of.result < length c.self.inside.kinds.items
 there c = rw c.pageblock_of.ensures (started_there c.self.inside.largest (record { largest = c.self.inside.largest; rows = c.self.inside.lists; kinds = c.self.inside.kinds.items }) c.args.at c.args.order c.self.invariant.kept.one (starts c))
