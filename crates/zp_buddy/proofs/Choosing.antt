@@ -95,6 +95,16 @@ on_starts m a h o t one on =
       | inr le ↦ (listed_starts m a h o t one le (rw (list_taken m a o t le) at on)).0
     ]
 
+-- in a pageblock of its type
+pub on_typed : (m : ℕ) (a : Blocks) (h o : ℕ) (t : MigrateType) → IsOneSet m a → stands_in h (free_list_of m a o t) ≡ true → t ≡ kind_at m a.kinds h
+on_typed m a h o t one on =
+    elim (cases_lt m o) [
+      | inl above ↦
+          let past : length (take (lists_count m) a.rows.lists) ≤ list_number o t = omega (arith, length-take (lists_count m) a.rows.lists) in
+          absurd (false≢true (rw (get_or_past (take (lists_count m) a.rows.lists) (list_number o t) [] past) at on))
+      | inr le ↦ sym (listed_starts m a h o t one le (rw (list_taken m a o t le) at on)).1
+    ]
+
 pub list_of_frames : (m : ℕ) (a : Blocks) (f : Frames) (o : ℕ) (t : MigrateType) → frames_in m a ≡ f → free_list_of m a o t ≡ free_list f.area o t
 list_of_frames m a f o t e = ap (λ (g : Frames). free_list g.area o t) e
 
@@ -195,4 +205,4 @@ module _ (m : ℕ) (a : Blocks) (t : MigrateType) (one : IsOneSet m a) where
   pub claimed_found : (k n : ℕ) (r : Option FreeBlock) → IsLargestClaimable m a t (Some n) → k ≤ n →
       (leb (least_movable_claim m) n || not (same_type t Movable)) ≡ true → IsFoundAs a n (half_free_of_order m a (foreign t) n) r → IsFoundAs a k (claim (area_in m a) k t) r
   claimed_found k n None y up may e = claimed_largest k n None y up may e
-  claimed_found k n (Some b) y up may e = (claimed_largest k n (Some b.head) y up may e.0, record { enough = omega (arith, e.1.enough); starts = e.1.starts })
+  claimed_found k n (Some b) y up may e = (claimed_largest k n (Some b.head) y up may e.0, record { enough = omega (arith, e.1.enough); starts = e.1.starts; typed = e.1.typed })

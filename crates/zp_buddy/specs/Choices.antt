@@ -1,14 +1,15 @@
 -- What the looks at a free area find. The largest block has order m.
-use Rattle.std.specs.Prelude.{ℕ, ◌≡◌, ◌≤◌, List, Option, None, Some}
+use Rattle.std.specs.Prelude.{ℕ, ◌≡◌, ◌≤◌, List, length, Option, None, Some}
 use Rattle.std.specs.List.{find}
 use Rattle.zp_model.specs.declared.migrate_type.MigrateType.{MigrateType}
 use Rattle.zp_model.specs.MigrateType.{foreign}
 use Rattle.zp_model.specs.BlockSet.{Starts, first_of}
 use Rattle.zp_model.specs.Rows.{front}
-use Rattle.zp_model.specs.Area.{Area, free_list}
+use Rattle.zp_model.specs.Area.{Area, free_list, kind_at}
 use Rattle.zp_model.specs.Choose.{Chosen, choose, is_claimable}
-use Rattle.zp_model.specs.Frames.{Frames}
-use Rattle.zp_buddy.specs.Sound.{area_of, frames_of}
+use Rattle.zp_model.specs.Frames.{Frames, with_area}
+use Rattle.zp_model.specs.Take.{taken}
+use Rattle.zp_buddy.specs.Sound.{IsSound, area_of, frames_of}
 use Rattle.zp_area.specs.Blocks.{Blocks, block_set, free_list_of}
 use Rattle.zp_area.specs.Claims.{is_half_free}
 use Rattle.zp_buddy.specs.declared.choice.FreeBlock.{FreeBlock}
@@ -33,10 +34,11 @@ half_free_of_order m a ts o = first_of (λ t. find (is_half_free m a) (free_list
 abbrev pub claimable_of_order : Area → MigrateType → ℕ → Option ℕ
 claimable_of_order a t o = first_of (λ f. find (is_claimable a t o) (free_list a o f)) (foreign t)
 
--- a block of the set that has order k or more
+-- a block of the set that has order k or more, with the type of its pageblock
 pub record IsFreeBlock (a : Blocks) (k : ℕ) (b : FreeBlock) : Type 0 where
   pub enough : k ≤ b.order
   pub starts : Starts (block_set a) b.head b.order
+  pub typed : b.kind ≡ kind_at a.largest a.kinds b.head
 
 -- what is found has the head that is looked for
 abbrev pub IsFoundAs : Blocks → ℕ → Option ℕ → Option FreeBlock → Type 0
@@ -50,3 +52,18 @@ chosen_of c = record { head = c.block.head; claims = c.claims }
 abbrev pub IsChosen : ℕ → Blocks → ℕ → MigrateType → Option Choice → Type 0
 IsChosen m a k t None = choose (area_in m a) k t ≡ None
 IsChosen m a k t (Some c) = (choose (area_in m a) k t ≡ Some (chosen_of c)) × IsFreeBlock a k c.block
+
+-- for a request of order k and type t the chosen block is taken, which leaves n
+pub record IsTaking (a : Blocks) (k : ℕ) (t : MigrateType) (n : Blocks) (c : Choice) : Type 0 where
+  pub chosen : choose (area_in a.largest a) k t ≡ Some (chosen_of c)
+  pub block : IsFreeBlock a k c.block
+  pub largest : n.largest ≡ a.largest
+  pub sound : IsSound a.largest n.rows.states n.kinds n.rows.lists
+  pub pages : length n.rows.states ≡ length a.rows.states
+  pub typed : length n.kinds ≡ length a.kinds
+  pub after : frames_in a.largest n ≡ with_area (frames_in a.largest a) (taken (frames_in a.largest a).area k t (Some (chosen_of c)))
+
+-- what such a request is answered
+abbrev pub IsTaken : Blocks → ℕ → MigrateType → Blocks → Option ℕ → Type 0
+IsTaken a k t n None = (choose (area_in a.largest a) k t ≡ None) × (n ≡ a)
+IsTaken a k t n (Some h) = (c : Choice) × (h ≡ c.block.head) × IsTaking a k t n c

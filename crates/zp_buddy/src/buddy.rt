@@ -10,12 +10,11 @@ ghost use Rattle.zp_model.specs.Frames.{frames_opening, with_area, IsNote, IsFra
 ghost use Rattle.zp_model.specs.Area.{list_number, free_list, kind_at};
 ghost use Rattle.zp_model.specs.Take.{take_answer, take_after, take_low_answer, take_low_after};
 
-use crate::choice::choose;
 use crate::clear::{is_block, is_clear_run};
 use crate::join::join;
 use crate::opening::add_all_pages;
 use crate::split::take_block;
-use crate::takes::take_chosen;
+use crate::takes::take;
 use std::alloc::{AllocError, Global};
 use std::marker::Model;
 use zp_area::{FreeArea, LinkedPage};
@@ -69,8 +68,7 @@ impl Buddy {
         ensures clear { IfSome result (λ at. IsClear self.new at order) }
         ensures kept { (h k : ℕ) → IsClear self.old h k → IsClear self.new h k }
     {
-        let chosen = choose(&self.area, order, kind)?;
-        let head = take_chosen(&mut self.area, chosen, order, kind);
+        let head = take(&mut self.area, order, kind)?;
         self.free -= order.pages();
         Some(head)
     }
@@ -87,7 +85,8 @@ impl Buddy {
         ensures kept { (h k : ℕ) → IsClear self.old h k → IsClear self.new h k }
     {
         let (head, found) = self.area.lowest(order)?;
-        take_block(&mut self.area, head, found, order);
+        let kind = self.type_of(head);
+        take_block(&mut self.area, head, found, kind, order);
         let pages = order.pages();
         self.free -= pages;
         Some(head)

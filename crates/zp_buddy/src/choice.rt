@@ -1,10 +1,11 @@
 //! Which free block a request takes: one of its own type's, one of a pageblock that it claims, or one that it borrows.
 //!
 //! In Linux: `__rmqueue_smallest`, and `find_suitable_fallback` with `__rmqueue_fallback`.
-ghost use Rattle.std.specs.Prelude.{◌≡◌, ◌≤◌, ◌||◌, not, leb, IfSome};
+ghost use Rattle.std.specs.Prelude.{◌≡◌, ◌≤◌, ◌||◌, not, leb, IfSome, None};
 ghost use Rattle.std.specs.List.{find};
 ghost use Rattle.zp_model.specs.declared.migrate_type.MigrateType.TheVariants.{Movable};
 ghost use Rattle.zp_model.specs.BlockSet.{first_of, orders_from, Starts};
+ghost use Rattle.zp_model.specs.Area.{kind_at};
 ghost use Rattle.zp_model.specs.MigrateType.{same_type};
 ghost use Rattle.zp_model.specs.Choose.{own, claim, borrow, least_movable_claim};
 ghost use Rattle.zp_area.specs.Blocks.{block_set, free_list_of};
@@ -14,11 +15,12 @@ ghost use Rattle.zp_buddy.specs.Choices.{area_in, front_of_order, half_free_of_o
 use zp_area::FreeArea;
 use zp_model::{Largest, MigrateType, Order, PageAt};
 
-/// A free block.
+/// A free block, and the type of its pageblock.
 #[derive(Clone, Copy, PartialEq, Eq, Debug, Drop)]
 pub struct FreeBlock {
     pub head: PageAt,
     pub order: Order,
+    pub kind: MigrateType,
 }
 
 /// The block that a request takes, and whether it claims the block's pageblock first.
@@ -41,7 +43,8 @@ fn front_of(area: &FreeArea, order: Order, kinds: &[MigrateType]) -> Option<Free
 {
     'kinds: for kind in kinds {
         if let Some(head) = area.front(order, *kind) {
-            return Some(FreeBlock { head, order });
+            let kind = *kind;
+            return Some(FreeBlock { head, order, kind });
         }
     }
     None
@@ -62,7 +65,8 @@ fn first_front(area: &FreeArea, order: Order, kinds: &[MigrateType]) -> Option<F
 }
 
 /// The smallest block that serves of the request's own type.
-fn own_block(area: &FreeArea, order: Order, kind: MigrateType) -> Option<FreeBlock>
+#[inline(always)]
+pub fn own_block(area: &FreeArea, order: Order, kind: MigrateType) -> Option<FreeBlock>
     ensures { IsFoundAs area.now order (own (area_in area.now.largest area.now) order kind) result }
 {
     first_front(area, order, &[kind])
@@ -79,6 +83,7 @@ fn borrowed_block(area: &FreeArea, order: Order, kind: MigrateType) -> Option<Fr
 fn half_free_on(area: &FreeArea, order: Order, kind: MigrateType) -> Option<PageAt>
     ensures found { result ≡ find (is_half_free area.now.largest area.now) (free_list_of area.now.largest area.now order kind) }
     ensures starts { IfSome result (λ at. Starts (block_set area.now) at order) }
+    ensures typed { IfSome result (λ at. kind ≡ kind_at area.now.largest area.now.kinds at) }
 {
     // a clause of this call says that no page stands twice
     let _pages = area.pages();
@@ -99,7 +104,8 @@ fn half_free_of(area: &FreeArea, order: Order, kinds: &[MigrateType]) -> Option<
 {
     'kinds: for kind in kinds {
         if let Some(head) = half_free_on(area, order, *kind) {
-            return Some(FreeBlock { head, order });
+            let kind = *kind;
+            return Some(FreeBlock { head, order, kind });
         }
     }
     None
@@ -107,10 +113,9 @@ fn half_free_of(area: &FreeArea, order: Order, kinds: &[MigrateType]) -> Option<
 
 /// The largest block of another type that may be claimed. Its order is known beforehand, so that lists of that order alone are
 /// walked, and none where there is no such block.
-#[cold]
-#[inline(never)]
-fn claimed_block(area: &FreeArea, order: Order, kind: MigrateType) -> Option<FreeBlock>
-    ensures { IsFoundAs area.now order (claim (area_in area.now.largest area.now) order kind) result }
+fn claimed_block(area: &mut FreeArea, order: Order, kind: MigrateType) -> Option<FreeBlock>
+    ensures answer { IsFoundAs area.old order (claim (area_in area.old.largest area.old) order kind) result }
+    ensures same { area.new ≡ area.old }
 {
     // a clause of this call says that the lists hold the heads of the blocks
     let _pages = area.pages();
@@ -121,16 +126,12 @@ fn claimed_block(area: &FreeArea, order: Order, kind: MigrateType) -> Option<Fre
     half_free_of(area, largest, &kind.fallbacks())
 }
 
-/// The block that a request for a block of this order and type takes.
-pub fn choose(area: &FreeArea, order: Order, kind: MigrateType) -> Option<Choice>
-    ensures { IsChosen area.now.largest area.now order kind result }
+/// The block that a request takes where none of its own type serves.
+pub fn foreign_choice(area: &mut FreeArea, order: Order, kind: MigrateType) -> Option<Choice>
+    requires { own (area_in area.old.largest area.old) order kind ≡ None }
+    ensures answer { IsChosen area.old.largest area.old order kind result }
+    ensures same { area.new ≡ area.old }
 {
-    if let Some(block) = own_block(area, order, kind) {
-        return Some(Choice {
-            block,
-            claims: false,
-        });
-    }
     if let Some(block) = claimed_block(area, order, kind) {
         return Some(Choice {
             block,

@@ -8,7 +8,7 @@ returns-in-Some c =
     let x = c.in-Some.ensures in
     let e = c.at.ensures in (
       first_some _ c.args.order (c.args.area.now.largest + 1 - c.args.order) c.orders.number c.in-Some.block.head i.from (omega arith) (rw e at x.0) i.none,
-      record { enough = omega (arith, x.1.enough); starts = x.1.starts },
+      record { enough = omega (arith, x.1.enough); starts = x.1.starts; typed = x.1.typed },
     )
 
 pub returns : goal.returns

@@ -5,7 +5,7 @@ use Rattle.zp_model.specs.BlockSet.{Starts}
 use Rattle.zp_area.specs.Blocks.{block_set, free_list_of}
 use Rattle.zp_area.proofs.Keeping.{blocks_length, typed_there}
 use Rattle.zp_area.specs.Claims.{is_half_free}
-use Rattle.zp_buddy.proofs.Choosing.{on_starts, taken_distinct}
+use Rattle.zp_buddy.proofs.Choosing.{on_starts, on_typed, taken_distinct}
 use Rattle.zp_buddy.proofs.Walks.{from_after, next_after}
 use Rattle.zp_buddy.proofs.choice.half_free_on.Goals.{In-Some}
 use Rattle.zp_buddy.proofs.choice.half_free_on.Goals as goal
@@ -47,3 +47,6 @@ free_in-requires c =
 
 pub returns-then-free_in-claim_pages-clause-starts : goal.returns-then-free_in-claim_pages-clause-starts
 returns-then-free_in-claim_pages-clause-starts c = starts (goal.at.returns-then-free_in-claim_pages-clause-starts c).In-Some
+
+pub returns-then-free_in-claim_pages-clause-typed : goal.returns-then-free_in-claim_pages-clause-typed
+returns-then-free_in-claim_pages-clause-typed c = on_typed c.args.area.now.largest c.args.area.now c.in-Some.head c.args.order c.args.kind c.pages-pages.ensures.one (rw c.in-Some.is at c.heads.invariant.next)
