@@ -2,11 +2,15 @@
 //! largest order that is noted beside a type is told by these numbers, however many pageblocks there are.
 //!
 //! What a note stands for is the caller's. Contracts see what is noted of each pageblock.
+//!
+//! Beside the index a set of the pageblocks that have changed since they were looked at.
 #![tactic(auto)]
 
 mod claim;
 mod code;
+mod stale;
 mod table;
 
 pub use claim::Claim;
+pub use stale::{MOST_STALE, StaleSet};
 pub use table::ClaimTable;
