@@ -13,9 +13,9 @@ use Rattle.zp_model.specs.MigrateType.{foreign}
 use Rattle.zp_model.specs.Rows.{IsOn, front, list_at, stands_in}
 use Rattle.zp_model.proofs.TypeNumbers.{list_number_below}
 use Rattle.zp_claims.specs.declared.claim.Claim.{Claim}
-use Rattle.zp_claims.specs.Noted.{IsBeside, IsLargestBeside}
+use Rattle.zp_claims.specs.Noted.{IsBeside, IsLargestBeside, noted_at}
 use Rattle.zp_area.specs.Blocks.{Blocks, block_set, free_list_of}
-use Rattle.zp_area.specs.Claims.{IsClaimed, IsInClaimable, IsLargestClaimable, is_half_free, scattered}
+use Rattle.zp_area.specs.Claims.{IsInClaimable, IsLargestClaimable, claim_of, is_half_free, scattered}
 use Rattle.zp_area.specs.OneSet.{IsKept, IsOneSet}
 use Rattle.zp_area.proofs.LargestInside.{pageblock_held, pageblock_most}
 use Rattle.zp_area.proofs.Listing.{listed_starts}
@@ -142,11 +142,11 @@ module _ (m : ℕ) (a : Blocks) (tree : List (Option ℕ)) (free_in : List ℕ) 
   pub half_claimable : (n o : ℕ) → n ≡ m → o + 1 ≡ m → (HasBeside m a t n → ⊥) → HasBeside m a t o → IsLargestClaimable m a t (Some o)
   half_claimable n o e half none w = (claimable_beside o (omega arith) w, λ h j y. omega (arith, below_whole n e none h j y))
 
-  module _ (n o : ℕ) (whole : n ≡ m) (half : o + 1 ≡ m) (whole_none : HasBeside m a t n → ⊥) (half_none : HasBeside m a t o → ⊥) (claims : List (Option Claim)) (z : IsClaimed m (block_set a) a.kinds claims) where
+  module _ (n o : ℕ) (whole : n ≡ m) (half : o + 1 ≡ m) (whole_none : HasBeside m a t n → ⊥) (half_none : HasBeside m a t o → ⊥) (claims : List (Option Claim)) (each : (b : ℕ) → noted_at claims b ≡ claim_of m (block_set a) a.kinds b) where
     -- a pageblock that is noted may be claimed
     noted-claimable : (b k : ℕ) → IsBeside claims t b k → (h : ℕ) × IsInClaimable m a t h k
     noted-claimable b k y =
-        let w = scattered-to m _ _ _ (record { kind = y.kind; order = k }) (sym (z.each b) ∙ y.noted) in
+        let w = scattered-to m _ _ _ (record { kind = y.kind; order = k }) (sym (each b) ∙ y.noted) in
         let block = pageblock_held m (block_set a) b (Some k) (sym w.1) in (
           block.0,
           record {
@@ -173,7 +173,7 @@ module _ (m : ℕ) (a : Blocks) (tree : List (Option ℕ)) (free_in : List ℕ) 
                 | inr within ↦ let same : most.0 ≡ o = omega arith in absurd (half_none (held.0, held.1 ∙ ap (λ n. Some n) same, other))
               ]
         ] in
-        (k, record { kind = kind_at m a.kinds h; noted = z.each b ∙ scattered-from m _ _ _ most.0 y.enough most.1 (omega arith); other = y.other }, most.2)
+        (k, record { kind = kind_at m a.kinds h; noted = each b ∙ scattered-from m _ _ _ most.0 y.enough most.1 (omega arith); other = y.other }, most.2)
 
     pub noted_claimable : (r : Option ℕ) → IsLargestBeside claims t r → IsLargestClaimable m a t r
     noted_claimable None none = λ h j y. let w = claimable-noted h j y in none (h / pageblock_pages m) w.0 w.1

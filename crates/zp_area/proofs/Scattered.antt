@@ -1,5 +1,5 @@
 -- What is to be noted of a pageblock is told by its own blocks and its type.
-use Rattle.std.proofs.Common.{ℕ, zero, suc, ◌+◌, ◌*◌, ◌/◌, ◌^◌, ◌≡◌, ◌≢◌, ◌≤◌, ◌<◌, inl, inr, refl, sym, ◌∙◌, ap, arith, leb, map, List, ◌∷◌, length, set, get_or, get_or-set_same, get_or-set_other, length-set, Option, None}
+use Rattle.std.proofs.Common.{ℕ, zero, suc, ◌+◌, ◌*◌, ◌/◌, ◌^◌, ◌≡◌, ◌≢◌, ◌≤◌, ◌<◌, inl, inr, refl, sym, ◌∙◌, ap, arith, leb, map, Bool, List, ◌∷◌, length, set, get_or, get_or-set_same, get_or-set_other, length-set, Option, None}
 use Rattle.std.specs.List.{range_with_len, slice_index_or}
 use Rattle.std.proofs.lemmas.Bool.{cases_eq}
 use Rattle.zp_model.specs.declared.migrate_type.MigrateType.{MigrateType}
@@ -13,7 +13,7 @@ use Rattle.zp_laws.proofs.Counting.{one_if, same_tests, sums-same}
 use Rattle.zp_tree.specs.Blocks.{IsBlockSet}
 use Rattle.zp_claims.specs.declared.claim.Claim.{Claim}
 use Rattle.zp_area.specs.Blocks.{Blocks, block_set}
-use Rattle.zp_area.specs.Claims.{IsClaimed, claim_of}
+use Rattle.zp_area.specs.Claims.{IsClaimed, IsClaimedBut, claim_of}
 use Rattle.zp_area.proofs.OneBlock.{around_covered, covered_around}
 
 -- the sets have the same blocks in pageblock b
@@ -59,15 +59,12 @@ pub record IsChangedIn (m b : ℕ) (a z : Blocks) : Type 0 where
   pub kinds : (c : ℕ) → c ≢ b → slice_index_or z.kinds c Movable ≡ slice_index_or a.kinds c Movable
   pub heads : (h : ℕ) → h / pageblock_pages m ≢ b → get_or (block_set z) h None ≡ get_or (block_set a) h None
 
--- where one pageblock has changed and is noted anew, all are noted
-pub claimed_anew : (m b : ℕ) (a z : Blocks) (claims : List (Option Claim)) → IsClaimed m (block_set a) a.kinds claims → IsBlockSet m (block_set a) → IsBlockSet m (block_set z) →
-    IsChangedIn m b a z → b < length a.kinds → IsClaimed m (block_set z) z.kinds (set claims b (claim_of m (block_set z) z.kinds b))
-claimed_anew m b a z claims x old new change lt = record {
-  blocks = length-set claims b _ ∙ x.blocks ∙ sym change.typed;
-  each = λ c. elim (cases_eq c b) [
-    | inl same ↦ rw same (get_or-set_same claims b _ None (omega (arith, x.blocks)))
-    | inr ne ↦
-        get_or-set_other claims b c _ None ne ∙ x.each c
-        ∙ sym (claim_same m c (block_set a) (block_set z) a.kinds z.kinds old new (λ h e. change.heads h (λ here. ne (sym e ∙ here))) (change.kinds c ne))
-  ];
+-- where one pageblock has changed, each other one is noted as before
+pub claimed_but : (m b : ℕ) (a z : Blocks) (claims : List (Option Claim)) (marks : List Bool) → IsClaimed m (block_set a) a.kinds claims marks → IsBlockSet m (block_set a) → IsBlockSet m (block_set z) →
+    IsChangedIn m b a z → IsClaimedBut b m (block_set z) z.kinds claims marks
+claimed_but m b a z claims marks x old new change = record {
+  blocks = x.blocks ∙ sym change.typed;
+  marked = x.marked ∙ sym change.typed;
+  each = λ c ne fresh. x.each c fresh
+      ∙ sym (claim_same m c (block_set a) (block_set z) a.kinds z.kinds old new (λ h e. change.heads h (λ here. ne (sym e ∙ here))) (change.kinds c ne));
 }

@@ -1,6 +1,6 @@
 -- The pageblocks that may be claimed, the largest order by which one may be, and what is noted of each pageblock for this (this profile). The
 -- largest block has order m.
-use Rattle.std.specs.Prelude.{ℕ, ◌+◌, ◌*◌, ◌/◌, ◌≡◌, ◌≢◌, ◌≤◌, ◌<◌, ◌&&◌, leb, ltb, cond, Bool, true, List, length, slice_index, slice_index_or, Option, None, Some}
+use Rattle.std.specs.Prelude.{ℕ, ◌+◌, ◌*◌, ◌/◌, ◌≡◌, ◌≢◌, ◌≤◌, ◌<◌, ◌&&◌, leb, ltb, cond, Bool, true, false, List, length, slice_index, slice_index_or, Option, None, Some}
 use Rattle.zp_model.specs.declared.constants.TheConstants.{MAX_PAGES}
 use Rattle.zp_model.specs.declared.migrate_type.MigrateType.{MigrateType}
 use Rattle.zp_model.specs.declared.migrate_type.MigrateType.TheVariants.{Movable}
@@ -9,6 +9,7 @@ use Rattle.zp_model.specs.Area.{kind_at, pageblock_pages, size_in}
 use Rattle.zp_model.specs.Choose.{claim_pages}
 use Rattle.zp_claims.specs.declared.claim.Claim.{Claim}
 use Rattle.zp_claims.specs.Noted.{noted_at}
+use Rattle.zp_claims.specs.Stale.{is_marked}
 use Rattle.zp_area.specs.Blocks.{Blocks, block_set}
 use Rattle.zp_area.specs.OneSet.{IsKept}
 
@@ -37,15 +38,22 @@ abbrev pub claim_of : ℕ → List (Option ℕ) → List MigrateType → ℕ →
 claim_of m s kinds b =
     scattered m (leb (claim_pages m) (size_in m (cover s) b)) (slice_index_or kinds b Movable) (largest_in s (b * pageblock_pages m) m)
 
--- this is noted of each pageblock
-pub record IsClaimed (m : ℕ) (s : List (Option ℕ)) (kinds : List MigrateType) (claims : List (Option Claim)) : Type 0 where
+-- this is noted of each pageblock that is not marked as one that has changed since
+pub record IsClaimed (m : ℕ) (s : List (Option ℕ)) (kinds : List MigrateType) (claims : List (Option Claim)) (marks : List Bool) : Type 0 where
   pub blocks : length claims ≡ length kinds
-  pub each : (b : ℕ) → noted_at claims b ≡ claim_of m s kinds b
+  pub marked : length marks ≡ length kinds
+  pub each : (b : ℕ) → is_marked marks b ≡ false → noted_at claims b ≡ claim_of m s kinds b
+
+-- and so of each but pageblock p, which has changed
+pub record IsClaimedBut (p m : ℕ) (s : List (Option ℕ)) (kinds : List MigrateType) (claims : List (Option Claim)) (marks : List Bool) : Type 0 where
+  pub blocks : length claims ≡ length kinds
+  pub marked : length marks ≡ length kinds
+  pub each : (b : ℕ) → b ≢ p → is_marked marks b ≡ false → noted_at claims b ≡ claim_of m s kinds b
 
 -- all that is kept beside a set of blocks is of this set
-pub record IsIndexed (a : Blocks) (tree : List (Option ℕ)) (free_in : List ℕ) (claims : List (Option Claim)) : Type 0 where
+pub record IsIndexed (a : Blocks) (tree : List (Option ℕ)) (free_in : List ℕ) (claims : List (Option Claim)) (marks : List Bool) : Type 0 where
   pub kept : IsKept a.largest a tree free_in
-  pub claimed : IsClaimed a.largest (block_set a) a.kinds claims
+  pub claimed : IsClaimed a.largest (block_set a) a.kinds claims marks
 
 -- b is the number of a pageblock, and of its free pages there is the number
 pub record IsPageblock (m : ℕ) (s : List (Option ℕ)) (kinds : List MigrateType) (free_in : List ℕ) (b : ℕ) : Type 0 where

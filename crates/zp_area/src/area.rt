@@ -19,11 +19,12 @@ ghost use Rattle.zp_area.specs.Claims.{IsLargestClaimable};
 
 use crate::free_lists::list_of;
 use crate::linked_page::LinkedPage;
+use crate::noting::Noted;
 use crate::retypes::retype;
 use crate::{joins, noting, splits};
 use std::alloc::{AllocError, Global};
 use std::marker::Model;
-use zp_claims::ClaimTable;
+use zp_claims::{ClaimTable, StaleSet};
 use zp_links::Lists;
 use zp_model::{Largest, MAX_PAGES, MigrateType, Order, PageAt, State};
 use zp_table::PageTable;
@@ -39,8 +40,8 @@ pub struct FreeArea {
     tree: OrderTree,
     /// How many pages of each pageblock are in blocks.
     free_in: Vec<u32>,
-    /// What each pageblock is noted as for a claim.
-    claims: ClaimTable,
+    /// What is noted of the pageblocks for a claim.
+    noted: Noted,
 }
 
 impl Model for FreeArea {
@@ -51,7 +52,7 @@ impl Model for FreeArea {
 
     ghost view = { λ a. record { largest = a.largest; rows = a.lists; kinds = a.kinds.items } };
 
-    ghost invariant = { λ a. IsIndexed (record { largest = a.largest; rows = a.lists; kinds = a.kinds.items }) a.tree a.free_in.items a.claims };
+    ghost invariant = { λ a. IsIndexed (record { largest = a.largest; rows = a.lists; kinds = a.kinds.items }) a.tree a.free_in.items a.noted.claims a.noted.stale.marks };
 }
 
 impl FreeArea {
@@ -71,6 +72,7 @@ impl FreeArea {
         let kinds = Vec::from_elem(alloc, MigrateType::Movable, pageblocks)?;
         let free_in = Vec::from_elem(alloc, 0, pageblocks)?;
         let claims = ClaimTable::new(alloc, pageblocks)?;
+        let stale = StaleSet::new(alloc, pageblocks)?;
         let tree = OrderTree::new(alloc, pages)?;
         let table = PageTable::new(alloc, pages)?;
         let lists = Lists::new(alloc, table, largest.lists() + side)?;
@@ -80,7 +82,7 @@ impl FreeArea {
             kinds,
             tree,
             free_in,
-            claims,
+            noted: Noted { claims, stale },
         })
     }
 
@@ -110,7 +112,7 @@ impl FreeArea {
     }
 
     /// Takes a block into the set. Its head comes in front of the list of its order and its pageblock's type.
-    #[inline]
+    #[inline(always)]
     pub fn add(&mut self, at: PageAt, order: Order)
         requires block { IsBlock self.old.largest (length self.old.rows.states) at order }
         requires clear { IsClearRun self.old.largest self.old.rows.states self.old.rows.lists at order }
@@ -125,8 +127,8 @@ impl FreeArea {
         self.lists.push_front_noted(list, at, State::Free(order));
         self.tree.set(at, order);
         self.free_in[pageblock] += order.pages();
-        noting::note(
-            &mut self.claims,
+        noting::changed(
+            &mut self.noted,
             self.largest,
             &self.tree,
             &self.kinds,
@@ -158,23 +160,25 @@ impl FreeArea {
         requires typed { kind ≡ kind_at self.old.largest self.old.kinds at }
         ensures { self.new ≡ removed self.old.largest self.old at order }
     {
+        let pageblock = self.largest.pageblock_of(at);
         splits::take_whole(
             &mut self.lists,
             &self.kinds,
             &mut self.tree,
             &mut self.free_in,
             self.largest,
+            pageblock,
             kind,
             at,
             order,
         );
-        noting::note(
-            &mut self.claims,
+        noting::changed(
+            &mut self.noted,
             self.largest,
             &self.tree,
             &self.kinds,
             &self.free_in,
-            self.largest.pageblock_of(at),
+            pageblock,
         );
     }
 
@@ -187,24 +191,26 @@ impl FreeArea {
         requires down { to < from }
         ensures { self.new ≡ split_off self.old.largest self.old at from to }
     {
+        let pageblock = self.largest.pageblock_of(at);
         splits::split_off(
             &mut self.lists,
             &self.kinds,
             &mut self.tree,
             &mut self.free_in,
             self.largest,
+            pageblock,
             kind,
             at,
             from,
             to,
         );
-        noting::note(
-            &mut self.claims,
+        noting::changed(
+            &mut self.noted,
             self.largest,
             &self.tree,
             &self.kinds,
             &self.free_in,
-            self.largest.pageblock_of(at),
+            pageblock,
         );
     }
 
@@ -231,22 +237,24 @@ impl FreeArea {
         requires clear { IsClearRun self.old.largest self.old.rows.states self.old.rows.lists at order }
         ensures { (d : ℕ) × IsJoinedUp d self.old.largest self.old at order self.new }
     {
+        let pageblock = self.largest.pageblock_of(at);
         joins::join_up(
             &mut self.lists,
             &self.kinds,
             &mut self.tree,
             &mut self.free_in,
             self.largest,
+            pageblock,
             at,
             order,
         );
-        noting::note(
-            &mut self.claims,
+        noting::changed(
+            &mut self.noted,
             self.largest,
             &self.tree,
             &self.kinds,
             &self.free_in,
-            self.largest.pageblock_of(at),
+            pageblock,
         );
     }
 
@@ -264,8 +272,8 @@ impl FreeArea {
                 pageblock,
                 kind,
             );
-            noting::note(
-                &mut self.claims,
+            noting::changed(
+                &mut self.noted,
                 self.largest,
                 &self.tree,
                 &self.kinds,
@@ -381,7 +389,14 @@ impl FreeArea {
         if self.is_beside(half, kind) {
             return Some(half);
         }
-        self.claims.largest_beside(kind)
+        noting::look_at_marked(
+            &mut self.noted,
+            self.largest,
+            &self.tree,
+            &self.kinds,
+            &self.free_in,
+        );
+        self.noted.claims.largest_beside(kind)
     }
 
     /// Whether a page stands on some list, a free or a further one. No list is walked.

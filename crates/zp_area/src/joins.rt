@@ -1,10 +1,11 @@
 //! Joining a block that comes back with its free buddies, as one change of what is kept beside the lists.
 //!
 //! In Linux: `__free_one_page`, with `page_is_buddy`.
-ghost use Rattle.std.specs.Prelude.{◌≡◌, ◌%◌, ◌^◌, ◌↔◌, ◌<◌, ℕ, false, length, IsTrue};
+ghost use Rattle.std.specs.Prelude.{◌≡◌, ◌/◌, ◌%◌, ◌^◌, ◌↔◌, ◌<◌, ℕ, false, length, IsTrue};
 ghost use Rattle.zp_model.specs.declared.state.State.TheVariants.{Free};
 ghost use Rattle.zp_model.specs.Block.{IsBlock, IsBuddy};
 ghost use Rattle.zp_model.specs.Rows.{state_at};
+ghost use Rattle.zp_model.specs.Area.{pageblock_pages};
 ghost use Rattle.zp_area.specs.Chains.{IsJoinedUp};
 ghost use Rattle.zp_area.specs.Given.{IsClearRun};
 ghost use Rattle.zp_area.specs.OneSet.{IsKept};
@@ -39,16 +40,17 @@ pub fn join_up(
     tree: &mut OrderTree,
     free_in: &mut Vec<u32>,
     largest: Largest,
+    pageblock: usize,
     at: PageAt,
     order: Order,
 )
     requires kept { IsKept largest (record { largest = largest; rows = lists.old; kinds = kinds.now.items }) tree.old free_in.old.items }
+    requires here { pageblock ≡ at / pageblock_pages largest }
     requires block { IsBlock largest (length lists.old.states) at order }
     requires clear { IsClearRun largest lists.old.states lists.old.lists at order }
     ensures kept { IsKept largest (record { largest = largest; rows = lists.new; kinds = kinds.now.items }) tree.new free_in.new.items }
     ensures after { (d : ℕ) × IsJoinedUp d largest (record { largest = largest; rows = lists.old; kinds = kinds.now.items }) at order (record { largest = largest; rows = lists.new; kinds = kinds.now.items }) }
 {
-    let pageblock = largest.pageblock_of(at);
     let kind = kinds[pageblock];
     free_in[pageblock] += order.pages();
     let mut head = at;

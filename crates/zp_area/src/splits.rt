@@ -1,11 +1,11 @@
 //! Splitting a block of the set, as one change of what is kept beside the lists.
 //!
 //! In Linux: `del_page_from_free_list` and `expand`.
-ghost use Rattle.std.specs.Prelude.{◌≡◌, ◌<◌, ◌≤◌, ◌+◌, ◌-◌, ◌^◌, length, slice_index, slice_set};
+ghost use Rattle.std.specs.Prelude.{◌≡◌, ◌<◌, ◌≤◌, ◌+◌, ◌-◌, ◌/◌, ◌^◌, length, slice_index, slice_set};
 ghost use Rattle.zp_model.specs.declared.state.State.TheVariants.{Free, Tail};
 ghost use Rattle.zp_model.specs.BlockSet.{Starts};
 ghost use Rattle.zp_model.specs.Rows.{IsLoose, IsOn, with_state};
-ghost use Rattle.zp_model.specs.Area.{kind_at, list_number};
+ghost use Rattle.zp_model.specs.Area.{kind_at, list_number, pageblock_pages};
 ghost use Rattle.zp_area.specs.Blocks.{block_set, put_in_front, removed, taken_off};
 ghost use Rattle.zp_area.specs.Chains.{split_off};
 ghost use Rattle.zp_area.specs.OneSet.{IsKept};
@@ -44,17 +44,18 @@ pub fn take_whole(
     tree: &mut OrderTree,
     free_in: &mut Vec<u32>,
     largest: Largest,
+    pageblock: usize,
     kind: MigrateType,
     at: PageAt,
     order: Order,
 )
     requires kept { IsKept largest (record { largest = largest; rows = lists.old; kinds = kinds.now.items }) tree.old free_in.old.items }
+    requires here { pageblock ≡ at / pageblock_pages largest }
     requires block { Starts (block_set (record { largest = largest; rows = lists.old; kinds = kinds.now.items })) at order }
     requires typed { kind ≡ kind_at largest kinds.now.items at }
     ensures kept { IsKept largest (record { largest = largest; rows = lists.new; kinds = kinds.now.items }) tree.new free_in.new.items }
     ensures after { (record { largest = largest; rows = lists.new; kinds = kinds.now.items }) ≡ removed largest (record { largest = largest; rows = lists.old; kinds = kinds.now.items }) at order }
 {
-    let pageblock = largest.pageblock_of(at);
     take_out(lists, kind, at, order);
     tree.clear(at, order);
     free_in[pageblock] -= order.pages();
@@ -69,19 +70,20 @@ pub fn split_off(
     tree: &mut OrderTree,
     free_in: &mut Vec<u32>,
     largest: Largest,
+    pageblock: usize,
     kind: MigrateType,
     at: PageAt,
     from: Order,
     to: Order,
 )
     requires kept { IsKept largest (record { largest = largest; rows = lists.old; kinds = kinds.now.items }) tree.old free_in.old.items }
+    requires here { pageblock ≡ at / pageblock_pages largest }
     requires block { Starts (block_set (record { largest = largest; rows = lists.old; kinds = kinds.now.items })) at from }
     requires typed { kind ≡ kind_at largest kinds.now.items at }
     requires down { to < from }
     ensures kept { IsKept largest (record { largest = largest; rows = lists.new; kinds = kinds.now.items }) tree.new free_in.new.items }
     ensures after { (record { largest = largest; rows = lists.new; kinds = kinds.now.items }) ≡ split_off largest (record { largest = largest; rows = lists.old; kinds = kinds.now.items }) at from to }
 {
-    let pageblock = largest.pageblock_of(at);
     take_out(lists, kind, at, from);
     tree.split(at, from, to);
     let mut order = from;

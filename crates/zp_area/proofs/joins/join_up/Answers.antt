@@ -14,13 +14,13 @@ use Rattle.zp_area.proofs.joins.join_up.Goals as goal
 kind : (c : After-index-kind) → c.index-kind.result.now ≡ kind_at c.args.largest c.args.kinds.now.items c.args.at
 kind c =
     let a : Blocks = record { largest = c.args.largest; rows = c.args.lists.now; kinds = c.args.kinds.now.items } in
-    kind_found c.args.largest a c.args.at c.args.order _ _ c.requires.kept.one c.requires.block c.pageblock_of-pageblock.ensures c.index-kind.ensures
+    kind_found c.args.largest a c.args.at c.args.order _ _ c.requires.kept.one c.requires.block c.requires.here c.index-kind.ensures
 
 coming : (c : After-index_mut) → IsComing c.args.largest (record { largest = c.args.largest; rows = c.args.lists.now; kinds = c.args.kinds.now.items }) c.args.at c.args.order
 coming c = record { one = c.requires.kept.one; block = c.requires.block; clear = c.requires.clear }
 
 read : (c : After-index_mut) → c.index_mut.result.now ≡ slice_index c.args.free_in.now.items (c.args.at / 2 ^ c.args.largest)
-read c = read_at c.args.largest _ _ c.args.at c.args.order _ _ c.requires.kept.each c.requires.block c.pageblock_of-pageblock.ensures c.index_mut.ensures.value
+read c = read_at c.args.largest _ _ c.args.at c.args.order _ _ c.requires.kept.each c.requires.block c.requires.here c.index_mut.ensures.value
 
 pub overflow_add-index_mut : goal.overflow_add-index_mut
 overflow_add-index_mut c =
@@ -72,6 +72,6 @@ returns c =
     (counted_there c.args.largest _ _ c.args.at c.args.order c.requires.kept.each c.requires.block) in
     let k = grown_kind c.joins.invariant c.index-kind.result.now (kind before) in
     record {
-      kept = rw (c.put_in.ensures, k, c.join.ensures, c.requires.kept.same, c.pageblock_of-pageblock.ensures, read (goal.at.returns c).After-index_mut, c.pages.ensures.pages) y.0;
+      kept = rw (c.put_in.ensures, k, c.join.ensures, c.requires.kept.same, c.requires.here, read (goal.at.returns c).After-index_mut, c.pages.ensures.pages) y.0;
       after = rw (c.put_in.ensures, k) y.1;
     }

@@ -50,7 +50,7 @@ whole : (c : After-index_mut) → IsSplitting c.args.largest (record { largest =
 whole c = let e : c.halves.order ≡ c.args.to = omega (arith, c.halves.invariant.down) in rw e at c.halves.invariant
 
 read : (c : After-index_mut) → IsBlock c.args.largest (length c.args.lists.now.states) c.args.at c.args.from → c.index_mut.result.now ≡ slice_index c.args.free_in.now.items (c.args.at / 2 ^ c.args.largest)
-read c b = read_at c.args.largest _ _ c.args.at c.args.from _ _ c.requires.kept.each b c.pageblock_of-pageblock.ensures c.index_mut.ensures.value
+read c b = read_at c.args.largest _ _ c.args.at c.args.from _ _ c.requires.kept.each b c.requires.here c.index_mut.ensures.value
 
 pub overflow_sub-index_mut : goal.overflow_sub-index_mut
 overflow_sub-index_mut c =
@@ -61,4 +61,4 @@ pub returns-clause-kept : goal.returns-clause-kept
 returns-clause-kept c =
     let now = (goal.at.returns-clause-kept c).After-index_mut in
     let a : Blocks = record { largest = c.args.largest; rows = c.args.lists.now; kinds = c.args.kinds.now.items } in
-    rw (c.split.ensures, c.requires.kept.same, c.pageblock_of-pageblock.ensures, read now (block (goal.at.returns-clause-kept c).Start), c.pages-2.ensures.pages) (split_ends c.args.largest a _ _ c.args.at c.args.to c.args.from (whole now)).0
+    rw (c.split.ensures, c.requires.kept.same, c.requires.here, read now (block (goal.at.returns-clause-kept c).Start), c.pages-2.ensures.pages) (split_ends c.args.largest a _ _ c.args.at c.args.to c.args.from (whole now)).0

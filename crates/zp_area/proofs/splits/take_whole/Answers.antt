@@ -16,11 +16,11 @@ take_out-requires-clause-on c =
     rw c.requires.typed (block_on c.args.largest a c.args.at c.args.order c.requires.kept.one c.requires.block)
 
 read : (c : After-index_mut) → IsBlock c.args.largest (length c.args.lists.now.states) c.args.at c.args.order → c.index_mut.result.now ≡ slice_index c.args.free_in.now.items (c.args.at / 2 ^ c.args.largest)
-read c b = read_at c.args.largest _ _ c.args.at c.args.order _ _ c.requires.kept.each b c.pageblock_of-pageblock.ensures c.index_mut.ensures.value
+read c b = read_at c.args.largest _ _ c.args.at c.args.order _ _ c.requires.kept.each b c.requires.here c.index_mut.ensures.value
 
 pub index_mut-requires : goal.index_mut-requires
 index_mut-requires c =
-    omega (arith, c.pageblock_of-pageblock.ensures, counted_there c.args.largest _ _ c.args.at c.args.order c.requires.kept.each (block (goal.at.index_mut-requires c).Start))
+    omega (arith, c.requires.here, counted_there c.args.largest _ _ c.args.at c.args.order c.requires.kept.each (block (goal.at.index_mut-requires c).Start))
 
 pub returns-clause-after : goal.returns-clause-after
 returns-clause-after c = rw (c.take_out.ensures, c.requires.typed) refl
@@ -35,5 +35,5 @@ pub returns-clause-kept : goal.returns-clause-kept
 returns-clause-kept c =
     let now = (goal.at.returns-clause-kept c).After-index_mut in
     let before = (goal.at.returns-clause-kept c).Start in
-    rw (c.take_out.ensures, c.requires.typed, c.clear.ensures.after, c.pageblock_of-pageblock.ensures, read now (block before), c.pages.ensures.pages)
+    rw (c.take_out.ensures, c.requires.typed, c.clear.ensures.after, c.requires.here, read now (block before), c.pages.ensures.pages)
     (kept_removed c.args.largest _ c.args.at c.args.order c.requires.kept.one c.requires.block _ _ c.requires.kept).kept

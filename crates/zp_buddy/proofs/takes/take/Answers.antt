@@ -9,8 +9,7 @@ pub returns-in-Some : goal.returns-in-Some
 unfolding choose taken
 returns-in-Some c =
     let x = c.in-Some.ensures in
-    let chosen : Choice = record { block = c.in-Some.block; claims = false } in
-    (
+    let chosen : Choice = record { block = c.in-Some.block; claims = false } in (
       chosen,
       refl,
       record {

@@ -3,7 +3,7 @@ use Rattle.std.proofs.Math.Pow.{pow_mono}
 use Rattle.zp_area.specs.Blocks.{Blocks}
 use Rattle.zp_area.specs.OneSet.{IsKept}
 use Rattle.zp_area.proofs.Keeping.{list_found, read_at, typed_there}
-use Rattle.zp_area.proofs.Indexing.{indexed_anew, pageblock_kept}
+use Rattle.zp_area.proofs.Indexing.{indexed_anew, others_stand, pageblock_kept}
 use Rattle.zp_area.proofs.OnePageblock.{changed_added}
 use Rattle.zp_area.proofs.Adding.{IsComing, added_starts, clear_beside, coming_apart, coming_by, coming_loose, kept_added, now_added}
 use Rattle.zp_area.proofs.area.FreeArea.add.Goals.{After-index_mut}
@@ -48,22 +48,24 @@ there c =
     let x : IsComing c.self.inside.largest a c.args.at c.args.order = coming_by a _ _ _ c.self.view_is c.self.invariant.kept.one c.requires.block c.requires.clear in
     rw c.pageblock_of-pageblock.ensures (typed_there c.self.inside.largest a c.args.at c.args.order x.one x.block)
 
-pub note-requires-clause-pageblock : goal.note-requires-clause-pageblock
-note-requires-clause-pageblock c = let before = (goal.at.note-requires-clause-pageblock c).After-index_mut in pageblock_kept c.self.inside.largest _ _ _ _ (kept before) (there before)
+pub changed-requires-clause-pageblocks : goal.changed-requires-clause-pageblocks
+changed-requires-clause-pageblocks c = λ b lt. pageblock_kept c.self.inside.largest b _ _ _ (kept (goal.at.changed-requires-clause-pageblocks c).After-index_mut) lt
 
-pub note-requires-clause-room : goal.note-requires-clause-room
-note-requires-clause-room c = omega (arith, there (goal.at.note-requires-clause-room c).After-index_mut, c.self.invariant.claimed.blocks)
+pub changed-requires-clause-inside : goal.changed-requires-clause-inside
+changed-requires-clause-inside c = there (goal.at.changed-requires-clause-inside c).After-index_mut
 
-pub invariant_of-self : goal.invariant_of-self
-invariant_of-self c =
+pub changed-requires-clause-others : goal.changed-requires-clause-others
+changed-requires-clause-others c =
     let a : Blocks = record { largest = c.self.inside.largest; rows = c.self.inside.lists; kinds = c.self.inside.kinds.items } in
-    let before = (goal.at.invariant_of-self c).After-index_mut in
+    let before = (goal.at.changed-requires-clause-others c).After-index_mut in
     let x : IsComing c.self.inside.largest a c.args.at c.args.order = coming_by a _ _ _ c.self.view_is c.self.invariant.kept.one c.requires.block c.requires.clear in
     let er = list_found c.self.inside.largest a c.args.at c.args.order _ _ _ x.one x.block c.pageblock_of-pageblock.ensures c.index.ensures c.list_of-list.ensures.number in
-    indexed_anew c.self.inside.largest c.pageblock_of-pageblock.result _ _ _ _ _ _ _ _ _ _ c.self.invariant (kept before)
+    others_stand c.self.inside.largest c.pageblock_of-pageblock.result _ _ _ _ _ _ _ _ _ _ c.self.invariant (kept before)
     (rw (now_added c.self.inside.largest a c.args.at c.args.order c.list_of-list.result c.push_front_noted.new.self c.push_front_noted.ensures.after er)
     (changed_added c.self.inside.largest c.pageblock_of-pageblock.result a c.args.at c.args.order (sym c.pageblock_of-pageblock.ensures)))
-    (there before) c.note.ensures
+
+pub invariant_of-self : goal.invariant_of-self
+invariant_of-self c = indexed_anew c.self.inside.largest _ _ _ _ _ _ (kept (goal.at.invariant_of-self c).After-index_mut) c.changed.ensures
 
 pub returns-clause-held : goal.returns-clause-held
 returns-clause-held c =

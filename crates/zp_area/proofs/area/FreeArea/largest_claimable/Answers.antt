@@ -1,7 +1,7 @@
 use Rattle.std.proofs.Common.{◌≡◌, arith, ◌∙◌, ap}
 use Rattle.std.proofs.lemmas.Bool.{both_ways}
-use Rattle.zp_area.specs.Blocks.{Blocks, block_set}
-use Rattle.zp_area.specs.Claims.{IsClaimed}
+use Rattle.zp_area.specs.Blocks.{Blocks}
+use Rattle.zp_area.proofs.Indexing.{indexed_anew, pageblock_kept}
 use Rattle.zp_area.specs.OneSet.{IsKept}
 use Rattle.zp_area.proofs.Claimable.{half_claimable, noted_claimable, whole_claimable}
 use Rattle.zp_area.proofs.area.FreeArea.largest_claimable.Goals.{After-is_beside}
@@ -12,9 +12,6 @@ whole c = c.order-whole.ensures ∙ ap (λ (b : Blocks). b.largest) c.self.view_
 
 kept : (c : After-is_beside) → IsKept c.args.self.now.largest c.args.self.now c.self.inside.tree c.self.inside.free_in.items
 kept c = rw (← c.self.view_is) c.self.invariant.kept
-
-claimed : (c : After-is_beside) → IsClaimed c.args.self.now.largest (block_set c.args.self.now) c.args.self.now.kinds c.self.inside.claims
-claimed c = rw (← c.self.view_is) c.self.invariant.claimed
 
 pub returns-then-is_beside-clause-answer : goal.returns-then-is_beside-clause-answer
 returns-then-is_beside-clause-answer c =
@@ -34,4 +31,13 @@ returns-clause-answer c =
     noted_claimable c.args.self.now.largest c.args.self.now _ _ (kept before) c.args.kind c.order-whole.result c.at-half.result (whole before) (omega (arith, whole before))
     (λ w. both_ways c.is_beside.result c.if-is_beside.false (c.is_beside.ensures.1 w))
     (λ w. both_ways c.is_beside-2.result c.if-is_beside-2.false (c.is_beside-2.ensures.1 w))
-    _ (claimed before) c.largest_beside.result c.largest_beside.ensures
+    _ (rw (← c.self.view_is, ← c.self.invariant.kept.same) c.look_at_marked.ensures.all) c.largest_beside.result c.largest_beside.ensures
+
+pub look_at_marked-requires-clause-pageblocks : goal.look_at_marked-requires-clause-pageblocks
+look_at_marked-requires-clause-pageblocks c = λ b lt. pageblock_kept c.self.inside.largest b _ _ _ c.self.invariant.kept lt
+
+pub look_at_marked-requires-clause-claimed : goal.look_at_marked-requires-clause-claimed
+look_at_marked-requires-clause-claimed c = rw c.self.invariant.kept.same c.self.invariant.claimed
+
+pub invariant_of-self : goal.invariant_of-self
+invariant_of-self c = indexed_anew c.self.inside.largest _ _ _ _ _ _ c.self.invariant.kept c.look_at_marked.ensures.claimed

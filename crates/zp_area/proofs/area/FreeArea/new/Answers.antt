@@ -13,6 +13,7 @@ invariant_of-result c =
       c.in_ok-tree.ensures.empty,
       c.in_ok-free_in.ensures.items_if_clones_equal (λ y e. search rules),
       c.in_ok-claims.ensures,
+      c.in_ok-stale.ensures,
       e,
     ) (indexed_empty c.args.largest c.args.pages c.args.side c.requires.pages c.requires.side)
 

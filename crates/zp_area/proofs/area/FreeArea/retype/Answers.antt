@@ -3,7 +3,7 @@ use Rattle.std.proofs.lemmas.List.{get_or_default}
 use Rattle.zp_model.specs.declared.migrate_type.MigrateType.TheVariants.{Movable}
 use Rattle.zp_area.specs.Blocks.{Blocks}
 use Rattle.zp_area.specs.OneSet.{IsKept}
-use Rattle.zp_area.proofs.Indexing.{indexed_anew, pageblock_kept}
+use Rattle.zp_area.proofs.Indexing.{indexed_anew, others_stand, pageblock_kept}
 use Rattle.zp_area.proofs.OnePageblock.{changed_retyped}
 use Rattle.zp_area.proofs.Retyping.{kept_retyped, retyped_by, retyped_same}
 use Rattle.zp_area.proofs.area.FreeArea.retype.Goals.{After-retype}
@@ -18,21 +18,23 @@ kept c =
 inside : (c : After-retype) → c.args.pageblock < length c.self.inside.kinds.items
 inside c = rw (← c.self.view_is) at c.requires
 
-pub note-requires-clause-pageblock : goal.note-requires-clause-pageblock
-note-requires-clause-pageblock c =
-    let before = (goal.at.note-requires-clause-pageblock c).After-retype in
-    pageblock_kept c.self.inside.largest _ _ _ _ (kept before) (omega (arith, inside before, ap length c.retype.ensures.kinds, length-set c.self.inside.kinds.items c.args.pageblock c.args.kind))
+pub changed-requires-clause-pageblocks : goal.changed-requires-clause-pageblocks
+changed-requires-clause-pageblocks c = λ b lt. pageblock_kept c.self.inside.largest b _ _ _ (kept (goal.at.changed-requires-clause-pageblocks c).After-retype) lt
 
-pub note-requires-clause-room : goal.note-requires-clause-room
-note-requires-clause-room c = omega (arith, inside (goal.at.note-requires-clause-room c).After-retype, c.self.invariant.claimed.blocks)
+pub changed-requires-clause-inside : goal.changed-requires-clause-inside
+changed-requires-clause-inside c =
+    let before = (goal.at.changed-requires-clause-inside c).After-retype in
+    omega (arith, inside before, ap length c.retype.ensures.kinds, length-set c.self.inside.kinds.items c.args.pageblock c.args.kind)
+
+pub changed-requires-clause-others : goal.changed-requires-clause-others
+changed-requires-clause-others c =
+    let a : Blocks = record { largest = c.self.inside.largest; rows = c.self.inside.lists; kinds = c.self.inside.kinds.items } in
+    let before = (goal.at.changed-requires-clause-others c).After-retype in
+    others_stand c.self.inside.largest c.args.pageblock _ _ _ _ _ _ _ _ _ _ c.self.invariant (kept before)
+    (rw (retyped_by c.self.inside.largest a c.args.pageblock c.args.kind c.retype.new.lists _ c.retype.ensures.states c.retype.ensures.kinds c.retype.ensures.lists) (changed_retyped c.self.inside.largest a c.args.pageblock c.args.kind))
 
 pub invariant_of-self : goal.invariant_of-self
-invariant_of-self c =
-    let a : Blocks = record { largest = c.self.inside.largest; rows = c.self.inside.lists; kinds = c.self.inside.kinds.items } in
-    let before = (goal.at.invariant_of-self c).After-retype in
-    indexed_anew c.self.inside.largest c.args.pageblock _ _ _ _ _ _ _ _ _ _ c.self.invariant (kept before)
-    (rw (retyped_by c.self.inside.largest a c.args.pageblock c.args.kind c.retype.new.lists _ c.retype.ensures.states c.retype.ensures.kinds c.retype.ensures.lists) (changed_retyped c.self.inside.largest a c.args.pageblock c.args.kind))
-    (inside before) c.note.ensures
+invariant_of-self c = indexed_anew c.self.inside.largest _ _ _ _ _ _ (kept (goal.at.invariant_of-self c).After-retype) c.changed.ensures
 
 pub returns-else-ne-clause-after : goal.returns-else-ne-clause-after
 returns-else-ne-clause-after c =
