@@ -1,5 +1,5 @@
 -- Splitting and joining leave the order of the largest block as it is.
-use Rattle.std.proofs.Common.{ℕ, zero, suc, ◌+◌, ◌^◌, ◌≡◌, refl, ◌∙◌, ap}
+use Rattle.std.proofs.Common.{ℕ, zero, suc, ◌+◌, ◌^◌, ◌≡◌, refl, ap}
 use Rattle.zp_area.specs.Blocks.{Blocks, added, removed}
 use Rattle.zp_area.specs.Chains.{halves_added, IsJoinedUp}
 

@@ -1,7 +1,6 @@
 -- What is to be noted of a pageblock is told by its own blocks and its type.
-use Rattle.std.proofs.Common.{ℕ, zero, suc, ◌+◌, ◌*◌, ◌/◌, ◌^◌, ◌≡◌, ◌≢◌, ◌≤◌, ◌<◌, inl, inr, refl, sym, ◌∙◌, ap, arith, leb, map, Bool, List, ◌∷◌, length, set, get_or, get_or-set_same, get_or-set_other, length-set, Option, None}
+use Rattle.std.proofs.Common.{ℕ, zero, suc, ◌+◌, ◌*◌, ◌/◌, ◌^◌, ◌≡◌, ◌≢◌, ◌≤◌, ◌<◌, refl, sym, ◌∙◌, ap, arith, leb, map, Bool, List, ◌∷◌, length, get_or, Option, None}
 use Rattle.std.specs.List.{range_with_len, slice_index_or}
-use Rattle.std.proofs.lemmas.Bool.{cases_eq}
 use Rattle.zp_model.specs.declared.migrate_type.MigrateType.{MigrateType}
 use Rattle.zp_model.specs.declared.migrate_type.MigrateType.TheVariants.{Movable}
 use Rattle.zp_model.specs.Block.{has}

@@ -1,7 +1,6 @@
-use Rattle.std.proofs.Common.{◌≡◌, false, ap, length, refl, Some}
+use Rattle.std.proofs.Common.{false, ap, length, refl}
 use Rattle.zp_model.specs.Choose.{choose}
-use Rattle.zp_model.specs.Take.{leave, taken}
-use Rattle.zp_buddy.specs.Choices.{area_in, chosen_of}
+use Rattle.zp_model.specs.Take.{taken}
 use Rattle.zp_buddy.specs.declared.choice.Choice.{Choice}
 use Rattle.zp_buddy.proofs.takes.take.Goals as goal
 

@@ -1,7 +1,6 @@
 use Rattle.std.proofs.Common.{arith, ap, sym, ◌∙◌}
 use Rattle.zp_model.specs.Area.{pageblocks_of}
 use Rattle.zp_model.specs.Take.{taken, take_after, take_answer}
-use Rattle.zp_buddy.specs.Choices.{IsTaking}
 use Rattle.zp_buddy.proofs.Taking.{IsRunTaken, clear_head, fewer, frames_stay, may_return, run_taken, still_may}
 use Rattle.zp_buddy.proofs.buddy.Buddy.take.Goals.{After-pages}
 use Rattle.zp_buddy.proofs.buddy.Buddy.take.Goals as goal
