@@ -32,7 +32,7 @@ pub fn receive(zone: &mut Zone, receiver: &mut Seat) -> Option<Block>
 }
 
 /// A zone with two workers, and their seats: the giver's and the receiver's.
-fn zone_of_two(alloc: Global, config: ZoneConfig<'_>) -> Option<(Zone, Seat, Seat)>
+pub(crate) fn zone_of_two(alloc: Global, config: ZoneConfig<'_>) -> Option<(Zone, Seat, Seat)>
     ensures { IfSome result (λ z. IsSeatOf z.0 z.1 × IsSeatOf z.0 z.2) }
 {
     let (zone, mut seats) = Zone::new(alloc, ZoneConfig { ..config }, 2).ok()?;

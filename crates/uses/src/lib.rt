@@ -3,6 +3,7 @@
 #![tactic(auto)]
 
 mod buddyinfo;
+mod emptied_pageblock;
 mod first_page;
 mod handing_over;
 mod huge_page;
@@ -10,10 +11,12 @@ mod huge_pool;
 mod locked_page;
 mod low_block;
 mod page_pool;
+mod reading_in_history;
 mod shared_row;
 mod two_pages;
 
 pub use buddyinfo::{Memory, show};
+pub use emptied_pageblock::{Emptying, empty_a_pageblock};
 pub use first_page::one_page;
 pub use handing_over::{receive, relay, send};
 pub use huge_page::{Run, give_run, take_huge_page};
@@ -21,5 +24,6 @@ pub use huge_pool::HugePool;
 pub use locked_page::touch_a_page;
 pub use low_block::take_below;
 pub use page_pool::PagePool;
+pub use reading_in_history::read_before_the_lock;
 pub use shared_row::{SharedRun, share_a_zone};
 pub use two_pages::take_two;

@@ -83,8 +83,8 @@ fn run<R: Threads + Wait + Sync>(
 {
     let mut row = Vec::with_capacity(alloc, 1).ok()?;
     row.push_reserved(zone);
-    let (mut zones, mut journals) = run_zones(rt, alloc, row, ENTRIES, desks, &OpenGate).ok()?;
-    Some((zones.pop()?, journals.pop()?))
+    let mut closed = run_zones(rt, alloc, row, ENTRIES, desks, &OpenGate).ok()?;
+    Some((closed.zones.pop()?, closed.journals.pop()?))
 }
 
 /// What is told of the zone that the workers shared. None where there is no memory to replay its journal.

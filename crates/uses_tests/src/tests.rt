@@ -4,8 +4,8 @@ ghost use Rattle.std.specs.Prelude.{ℕ, None};
 use arrayvec::ArrayVec;
 use std::test::*;
 use uses::{
-    HugePool, PagePool, give_run, one_page, relay, share_a_zone, show, take_below, take_huge_page,
-    take_two,
+    Emptying, HugePool, PagePool, empty_a_pageblock, give_run, one_page, relay, share_a_zone, show,
+    take_below, take_huge_page, take_two,
 };
 use zp_model::{Largest, Level, Order, PageNo};
 use zp_text::{WriteFault, Writer};
@@ -20,6 +20,18 @@ fn dma(min: u32) -> ZoneConfig<'static> {
         min,
         largest: Largest::usual(),
     }
+}
+
+/// Of the 1,024 pages one is out and four are kept; they come back in turn.
+#[test]
+fn a_pageblock_is_emptied(rt: HostRuntime) {
+    let told = Emptying {
+        isolated: 1019,
+        given_back: 1020,
+        drained: 1024,
+        is_whole: true,
+    };
+    assert!(rt; empty_a_pageblock(rt.alloc(), dma(0)) == Some(told));
 }
 
 #[test]

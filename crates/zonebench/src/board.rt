@@ -45,7 +45,7 @@ impl BoardBench {
     /// The free pages that are read.
     fn read(&mut self) -> u32 {
         let board = &self.board;
-        self.reader.read(board).free
+        self.reader.read(board).counts.free
     }
 
     /// The time of as many publishings as the board has room for, and their number.

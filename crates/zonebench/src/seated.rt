@@ -27,6 +27,13 @@ impl Seated {
         zone.check(&mut seat);
         Ok(Seated { zone, seat })
     }
+
+    /// Isolates the first pageblock, and releases it for Movable requests. Answers whether both were done.
+    pub fn isolate_and_release(&mut self) -> bool {
+        let isolated = self.zone.isolate(&mut self.seat, 0);
+        let released = self.zone.release(&mut self.seat, 0, MigrateType::Movable);
+        isolated.is_ok() && released.is_ok()
+    }
 }
 
 impl BlockSource for Seated {

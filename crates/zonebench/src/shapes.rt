@@ -159,6 +159,35 @@ impl Shape for Giving {
     }
 }
 
+/// The first pageblock, isolated and released.
+#[derive(Drop)]
+pub struct Isolating {
+    bench: Bench<Seated>,
+}
+
+impl Isolating {
+    pub fn new(alloc: Global, ground: Ground) -> Result<Isolating, NoMemory> {
+        let mut bench = Bench::new(alloc, PAGES)?;
+        ground.prepare(&mut bench)?;
+        Ok(Isolating { bench })
+    }
+}
+
+impl Shape for Isolating {
+    fn ask(&mut self) {
+        let is_done = self.bench.source.isolate_and_release();
+        self.bench.count(usize::from(is_done));
+    }
+
+    fn restore(&mut self) -> Result<(), NoMemory> {
+        Ok(())
+    }
+
+    fn checksum(&self) -> u64 {
+        self.bench.checksum()
+    }
+}
+
 /// A refill each of whose pages is borrowed after a claim that fails beside 64 pageblocks.
 #[derive(Drop)]
 pub struct Refilling {

@@ -1,7 +1,7 @@
 //! How long the dearest requests that are known take, each call by itself.
 
-use crate::grounds::PAGES;
-use crate::shapes::{Draining, Giving, Nothing, Refilling, Shape, Taking, wishes};
+use crate::grounds::{Ground, PAGES};
+use crate::shapes::{Draining, Giving, Isolating, Nothing, Refilling, Shape, Taking, wishes};
 use crate::times::Times;
 use std::alloc::Global;
 use std::rt::Clock;
@@ -21,6 +21,12 @@ const GIVING: &str = "ten joins";
 const REFILLING: &str = "refill of 31 borrowed pages";
 
 const DRAINING: &str = "drain of 64 pages, ten joins each";
+
+/// The pageblocks that are isolated and released, by their grounds.
+const ISOLATING: [(&str, Ground); 2] = [
+    ("isolate and release a pageblock", Ground::Whole),
+    ("the same of 512 single pages", Ground::HalfPageblock),
+];
 
 /// The times of so many calls.
 fn times_of(
@@ -72,6 +78,9 @@ pub fn print_all(rt: &(impl Print + Eprint + Clock), alloc: Global) -> anyhow::R
     }
     print_times(rt, alloc, GIVING, &mut Giving::new(alloc)?, CALLS)?;
     print_times(rt, alloc, REFILLING, &mut Refilling::new(alloc)?, CALLS)?;
+    for (name, ground) in ISOLATING {
+        print_times(rt, alloc, name, &mut Isolating::new(alloc, ground)?, CALLS)?;
+    }
     print_times(rt, alloc, DRAINING, &mut Draining::new(alloc)?, CALLS)
 }
 
@@ -95,5 +104,8 @@ pub fn print_sums(rt: &impl Print, alloc: Global) -> anyhow::Result<()> {
     }
     print_sum(rt, GIVING, &mut Giving::new(alloc)?)?;
     print_sum(rt, REFILLING, &mut Refilling::new(alloc)?)?;
+    for (name, ground) in ISOLATING {
+        print_sum(rt, name, &mut Isolating::new(alloc, ground)?)?;
+    }
     print_sum(rt, DRAINING, &mut Draining::new(alloc)?)
 }

@@ -1,11 +1,11 @@
 -- Taking a block into the set.
-use Rattle.std.proofs.Common.{ℕ, ◌+◌, ◌-◌, ◌/◌, ◌^◌, ◌≡◌, ◌≤◌, ◌<◌, ◌||◌, inl, inr, sym, ◌∙◌, ap, subst, arith, List, [], ◌∷◌, length, set, get_or-set_same, get_or-set_other, length-set, Option}
+use Rattle.std.proofs.Common.{ℕ, ◌+◌, ◌-◌, ◌/◌, ◌^◌, ◌≡◌, ◌≤◌, ◌<◌, ◌||◌, inl, inr, sym, ◌∙◌, ap, subst, arith, List, [], ◌∷◌, length, set, get_or-set_same, get_or-set_other, length-set}
 use Rattle.std.specs.List.{slice_index}
 use Rattle.std.proofs.lemmas.Nat.{pow_pos}
 use Rattle.std.proofs.lemmas.Bool.{cases_eq, cases_lt, false≢true, both_ways, false_from_ne_true}
 use Rattle.std.proofs.lemmas.List.{map-set, get_or-drop}
 use Rattle.zp_model.specs.declared.state.State.TheVariants.{Free}
-use Rattle.zp_model.specs.MigrateType.{types_count}
+use Rattle.zp_model.specs.PageblockType.{pageblock_types}
 use Rattle.zp_model.specs.Block.{IsBlock, has, in_run}
 use Rattle.zp_model.specs.BlockSet.{Starts, cover}
 use Rattle.zp_model.specs.Rows.{Rows, list_at, stands_in, with_list, with_state, IsLoose, IsOn}
@@ -41,10 +41,9 @@ coming_by a b h k e one block clear = record {
 }
 
 -- the numbers with the block still fit
-pub record IsMoreKept (m : ℕ) (a : Blocks) (tree : List (Option ℕ)) (free_in : List ℕ) (h k : ℕ) : Type 0 where
+pub record IsMoreKept (m : ℕ) (a : Blocks) (free_in : List ℕ) (h k : ℕ) : Type 0 where
   pub fits : slice_index free_in (h / pageblock_pages m) + 2 ^ k ≤ pageblock_pages m
-  pub kept : IsKept m (added m a h k) (with_block tree h k)
-      (set free_in (h / pageblock_pages m) (slice_index free_in (h / pageblock_pages m) + 2 ^ k))
+  pub kept : IsKept m (added m a h k) (set free_in (h / pageblock_pages m) (slice_index free_in (h / pageblock_pages m) + 2 ^ k))
 
 -- the rows after it, in the words of the code
 pub now_added : (m : ℕ) (a : Blocks) (h k r : ℕ) (w : Rows) → w ≡ with_list (with_state a.rows h (Free k)) r (h ∷ list_at a.rows.lists r) → r ≡ list_of_block m a h k → w ≡ (added m a h k).rows
@@ -63,7 +62,7 @@ module _ {m : ℕ} {a : Blocks} {h k : ℕ} (x : IsComing m a h k) where
   pub coming_loose : IsLoose a.rows.lists h
   coming_loose r =
       false_from_ne_true _ (λ on. elim (cases_lt r (lists_count m)) [
-        | inl below ↦ new_none m (block_set a) h k x.one.blocks coming_new (r / types_count) ((x.one.listed r below).to h on).0
+        | inl below ↦ new_none m (block_set a) h k x.one.blocks coming_new (r / pageblock_types) ((x.one.listed r below).to h on).0
         | inr ge ↦ coming_off r h ge (omega arith) (omega (arith, pow_pos k)) on
       ])
 
@@ -71,7 +70,7 @@ module _ {m : ℕ} {a : Blocks} {h k : ℕ} (x : IsComing m a h k) where
   coming_apart i lo hi = sym (has-cover (block_set a) i (omega (arith, x.block.inside, blocks_length a.rows.states))) ∙ (x.clear i lo hi).0
 
   -- the set with the block, and its pages
-  added_set : block_set (added m a h k) ≡ with_block (block_set a) h k
+  pub added_set : block_set (added m a h k) ≡ with_block (block_set a) h k
   added_set = map-set free_order a.rows.states h (Free k)
 
   added_has : (i : ℕ) → has (cover (block_set (added m a h k))) i ≡ (has (cover (block_set a)) i || in_run h k i)
@@ -107,15 +106,14 @@ module _ {m : ℕ} {a : Blocks} {h k : ℕ} (x : IsComing m a h k) where
         added_has p ∙ rw (x.one.aside r p ge was) (false_from_ne_true _ (λ run. let w = in_run-to h k p run in coming_off r p ge w.0 w.1 was));
   }
 
-  pub kept_added : (tree : List (Option ℕ)) (free_in : List ℕ) → IsKept m a tree free_in → IsMoreKept m a tree free_in h k
-  kept_added tree free_in y =
+  pub kept_added : (free_in : List ℕ) → IsKept m a free_in → IsMoreKept m a free_in h k
+  kept_added free_in y =
       let more = counted_more m a.rows.states (added m a h k).rows.states free_in h k y.each x.one.blocks (length-set a.rows.states h (Free k)) coming_new added_set in
       record {
         fits = more.fits;
         kept = record {
           one = one_added;
           few = rw (length-set a.rows.lists (list_of_block m a h k) (h ∷ list_at a.rows.lists (list_of_block m a h k))) y.few;
-          same = rw (y.same, added_set);
           each = more.each;
         };
       }

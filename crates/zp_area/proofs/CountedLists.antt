@@ -1,5 +1,5 @@
--- The blocks of an order are those on its three lists, each once.
-use Rattle.std.proofs.Common.{ℕ, zero, suc, ◌+◌, ◌≡◌, ◌≢◌, ◌≤◌, ◌<◌, ◌==◌, ◌||◌, inl, inr, refl, sym, ◌∙◌, ap, arith, Bool, true, List, [], ◌∷◌, ◌++◌, length, take, get_or, Option, Some, None, nat_eq}
+-- The blocks of an order are those on its four lists, each once.
+use Rattle.std.proofs.Common.{ℕ, zero, suc, ◌+◌, ◌≡◌, ◌≢◌, ◌≤◌, ◌<◌, ◌==◌, ◌||◌, ◌⊎◌, inl, inr, refl, sym, ◌∙◌, ap, arith, Bool, true, List, [], ◌∷◌, ◌++◌, length, take, get_or, Option, Some, None, nat_eq}
 use Rattle.std.specs.List.{filter, count_by, IsDistinct}
 use Rattle.std.specs.Set.{is_member}
 use Rattle.std.proofs.Math.Bool.{or-true}
@@ -8,8 +8,8 @@ use Rattle.std.proofs.lemmas.Cmp.{nat_eq_equiv}
 use Rattle.std.proofs.lemmas.List.{length-append, take_all}
 use Rattle.std.proofs.lemmas.List.Sums.{length-filter, sum_by-cons, sum_by_more}
 use Rattle.std.proofs.lemmas.Map.Made.{length-from_same_keys}
-use Rattle.zp_model.specs.declared.migrate_type.MigrateType.{MigrateType}
-use Rattle.zp_model.specs.declared.migrate_type.MigrateType.TheVariants.{Unmovable, Reclaimable, Movable}
+use Rattle.zp_model.specs.declared.pageblock_type.PageblockType.{PageblockType}
+use Rattle.zp_model.specs.declared.pageblock_type.PageblockType.TheVariants.{Unmovable, Reclaimable, Movable, Isolate}
 use Rattle.zp_model.specs.BlockSet.{Starts, is_order}
 use Rattle.zp_model.specs.Rows.{list_at, stands_in}
 use Rattle.zp_model.specs.Area.{falling, kind_at, list_number}
@@ -47,15 +47,15 @@ pub count_above : (m : ℕ) (a : Blocks) (k : ℕ) → IsOneSet m a → m < k �
 count_above m a k x lt = none_counted k (block_set a) (λ h e. omega (arith, (x.blocks.block h k e).order))
 
 module _ (m : ℕ) (a : Blocks) (k : ℕ) (x : IsOneSet m a) (le : k ≤ m) where
-  abbrev row : MigrateType → List ℕ
+  abbrev row : PageblockType → List ℕ
   row t = list_at a.rows.lists (list_number k t)
 
   -- a page stands on the list of one type alone
-  apart : (s t : MigrateType) → s ≢ t → (h : ℕ) → stands_in h (row s) ≡ true → stands_in h (row t) ≡ true → ⊥
+  apart : (s t : PageblockType) → s ≢ t → (h : ℕ) → stands_in h (row s) ≡ true → stands_in h (row t) ≡ true → ⊥
   apart s t ne h p q = ne (sym (listed_starts m a h k s x le p).1 ∙ (listed_starts m a h k t x le q).1)
 
   abbrev all : List ℕ
-  all = row Unmovable ++ (row Reclaimable ++ row Movable)
+  all = row Unmovable ++ (row Reclaimable ++ (row Movable ++ row Isolate))
 
   abbrev is_head : ℕ → Bool
   is_head h = is_order k (get_or (block_set a) h None)
@@ -63,16 +63,25 @@ module _ (m : ℕ) (a : Blocks) (k : ℕ) (x : IsOneSet m a) (le : k ≤ m) wher
   abbrev heads : List ℕ
   heads = filter is_head (falling (length (block_set a)))
 
-  alone : (t : MigrateType) → IsDistinct (λ y z. y == z) (row t)
+  alone : (t : PageblockType) → IsDistinct (λ y z. y == z) (row t)
   alone t = (x.listed (list_number k t) (list_number_below m k t le)).distinct
+
+  -- what stands on one of the last two lists, or of the last three
+  on_two : (h : ℕ) → stands_in h (row Movable ++ row Isolate) ≡ true → (stands_in h (row Movable) ≡ true) ⊎ (stands_in h (row Isolate) ≡ true)
+  on_two h q = or_cases _ _ (sym (stands-append h (row Movable) (row Isolate)) ∙ q)
+
+  on_three : (h : ℕ) → stands_in h (row Reclaimable ++ (row Movable ++ row Isolate)) ≡ true → (stands_in h (row Reclaimable) ≡ true) ⊎ (stands_in h (row Movable ++ row Isolate) ≡ true)
+  on_three h q = or_cases _ _ (sym (stands-append h (row Reclaimable) (row Movable ++ row Isolate)) ∙ q)
 
   distinct_all : IsDistinct (λ y z. y == z) all
   distinct_all =
-      distinct-append (row Unmovable) (row Reclaimable ++ row Movable) (alone Unmovable)
-      (distinct-append (row Reclaimable) (row Movable) (alone Reclaimable) (alone Movable) (apart Reclaimable Movable (λ e. cc)))
-      (λ h p q. elim (or_cases _ _ (sym (stands-append h (row Reclaimable) (row Movable)) ∙ q)) [
+      distinct-append (row Unmovable) (row Reclaimable ++ (row Movable ++ row Isolate)) (alone Unmovable)
+      (distinct-append (row Reclaimable) (row Movable ++ row Isolate) (alone Reclaimable)
+      (distinct-append (row Movable) (row Isolate) (alone Movable) (alone Isolate) (apart Movable Isolate (λ e. cc)))
+      (λ h p q. elim (on_two h q) [ inl r ↦ apart Reclaimable Movable (λ e. cc) h p r | inr r ↦ apart Reclaimable Isolate (λ e. cc) h p r ]))
+      (λ h p q. elim (on_three h q) [
         | inl r ↦ apart Unmovable Reclaimable (λ e. cc) h p r
-        | inr r ↦ apart Unmovable Movable (λ e. cc) h p r
+        | inr w ↦ elim (on_two h w) [ inl r ↦ apart Unmovable Movable (λ e. cc) h p r | inr r ↦ apart Unmovable Isolate (λ e. cc) h p r ]
       ])
 
   same_heads : (h : ℕ) → is_member nat_eq all h ≡ is_member nat_eq heads h
@@ -90,30 +99,32 @@ module _ (m : ℕ) (a : Blocks) (k : ℕ) (x : IsOneSet m a) (le : k ≤ m) wher
       from_starts st = rw st (eq-eqb k k refl)
 
       on_one : stands_in h all ≡ true → Starts (block_set a) h k
-      on_one on = elim (or_cases _ _ (sym (stands-append h (row Unmovable) (row Reclaimable ++ row Movable)) ∙ on)) [
+      on_one on = elim (or_cases _ _ (sym (stands-append h (row Unmovable) (row Reclaimable ++ (row Movable ++ row Isolate))) ∙ on)) [
         | inl u ↦ (listed_starts m a h k Unmovable x le u).0
-        | inr w ↦ elim (or_cases _ _ (sym (stands-append h (row Reclaimable) (row Movable)) ∙ w)) [
+        | inr w ↦ elim (on_three h w) [
           | inl u ↦ (listed_starts m a h k Reclaimable x le u).0
-          | inr u ↦ (listed_starts m a h k Movable x le u).0
+          | inr v ↦ elim (on_two h v) [ inl u ↦ (listed_starts m a h k Movable x le u).0 | inr u ↦ (listed_starts m a h k Isolate x le u).0 ]
         ]
       ]
 
-      parts : stands_in h all ≡ (stands_in h (row Unmovable) || (stands_in h (row Reclaimable) || stands_in h (row Movable)))
+      parts : stands_in h all ≡ (stands_in h (row Unmovable) || (stands_in h (row Reclaimable) || (stands_in h (row Movable) || stands_in h (row Isolate))))
       parts =
-          stands-append h (row Unmovable) (row Reclaimable ++ row Movable)
-          ∙ ap (λ b. stands_in h (row Unmovable) || b) (stands-append h (row Reclaimable) (row Movable))
+          stands-append h (row Unmovable) (row Reclaimable ++ (row Movable ++ row Isolate))
+          ∙ ap (λ b. stands_in h (row Unmovable) || b) (stands-append h (row Reclaimable) (row Movable ++ row Isolate) ∙ ap (λ b. stands_in h (row Reclaimable) || b) (stands-append h (row Movable) (row Isolate)))
 
-      on_all : (t : MigrateType) → stands_in h (row t) ≡ true → stands_in h all ≡ true
+      on_all : (t : PageblockType) → stands_in h (row t) ≡ true → stands_in h all ≡ true
       on_all Unmovable on = parts ∙ rw on refl
       on_all Reclaimable on = parts ∙ rw on (or-true _)
       on_all Movable on = parts ∙ rw (on, or-true (stands_in h (row Reclaimable))) (or-true _)
+      on_all Isolate on = parts ∙ rw (on, or-true (stands_in h (row Movable)), or-true (stands_in h (row Reclaimable))) (or-true _)
 
   -- so they are as many as the lists are long together
-  pub counted_lists : length (row Unmovable) + length (row Reclaimable) + length (row Movable) ≡ count_of (block_set a) k
+  pub counted_lists : length (row Unmovable) + length (row Reclaimable) + length (row Movable) + length (row Isolate) ≡ count_of (block_set a) k
   counted_lists =
       let s : List (Option ℕ) = block_set a in
       let same : length all ≡ length heads = length-from_same_keys nat_eq_equiv all heads distinct_all (distinct-filter is_head (falling (length s)) (distinct-falling (length s))) same_heads in
-      let long : length all ≡ length (row Unmovable) + (length (row Reclaimable) + length (row Movable)) =
-      length-append (row Unmovable) (row Reclaimable ++ row Movable) ∙ ap (λ n. length (row Unmovable) + n) (length-append (row Reclaimable) (row Movable)) in
+      let long : length all ≡ length (row Unmovable) + (length (row Reclaimable) + (length (row Movable) + length (row Isolate))) =
+      length-append (row Unmovable) (row Reclaimable ++ (row Movable ++ row Isolate))
+      ∙ ap (λ n. length (row Unmovable) + n) (length-append (row Reclaimable) (row Movable ++ row Isolate) ∙ ap (λ n. length (row Reclaimable) + n) (length-append (row Movable) (row Isolate))) in
       let counted : length heads ≡ count_of s k = length-filter is_head (falling (length s)) ∙ heads_counted s k (length s) (omega arith) ∙ ap (count_by (is_order k)) (take_all (length s) s (omega arith)) in
       omega (arith, same, long, counted)

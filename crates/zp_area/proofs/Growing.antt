@@ -1,10 +1,10 @@
--- A block that comes back and grows: what is kept beside the lists, buddy by buddy, and what the tree of them all is.
+-- A block that comes back and grows: what is kept beside the lists, buddy by buddy, and what the set is then.
 use Rattle.std.proofs.Common.{ℕ, zero, suc, ◌+◌, ◌-◌, ◌/◌, ◌^◌, ◌≡◌, ◌≤◌, ◌<◌, ◌⊎◌, inl, inr, refl, sym, ◌∙◌, ap, subst, arith, List, length, set, get_or, get_or-set_same, length-set, Option, None}
 use Rattle.std.specs.List.{slice_index}
 use Rattle.std.proofs.lemmas.Nat.{pow_pos}
 use Rattle.std.proofs.lemmas.Bool.{cases_lt}
 use Rattle.std.proofs.lemmas.List.{map-set, set-get_or, set-set, set_past}
-use Rattle.zp_model.specs.declared.migrate_type.MigrateType.{MigrateType}
+use Rattle.zp_model.specs.declared.pageblock_type.PageblockType.{PageblockType}
 use Rattle.zp_model.specs.declared.state.State.TheVariants.{Tail}
 use Rattle.zp_model.specs.Block.{head, IsBlock, IsBuddy}
 use Rattle.zp_model.specs.BlockSet.{Starts}
@@ -19,9 +19,8 @@ use Rattle.zp_area.specs.Chains.{IsJoinable, IsJoinedUp}
 use Rattle.zp_area.specs.OneSet.{IsKept}
 use Rattle.zp_area.proofs.NotedBlocks.{starts-from}
 use Rattle.zp_area.proofs.Keeping.{blocks_length}
-use Rattle.zp_area.proofs.Adding.{IsComing, kept_added}
+use Rattle.zp_area.proofs.Adding.{IsComing, added_set, kept_added}
 use Rattle.zp_area.proofs.Removing.{clear_removed, clear_still, kept_removed}
-use Rattle.zp_area.proofs.Splitting.{kept_set}
 
 -- the block (h, k), which comes back to a, has grown to (g, j): b is a without the buddies; of the pages of the pageblock those are
 -- counted that are in blocks of b
@@ -31,7 +30,7 @@ pub record IsGrowing (m : ℕ) (a b : Blocks) (free_in : List ℕ) (h k g j : �
   pub pages : length b.rows.states ≡ length a.rows.states
   pub number : g / pageblock_pages m ≡ h / pageblock_pages m
   pub most : 2 ^ j ≤ slice_index free_in (h / pageblock_pages m) + 2 ^ k
-  pub kept : IsKept m b (block_set b) (set free_in (h / pageblock_pages m) (slice_index free_in (h / pageblock_pages m) + 2 ^ k - 2 ^ j))
+  pub kept : IsKept m b (set free_in (h / pageblock_pages m) (slice_index free_in (h / pageblock_pages m) + 2 ^ k - 2 ^ j))
   pub around : g ≡ head h j
   pub buddies : HasBuddies (block_set a) h k j
   pub same : block_set b ≡ without_buddies (block_set a) h k (j - k)
@@ -39,9 +38,9 @@ pub record IsGrowing (m : ℕ) (a b : Blocks) (free_in : List ℕ) (h k g j : �
   pub clear : IsClearRun m b.rows.states b.rows.lists g j
   pub after : (n : Blocks) (i : ℕ) → IsJoinedUp i m b g j n → (e : ℕ) × IsJoinedUp e m a h k n
 
-pub grow_begins : (m : ℕ) (a : Blocks) (t : List (Option ℕ)) (free_in : List ℕ) (h k : ℕ) → IsKept m a t free_in → IsBlock m (length a.rows.states) h k → IsClearRun m a.rows.states a.rows.lists h k →
+pub grow_begins : (m : ℕ) (a : Blocks) (free_in : List ℕ) (h k : ℕ) → IsKept m a free_in → IsBlock m (length a.rows.states) h k → IsClearRun m a.rows.states a.rows.lists h k →
     IsGrowing m a a free_in h k h k
-grow_begins m a t free_in h k x b clear =
+grow_begins m a free_in h k x b clear =
     let p : ℕ = h / pageblock_pages m in
     let same : slice_index free_in p + 2 ^ k - 2 ^ k ≡ slice_index free_in p = omega arith in
     let none_yet : 0 ≡ k - k = omega arith in
@@ -51,7 +50,7 @@ grow_begins m a t free_in h k x b clear =
       pages = refl;
       number = refl;
       most = omega arith;
-      kept = rw (same, set-get_or free_in p 0) (kept_set m a t free_in x);
+      kept = rw (same, set-get_or free_in p 0) x;
       around = sym (head_self h k b.aligned);
       buddies = λ j from to. absurd (omega arith);
       same = ap (λ d. without_buddies (block_set a) h k d) none_yet;
@@ -88,7 +87,7 @@ module _ {m : ℕ} {a b : Blocks} {free_in : List ℕ} {h k g j : ℕ} (x : IsGr
   grown_block = rw (blocks_length a.rows.states, ← x.pages, ← x.around) x.block
 
   -- the type of the pageblock is that of the grown block's
-  pub grown_kind : (t : MigrateType) → t ≡ kind_at m a.kinds h → t ≡ kind_at m b.kinds g
+  pub grown_kind : (t : PageblockType) → t ≡ kind_at m a.kinds h → t ≡ kind_at m b.kinds g
   grown_kind t e = rw (x.number, x.kinds) e
 
   -- a free buddy leaves, and the block doubles
@@ -112,7 +111,7 @@ module _ {m : ℕ} {a b : Blocks} {free_in : List ℕ} {h k g j : ℕ} (x : IsGr
         let q = y.buddy.halves in
         number_around d c (j + 1) m (omega (arith, y.order)) y.buddy.double (omega (arith, two j)) (omega (arith, two j, pow_pos j)) ∙ double_number
 
-    pub buddy_kind : (t : MigrateType) → t ≡ kind_at m a.kinds h → t ≡ kind_at m b.kinds c
+    pub buddy_kind : (t : PageblockType) → t ≡ kind_at m a.kinds h → t ≡ kind_at m b.kinds c
     buddy_kind t e = rw (buddy_number, x.kinds) e
 
     -- the block lies in its double
@@ -166,7 +165,7 @@ module _ {m : ℕ} {a b : Blocks} {free_in : List ℕ} {h k g j : ℕ} (x : IsGr
         let p : ℕ = h / pageblock_pages m in
         let v : ℕ = slice_index free_in (h / pageblock_pages m) in
         let was : List ℕ = set free_in p (v + 2 ^ k - 2 ^ j) in
-        let z = kept_removed m b c j x.kept.one buddy_starts (block_set b) was x.kept in
+        let z = kept_removed m b c j x.kept.one buddy_starts was x.kept in
         let had : slice_index was p ≡ v + 2 ^ k - 2 ^ j = get_or-set_same free_in p (v + 2 ^ k - 2 ^ j) 0 lt in
         let most : 2 ^ j ≤ slice_index was p = rw buddy_number at z.most in
         let free : set free_in p (v + 2 ^ k - 2 ^ (j + 1)) ≡ set was (c / pageblock_pages m) (slice_index was (c / pageblock_pages m) - 2 ^ j) =
@@ -177,7 +176,7 @@ module _ {m : ℕ} {a b : Blocks} {free_in : List ℕ} {h k g j : ℕ} (x : IsGr
           pages = length-set b.rows.states c Tail ∙ x.pages;
           number = double_number;
           most = omega (arith, had, most, x.most, two j);
-          kept = rw free (kept_set m _ _ _ z.kept);
+          kept = rw free z.kept;
           around = double_around;
           buddies = more_buddies;
           same = one_less;
@@ -188,16 +187,17 @@ module _ {m : ℕ} {a b : Blocks} {free_in : List ℕ} {h k g j : ℕ} (x : IsGr
 
   -- the grown block has no free buddy, and is added
   pub grow_ends : ((c d : ℕ) → IsJoinable m b g j c d → ⊥) → h / pageblock_pages m < length free_in →
-      IsKept m (added m b g j) (joined_set (block_set a) h k j) (set free_in (h / pageblock_pages m) (slice_index free_in (h / pageblock_pages m) + 2 ^ k)) ×
+      IsKept m (added m b g j) (set free_in (h / pageblock_pages m) (slice_index free_in (h / pageblock_pages m) + 2 ^ k)) ×
+      (joined_set (block_set a) h k j ≡ block_set (added m b g j)) ×
       ((e : ℕ) × IsJoinedUp e m a h k (added m b g j))
   grow_ends stop lt =
       let p : ℕ = h / pageblock_pages m in
       let v : ℕ = slice_index free_in (h / pageblock_pages m) in
       let was : List ℕ = set free_in p (v + 2 ^ k - 2 ^ j) in
-      let z = kept_added grown_coming (block_set b) was x.kept in
+      let z = kept_added grown_coming was x.kept in
       let had : slice_index was p ≡ v + 2 ^ k - 2 ^ j = get_or-set_same free_in p (v + 2 ^ k - 2 ^ j) 0 lt in
       let free : set free_in p (v + 2 ^ k) ≡ set was (g / pageblock_pages m) (slice_index was (g / pageblock_pages m) + 2 ^ j) =
       sym (set-set free_in p (v + 2 ^ k - 2 ^ j) (v + 2 ^ k)) ∙ ap (λ q. set was p q) (omega (arith, had, x.most)) ∙ ap (λ q. set was q (slice_index was q + 2 ^ j)) (sym x.number) in
       let tree : joined_set (block_set a) h k j ≡ with_block (block_set b) g j =
       ap (λ s. with_block s (head h j) j) (sym x.same) ∙ ap (λ q. with_block (block_set b) q j) (sym x.around) in
-      (rw (tree, free) z.kept, x.after (added m b g j) 0 (refl, stop))
+      (rw free z.kept, tree ∙ sym (added_set grown_coming), x.after (added m b g j) 0 (refl, stop))

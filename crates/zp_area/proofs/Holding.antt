@@ -37,9 +37,9 @@ noted_set m a h s x =
         let st : Starts (block_set a) h k = block_at a.rows.states h ∙ e in
         absurd (false≢true (sym x.used ∙ around_covered m (block_set a) h h k x.one.blocks (record { starts = st; from = omega arith; to = omega (arith, pow_pos k) })))
 
-pub kept_noted : (m : ℕ) (a : Blocks) (tree : List (Option ℕ)) (free_in : List ℕ) (h : ℕ) (s : State) → IsKept m a tree free_in → IsHolding m a h s →
-    IsKept m (noted a h s) tree free_in
-kept_noted m a tree free_in h s x y =
+pub kept_noted : (m : ℕ) (a : Blocks) (free_in : List ℕ) (h : ℕ) (s : State) → IsKept m a free_in → IsHolding m a h s →
+    IsKept m (noted a h s) free_in
+kept_noted m a free_in h s x y =
     let e : block_set (noted a h s) ≡ block_set a = noted_set m a h s y in
     record {
       one = record {
@@ -51,7 +51,6 @@ kept_noted m a tree free_in h s x y =
         aside = λ r p ge on. rw e (x.one.aside r p ge on);
       };
       few = x.few;
-      same = rw e x.same;
       each = record { blocks = rw (length-set a.rows.states h s) x.each.blocks; each = λ b. rw e (x.each.each b) };
     }
 

@@ -6,8 +6,8 @@ use Rattle.std.proofs.lemmas.Nat.{pow_pos, shr_split}
 use Rattle.std.proofs.lemmas.List.{get_or_default, get_or-drop, length-map}
 use Rattle.std.proofs.lemmas.List.Sums.{count_by-le-length}
 use Rattle.zp_model.specs.declared.constants.TheConstants.{MAX_PAGES}
-use Rattle.zp_model.specs.declared.migrate_type.MigrateType.{MigrateType}
-use Rattle.zp_model.specs.declared.migrate_type.MigrateType.TheVariants.{Movable}
+use Rattle.zp_model.specs.declared.pageblock_type.PageblockType.{PageblockType}
+use Rattle.zp_model.specs.declared.pageblock_type.PageblockType.TheVariants.{Movable}
 use Rattle.zp_model.specs.declared.state.State.{State}
 use Rattle.zp_model.specs.Block.{IsBlock}
 use Rattle.zp_model.specs.BlockSet.{is_order}
@@ -50,13 +50,13 @@ starts_inside m a b one lt =
     omega (arith, le, up, shr_split (n + (2 ^ m - 1)) m, pow_pos m)
 
 -- the type that the code reads at a block's pageblock b
-pub kind_found : (m : ℕ) (a : Blocks) (h k b : ℕ) (t : MigrateType) → IsOneSet m a → IsBlock m (length a.rows.states) h k → b ≡ h / pageblock_pages m → t ≡ slice_index_or a.kinds b t → t ≡ kind_at m a.kinds h
+pub kind_found : (m : ℕ) (a : Blocks) (h k b : ℕ) (t : PageblockType) → IsOneSet m a → IsBlock m (length a.rows.states) h k → b ≡ h / pageblock_pages m → t ≡ slice_index_or a.kinds b t → t ≡ kind_at m a.kinds h
 kind_found m a h k b t one block eb et =
     let lt : b < length a.kinds = rw eb (typed_there m a h k one block) in
     et ∙ get_or_default a.kinds b t Movable lt ∙ ap (λ q. slice_index_or a.kinds q Movable) eb
 
 -- the list that it finds for the block then
-pub list_found : (m : ℕ) (a : Blocks) (h k r b : ℕ) (t : MigrateType) → IsOneSet m a → IsBlock m (length a.rows.states) h k → b ≡ h / pageblock_pages m →
+pub list_found : (m : ℕ) (a : Blocks) (h k r b : ℕ) (t : PageblockType) → IsOneSet m a → IsBlock m (length a.rows.states) h k → b ≡ h / pageblock_pages m →
     t ≡ slice_index_or a.kinds b t → r ≡ list_number k t → r ≡ list_of_block m a h k
 list_found m a h k r b t one block eb et er = er ∙ ap (λ q. list_number k q) (kind_found m a h k b t one block eb et)
 

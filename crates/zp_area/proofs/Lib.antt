@@ -1,8 +1,11 @@
 pub mod Filters
+pub mod Parts
+pub mod AvailableBlocks
 pub mod NotedBlocks
 pub mod OneBlock
 pub mod Listing
 pub mod PageblockPages
+pub mod IsolatedPages
 pub mod Keeping
 pub mod Adding
 pub mod Removing
@@ -14,9 +17,12 @@ pub mod NoBlocks
 pub mod RelistedBy
 pub mod Relisting
 pub mod Retyping
+pub mod Telling
 pub mod LargestInside
+pub mod LargestSeen
 pub mod SameLargest
 pub mod Scattered
 pub mod OnePageblock
 pub mod Indexing
+pub mod NotedClaims
 pub mod Claimable

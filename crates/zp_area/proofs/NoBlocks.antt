@@ -4,9 +4,9 @@ use Rattle.std.specs.List.{IsDistinct}
 use Rattle.std.proofs.lemmas.Bool.{cases_lt, false≢true, false_from_ne_true}
 use Rattle.std.proofs.lemmas.List.{get_or-replicate, get_or_past, length-replicate}
 use Rattle.zp_model.specs.declared.constants.TheConstants.{MAX_PAGES}
-use Rattle.zp_model.specs.declared.migrate_type.MigrateType.{MigrateType}
+use Rattle.zp_model.specs.declared.pageblock_type.PageblockType.{PageblockType}
 use Rattle.zp_model.specs.declared.state.State.TheVariants.{Tail}
-use Rattle.zp_model.specs.MigrateType.{types_count}
+use Rattle.zp_model.specs.PageblockType.{pageblock_types}
 use Rattle.zp_model.specs.Block.{has}
 use Rattle.zp_model.specs.BlockSet.{cover}
 use Rattle.zp_model.specs.Rows.{Rows}
@@ -29,7 +29,7 @@ pub tails_free : (n : ℕ) → blocks_of (replicate n Tail) ≡ replicate n None
 tails_free zero = refl
 tails_free (suc n) = ap (λ (q : List (Option ℕ)). None ∷ q) (tails_free n)
 
-pub kept_empty : (m n side : ℕ) → n ≤ MAX_PAGES → side < 2 ^ 32 → IsKept m (no_blocks m n side) (replicate n None) (replicate (pageblocks_of m n) 0)
+pub kept_empty : (m n side : ℕ) → n ≤ MAX_PAGES → side < 2 ^ 32 → IsKept m (no_blocks m n side) (replicate (pageblocks_of m n) 0)
 unfolding IsDistinct size_in
 kept_empty m n side le lt =
     let e : block_set (no_blocks m n side) ≡ replicate n None = tails_free n in
@@ -42,11 +42,10 @@ kept_empty m n side le lt =
         typed = length-replicate (pageblocks_of m n) _ ∙ ap (pageblocks_of m) (sym (length-replicate n Tail));
         blocks = rw e (record { block = λ h k st. absurd (no_start n h k st); apart = λ h k g j i st su u v. absurd (no_start n h k st) });
         listed = λ r lt. rw (e, replicate_at {A = List ℕ} (lists_count m + side) r [])
-            (record { distinct = tt; to = λ h on. absurd (false≢true on); from = λ h w. absurd (no_start n h (r / types_count) w.0) });
+            (record { distinct = tt; to = λ h on. absurd (false≢true on); from = λ h w. absurd (no_start n h (r / pageblock_types) w.0) });
         aside = λ r p ge on. absurd (false≢true (rw (replicate_at {A = List ℕ} (lists_count m + side) r []) at on));
       };
       few = omega arith;
-      same = sym e;
       each = record {
         blocks = length-replicate (pageblocks_of m n) 0 ∙ ap (pageblocks_of m) (sym (length-replicate n Tail));
         each = λ b. replicate_at (pageblocks_of m n) b 0
@@ -59,7 +58,7 @@ states_of-blank zero = refl
 states_of-blank (suc n) = ap (λ ss. Tail ∷ ss) (states_of-blank n)
 
 -- the area of a blank table, of empty lists over it and of these types, in the words of the code
-pub blank_area : (m n side d : ℕ) (t : List PageEntry) (w : Rows) (kinds : List MigrateType) → t ≡ replicate n blank → d ≡ lists_count m + side →
+pub blank_area : (m n side d : ℕ) (t : List PageEntry) (w : Rows) (kinds : List PageblockType) → t ≡ replicate n blank → d ≡ lists_count m + side →
     w ≡ record { lists = replicate d []; states = states_of t } → kinds ≡ (no_blocks m n side).kinds →
     (let a : Blocks = record { largest = m; rows = w; kinds = kinds } in a) ≡ no_blocks m n side
 blank_area m n side d t w kinds et em ew ek = rw (ew, ek, et, em, states_of-blank n)

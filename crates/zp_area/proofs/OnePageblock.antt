@@ -2,8 +2,8 @@
 use Rattle.std.proofs.Common.{ℕ, zero, suc, ◌+◌, ◌-◌, ◌/◌, ◌%◌, ◌^◌, ◌≡◌, ◌≢◌, ◌≤◌, refl, sym, ◌∙◌, ap, arith, List, set, get_or, get_or-set_other, length-set, Option, None}
 use Rattle.std.proofs.lemmas.Nat.{pow_pos}
 use Rattle.std.proofs.lemmas.List.{map-set}
-use Rattle.zp_model.specs.declared.migrate_type.MigrateType.{MigrateType}
-use Rattle.zp_model.specs.declared.migrate_type.MigrateType.TheVariants.{Movable}
+use Rattle.zp_model.specs.declared.pageblock_type.PageblockType.{PageblockType}
+use Rattle.zp_model.specs.declared.pageblock_type.PageblockType.TheVariants.{Movable}
 use Rattle.zp_model.specs.declared.state.State.{State}
 use Rattle.zp_model.specs.declared.state.State.TheVariants.{Free, Tail}
 use Rattle.zp_model.specs.Area.{pageblock_pages}
@@ -75,7 +75,7 @@ changed_joined (suc i) m b a h k n e w =
     let buddy : w.0 / pageblock_pages m ≡ w.1 / pageblock_pages m = number_around w.1 w.0 (k + 1) m (omega (arith, y.order)) y.buddy.double (omega (arith, two k)) (omega (arith, two k, pow_pos k)) in
     changed_again m b a (removed m a c k) n (changed_removed m b a c k (buddy ∙ sym double ∙ e)) (changed_joined i m b (removed m a c k) d (k + 1) n (sym double ∙ e) w.3)
 
-pub changed_retyped : (m : ℕ) (a : Blocks) (b : ℕ) (t : MigrateType) → IsChangedIn m b a (retyped m a b t)
+pub changed_retyped : (m : ℕ) (a : Blocks) (b : ℕ) (t : PageblockType) → IsChangedIn m b a (retyped m a b t)
 changed_retyped m a b t = record {
   typed = length-set a.kinds b t;
   kinds = λ c ne. get_or-set_other a.kinds b c t Movable ne;

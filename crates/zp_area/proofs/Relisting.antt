@@ -3,11 +3,11 @@ use Rattle.std.proofs.Common.{ℕ, zero, suc, ◌+◌, ◌-◌, ◌/◌, ◌%◌
 use Rattle.std.proofs.lemmas.Nat.{pow_pos}
 use Rattle.std.proofs.lemmas.Bool.{cases_eq, cases_lt, and_parts, and_from, eq-eqb, eqb-true, not-true, both_ways, false_from_ne_true}
 use Rattle.std.proofs.lemmas.Bool.Decides.{nat_tests}
-use Rattle.zp_model.specs.declared.migrate_type.MigrateType.{MigrateType}
+use Rattle.zp_model.specs.declared.pageblock_type.PageblockType.{PageblockType}
 use Rattle.zp_model.specs.declared.state.State.{State}
 use Rattle.zp_model.specs.declared.state.State.TheVariants.{Tail, Free, Out, Posted}
 use Rattle.zp_model.specs.BlockSet.{Starts, is_order}
-use Rattle.zp_model.specs.MigrateType.{type_number, types_count}
+use Rattle.zp_model.specs.PageblockType.{pageblock_type_number, pageblock_types}
 use Rattle.zp_model.specs.Rows.{Rows, IsOn, list_at, state_at, stands_in, without_page}
 use Rattle.zp_model.specs.Area.{list_number, lists_count, kind_at}
 use Rattle.zp_tree.specs.Blocks.{IsBlockSet}
@@ -22,64 +22,64 @@ use Rattle.zp_model.proofs.Pages.{is_order-to}
 use Rattle.zp_model.specs.Lawful.{Here, IsListed}
 
 -- whether page h is to stand on list r, where its pageblock has type t: a block of the list's order starts there, and the list is of that type
-abbrev pub stands_of : List (Option ℕ) → ℕ → ℕ → MigrateType → Bool
-stands_of s r h t = is_order (r / types_count) (get_or s h None) && (type_number t == r % types_count)
+abbrev pub stands_of : List (Option ℕ) → ℕ → ℕ → PageblockType → Bool
+stands_of s r h t = is_order (r / pageblock_types) (get_or s h None) && (pageblock_type_number t == r % pageblock_types)
 
-pub stands_of-to : (s : List (Option ℕ)) (r h : ℕ) (t : MigrateType) → stands_of s r h t ≡ true → Starts s h (r / types_count) × (type_number t ≡ r % types_count)
-stands_of-to s r h t e = let a = and_parts _ _ e in (is_order-to (r / types_count) (get_or s h None) a.0, eqb-true _ _ a.1)
+pub stands_of-to : (s : List (Option ℕ)) (r h : ℕ) (t : PageblockType) → stands_of s r h t ≡ true → Starts s h (r / pageblock_types) × (pageblock_type_number t ≡ r % pageblock_types)
+stands_of-to s r h t e = let a = and_parts _ _ e in (is_order-to (r / pageblock_types) (get_or s h None) a.0, eqb-true _ _ a.1)
 
-pub stands_of-from : (s : List (Option ℕ)) (r h : ℕ) (t : MigrateType) → Starts s h (r / types_count) → type_number t ≡ r % types_count → stands_of s r h t ≡ true
-stands_of-from s r h t a b = and_from _ _ (ap (is_order (r / types_count)) a ∙ eq-eqb _ _ refl) (eq-eqb _ _ b)
+pub stands_of-from : (s : List (Option ℕ)) (r h : ℕ) (t : PageblockType) → Starts s h (r / pageblock_types) → pageblock_type_number t ≡ r % pageblock_types → stands_of s r h t ≡ true
+stands_of-from s r h t a b = and_from _ _ (ap (is_order (r / pageblock_types)) a ∙ eq-eqb _ _ refl) (eq-eqb _ _ b)
 
 -- the types of the pages, where those from page a up to page i have type t already
-abbrev pub kind_while : ℕ → List MigrateType → ℕ → ℕ → MigrateType → ℕ → MigrateType
+abbrev pub kind_while : ℕ → List PageblockType → ℕ → ℕ → PageblockType → ℕ → PageblockType
 kind_while m kinds a i t h = cond (leb a h && ltb h i) t (kind_at m kinds h)
 
-abbrev pub stands_while : ℕ → List (Option ℕ) → List MigrateType → ℕ → ℕ → MigrateType → ℕ → ℕ → Bool
+abbrev pub stands_while : ℕ → List (Option ℕ) → List PageblockType → ℕ → ℕ → PageblockType → ℕ → ℕ → Bool
 stands_while m s kinds a i t r h = stands_of s r h (kind_while m kinds a i t h)
 
-pub while-out : (m : ℕ) (kinds : List MigrateType) (a i : ℕ) (t : MigrateType) (h : ℕ) → (a ≤ h → h < i → ⊥) → kind_while m kinds a i t h ≡ kind_at m kinds h
+pub while-out : (m : ℕ) (kinds : List PageblockType) (a i : ℕ) (t : PageblockType) (h : ℕ) → (a ≤ h → h < i → ⊥) → kind_while m kinds a i t h ≡ kind_at m kinds h
 while-out m kinds a i t h f = grind (arith, nat_tests)
 
-pub while-in : (m : ℕ) (kinds : List MigrateType) (a i : ℕ) (t : MigrateType) (h : ℕ) → a ≤ h → h < i → kind_while m kinds a i t h ≡ t
+pub while-in : (m : ℕ) (kinds : List PageblockType) (a i : ℕ) (t : PageblockType) (h : ℕ) → a ≤ h → h < i → kind_while m kinds a i t h ≡ t
 while-in m kinds a i t h p q = grind (arith, nat_tests)
 
 -- one page more changes no other page's type
-while-other : (m : ℕ) (kinds : List MigrateType) (a i : ℕ) (t : MigrateType) (h : ℕ) → h ≢ i → kind_while m kinds a (i + 1) t h ≡ kind_while m kinds a i t h
+while-other : (m : ℕ) (kinds : List PageblockType) (a i : ℕ) (t : PageblockType) (h : ℕ) → h ≢ i → kind_while m kinds a (i + 1) t h ≡ kind_while m kinds a i t h
 while-other m kinds a i t h ne = grind (arith, nat_tests)
 
 -- l' is l with the blocks from page a up to page i moved to the lists of type t
-pub record IsRelisting (m a i : ℕ) (t : MigrateType) (s : List (Option ℕ)) (kinds : List MigrateType) (l l' : List (List ℕ)) : Type 0 where
+pub record IsRelisting (m a i : ℕ) (t : PageblockType) (s : List (Option ℕ)) (kinds : List PageblockType) (l l' : List (List ℕ)) : Type 0 where
   pub listed : (r : ℕ) → r < lists_count m → list_at l' r ≡ relisted_by (stands_while m s kinds a i t r) (length s) (list_at l r)
   pub aside : (r : ℕ) → lists_count m ≤ r → list_at l' r ≡ list_at l r
   pub table : length l' ≡ length l
 
 -- a set of blocks, and lists that hold its heads
-pub record IsAllListed (m : ℕ) (s : List (Option ℕ)) (kinds : List MigrateType) (l : List (List ℕ)) : Type 0 where
+pub record IsAllListed (m : ℕ) (s : List (Option ℕ)) (kinds : List PageblockType) (l : List (List ℕ)) : Type 0 where
   pub blocks : IsBlockSet m s
   pub table : lists_count m ≤ length l
   pub listed : (r : ℕ) → r < lists_count m → IsListed m s kinds r (list_at l r)
 
-pub relisting_none : (m a : ℕ) (t : MigrateType) (s : List (Option ℕ)) (kinds : List MigrateType) (l : List (List ℕ)) → IsAllListed m s kinds l → IsRelisting m a a t s kinds l l
+pub relisting_none : (m a : ℕ) (t : PageblockType) (s : List (Option ℕ)) (kinds : List PageblockType) (l : List (List ℕ)) → IsAllListed m s kinds l → IsRelisting m a a t s kinds l l
 relisting_none m a t s kinds l x = record {
   listed = λ r lt.
       let same : (h : ℕ) → kind_while m kinds a a t h ≡ kind_at m kinds h = λ h. while-out m kinds a a t h (omega arith) in
       sym (relisted_held (stands_while m s kinds a a t r) (length s) (list_at l r)
-      (λ h on. let w : Here m s kinds r h = (x.listed r lt).to h on in stands_of-from s r h (kind_while m kinds a a t h) w.0 (ap type_number (same h) ∙ w.1))
-      (λ h e. let w = stands_of-to s r h (kind_while m kinds a a t h) e in (x.listed r lt).from h (w.0, ap type_number (sym (same h)) ∙ w.1)));
+      (λ h on. let w : Here m s kinds r h = (x.listed r lt).to h on in stands_of-from s r h (kind_while m kinds a a t h) w.0 (ap pageblock_type_number (same h) ∙ w.1))
+      (λ h e. let w = stands_of-to s r h (kind_while m kinds a a t h) e in (x.listed r lt).from h (w.0, ap pageblock_type_number (sym (same h)) ∙ w.1)));
   aside = λ r ge. refl;
   table = refl;
 }
 
 -- what is looked at: page i of a pageblock of type f, of which the pages before i have been looked at
-pub record IsLooking (m a i : ℕ) (f t : MigrateType) (s : List (Option ℕ)) (kinds : List MigrateType) (l : List (List ℕ)) : Type 0 where
+pub record IsLooking (m a i : ℕ) (f t : PageblockType) (s : List (Option ℕ)) (kinds : List PageblockType) (l : List (List ℕ)) : Type 0 where
   pub all : IsAllListed m s kinds l
   pub from : a ≤ i
   pub page : i < length s
   pub old : kind_at m kinds i ≡ f
-  pub other : type_number f ≢ type_number t
+  pub other : pageblock_type_number f ≢ pageblock_type_number t
 
-module _ {m a i : ℕ} {f t : MigrateType} {s : List (Option ℕ)} {kinds : List MigrateType} {l : List (List ℕ)} (x : IsLooking m a i f t s kinds l) where
+module _ {m a i : ℕ} {f t : PageblockType} {s : List (Option ℕ)} {kinds : List PageblockType} {l : List (List ℕ)} (x : IsLooking m a i f t s kinds l) where
   -- whether page i is to stand on a list, before and after, and any other page
   before : (r : ℕ) → stands_while m s kinds a i t r i ≡ stands_of s r i f
   before r = ap (stands_of s r i) (while-out m kinds a i t i (omega arith) ∙ x.old)
@@ -103,7 +103,7 @@ module _ {m a i : ℕ} {f t : MigrateType} {s : List (Option ℕ)} {kinds : List
   -- a page where no block starts moves nothing
   relisting_same : (l' : List (List ℕ)) → ((k : ℕ) → Starts s i k → ⊥) → IsRelisting m a i t s kinds l l' → IsRelisting m a (i + 1) t s kinds l l'
   relisting_same l' none y = record {
-    listed = λ r lt. y.listed r lt ∙ kept r (λ e. none (r / types_count) (stands_of-to s r i f e).0) (λ e. none (r / types_count) (stands_of-to s r i t e).0);
+    listed = λ r lt. y.listed r lt ∙ kept r (λ e. none (r / pageblock_types) (stands_of-to s r i f e).0) (λ e. none (r / pageblock_types) (stands_of-to s r i t e).0);
     aside = y.aside;
     table = y.table;
   }
@@ -124,8 +124,8 @@ module _ {m a i : ℕ} {f t : MigrateType} {s : List (Option ℕ)} {kinds : List
   head_on k st =
       let le : k ≤ m = (x.all.blocks.block i k st).order in
       let pf = number_parts k f in (
-        (x.all.listed (list_number k f) (list_number_below m k f le)).from i (rw pf.0 st, ap type_number x.old ∙ sym pf.1),
-        false_from_ne_true _ (λ on. x.other (sym (ap type_number x.old) ∙ ((x.all.listed (list_number k t) (list_number_below m k t le)).to i on).1 ∙ (number_parts k t).1)),
+        (x.all.listed (list_number k f) (list_number_below m k f le)).from i (rw pf.0 st, ap pageblock_type_number x.old ∙ sym pf.1),
+        false_from_ne_true _ (λ on. x.other (sym (ap pageblock_type_number x.old) ∙ ((x.all.listed (list_number k t) (list_number_below m k t le)).to i on).1 ∙ (number_parts k t).1)),
       )
 
   -- what stands on the lists when page i is reached
@@ -150,8 +150,8 @@ module _ {m a i : ℕ} {f t : MigrateType} {s : List (Option ℕ)} {kinds : List
       let on = head_on k st in
       let hs : List ℕ = without_page i (list_at w.lists rf) in
       let v1 : List (List ℕ) = set w.lists rf hs in
-      let on_number : (r : ℕ) (u : MigrateType) → stands_of s r i u ≡ true → r ≡ list_number k u = λ r u e.
-      let z = stands_of-to s r i u e in number_from k r u (one_at s i k (r / types_count) st z.0) z.1 in
+      let on_number : (r : ℕ) (u : PageblockType) → stands_of s r i u ≡ true → r ≡ list_number k u = λ r u e.
+      let z = stands_of-to s r i u e in number_from k r u (one_at s i k (r / pageblock_types) st z.0) z.1 in
       record {
         listed = λ r b. elim (cases_eq r rt) [
           | inl er ↦
@@ -178,7 +178,7 @@ module _ {m a i : ℕ} {f t : MigrateType} {s : List (Option ℕ)} {kinds : List
       }
 
 -- one page more
-relisting_more : {m a i : ℕ} {f t : MigrateType} (ss : List State) {kinds : List MigrateType} {l : List (List ℕ)} (w : Rows) → IsLooking m a i f t (blocks_of ss) kinds l →
+relisting_more : {m a i : ℕ} {f t : PageblockType} (ss : List State) {kinds : List PageblockType} {l : List (List ℕ)} (w : Rows) → IsLooking m a i f t (blocks_of ss) kinds l →
     w.states ≡ ss → IsRelisting m a i t (blocks_of ss) kinds l w.lists → (z : State) → state_at ss i ≡ z →
     ((moved w i f t z).states ≡ ss) × IsRelisting m a (i + 1) t (blocks_of ss) kinds l (moved w i f t z).lists
 relisting_more ss w x es y (Free k) ez = (es, relisting_moved x k w (starts-from ss _ k ez) y)
@@ -187,7 +187,7 @@ relisting_more ss w x es y (Out j u p) ez = (es, relisting_same x w.lists (λ k 
 relisting_more ss w x es y (Posted j u p) ez = (es, relisting_same x w.lists (λ k q. let f : Posted j u p ≡ Free k = sym ez ∙ starts-to ss _ k q in cc) y)
 
 -- pages where no block starts move nothing
-relisting_along : (m a i n : ℕ) (f t : MigrateType) (s : List (Option ℕ)) (kinds : List MigrateType) (l l' : List (List ℕ)) →
+relisting_along : (m a i n : ℕ) (f t : PageblockType) (s : List (Option ℕ)) (kinds : List PageblockType) (l l' : List (List ℕ)) →
     ((h : ℕ) → i ≤ h → h < i + n → IsLooking m a h f t s kinds l) → ((h k : ℕ) → i ≤ h → h < i + n → Starts s h k → ⊥) →
     IsRelisting m a i t s kinds l l' → IsRelisting m a (i + n) t s kinds l l'
 relisting_along m a i zero f t s kinds l l' x none y = let e : i + zero ≡ i = omega arith in rw e y
@@ -211,7 +211,7 @@ none_inside m i h j ss x lo (Out k u q) ez b e = omega arith
 none_inside m i h j ss x lo (Posted k u q) ez b e = omega arith
 
 -- from page i to page j, where all between them is seen at page i
-pub relisting_on : (m a i j : ℕ) (f t : MigrateType) (ss : List State) (kinds : List MigrateType) (l : List (List ℕ)) (w v : Rows) →
+pub relisting_on : (m a i j : ℕ) (f t : PageblockType) (ss : List State) (kinds : List PageblockType) (l : List (List ℕ)) (w v : Rows) →
     ((h : ℕ) → i ≤ h → h < j → IsLooking m a h f t (blocks_of ss) kinds l) → i < j → j ≤ i + pages_seen (state_at ss i) → w.states ≡ ss →
     IsRelisting m a i t (blocks_of ss) kinds l w.lists → v ≡ moved w i f t (state_at w.states i) → (v.states ≡ ss) × IsRelisting m a j t (blocks_of ss) kinds l v.lists
 relisting_on m a i j f t ss kinds l w v x lt le es y ev =

@@ -1,5 +1,5 @@
 -- Taking a block out of the set.
-use Rattle.std.proofs.Common.{ℕ, ◌+◌, ◌-◌, ◌/◌, ◌^◌, ◌≡◌, ◌≤◌, ◌<◌, ◌&&◌, not, inl, inr, refl, ◌∙◌, ap, arith, List, [], length, set, get_or-set_same, get_or-set_other, length-set, Option}
+use Rattle.std.proofs.Common.{ℕ, ◌+◌, ◌-◌, ◌/◌, ◌^◌, ◌≡◌, ◌≤◌, ◌<◌, ◌&&◌, not, inl, inr, refl, ◌∙◌, ap, arith, List, [], length, set, get_or-set_same, get_or-set_other, length-set}
 use Rattle.std.specs.List.{slice_index}
 use Rattle.std.proofs.Math.Bool.{and-false}
 use Rattle.std.proofs.lemmas.Bool.{cases_eq, both_ways, false_from_ne_true}
@@ -23,14 +23,13 @@ use Rattle.zp_model.proofs.TypeNumbers.{list_number_below}
 use Rattle.zp_model.specs.Lawful.{IsListed}
 
 -- the number of free pages holds those of the block
-pub record IsLessKept (m : ℕ) (a : Blocks) (tree : List (Option ℕ)) (free_in : List ℕ) (h k : ℕ) : Type 0 where
+pub record IsLessKept (m : ℕ) (a : Blocks) (free_in : List ℕ) (h k : ℕ) : Type 0 where
   pub most : 2 ^ k ≤ slice_index free_in (h / pageblock_pages m)
-  pub kept : IsKept m (removed m a h k) (without_block tree h)
-      (set free_in (h / pageblock_pages m) (slice_index free_in (h / pageblock_pages m) - 2 ^ k))
+  pub kept : IsKept m (removed m a h k) (set free_in (h / pageblock_pages m) (slice_index free_in (h / pageblock_pages m) - 2 ^ k))
 
 module _ (m : ℕ) (a : Blocks) (h k : ℕ) (x : IsOneSet m a) (st : Starts (block_set a) h k) where
   -- the set without the block, and its pages
-  removed_set : block_set (removed m a h k) ≡ without_block (block_set a) h
+  pub removed_set : block_set (removed m a h k) ≡ without_block (block_set a) h
   removed_set = map-set free_order a.rows.states h Tail
 
   removed_has : (i : ℕ) → has (cover (block_set (removed m a h k))) i ≡ (has (cover (block_set a)) i && not (in_run h k i))
@@ -64,15 +63,14 @@ module _ (m : ℕ) (a : Blocks) (h k : ℕ) (x : IsOneSet m a) (st : Starts (blo
         aside = λ r p ge on. removed_has p ∙ rw (x.aside r p ge (rw (get_or-set_other a.rows.lists q r hs [] (omega (arith, top))) at on)) refl;
       }
 
-  pub kept_removed : (tree : List (Option ℕ)) (free_in : List ℕ) → IsKept m a tree free_in → IsLessKept m a tree free_in h k
-  kept_removed tree free_in y =
+  pub kept_removed : (free_in : List ℕ) → IsKept m a free_in → IsLessKept m a free_in h k
+  kept_removed free_in y =
       let less = counted_less m a.rows.states (removed m a h k).rows.states free_in h k y.each x.blocks (length-set a.rows.states h Tail) st removed_set in
       record {
         most = less.most;
         kept = record {
           one = one_removed;
           few = rw (length-set a.rows.lists (list_of_block m a h k) (without_page h (list_at a.rows.lists (list_of_block m a h k)))) y.few;
-          same = rw (y.same, removed_set);
           each = less.each;
         };
       }

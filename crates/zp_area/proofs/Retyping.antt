@@ -4,10 +4,10 @@ use Rattle.std.specs.List.{slice_index_or, range_with_len}
 use Rattle.std.proofs.lemmas.Bool.{cases_eq, cases_lt, cases_Bool, false≢true}
 use Rattle.std.proofs.lemmas.List.{get_or_default, set-get_or, take-append-drop, get_or_past, get_or_append_left, get_or-append_right, get_or-drop}
 use Rattle.std.proofs.lemmas.List.FromFn.{get_or-map-range_with_len, length-map-range_with_len}
-use Rattle.zp_model.specs.declared.migrate_type.MigrateType.{MigrateType}
-use Rattle.zp_model.specs.declared.migrate_type.MigrateType.TheVariants.{Movable}
+use Rattle.zp_model.specs.declared.pageblock_type.PageblockType.{PageblockType}
+use Rattle.zp_model.specs.declared.pageblock_type.PageblockType.TheVariants.{Movable}
 use Rattle.zp_model.specs.BlockSet.{is_order}
-use Rattle.zp_model.specs.MigrateType.{types_count}
+use Rattle.zp_model.specs.PageblockType.{pageblock_types}
 use Rattle.zp_model.specs.Rows.{Rows, list_at, stands_in}
 use Rattle.zp_model.specs.Area.{pageblock_pages, lists_count, kind_at}
 use Rattle.zp_model.proofs.Heads.{head_le, lt_head, number_within}
@@ -25,7 +25,7 @@ use Rattle.zp_model.specs.Lawful.{IsListed}
 pub all_listed : (m : ℕ) (a : Blocks) → IsOneSet m a → IsAllListed m (block_set a) a.kinds a.rows.lists
 all_listed m a x = record { blocks = x.blocks; table = x.table; listed = x.listed }
 
-module _ (m : ℕ) (a : Blocks) (kinds : List MigrateType) where
+module _ (m : ℕ) (a : Blocks) (kinds : List PageblockType) where
   length-each : length (map (λ r. relisted m (block_set a) kinds r (list_at a.rows.lists r)) (range_with_len 0 (lists_count m))) ≡ lists_count m
   length-each = length-map-range_with_len (λ r. relisted m (block_set a) kinds r (list_at a.rows.lists r)) 0 (lists_count m)
 
@@ -56,7 +56,7 @@ module _ (m : ℕ) (a : Blocks) (kinds : List MigrateType) where
       ∙ rw (free_lists m l (λ r. relisted m (block_set a) kinds r (list_at a.rows.lists r)) (omega arith) each, sides_same m a.rows.lists l len aside)
 
 -- a type that the pageblock has already changes nothing
-pub retyped_same : (m : ℕ) (a : Blocks) (b : ℕ) (t : MigrateType) → IsOneSet m a → t ≡ slice_index_or a.kinds b Movable → retyped m a b t ≡ a
+pub retyped_same : (m : ℕ) (a : Blocks) (b : ℕ) (t : PageblockType) → IsOneSet m a → t ≡ slice_index_or a.kinds b Movable → retyped m a b t ≡ a
 unfolding relisted
 retyped_same m a b t x e =
     let ek : set a.kinds b t ≡ a.kinds = ap (λ q. set a.kinds b q) e ∙ set-get_or a.kinds b Movable in
@@ -68,24 +68,23 @@ retyped_same m a b t x e =
     rw (ek, el)
 
 -- a list under new types holds the heads that are to stand on it
-listed_retyped : (m : ℕ) (a : Blocks) (kinds : List MigrateType) → IsOneSet m a → (r : ℕ) → r < lists_count m →
+listed_retyped : (m : ℕ) (a : Blocks) (kinds : List PageblockType) → IsOneSet m a → (r : ℕ) → r < lists_count m →
     IsListed m (block_set a) kinds r (relisted m (block_set a) kinds r (list_at a.rows.lists r))
 unfolding relisted
 listed_retyped m a kinds x r lt =
     let s : List (Option ℕ) = block_set a in
     let held : (h : ℕ) → stands_in h (relisted_by (is_to_stand m s kinds r) (length s) (list_at a.rows.lists r)) ≡ is_to_stand m s kinds r h = λ h.
     held-relisted (is_to_stand m s kinds r) (length s) h (list_at a.rows.lists r)
-    (λ e. head_below m (length s) h (r / types_count) (x.blocks.block h (r / types_count) (stands_of-to s r h (kind_at m kinds h) e).0)) in
+    (λ e. head_below m (length s) h (r / pageblock_types) (x.blocks.block h (r / pageblock_types) (stands_of-to s r h (kind_at m kinds h) e).0)) in
     record {
       distinct = distinct-relisted (is_to_stand m s kinds r) (length s) (list_at a.rows.lists r) (x.listed r lt).distinct;
       to = λ h on. stands_of-to s r h (kind_at m kinds h) (sym (held h) ∙ on);
       from = λ h w. held h ∙ stands_of-from s r h (kind_at m kinds h) w.0 w.1;
     }
 
-pub kept_retyped : (m : ℕ) (a : Blocks) (tree : List (Option ℕ)) (free_in : List ℕ) (b : ℕ) (t : MigrateType) → IsKept m a tree free_in →
-    IsKept m (retyped m a b t) tree free_in
-kept_retyped m a tree free_in b t x =
-    let kinds : List MigrateType = set a.kinds b t in
+pub kept_retyped : (m : ℕ) (a : Blocks) (free_in : List ℕ) (b : ℕ) (t : PageblockType) → IsKept m a free_in → IsKept m (retyped m a b t) free_in
+kept_retyped m a free_in b t x =
+    let kinds : List PageblockType = set a.kinds b t in
     let n : length (all_relisted m a (set a.kinds b t)) ≡ length a.rows.lists = length-relisted m a kinds x.one.table in
     record {
       one = record {
@@ -97,12 +96,11 @@ kept_retyped m a tree free_in b t x =
         aside = λ r p ge on. x.one.aside r p ge (rw (aside-relisted m a kinds r ge) at on);
       };
       few = rw n x.few;
-      same = x.same;
       each = x.each;
     }
 
 -- a page of pageblock b, in the words of the code: f is what is read of the types there
-pub looking : (m b i : ℕ) (f t : MigrateType) (a : Blocks) → IsOneSet m a → b < length a.kinds →
+pub looking : (m b i : ℕ) (f t : PageblockType) (a : Blocks) → IsOneSet m a → b < length a.kinds →
     b * pageblock_pages m ≤ i → i < min (length a.rows.states) (b * pageblock_pages m + pageblock_pages m) → f ≡ slice_index_or a.kinds b f →
     (t ≡ slice_index_or a.kinds b Movable → ⊥) → IsLooking m (b * pageblock_pages m) i f t (block_set a) a.kinds a.rows.lists
 looking m b i f t a x lt lo hi ef other =
@@ -116,8 +114,19 @@ looking m b i f t a x lt lo hi ef other =
       other = λ same. other (sym (number_one f t same) ∙ sym now);
     }
 
+-- the pages of pageblock b have its new type when all have been looked at
+pub kinds_now : (m b n : ℕ) (t : PageblockType) (kinds : List PageblockType) → b < length kinds → (h : ℕ) → h < n →
+    kind_while m kinds (b * pageblock_pages m) (min n (b * pageblock_pages m + pageblock_pages m)) t h ≡ kind_at m (set kinds b t) h
+kinds_now m b n t kinds lt h below =
+    elim (cases_eq (h / pageblock_pages m) b) [
+      | inl same ↦
+          let now : slice_index_or (set kinds b t) b Movable ≡ t = get_or-set_same kinds b t Movable lt in
+          while-in m kinds _ _ t h (omega (arith, head_le h m, ap (λ q. q * pageblock_pages m) same)) (omega (arith, lt_head h m, ap (λ q. q * pageblock_pages m) same)) ∙ sym (rw same now)
+      | inr ne ↦ while-out m kinds _ _ t h (λ p q. ne (number_within b m h p (omega arith))) ∙ sym (get_or-set_other kinds b (h / pageblock_pages m) t Movable ne)
+    ]
+
 -- the lists when all pages of pageblock b have been looked at
-pub relisted_now : (m b : ℕ) (t : MigrateType) (a : Blocks) (l : List (List ℕ)) → IsOneSet m a → b < length a.kinds →
+pub relisted_now : (m b : ℕ) (t : PageblockType) (a : Blocks) (l : List (List ℕ)) → IsOneSet m a → b < length a.kinds →
     IsRelisting m (b * pageblock_pages m) (min (length a.rows.states) (b * pageblock_pages m + pageblock_pages m)) t (block_set a) a.kinds a.rows.lists l →
     l ≡ all_relisted m a (set a.kinds b t)
 unfolding relisted
@@ -126,8 +135,8 @@ relisted_now m b t a l x lt y =
     (λ r below.
     y.listed r below
     ∙ relisted_by_same (λ h. stands_of s r h (kind_while m a.kinds first end t h)) (is_to_stand m s (set a.kinds b t) r) (length s) (list_at a.rows.lists r)
-    (λ h. elim (cases_Bool (is_order (r / types_count) (get_or s h None))) [
-      | inl on ↦ ap (stands_of s r h) (kinds_now h (start_below h (r / types_count) on))
+    (λ h. elim (cases_Bool (is_order (r / pageblock_types) (get_or s h None))) [
+      | inl on ↦ ap (stands_of s r h) (kinds_now m b (length a.rows.states) t a.kinds lt h (start_below h (r / pageblock_types) on))
       | inr none ↦ rw none refl
     ])) y.aside
   where
@@ -147,18 +156,7 @@ relisted_now m b t a l x lt y =
           | inr ge ↦ absurd (false≢true (rw (get_or_past (block_set a) h None (omega (arith, blocks_length a.rows.states))) at on))
         ]
 
-    -- the pages of the pageblock have its new type now
-    kinds_now : (h : ℕ) → h < length a.rows.states →
-        kind_while m a.kinds (b * pageblock_pages m) (min (length a.rows.states) (b * pageblock_pages m + pageblock_pages m)) t h ≡ kind_at m (set a.kinds b t) h
-    kinds_now h below =
-        elim (cases_eq (h / pageblock_pages m) b) [
-          | inl same ↦
-              let now : slice_index_or (set a.kinds b t) b Movable ≡ t = get_or-set_same a.kinds b t Movable lt in
-              while-in m a.kinds _ _ t h (omega (arith, head_le h m, ap (λ q. q * pageblock_pages m) same)) (omega (arith, lt_head h m, ap (λ q. q * pageblock_pages m) same)) ∙ sym (rw same now)
-          | inr ne ↦ while-out m a.kinds _ _ t h (λ p q. ne (number_within b m h p (omega arith))) ∙ sym (get_or-set_other a.kinds b (h / pageblock_pages m) t Movable ne)
-        ]
-
 -- an area of these notes, types and lists, in the words of the code
-pub retyped_by : (m : ℕ) (a : Blocks) (b : ℕ) (t : MigrateType) (w : Rows) (kinds : List MigrateType) → w.states ≡ a.rows.states → kinds ≡ set a.kinds b t →
+pub retyped_by : (m : ℕ) (a : Blocks) (b : ℕ) (t : PageblockType) (w : Rows) (kinds : List PageblockType) → w.states ≡ a.rows.states → kinds ≡ set a.kinds b t →
     w.lists ≡ all_relisted m a kinds → (let z : Blocks = record { largest = a.largest; rows = w; kinds = kinds } in z) ≡ retyped m a b t
 retyped_by m a b t w kinds es ek el = rw (← ek, ← el, ← es)

@@ -1,10 +1,10 @@
 -- A block that is split: what is kept beside the lists, half by half.
-use Rattle.std.proofs.Common.{ℕ, suc, zero, ◌+◌, ◌-◌, ◌/◌, ◌^◌, ◌≡◌, ◌≤◌, ◌<◌, inl, refl, sym, ◌∙◌, ap, arith, List, length, set, get_or-set_same, length-set, Option}
+use Rattle.std.proofs.Common.{ℕ, suc, zero, ◌+◌, ◌-◌, ◌/◌, ◌^◌, ◌≡◌, ◌≤◌, ◌<◌, inl, refl, sym, ◌∙◌, ap, arith, List, length, set, get_or-set_same, length-set}
 use Rattle.std.specs.List.{slice_index}
 use Rattle.std.proofs.Math.Nat.{add-mod_right}
 use Rattle.std.proofs.lemmas.Nat.{pow_pos}
 use Rattle.std.proofs.lemmas.List.{map-set, set-set}
-use Rattle.zp_model.specs.declared.migrate_type.MigrateType.{MigrateType}
+use Rattle.zp_model.specs.declared.pageblock_type.PageblockType.{PageblockType}
 use Rattle.zp_model.specs.declared.state.State.TheVariants.{Free, Tail}
 use Rattle.zp_model.specs.Block.{IsBlock}
 use Rattle.zp_model.specs.BlockSet.{Starts}
@@ -23,16 +23,12 @@ use Rattle.zp_area.proofs.Keeping.{blocks_length}
 use Rattle.zp_area.proofs.Adding.{IsComing, clear_beside, kept_added}
 use Rattle.zp_area.proofs.Removing.{clear_removed, kept_removed}
 
--- what is kept beside the blocks, where the tree is of another set on the way
-pub kept_set : (m : ℕ) (a : Blocks) (t : List (Option ℕ)) (f : List ℕ) → IsKept m a t f → IsKept m a (block_set a) f
-kept_set m a t f x = record { one = x.one; few = x.few; same = refl; each = x.each }
-
 -- the block (h, o) of a is split down to order j: b has the high halves; of the pages of the pageblock the low part is not counted
 pub record IsSplitting (m : ℕ) (a b : Blocks) (free_in : List ℕ) (h k o j : ℕ) : Type 0 where
   pub down : k ≤ j
   pub kinds : b.kinds ≡ a.kinds
   pub most : 2 ^ j ≤ slice_index free_in (h / pageblock_pages m)
-  pub kept : IsKept m b (block_set b) (set free_in (h / pageblock_pages m) (slice_index free_in (h / pageblock_pages m) - 2 ^ j))
+  pub kept : IsKept m b (set free_in (h / pageblock_pages m) (slice_index free_in (h / pageblock_pages m) - 2 ^ j))
   pub block : IsBlock m (length b.rows.states) h j
   pub clear : IsClearRun m b.rows.states b.rows.lists h j
   pub after : halves_added m b h k (j - k) ≡ split_off m a h o k
@@ -41,15 +37,15 @@ pub record IsSplitting (m : ℕ) (a b : Blocks) (free_in : List ℕ) (h k o j : 
 pub block_on : (m : ℕ) (a : Blocks) (h o : ℕ) → IsOneSet m a → Starts (block_set a) h o → IsOn a.rows.lists (list_of_block m a h o) h
 block_on m a h o x st = (x.listed (list_of_block m a h o) (list_number_below m o _ (x.blocks.block h o st).order)).from h (here_from m (block_set a) a.kinds _ h o refl st)
 
-pub split_begins : (m : ℕ) (a : Blocks) (t : List (Option ℕ)) (free_in : List ℕ) (h k o : ℕ) → IsKept m a t free_in → Starts (block_set a) h o → k ≤ o →
+pub split_begins : (m : ℕ) (a : Blocks) (free_in : List ℕ) (h k o : ℕ) → IsKept m a free_in → Starts (block_set a) h o → k ≤ o →
     IsSplitting m a (removed m a h o) free_in h k o o
-split_begins m a t free_in h k o x st le =
-    let y = kept_removed m a h o x.one st t free_in x in
+split_begins m a free_in h k o x st le =
+    let y = kept_removed m a h o x.one st free_in x in
     record {
       down = le;
       kinds = refl;
       most = y.most;
-      kept = kept_set m _ _ _ y.kept;
+      kept = y.kept;
       block = rw (length-set a.rows.states h Tail, ← blocks_length a.rows.states) (x.one.blocks.block h o st);
       clear = clear_removed m a h o x.one st;
       after = refl;
@@ -69,7 +65,7 @@ module _ {m : ℕ} {a b : Blocks} {free_in : List ℕ} {h k o : ℕ} (j : ℕ) (
   half_number = number_around h (h + 2 ^ j) (j + 1) m x.block.order x.block.aligned (omega arith) (omega (arith, two j, pow_pos j))
 
   -- so its type is the block's
-  pub half_kind : (t : MigrateType) → t ≡ kind_at m a.kinds h → t ≡ kind_at m b.kinds (h + 2 ^ j)
+  pub half_kind : (t : PageblockType) → t ≡ kind_at m a.kinds h → t ≡ kind_at m b.kinds (h + 2 ^ j)
   half_kind t e = rw (half_number, x.kinds) e
 
   pub split_goes : k ≤ j → h / pageblock_pages m < length free_in → IsSplitting m a (added m b (h + 2 ^ j) j) free_in h k o j
@@ -77,7 +73,7 @@ module _ {m : ℕ} {a b : Blocks} {free_in : List ℕ} {h k o : ℕ} (j : ℕ) (
       let p : ℕ = h / pageblock_pages m in
       let v : ℕ = slice_index free_in (h / pageblock_pages m) in
       let was : List ℕ = set free_in p (v - 2 ^ (j + 1)) in
-      let z = kept_added half_coming (block_set b) was x.kept in
+      let z = kept_added half_coming was x.kept in
       let had : slice_index was p ≡ v - 2 ^ (j + 1) = get_or-set_same free_in p (v - 2 ^ (j + 1)) 0 lt in
       let free : set free_in p (v - 2 ^ j) ≡ set was ((h + 2 ^ j) / pageblock_pages m) (slice_index was ((h + 2 ^ j) / pageblock_pages m) + 2 ^ j) =
       sym (set-set free_in p (v - 2 ^ (j + 1)) (v - 2 ^ j)) ∙ ap (λ q. set was p q) (omega (arith, had, x.most, two j)) ∙ ap (λ q. set was q (slice_index was q + 2 ^ j)) (sym half_number) in
@@ -87,7 +83,7 @@ module _ {m : ℕ} {a b : Blocks} {free_in : List ℕ} {h k o : ℕ} (j : ℕ) (
         down = le;
         kinds = x.kinds;
         most = omega (arith, x.most, two j);
-        kept = rw free (kept_set m _ _ _ z.kept);
+        kept = rw free z.kept;
         block = record { order = omega (arith, x.block.order); aligned = aligned_down j (j + 1) h (omega arith) x.block.aligned; inside = rw (length-set b.rows.states (h + 2 ^ j) (Free j)) (omega (arith, x.block.inside, two j)) };
         clear = clear_beside half_coming h j (λ i lo hi. x.clear i lo (omega (arith, two j))) (inl (omega arith));
         after = ap (λ q. halves_added m (added m b (h + 2 ^ q) q) h k (j - k)) (sym here) ∙ ap (λ q. halves_added m b h k q) (sym steps) ∙ x.after;
@@ -98,12 +94,12 @@ halves_set : (d m : ℕ) (a : Blocks) (h k : ℕ) → block_set (halves_added m 
 halves_set zero m a h k = refl
 halves_set (suc d) m a h k = halves_set d m (added m a (h + 2 ^ (k + d)) (k + d)) h k ∙ ap (λ q. high_halves q h k d) (map-set free_order a.rows.states (h + 2 ^ (k + d)) (Free (k + d)))
 
--- all halves are added: the tree is of the same set, and the pages of the low part are counted no more
+-- all halves are added: the set is split, and the pages of the low part are counted no more
 pub split_ends : (m : ℕ) (a b : Blocks) (free_in : List ℕ) (h k o : ℕ) → IsSplitting m a b free_in h k o k →
-    IsKept m b (split_set (block_set a) h o k) (set free_in (h / pageblock_pages m) (slice_index free_in (h / pageblock_pages m) - 2 ^ k)) × (b ≡ split_off m a h o k)
+    IsKept m b (set free_in (h / pageblock_pages m) (slice_index free_in (h / pageblock_pages m) - 2 ^ k)) × (split_set (block_set a) h o k ≡ block_set b) × (b ≡ split_off m a h o k)
 split_ends m a b free_in h k o x =
     let zero_left : 0 ≡ k - k = omega arith in
     let after : b ≡ split_off m a h o k = ap (λ q. halves_added m b h k q) zero_left ∙ x.after in
     let tree : split_set (block_set a) h o k ≡ block_set b =
     ap (λ q. high_halves q h k (o - k)) (sym (map-set free_order a.rows.states h Tail)) ∙ sym (halves_set (o - k) m (removed m a h o) h k) ∙ ap block_set (sym after) in
-    (rw tree x.kept, after)
+    (x.kept, tree, after)

@@ -2,8 +2,8 @@
 -- chapter 6, for the lists by order; the types and the order of the heads are this profile's). The largest block has order m.
 use Rattle.std.specs.Prelude.{ℕ, ◌+◌, List, [], ◌∷◌, ◌++◌, replicate, take, Option}
 use Rattle.std.specs.List.{count_by}
-use Rattle.zp_model.specs.declared.migrate_type.MigrateType.{MigrateType}
-use Rattle.zp_model.specs.declared.migrate_type.MigrateType.TheVariants.{Movable}
+use Rattle.zp_model.specs.declared.pageblock_type.PageblockType.{PageblockType}
+use Rattle.zp_model.specs.declared.pageblock_type.PageblockType.TheVariants.{Movable}
 use Rattle.zp_model.specs.declared.state.State.{State}
 use Rattle.zp_model.specs.declared.state.State.TheVariants.{Tail, Free}
 use Rattle.zp_model.specs.BlockSet.{is_order}
@@ -17,7 +17,7 @@ pub record Blocks : Type 0 where
   -- what is noted of each page, and the lists: the free ones by their numbers, then further ones of pages that are not free
   pub rows : Rows
   -- the type of each pageblock
-  pub kinds : List MigrateType
+  pub kinds : List PageblockType
 
 -- the blocks of the set, which are those that are noted as free
 abbrev pub block_set : Blocks → List (Option ℕ)
@@ -31,7 +31,7 @@ count_of s k = count_by (is_order k) s
 abbrev pub free_lists : ℕ → Blocks → List (List ℕ)
 free_lists m a = take (lists_count m) a.rows.lists
 
-abbrev pub free_list_of : ℕ → Blocks → ℕ → MigrateType → List ℕ
+abbrev pub free_list_of : ℕ → Blocks → ℕ → PageblockType → List ℕ
 free_list_of m a k t = list_at (free_lists m a) (list_number k t)
 
 abbrev pub side_list_of : ℕ → Blocks → ℕ → List ℕ

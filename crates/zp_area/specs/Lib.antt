@@ -6,4 +6,5 @@ pub mod Blocks
 pub mod Retyped
 pub mod OneSet
 pub mod Chains
+pub mod Available
 pub mod Claims

@@ -1,6 +1,6 @@
 -- Moving the free block at a page to the list of another type.
 use Rattle.std.specs.Prelude.{ℕ, ◌∷◌, ◌^◌}
-use Rattle.zp_model.specs.declared.migrate_type.MigrateType.{MigrateType}
+use Rattle.zp_model.specs.declared.pageblock_type.PageblockType.{PageblockType}
 use Rattle.zp_model.specs.declared.state.State.{State}
 use Rattle.zp_model.specs.declared.state.State.TheVariants.{Tail, Free, Out, Posted}
 use Rattle.zp_model.specs.Rows.{Rows, list_at, with_list, without_page}
@@ -13,7 +13,7 @@ put_first w h q r =
     with_list v r (h ∷ list_at v.lists r)
 
 -- where page h heads a free block, it goes from the list of type f to the front of that of type t
-abbrev pub moved : Rows → ℕ → MigrateType → MigrateType → State → Rows
+abbrev pub moved : Rows → ℕ → PageblockType → PageblockType → State → Rows
 moved w h f t (Free k) = put_first w h (list_number k f) (list_number k t)
 moved w h f t Tail = w
 moved w h f t (Out k u p) = w

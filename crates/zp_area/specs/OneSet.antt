@@ -1,6 +1,6 @@
 -- When notes, lists and types are of one set of blocks, and when what is kept beside them is of the same set. The largest block
 -- has order m.
-use Rattle.std.specs.Prelude.{ℕ, ◌≡◌, ◌≤◌, ◌<◌, ◌+◌, ◌^◌, List, length, Option, false}
+use Rattle.std.specs.Prelude.{ℕ, ◌≡◌, ◌≤◌, ◌<◌, ◌+◌, ◌^◌, List, length, false}
 use Rattle.zp_model.specs.declared.constants.TheConstants.{MAX_PAGES}
 use Rattle.zp_model.specs.Block.{has}
 use Rattle.zp_model.specs.BlockSet.{cover}
@@ -24,10 +24,9 @@ pub record IsOneSet (m : ℕ) (a : Blocks) : Type 0 where
   -- no page of a further list is in a block
   pub aside : (r p : ℕ) → lists_count m ≤ r → IsOn a.rows.lists r p → has (cover (block_set a)) p ≡ false
 
--- the tree and the numbers of free pages that are kept are those of the set
-pub record IsKept (m : ℕ) (a : Blocks) (tree : List (Option ℕ)) (free_in : List ℕ) : Type 0 where
+-- the numbers of free pages that are kept are those of the set
+pub record IsKept (m : ℕ) (a : Blocks) (free_in : List ℕ) : Type 0 where
   pub one : IsOneSet m a
   -- no list has a number that does not fit
   pub few : length a.rows.lists ≤ lists_count m + 2 ^ 32
-  pub same : tree ≡ block_set a
   pub each : IsCounted m a.rows.states free_in

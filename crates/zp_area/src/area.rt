@@ -1,22 +1,25 @@
 //! The free area of a zone.
-ghost use Rattle.std.specs.Prelude.{ℕ, ◌≡◌, ◌≢◌, ◌<◌, ◌≤◌, ◌+◌, ◌^◌, ◌*◌, ◌/◌, ◌↔◌, false, length, slice_index_or, IfOk, Some, IfSome, IsTrue};
+ghost use Rattle.std.specs.Prelude.{ℕ, ◌≡◌, ◌<◌, ◌≤◌, ◌+◌, ◌^◌, ◌*◌, ◌/◌, ◌↔◌, false, length, slice_index_or, IfOk, Some, IfSome, IsTrue};
 ghost use Rattle.zp_model.specs.declared.constants.TheConstants.{MAX_PAGES};
-ghost use Rattle.zp_model.specs.declared.migrate_type.MigrateType.TheVariants.{Movable};
+ghost use Rattle.zp_model.specs.declared.pageblock_type.PageblockType.TheVariants.{Movable};
+ghost use Rattle.zp_model.specs.PageblockType.{pageblock_type};
 ghost use Rattle.zp_model.specs.declared.state.State.TheVariants.{Free};
-ghost use Rattle.zp_model.specs.Block.{IsBlock, has};
+ghost use Rattle.zp_model.specs.Block.{IsBlock, has, size};
 ghost use Rattle.zp_model.specs.BlockSet.{Starts, cover, lowest, largest_in};
 ghost use Rattle.zp_model.specs.Rows.{IsLoose, IsOn, IsRow, after, front, state_at};
 ghost use Rattle.zp_model.specs.Described.{IsLinkedAt};
 ghost use Rattle.zp_model.specs.Frames.{IsNote};
-ghost use Rattle.zp_model.specs.Area.{kind_at, list_number, lists_count, pageblock_pages, size_in};
+ghost use Rattle.zp_model.specs.Area.{available, is_isolated, kind_at, list_number, lists_count, pageblock_pages, size_in};
 ghost use Rattle.zp_tree.specs.Blocks.{IsBeside};
 ghost use Rattle.zp_area.specs.Given.{IsClearRun};
 ghost use Rattle.zp_area.specs.Blocks.{block_set, count_of, free_list_of, free_lists, side_list_of, no_blocks, added, removed, noted, side_pushed, side_popped};
 ghost use Rattle.zp_area.specs.Chains.{split_off, IsJoinedUp};
 ghost use Rattle.zp_area.specs.Retyped.{retyped};
 ghost use Rattle.zp_area.specs.OneSet.{IsOneSet};
-ghost use Rattle.zp_area.specs.Claims.{IsLargestClaimable};
+ghost use Rattle.zp_area.specs.Available.{choosable};
+ghost use Rattle.zp_area.specs.Claims.{IsLargestClaimable, IsOtherType};
 
+use crate::available::{count_isolated, largest_seen, tell_added, tell_type};
 use crate::free_lists::list_of;
 use crate::linked_page::LinkedPage;
 use crate::noting::Noted;
@@ -26,7 +29,7 @@ use std::alloc::{AllocError, Global};
 use std::marker::Model;
 use zp_claims::{ClaimTable, StaleSet};
 use zp_links::Lists;
-use zp_model::{Largest, MAX_PAGES, MigrateType, Order, PageAt, State};
+use zp_model::{Largest, MAX_PAGES, MigrateType, Order, PageAt, PageblockType, State};
 use zp_table::PageTable;
 use zp_tree::{Meter, OrderTree};
 
@@ -36,10 +39,13 @@ use zp_tree::{Meter, OrderTree};
 pub struct FreeArea {
     largest: Largest,
     lists: Lists,
-    kinds: Vec<MigrateType>,
+    kinds: Vec<PageblockType>,
+    /// The blocks outside isolated pageblocks.
     tree: OrderTree,
     /// How many pages of each pageblock are in blocks.
     free_in: Vec<u32>,
+    /// How many pages of isolated pageblocks are in blocks.
+    isolated: u32,
     /// What is noted of the pageblocks for a claim.
     noted: Noted,
 }
@@ -52,7 +58,7 @@ impl Model for FreeArea {
 
     ghost view = { λ a. record { largest = a.largest; rows = a.lists; kinds = a.kinds.items } };
 
-    ghost invariant = { λ a. IsIndexed (record { largest = a.largest; rows = a.lists; kinds = a.kinds.items }) a.tree a.free_in.items a.noted.claims a.noted.stale.marks };
+    ghost invariant = { λ a. IsIndexed (record { largest = a.largest; rows = a.lists; kinds = a.kinds.items }) a.tree a.free_in.items a.isolated a.noted.claims a.noted.stale.marks };
 }
 
 impl FreeArea {
@@ -69,7 +75,7 @@ impl FreeArea {
         ensures { IfOk result (λ a. a ≡ no_blocks largest pages side) }
     {
         let pageblocks = largest.pageblocks(pages);
-        let kinds = Vec::from_elem(alloc, MigrateType::Movable, pageblocks)?;
+        let kinds = Vec::from_elem(alloc, PageblockType::Movable, pageblocks)?;
         let free_in = Vec::from_elem(alloc, 0, pageblocks)?;
         let claims = ClaimTable::new(alloc, pageblocks)?;
         let stale = StaleSet::new(alloc, pageblocks)?;
@@ -82,6 +88,7 @@ impl FreeArea {
             kinds,
             tree,
             free_in,
+            isolated: 0,
             noted: Noted { claims, stale },
         })
     }
@@ -123,9 +130,11 @@ impl FreeArea {
         ensures still_clear { (h k : ℕ) → IsClearRun self.old.largest self.old.rows.states self.old.rows.lists h k → IsBeside h k at order → IsClearRun self.old.largest self.new.rows.states self.new.rows.lists h k }
     {
         let pageblock = self.largest.pageblock_of(at);
-        let list = list_of(order, self.kinds[pageblock]);
+        let kind = self.kinds[pageblock];
+        let list = list_of(order, kind);
         self.lists.push_front_noted(list, at, State::Free(order));
-        self.tree.set(at, order);
+        tell_added(&mut self.tree, kind, at, order);
+        count_isolated(&mut self.isolated, kind, order);
         self.free_in[pageblock] += order.pages();
         noting::changed(
             &mut self.noted,
@@ -137,12 +146,12 @@ impl FreeArea {
         );
     }
 
-    /// Takes a block of order `from`, in a pageblock of this type, out of the set, and its high halves down to order `to` into it, the
+    /// Takes a block of order `from`, in a pageblock of this type, which is not isolated, out of the set, and its high halves down to order `to` into it, the
     /// largest first. Its low part of order `to` is in no block then.
     #[inline(always)]
     pub fn split_off(&mut self, at: PageAt, from: Order, to: Order, kind: MigrateType)
         requires block { Starts (block_set self.old) at from }
-        requires typed { kind ≡ kind_at self.old.largest self.old.kinds at }
+        requires typed { pageblock_type kind ≡ kind_at self.old.largest self.old.kinds at }
         requires down { to ≤ from }
         ensures { self.new ≡ split_off self.old.largest self.old at from to }
     {
@@ -157,7 +166,7 @@ impl FreeArea {
     #[inline(always)]
     fn take_whole(&mut self, at: PageAt, order: Order, kind: MigrateType)
         requires block { Starts (block_set self.old) at order }
-        requires typed { kind ≡ kind_at self.old.largest self.old.kinds at }
+        requires typed { pageblock_type kind ≡ kind_at self.old.largest self.old.kinds at }
         ensures { self.new ≡ removed self.old.largest self.old at order }
     {
         let pageblock = self.largest.pageblock_of(at);
@@ -168,7 +177,7 @@ impl FreeArea {
             &mut self.free_in,
             self.largest,
             pageblock,
-            kind,
+            kind.pageblock_type(),
             at,
             order,
         );
@@ -187,7 +196,7 @@ impl FreeArea {
     #[inline(never)]
     fn split_down(&mut self, at: PageAt, from: Order, to: Order, kind: MigrateType)
         requires block { Starts (block_set self.old) at from }
-        requires typed { kind ≡ kind_at self.old.largest self.old.kinds at }
+        requires typed { pageblock_type kind ≡ kind_at self.old.largest self.old.kinds at }
         requires down { to < from }
         ensures { self.new ≡ split_off self.old.largest self.old at from to }
     {
@@ -199,7 +208,7 @@ impl FreeArea {
             &mut self.free_in,
             self.largest,
             pageblock,
-            kind,
+            kind.pageblock_type(),
             at,
             from,
             to,
@@ -238,6 +247,7 @@ impl FreeArea {
         ensures { (d : ℕ) × IsJoinedUp d self.old.largest self.old at order self.new }
     {
         let pageblock = self.largest.pageblock_of(at);
+        let kind = self.kinds[pageblock];
         joins::join_up(
             &mut self.lists,
             &self.kinds,
@@ -245,9 +255,11 @@ impl FreeArea {
             &mut self.free_in,
             self.largest,
             pageblock,
+            kind,
             at,
             order,
         );
+        count_isolated(&mut self.isolated, kind, order);
         noting::changed(
             &mut self.noted,
             self.largest,
@@ -258,13 +270,24 @@ impl FreeArea {
         );
     }
 
-    /// Gives a pageblock a type. Where it is another one, its blocks go to the lists of the type, the highest in front.
-    pub fn retype(&mut self, pageblock: usize, kind: MigrateType)
+    /// Gives a pageblock a type. Where it is another one, its blocks go to the lists of the type, the highest in front; from now on they are
+    /// chosen by nobody where the type is Isolate.
+    pub fn retype(&mut self, pageblock: usize, kind: PageblockType)
         requires { pageblock < length self.old.kinds }
         ensures after { self.new ≡ retyped self.old.largest self.old pageblock kind }
         ensures same { kind ≡ slice_index_or self.old.kinds pageblock Movable → self.new ≡ self.old }
     {
         if self.kinds[pageblock] != kind {
+            tell_type(
+                &self.lists,
+                &self.kinds,
+                &mut self.tree,
+                &mut self.isolated,
+                &self.free_in,
+                self.largest,
+                pageblock,
+                kind,
+            );
             retype(
                 &mut self.lists,
                 &mut self.kinds,
@@ -297,10 +320,11 @@ impl FreeArea {
         if order.number() > self.largest.number() {
             return 0;
         }
-        let unmovable = self.lists.len(list_of(order, MigrateType::Unmovable));
-        let reclaimable = self.lists.len(list_of(order, MigrateType::Reclaimable));
-        let movable = self.lists.len(list_of(order, MigrateType::Movable));
-        unmovable + reclaimable + movable
+        let unmovable = self.lists.len(list_of(order, PageblockType::Unmovable));
+        let reclaimable = self.lists.len(list_of(order, PageblockType::Reclaimable));
+        let movable = self.lists.len(list_of(order, PageblockType::Movable));
+        let isolated = self.lists.len(list_of(order, PageblockType::Isolate));
+        unmovable + reclaimable + movable + isolated
     }
 
     /// How many pages of a pageblock are in blocks.
@@ -311,15 +335,22 @@ impl FreeArea {
         self.free_in[pageblock]
     }
 
+    /// How many pages of isolated pageblocks are in blocks: those of all blocks, without what is available.
+    pub fn isolated_pages(&self) -> u32
+        ensures { size (available self.now.largest self.now.kinds (cover (block_set self.now))) + result ≡ size (cover (block_set self.now)) }
+    {
+        self.isolated
+    }
+
     /// The type of a pageblock.
-    pub fn type_of(&self, pageblock: usize) -> MigrateType
+    pub fn type_of(&self, pageblock: usize) -> PageblockType
         requires { pageblock < length self.now.kinds }
         ensures { result ≡ slice_index_or self.now.kinds pageblock Movable }
     {
         self.kinds[pageblock]
     }
 
-    /// The largest order of a block in a pageblock. One node of the tree is read.
+    /// The largest order of a block in a pageblock. One node of the tree is read; of an isolated one, each page.
     pub fn largest_in(&self, pageblock: usize) -> Option<Order>
         requires { pageblock < length self.now.kinds }
         ensures answer { result ≡ largest_in (block_set self.now) (pageblock * pageblock_pages self.now.largest) self.now.largest }
@@ -328,21 +359,25 @@ impl FreeArea {
     {
         // a clause of this call says how many pageblocks there can be
         let _pages = self.pages();
+        if self.kinds[pageblock].is_isolate() {
+            return largest_seen(&self.lists, self.largest, pageblock);
+        }
         let first = PageAt::at(pageblock as u32 * self.largest.pageblock_pages());
         self.tree.largest_in(first, self.largest.order())
     }
 
-    /// The block of this order or more with the least head.
+    /// The block of this order or more with the least head, outside isolated pageblocks.
     pub fn lowest(&self, order: Order) -> Option<(PageAt, Order)>
-        ensures answer { result ≡ lowest (block_set self.now) order }
+        ensures answer { result ≡ lowest (choosable self.now.largest self.now) order }
         ensures found { IfSome result (λ b. Starts (block_set self.now) b.0 b.1 × (order ≤ b.1)) }
+        ensures open { IfSome result (λ b. is_isolated self.now.largest self.now.kinds b.0 ≡ false) }
     {
         let mut meter = Meter::new();
         self.tree.lowest(order, &mut meter)
     }
 
     /// The head in front of the list of an order and a type.
-    pub fn front(&self, order: Order, kind: MigrateType) -> Option<PageAt>
+    pub fn front(&self, order: Order, kind: PageblockType) -> Option<PageAt>
         ensures answer { result ≡ front (free_list_of self.now.largest self.now order kind) }
         ensures on { IfSome result (IsOn (free_lists self.now.largest self.now) (list_number order kind)) }
         ensures starts { IfSome result (λ at. Starts (block_set self.now) at order) }
@@ -355,7 +390,7 @@ impl FreeArea {
     }
 
     /// The head after this one on the list of an order and a type.
-    pub fn after(&self, order: Order, kind: MigrateType, at: PageAt) -> Option<PageAt>
+    pub fn after(&self, order: Order, kind: PageblockType, at: PageAt) -> Option<PageAt>
         requires { IsOn (free_lists self.now.largest self.now) (list_number order kind) at }
         ensures answer { result ≡ after at (free_list_of self.now.largest self.now order kind) }
         ensures on { IfSome result (IsOn (free_lists self.now.largest self.now) (list_number order kind)) }
@@ -365,17 +400,18 @@ impl FreeArea {
         self.lists.after(list_of(order, kind), at)
     }
 
-    /// Whether a block of this order lies in a pageblock of another type.
+    /// Whether a block of this order lies in a pageblock of another migrate type.
     fn is_beside(&self, order: Order, kind: MigrateType) -> bool
-        ensures { IsTrue result ↔ ((h : ℕ) × Starts (block_set self.now) h order × (kind_at self.now.largest self.now.kinds h ≢ kind)) }
+        ensures { IsTrue result ↔ ((h : ℕ) × Starts (block_set self.now) h order × IsOtherType kind (kind_at self.now.largest self.now.kinds h)) }
     {
         // a clause of this call says that the lists hold the heads of the blocks
         let _pages = self.pages();
         let [one, other] = kind.fallbacks();
-        self.front(order, one).is_some() || self.front(order, other).is_some()
+        self.front(order, one.pageblock_type()).is_some()
+            || self.front(order, other.pageblock_type()).is_some()
     }
 
-    /// The largest order of a block in a pageblock of another type that has the free pages that a claim needs. A block of half of a
+    /// The largest order of a block in a pageblock of another migrate type that has the free pages that a claim needs. A block of half of a
     /// pageblock or more gives it these pages; whether there are smaller ones only, what is noted of the pageblocks tells. None is looked at.
     pub fn largest_claimable(&mut self, kind: MigrateType) -> Option<Order>
         ensures answer { IsLargestClaimable self.old.largest self.old kind result }

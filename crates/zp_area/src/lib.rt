@@ -6,6 +6,7 @@
 #![tactic(auto)]
 
 mod area;
+mod available;
 mod free_lists;
 mod joins;
 mod linked_page;

@@ -5,15 +5,15 @@ ghost use Rattle.zp_claims.specs.Noted.{noted_at};
 ghost use Rattle.zp_area.specs.Claims.{claim_of, IsClaimed, IsClaimedBut, IsPageblock};
 
 use zp_claims::{Claim, ClaimTable, StaleSet};
-use zp_model::{Largest, MigrateType, PageAt};
+use zp_model::{Largest, PageAt, PageblockType};
 use zp_tree::OrderTree;
 
-/// What is to be noted of a pageblock. Mostly its number of free pages or its largest block says that it is nothing.
+/// What is to be noted of a pageblock: nothing, where it is isolated. Mostly its number of free pages or its largest block says so.
 #[inline(always)]
 fn claim_of(
     largest: Largest,
     tree: &OrderTree,
-    kinds: &Vec<MigrateType>,
+    kinds: &Vec<PageblockType>,
     free_in: &Vec<u32>,
     pageblock: usize,
 ) -> Option<Claim>
@@ -28,7 +28,7 @@ fn claim_of(
     if order.number() + 1 >= largest.number() {
         return None;
     }
-    let kind = kinds[pageblock];
+    let kind = kinds[pageblock].migrate_type()?;
     Some(Claim { kind, order })
 }
 
@@ -44,7 +44,7 @@ fn note(
     claims: &mut ClaimTable,
     largest: Largest,
     tree: &OrderTree,
-    kinds: &Vec<MigrateType>,
+    kinds: &Vec<PageblockType>,
     free_in: &Vec<u32>,
     pageblock: usize,
 )
@@ -64,7 +64,7 @@ fn mark(
     noted: &mut Noted,
     largest: Largest,
     tree: &OrderTree,
-    kinds: &Vec<MigrateType>,
+    kinds: &Vec<PageblockType>,
     free_in: &Vec<u32>,
     pageblock: usize,
 )
@@ -84,7 +84,7 @@ pub fn changed(
     noted: &mut Noted,
     largest: Largest,
     tree: &OrderTree,
-    kinds: &Vec<MigrateType>,
+    kinds: &Vec<PageblockType>,
     free_in: &Vec<u32>,
     pageblock: usize,
 )
@@ -104,7 +104,7 @@ pub fn look_at_marked(
     noted: &mut Noted,
     largest: Largest,
     tree: &OrderTree,
-    kinds: &Vec<MigrateType>,
+    kinds: &Vec<PageblockType>,
     free_in: &Vec<u32>,
 )
     requires pageblocks { (b : ℕ) → b < length kinds.now.items → IsPageblock largest tree.now kinds.now.items free_in.now.items b }

@@ -3,7 +3,7 @@
 //! In Linux: `move_freepages_block`.
 ghost use Rattle.std.specs.Prelude.{◌≡◌, ◌≢◌, ◌<◌, ◌≤◌, ℕ, length, slice_index_or, slice_set};
 ghost use Rattle.zp_model.specs.declared.state.State.TheVariants.{Free};
-ghost use Rattle.zp_model.specs.declared.migrate_type.MigrateType.TheVariants.{Movable};
+ghost use Rattle.zp_model.specs.declared.pageblock_type.PageblockType.TheVariants.{Movable};
 ghost use Rattle.zp_model.specs.Rows.{state_at, IsOn};
 ghost use Rattle.zp_model.specs.Area.{list_number};
 ghost use Rattle.zp_area.specs.Moved.{moved, pages_seen};
@@ -12,11 +12,11 @@ ghost use Rattle.zp_area.specs.OneSet.{IsOneSet};
 
 use crate::free_lists::list_of;
 use zp_links::Lists;
-use zp_model::{Largest, MigrateType, PageAt, State};
+use zp_model::{Largest, PageAt, PageblockType, State};
 
 /// Moves the free block that starts at a page, if one does, to the front of the list of another type. Answers how many pages
 /// it has, or 1 where none starts.
-fn move_block(lists: &mut Lists, at: PageAt, from: MigrateType, to: MigrateType) -> u32
+fn move_block(lists: &mut Lists, at: PageAt, from: PageblockType, to: PageblockType) -> u32
     requires page { at < length lists.old.states }
     requires list { (k : ℕ) → state_at lists.old.states at ≡ Free k → list_number k to < length lists.old.lists }
     requires listed { (k : ℕ) → state_at lists.old.states at ≡ Free k → IsOn lists.old.lists (list_number k from) at }
@@ -38,10 +38,10 @@ fn move_block(lists: &mut Lists, at: PageAt, from: MigrateType, to: MigrateType)
 #[inline(never)]
 pub fn retype(
     lists: &mut Lists,
-    kinds: &mut Vec<MigrateType>,
+    kinds: &mut Vec<PageblockType>,
     largest: Largest,
     pageblock: usize,
-    kind: MigrateType,
+    kind: PageblockType,
 )
     requires one { IsOneSet largest (record { largest = largest; rows = lists.old; kinds = kinds.old.items }) }
     requires pageblock { pageblock < length kinds.old.items }

@@ -23,11 +23,11 @@ trait Task {
 }
 
 #[derive(Drop)]
-struct Lent<'a, F> {
+struct LentCall<'a, F> {
     f: &'a mut F,
 }
 
-impl<'a, F: FnMut() -> A, A> Task for Lent<'a, F> {
+impl<'a, F: FnMut() -> A, A> Task for LentCall<'a, F> {
     type Output = (&'a mut F, A);
 
     ghost can_run = { λ t. F.pre t.f.now };
@@ -35,7 +35,7 @@ impl<'a, F: FnMut() -> A, A> Task for Lent<'a, F> {
     ghost run_gives = { λ t r. (r.0.ghost_name ≡ t.f.ghost_name) × F.step t.f.now r.1 r.0.now };
 
     fn run(self) -> (&'a mut F, A) {
-        let Lent { f } = self;
+        let LentCall { f } = self;
         let a = f();
         (f, a)
     }
@@ -139,13 +139,13 @@ pub fn join_or_neither_on<
         Some(size) => Stack::new().stack_size(size),
         None => Stack::new(),
     };
-    match both_or_neither(rt, stack, Lent { f }, Lent { f: g }) {
+    match both_or_neither(rt, stack, LentCall { f }, LentCall { f: g }) {
         Ok(((f, a), (g, b))) => {
             take_back(f);
             take_back(g);
             Some((a, b))
         }
-        Err((Lent { f }, Lent { f: g })) => {
+        Err((LentCall { f }, LentCall { f: g })) => {
             take_back(f);
             take_back(g);
             None

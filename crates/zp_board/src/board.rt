@@ -7,6 +7,13 @@ use crate::word_row::{CutOff, Fetch, Look, Newcomer, Open, Pin, Row, Seen, Write
 use std::alloc::{AllocError, Global};
 use std::marker::Model;
 
+/// What was read: the place of an entry, the number of entries published before it, and its words.
+#[derive(Clone, Copy)]
+pub struct WordReading<const W: usize> {
+    pub place: u64,
+    pub words: [u64; W],
+}
+
 /// The words that all threads share: those of the opening entry, and of as many more entries as its capacity. Contracts see the
 /// identity of its tie, and the capacity.
 #[derive(Drop)]
@@ -150,34 +157,37 @@ impl<const W: usize> WordPublisher<W> {
     }
 
     /// The last entry that is published, which the reader has then seen with all before it.
-    pub fn read_board(&mut self, board: &Board<W>, reader: &mut WordReader<W>) -> [u64; W]
+    pub fn read_board(&mut self, board: &Board<W>, reader: &mut WordReader<W>) -> WordReading<W>
         requires tie { self.old.tie ≡ board.now.tie }
         requires reader { reader.old.tie ≡ board.now.tie }
         ensures same { self.new ≡ self.old }
         ensures before { IsPrefix reader.old.seen self.old.published }
         ensures reader { reader.new ≡ record { tie = reader.old.tie; seen = self.old.published } }
-        ensures last { result ≡ last_of self.old.published }
+        ensures place { result.place + 1 ≡ length self.old.published }
+        ensures last { result.words ≡ last_of self.old.published }
     {
         let row = &board.row.shared;
         let part = row.split_seat::<CutOff>(&mut reader.pin);
         row.join_seat::<Seen>(&mut self.pin, part);
         let place = row.load::<Look<W>>(&mut self.pin, 0);
         reader.pin = row.split_seat::<Seen>(&mut self.pin);
-        board.fetch(&mut reader.pin, place as usize)
+        let words = board.fetch(&mut reader.pin, place as usize);
+        WordReading { place, words }
     }
 }
 
 impl<const W: usize> WordReader<W> {
     /// The last entry of those that are then seen. They begin with all that was seen before.
-    pub fn read(&mut self, board: &Board<W>) -> [u64; W]
+    pub fn read(&mut self, board: &Board<W>) -> WordReading<W>
         requires { self.old.tie ≡ board.now.tie }
         ensures tie { self.new.tie ≡ self.old.tie }
         ensures seen { IsPrefix self.old.seen self.new.seen }
-        ensures some { 0 < length self.new.seen }
-        ensures last { result ≡ last_of self.new.seen }
+        ensures place { result.place + 1 ≡ length self.new.seen }
+        ensures last { result.words ≡ last_of self.new.seen }
     {
         let row = &board.row.shared;
         let place = row.load::<Look<W>>(&mut self.pin, 0);
-        board.fetch(&mut self.pin, place as usize)
+        let words = board.fetch(&mut self.pin, place as usize);
+        WordReading { place, words }
     }
 }

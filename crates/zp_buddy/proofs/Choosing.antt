@@ -6,8 +6,10 @@ use Rattle.std.proofs.lemmas.Bool.{cases_Bool, cases_eq, eq-eqb, cases_lt, leb-t
 use Rattle.std.proofs.lemmas.List.{get_or_past, length-take, reverse-append}
 use Rattle.zp_model.specs.declared.migrate_type.MigrateType.{MigrateType}
 use Rattle.zp_model.specs.declared.migrate_type.MigrateType.TheVariants.{Movable}
+use Rattle.zp_model.specs.declared.pageblock_type.PageblockType.{PageblockType}
 use Rattle.zp_model.specs.BlockSet.{Starts, first_of, orders_from}
 use Rattle.zp_model.specs.MigrateType.{foreign, same_type}
+use Rattle.zp_model.specs.PageblockType.{pageblock_type}
 use Rattle.zp_model.specs.Rows.{front, list_at, stands_in}
 use Rattle.zp_model.specs.Area.{Area, list_number, lists_count, free_list, kind_at, pageblock_pages, size_in}
 use Rattle.zp_model.specs.Choose.{own, claim, borrow, least_movable_claim, claim_pages, is_claimable}
@@ -73,10 +75,10 @@ none_passes p (x ∷ xs) h e on t =
     ]
 
 -- the free list of an order that blocks can have is a list of the area, and each one has no page twice
-list_taken : (m : ℕ) (a : Blocks) (o : ℕ) (t : MigrateType) → o ≤ m → free_list_of m a o t ≡ list_at a.rows.lists (list_number o t)
+list_taken : (m : ℕ) (a : Blocks) (o : ℕ) (t : PageblockType) → o ≤ m → free_list_of m a o t ≡ list_at a.rows.lists (list_number o t)
 list_taken m a o t le = get_or-take (lists_count m) a.rows.lists (list_number o t) [] (list_number_below m o t le)
 
-pub taken_distinct : (m : ℕ) (a : Blocks) (o : ℕ) (t : MigrateType) → ((r : ℕ) → IsDistinct (λ x y. x == y) (list_at a.rows.lists r)) → IsDistinct (λ x y. x == y) (free_list_of m a o t)
+pub taken_distinct : (m : ℕ) (a : Blocks) (o : ℕ) (t : PageblockType) → ((r : ℕ) → IsDistinct (λ x y. x == y) (list_at a.rows.lists r)) → IsDistinct (λ x y. x == y) (free_list_of m a o t)
 unfolding IsDistinct
 taken_distinct m a o t each =
     let r : ℕ = list_number o t in
@@ -86,7 +88,7 @@ taken_distinct m a o t each =
     ]
 
 -- what stands on a free list starts a block of the list's order
-pub on_starts : (m : ℕ) (a : Blocks) (h o : ℕ) (t : MigrateType) → IsOneSet m a → stands_in h (free_list_of m a o t) ≡ true → Starts (block_set a) h o
+pub on_starts : (m : ℕ) (a : Blocks) (h o : ℕ) (t : PageblockType) → IsOneSet m a → stands_in h (free_list_of m a o t) ≡ true → Starts (block_set a) h o
 on_starts m a h o t one on =
     elim (cases_lt m o) [
       | inl above ↦
@@ -96,7 +98,7 @@ on_starts m a h o t one on =
     ]
 
 -- in a pageblock of its type
-pub on_typed : (m : ℕ) (a : Blocks) (h o : ℕ) (t : MigrateType) → IsOneSet m a → stands_in h (free_list_of m a o t) ≡ true → t ≡ kind_at m a.kinds h
+pub on_typed : (m : ℕ) (a : Blocks) (h o : ℕ) (t : PageblockType) → IsOneSet m a → stands_in h (free_list_of m a o t) ≡ true → t ≡ kind_at m a.kinds h
 on_typed m a h o t one on =
     elim (cases_lt m o) [
       | inl above ↦
@@ -105,12 +107,12 @@ on_typed m a h o t one on =
       | inr le ↦ sym (listed_starts m a h o t one le (rw (list_taken m a o t le) at on)).1
     ]
 
-pub list_of_frames : (m : ℕ) (a : Blocks) (f : Frames) (o : ℕ) (t : MigrateType) → frames_in m a ≡ f → free_list_of m a o t ≡ free_list f.area o t
+pub list_of_frames : (m : ℕ) (a : Blocks) (f : Frames) (o : ℕ) (t : PageblockType) → frames_in m a ≡ f → free_list_of m a o t ≡ free_list f.area o t
 list_of_frames m a f o t e = ap (λ (g : Frames). free_list g.area o t) e
 
 pub own_fronts : (m : ℕ) (a : Blocks) (k : ℕ) (t : MigrateType) → first_of (front_of_order m a (t ∷ [])) (orders_from m k) ≡ own (area_in m a) k t
 unfolding own
-own_fronts m a k t = first_same _ _ k (m + 1 - k) (λ o p q. only (front (free_list_of m a o t)))
+own_fronts m a k t = first_same _ _ k (m + 1 - k) (λ o p q. only (front (free_list_of m a o (pageblock_type t))))
   where
     only : (o : Option ℕ) → option_or o None ≡ o
     only o = grind arith
@@ -130,13 +132,13 @@ none_foreign t g e f ne = grind arith
 claim_half_free : (m : ℕ) (a : Blocks) (t : MigrateType) (o : ℕ) →
     (leb (least_movable_claim m) o || not (same_type t Movable)) ≡ true → half_free_of_order m a (foreign t) o ≡ claimable_of_order (area_in m a) t o
 claim_half_free m a t o may =
-    ap (λ (p : ℕ → Bool). first_of (λ f. find p (free_list_of m a o f)) (foreign t)) (λ i h. sym may i && is_half_free m a h)
+    ap (λ (p : ℕ → Bool). first_of (λ f. find p (free_list_of m a o (pageblock_type f))) (foreign t)) (λ i h. sym may i && is_half_free m a h)
 
 -- and where it is not, none may be claimed
 claim_never : (a : Area) (t : MigrateType) (o : ℕ) → (leb (least_movable_claim a.largest) o || not (same_type t Movable)) ≡ false → claimable_of_order a t o ≡ None
 claim_never a t o may =
-    never (λ f. find (is_claimable a t o) (free_list a o f)) (foreign t)
-    (λ f. find_never (is_claimable a t o) (free_list a o f) (λ h. ap (λ b. b && leb (claim_pages a.largest) (size_in a.largest a.free (h / pageblock_pages a.largest))) may))
+    never (λ f. find (is_claimable a t o) (free_list a o (pageblock_type f))) (foreign t)
+    (λ f. find_never (is_claimable a t o) (free_list a o (pageblock_type f)) (λ h. ap (λ b. b && leb (claim_pages a.largest) (size_in a.largest a.free (h / pageblock_pages a.largest))) may))
   where
     never : {X Y : Type 0} → (f : X → Option Y) (xs : List X) → ((x : X) → f x ≡ None) → first_of f xs ≡ None
     never f [] e = refl
@@ -151,16 +153,17 @@ module _ (m : ℕ) (a : Blocks) (t : MigrateType) (one : IsOneSet m a) where
   -- a block on a foreign list in whose pageblock half of the pages are free
   half_free_in : (o h : ℕ) → o ≤ m → half_free_of_order m a (foreign t) o ≡ Some h → IsInClaimable m a t h o
   half_free_in o h le e =
-      let w = found_foreign t (λ f. find (is_half_free m a) (free_list_of m a o f)) h e in
-      let found = found_at (is_half_free m a) (free_list_of m a o w.0) h w.2 in
-      let here = listed_starts m a h o w.0 one le (rw (list_taken m a o w.0 le) at found.0) in
-      record { starts = here.0; other = rw here.1 w.1; enough = found.1 }
+      let w = found_foreign t (λ f. find (is_half_free m a) (free_list_of m a o (pageblock_type f))) h e in
+      let found = found_at (is_half_free m a) (free_list_of m a o (pageblock_type w.0)) h w.2 in
+      let here = listed_starts m a h o (pageblock_type w.0) one le (rw (list_taken m a o (pageblock_type w.0) le) at found.0) in
+      record { starts = here.0; other = (w.0, here.1, w.1); enough = found.1 }
 
   half_free_none : (o h : ℕ) → o ≤ m → half_free_of_order m a (foreign t) o ≡ None → IsInClaimable m a t h o → ⊥
   half_free_none o h le e y =
-      let f : MigrateType = kind_at m a.kinds h in
-      none_passes (is_half_free m a) (free_list_of m a o f) h (none_foreign t (λ g. find (is_half_free m a) (free_list_of m a o g)) e f y.other)
-      (rw (list_taken m a o f le) ((one.listed (list_number o f) (list_number_below m o f le)).from h (here_from m (block_set a) a.kinds (list_number o f) h o refl y.starts))) y.enough
+      let f : PageblockType = pageblock_type y.other.0 in
+      let on = (one.listed (list_number o (kind_at m a.kinds h)) (list_number_below m o (kind_at m a.kinds h) le)).from h (here_from m (block_set a) a.kinds (list_number o (kind_at m a.kinds h)) h o refl y.starts) in
+      none_passes (is_half_free m a) (free_list_of m a o f) h (none_foreign t (λ g. find (is_half_free m a) (free_list_of m a o (pageblock_type g))) e y.other.0 y.other.2)
+      (rw (list_taken m a o f le) (rw y.other.1 at on)) y.enough
 
   -- no block of this order may be claimed where none is in a pageblock that may be
   order_unclaimed : (o : ℕ) → o ≤ m → ((h : ℕ) → IsInClaimable m a t h o → ⊥) → claimable_of_order (area_in m a) t o ≡ None

@@ -1,12 +1,12 @@
 -- A pageblock that gets another type, where the blocks are the maximal ones.
-use Rattle.std.proofs.Common.{ℕ, ◌/◌, ◌%◌, ◌≡◌, ◌==◌, refl, sym, ◌∙◌, ap, Bool, not, ◌&&◌, List, ◌++◌, length, set, get_or, None}
+use Rattle.std.proofs.Common.{ℕ, ◌/◌, ◌%◌, ◌≡◌, ◌==◌, refl, sym, ◌∙◌, ap, Bool, not, ◌&&◌, List, ◌++◌, length, set, length-set, get_or, None}
 use Rattle.std.specs.List.{filter}
 use Rattle.std.proofs.lemmas.Bool.{eq-eqb}
-use Rattle.zp_model.specs.declared.migrate_type.MigrateType.{MigrateType}
+use Rattle.zp_model.specs.declared.pageblock_type.PageblockType.{PageblockType}
 use Rattle.zp_model.specs.Block.{is_max}
 use Rattle.zp_model.specs.BlockSet.{Starts, cover, is_order}
-use Rattle.zp_model.specs.Frames.{with_area}
-use Rattle.zp_model.specs.MigrateType.{type_number, types_count}
+use Rattle.zp_model.specs.Frames.{Frames, IsClear, with_area}
+use Rattle.zp_model.specs.PageblockType.{pageblock_type_number, pageblock_types}
 use Rattle.zp_model.specs.Rows.{stands_in}
 use Rattle.zp_model.specs.Area.{belongs, falling, kind_at, settled}
 use Rattle.zp_model.specs.Take.{retype}
@@ -16,9 +16,11 @@ use Rattle.zp_laws.proofs.Counting.{same_tests}
 use Rattle.zp_area.specs.Blocks.{Blocks, block_set}
 use Rattle.zp_area.specs.Retyped.{is_to_stand, relisted, retyped}
 use Rattle.zp_area.proofs.Retyping.{free-relisted, aside-relisted, length-relisted}
+use Rattle.zp_laws.proofs.Areas.{free-retype, largest-retype}
 use Rattle.zp_buddy.specs.Choices.{frames_in}
+use Rattle.zp_buddy.specs.Held.{IsHeld}
 use Rattle.zp_buddy.specs.Sound.{IsSound}
-use Rattle.zp_buddy.proofs.Settled.{restated_same, settled_frames}
+use Rattle.zp_buddy.proofs.Settled.{IsSettled, restated_same, settled_frames, settled_sound}
 use Rattle.zp_model.proofs.Pages.{is_order-to}
 
 -- whether a block of this order starts at a page, and whether a maximal one does
@@ -28,22 +30,22 @@ starts_maximal m a k h x =
     same_tests _ _ (λ e. u.0 (is_order-to k _ e)) (λ e. ap (is_order k) (u.1 e) ∙ eq-eqb k k refl)
 
 -- what is to stand on a list belongs on it
-relisted_settled : (m : ℕ) (a : Blocks) (kinds : List MigrateType) (r : ℕ) (old : List ℕ) → IsSound m a.rows.states a.kinds a.rows.lists →
+relisted_settled : (m : ℕ) (a : Blocks) (kinds : List PageblockType) (r : ℕ) (old : List ℕ) → IsSound m a.rows.states a.kinds a.rows.lists →
     relisted m (block_set a) kinds r old ≡ settled m (cover (block_set a)) kinds r old
 unfolding relisted settled belongs
 relisted_settled m a kinds r old x =
     let s = block_set a in
     let same : (λ (h : ℕ). is_to_stand m s kinds r h) ≡ (λ (h : ℕ). belongs m (cover s) kinds r h) =
-    λ i h. starts_maximal m a (r / types_count) h x i && (type_number (kind_at m kinds h) == r % types_count) in
+    λ i h. starts_maximal m a (r / pageblock_types) h x i && (pageblock_type_number (kind_at m kinds h) == r % pageblock_types) in
     ap (λ n. filter (λ h. is_to_stand m s kinds r h && not (stands_in h old)) (falling n) ++ filter (is_to_stand m s kinds r) old) (sym (length-cover s))
     ∙ ap (λ (p : ℕ → Bool). filter (λ h. p h && not (stands_in h old)) (falling (length (cover s))) ++ filter p old) same
 
-pub retyped_frames : (m : ℕ) (a : Blocks) (b : ℕ) (t : MigrateType) → IsSound m a.rows.states a.kinds a.rows.lists →
-    frames_in m (retyped m a b t) ≡ with_area (frames_in m a) (retype (frames_in m a).area b t)
-unfolding retype
-retyped_frames m a b t x =
-    let kinds : List MigrateType = set a.kinds b t in
-    settled_frames (record {
+-- the lists under the new type are settled
+retyped_settles : (m : ℕ) (a : Blocks) (b : ℕ) (t : PageblockType) → IsSound m a.rows.states a.kinds a.rows.lists →
+    IsSettled m (cover (block_set a)) a.rows.states a.rows.states (set a.kinds b t) a.rows.lists (retyped m a b t).rows.lists
+retyped_settles m a b t x =
+    let kinds : List PageblockType = set a.kinds b t in
+    record {
       normal = x.normal;
       free = refl;
       restates = λ g. restated_same _;
@@ -55,4 +57,25 @@ retyped_frames m a b t x =
       enough = x.table;
       pages = refl;
       table = length-relisted m a kinds x.table;
-    })
+    }
+
+pub retyped_frames : (m : ℕ) (a : Blocks) (b : ℕ) (t : PageblockType) → IsSound m a.rows.states a.kinds a.rows.lists →
+    frames_in m (retyped m a b t) ≡ with_area (frames_in m a) (retype (frames_in m a).area b t)
+unfolding retype
+retyped_frames m a b t x = settled_frames (retyped_settles m a b t x)
+
+-- so the area is sound and held still
+pub held_retyped : (m : ℕ) (a : Blocks) (b : ℕ) (t : PageblockType) (free : ℕ) → IsHeld m a free → IsHeld m (retyped m a b t) free
+held_retyped m a b t free x = record {
+  sound = settled_sound (retyped_settles m a b t x.sound);
+  typed = length-set a.kinds b t ∙ x.typed;
+  counted = x.counted;
+}
+
+-- and each block that may come back may do so
+pub clear_retyped : (f : Frames) (b : ℕ) (t : PageblockType) (h k : ℕ) → IsClear f h k → IsClear (with_area f (retype f.area b t)) h k
+clear_retyped f b t h k x = record {
+  block = rw (largest-retype f.area b t, free-retype f.area b t) x.block;
+  free = λ i lo hi. rw (free-retype f.area b t) (x.free i lo hi);
+  aside = x.aside;
+}

@@ -5,7 +5,7 @@ use Rattle.std.proofs.lemmas.List.{get_or-drop}
 use Rattle.std.proofs.lemmas.Nat.{pow_pos}
 use Rattle.zp_model.specs.Block.{has, head, IsBlock}
 use Rattle.zp_model.specs.BlockSet.{Starts, cover}
-use Rattle.zp_model.specs.MigrateType.{types_count}
+use Rattle.zp_model.specs.PageblockType.{pageblock_types}
 use Rattle.zp_model.specs.Rows.{IsLoose, IsOn, stands_in}
 use Rattle.zp_model.specs.Area.{lists_count}
 use Rattle.zp_model.proofs.Heads.{head_le, lt_head, head_of, head_same, head_room}
@@ -47,7 +47,7 @@ module _ (m : ℕ) (a : Blocks) (x : IsOneSet m a) where
       elim (cases_lt r (lists_count m)) [
         | inl lt ↦
             both_ways _ (clear i lo hi).0
-            (around_covered m (block_set a) i i (r / types_count) x.blocks (record { starts = ((x.listed r lt).to i on).0; from = omega arith; to = omega (arith, pow_pos (r / types_count)) }))
+            (around_covered m (block_set a) i i (r / pageblock_types) x.blocks (record { starts = ((x.listed r lt).to i on).0; from = omega arith; to = omega (arith, pow_pos (r / pageblock_types)) }))
         | inr ge ↦
             let e : lists_count m + (r - lists_count m) ≡ r = omega arith in
             both_ways _ ((clear i lo hi).1 (r - lists_count m)) (rw (get_or-drop (lists_count m) a.rows.lists (r - lists_count m) [], e) on)

@@ -11,7 +11,7 @@ use Rattle.zp_model.specs.declared.state.State.TheVariants.{Tail, Free}
 use Rattle.zp_model.specs.Block.{head, in_run, size, with_run, IsBlock, IsBuddy}
 use Rattle.zp_model.specs.BlockSet.{Starts, cover}
 use Rattle.zp_model.specs.Frames.{IsClear, given, restate}
-use Rattle.zp_model.specs.MigrateType.{type_number, types_count}
+use Rattle.zp_model.specs.PageblockType.{pageblock_type_number, pageblock_types}
 use Rattle.zp_model.specs.Rows.{list_at, state_at, IsOn}
 use Rattle.zp_model.specs.Area.{kind_at, lists_count, settled}
 use Rattle.zp_model.specs.Take.{give}
@@ -101,7 +101,7 @@ joining_none m h k f x = record {
   within = λ g a b. restated_other _ (λ i e. x.clear g a b (start_in m f x.sound g i (starts-from f.rows.states g i e)));
   others = λ g w. refl;
   listed = λ r lt. sym (filter_all (is_outside h k) (list_at f.rows.lists r) (λ g e.
-      outside-from h k g (past h k g (λ lo hi. x.clear g lo hi (start_in m f x.sound g (r / types_count) ((x.sound.listed r lt).to g e).0)))));
+      outside-from h k g (past h k g (λ lo hi. x.clear g lo hi (start_in m f x.sound g (r / pageblock_types) ((x.sound.listed r lt).to g e).0)))));
   sides = λ r ge. refl;
   pages = refl;
   table = refl;
@@ -166,7 +166,7 @@ module _ {m h k b j : ℕ} {f a : Blocks} (z : IsJoining m h k b j f a) where
             (omega arith)
             ∙ ap (filter (λ g. not (g == c))) (z.listed r lt)
             ∙ filter_twice (λ g. not (g == c)) (is_outside b j) xs
-            ∙ filter_same _ (is_outside d (j + 1)) xs (λ g on. outside_both b j c d g y (λ p q. (only g (r / types_count) ((x.sound.listed r lt).to g on).0 p q).0));
+            ∙ filter_same _ (is_outside d (j + 1)) xs (λ g on. outside_both b j c d g y (λ p q. (only g (r / pageblock_types) ((x.sound.listed r lt).to g on).0 p q).0));
         sides = λ r ge. get_or-set_other a.rows.lists (list_of_block m a c j) r _ [] (omega arith) ∙ z.sides r ge;
         pages = length-set a.rows.states c Tail ∙ z.pages;
         table = length-set a.rows.lists (list_of_block m a c j) _ ∙ z.table;
@@ -234,27 +234,27 @@ module _ {m h k b j : ℕ} {f a : Blocks} (z : IsJoining m h k b j f a) (stop : 
   ended_list r below =
       let q : ℕ = list_of_block m a b j in
       let v : List ℕ = b ∷ list_at a.rows.lists q in
-      let t : type_number (kind_at m f.kinds b) < 3 = number_below _ in
-      let number : q ≡ 3 * j + type_number (kind_at m f.kinds b) = rw z.kinds refl in
+      let t : pageblock_type_number (kind_at m f.kinds b) < pageblock_types = number_below _ in
+      let number : q ≡ pageblock_types * j + pageblock_type_number (kind_at m f.kinds b) = rw z.kinds refl in
       let table : lists_count m ≤ length a.rows.lists = omega (arith, z.back.sound.table) in
       let in_table : q < lists_count m = list_number_below m j _ z.order in
       let stays : (g : ℕ) → Here m (block_set f) f.kinds r g → is_outside b j g ≡ true → Here m (block_set (added m a b j)) f.kinds r g =
-      λ g here o. let out = outside-to b j g o in (ended-from g (r / types_count) (inl (here.0, omega arith)), here.1) in
+      λ g here o. let out = outside-to b j g o in (ended-from g (r / pageblock_types) (inl (here.0, omega arith)), here.1) in
       let front = settled_front (block_set (added m a b j)) ended_cover.0 (z.back.sound.listed r below) (is_outside b j) stays in
       let filtered = settled_filter (block_set (added m a b j)) ended_cover.0 (z.back.sound.listed r below) (is_outside b j) stays in
       elim (cases_eq r q) [
         | inl same ↦
-            let d : r / types_count ≡ j = omega arith in
+            let d : r / pageblock_types ≡ j = omega arith in
             let now : list_at (added m a b j).rows.lists r ≡ b ∷ list_at a.rows.lists r = rw same (get_or-set_same a.rows.lists q v [] (omega arith)) in
-            front b (ended-from b (r / types_count) (inr (refl, d)), omega arith)
+            front b (ended-from b (r / pageblock_types) (inr (refl, d)), omega arith)
             (λ here. z.back.clear h (omega arith) (omega (arith, pow_pos k)) (z.back.sound.normal.inside b j (rw d at here.0) h (head_in z).0 (head_in z).1))
-            (λ g here. elim (ended-to g (r / types_count) here.0) [ inl u ↦ inr ((u.0, here.1), outside-from b j g (past b j g u.1)) | inr u ↦ inl u.0 ])
+            (λ g here. elim (ended-to g (r / pageblock_types) here.0) [ inl u ↦ inr ((u.0, here.1), outside-from b j g (past b j g u.1)) | inr u ↦ inl u.0 ])
             ∙ sym (now ∙ ap (λ xs. b ∷ xs) (z.listed r below))
         | inr other ↦
-            filtered (λ g here. elim (ended-to g (r / types_count) here.0) [
+            filtered (λ g here. elim (ended-to g (r / pageblock_types) here.0) [
               | inl u ↦ ((u.0, here.1), outside-from b j g (past b j g u.1))
               | inr u ↦
-                  let typed : type_number (kind_at m f.kinds b) ≡ r % types_count = rw u.0 at here.1 in
+                  let typed : pageblock_type_number (kind_at m f.kinds b) ≡ r % pageblock_types = rw u.0 at here.1 in
                   absurd (other (omega (arith, u.1)))
             ])
             ∙ sym (get_or-set_other a.rows.lists q r v [] other ∙ z.listed r below)

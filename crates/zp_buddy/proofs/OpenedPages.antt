@@ -7,13 +7,13 @@ use Rattle.std.proofs.lemmas.List.{append-nil, drop-replicate, get_or-drop, get_
 use Rattle.std.proofs.lemmas.List.Sums.{sum_by-cons}
 use Rattle.std.proofs.Math.Bool.{and-true}
 use Rattle.zp_model.specs.declared.constants.TheConstants.{MAX_PAGES}
-use Rattle.zp_model.specs.declared.migrate_type.MigrateType.TheVariants.{Movable}
+use Rattle.zp_model.specs.declared.pageblock_type.PageblockType.TheVariants.{Movable}
 use Rattle.zp_model.specs.declared.state.State.{State}
 use Rattle.zp_model.specs.declared.state.State.TheVariants.{Tail, Free}
 use Rattle.zp_model.specs.Block.{head, is_max, size}
 use Rattle.zp_model.specs.BlockSet.{Starts, cover}
 use Rattle.zp_model.specs.Frames.{frames_opening}
-use Rattle.zp_model.specs.MigrateType.{type_number, types_count}
+use Rattle.zp_model.specs.PageblockType.{pageblock_type_number, pageblock_types}
 use Rattle.zp_model.specs.Rows.{list_at, state_at, stands_in}
 use Rattle.zp_model.specs.Area.{belongs, falling, kind_at, list_number, lists_count, opening, pageblocks_of, settle, settled}
 use Rattle.zp_model.proofs.Heads.{head_self, aligned_down}
@@ -78,16 +78,16 @@ filter_falling p a (suc d) pos f = gap d f
 belongs_head : (m n a k r : ℕ) → is_max m (all_pages n) a k ≡ true → belongs m (all_pages n) (all_movable m n) r a ≡ (r == list_number k Movable)
 unfolding belongs
 belongs_head m n a k r x =
-    let movable : type_number (kind_at m (all_movable m n) a) ≡ 2 = ap type_number (replicate_at (pageblocks_of m n) _ Movable) in
+    let movable : pageblock_type_number (kind_at m (all_movable m n) a) ≡ 2 = ap pageblock_type_number (replicate_at (pageblocks_of m n) _ Movable) in
     same_tests _ _
     (λ e.
     let b = and_parts _ _ e in
-    let order : r / types_count ≡ k = one_order m (all_pages n) a k (r / types_count) x b.0 in
+    let order : r / pageblock_types ≡ k = one_order m (all_pages n) a k (r / pageblock_types) x b.0 in
     eq-eqb r (list_number k Movable) (omega (arith, eqb-true _ _ b.1)))
     (λ e.
     let f : r ≡ list_number k Movable = eqb-true _ _ e in
-    let d : r / types_count ≡ k = omega arith in
-    let z : r % types_count ≡ 2 = omega arith in
+    let d : r / pageblock_types ≡ k = omega arith in
+    let z : r % pageblock_types ≡ 2 = omega arith in
     rw (d, x, movable, z) refl)
 
 -- one block more
@@ -114,7 +114,7 @@ opened_added m n h k a x lt top table ek =
       others = λ g. elim (cases_eq g h) [ inl same ↦ inl (k, rw same now) | inr ne ↦ rw (other g ne) (x.others g) ];
       tails = λ g ge. other g (omega arith) ∙ x.tails g (omega arith);
       listed = λ q b.
-          let step = filter_falling (belongs m u (all_movable m n) q) h (2 ^ k) pos (λ i lo hi. rw (no_head_inside m n h k i (q / types_count) top lo hi) refl) in
+          let step = filter_falling (belongs m u (all_movable m n) q) h (2 ^ k) pos (λ i lo hi. rw (no_head_inside m n h k i (q / pageblock_types) top lo hi) refl) in
           elim (cases_eq q r) [
             | inl same ↦
                 let on : belongs m u (all_movable m n) q h ≡ true = belongs_head m n h k q top ∙ eq-eqb q r same in

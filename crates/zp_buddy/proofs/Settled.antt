@@ -6,13 +6,13 @@ use Rattle.std.proofs.lemmas.Bool.{cases_eq, false_from_ne_true, ne_eqb}
 use Rattle.std.proofs.lemmas.List.{ext_get_or, length-map}
 use Rattle.std.proofs.lemmas.List.FromFn.{fill_by_all, get_or-map-range_with_len, length-map-range_with_len}
 use Rattle.zp_model.specs.declared.constants.TheConstants.{MAX_PAGES}
-use Rattle.zp_model.specs.declared.migrate_type.MigrateType.{MigrateType}
-use Rattle.zp_model.specs.declared.migrate_type.MigrateType.TheVariants.{Movable}
+use Rattle.zp_model.specs.declared.pageblock_type.PageblockType.{PageblockType}
+use Rattle.zp_model.specs.declared.pageblock_type.PageblockType.TheVariants.{Movable}
 use Rattle.zp_model.specs.declared.state.State.{State}
 use Rattle.zp_model.specs.declared.state.State.TheVariants.{Tail}
 use Rattle.zp_model.specs.Block.{is_max, IsBlock}
 use Rattle.zp_model.specs.BlockSet.{Starts, cover, max_blocks, orders_from}
-use Rattle.zp_model.specs.MigrateType.{types_count}
+use Rattle.zp_model.specs.PageblockType.{pageblock_types}
 use Rattle.zp_model.specs.Rows.{list_at, state_at, without_page, IsOn}
 use Rattle.zp_model.specs.Area.{belongs, kind_at, lists_count, settled, settle}
 use Rattle.zp_model.specs.Frames.{restate, restated, with_area}
@@ -49,7 +49,7 @@ starts_block m a h o x st =
 pub starts_row : (m : ℕ) (a : Blocks) (h o r : ℕ) → IsSound m a.rows.states a.kinds a.rows.lists → Starts (block_set a) h o → r < lists_count m → IsOn a.rows.lists r h → r ≡ list_of_block m a h o
 starts_row m a h o r x st lt on =
     let here : Here m (block_set a) a.kinds r h = (x.listed r lt).to h on in
-    let j : r / types_count ≡ o = one_at (block_set a) h o (r / types_count) st here.0 in
+    let j : r / pageblock_types ≡ o = one_at (block_set a) h o (r / pageblock_types) st here.0 in
     omega (arith, here.1)
 
 -- without a block, its head is on no list that it was on
@@ -79,7 +79,7 @@ noted_sound m a p n e x = record {
 }
 
 -- a page of a block lies in the pageblock of its head
-pub kind_inside : (m : ℕ) (kinds : List MigrateType) (h o i : ℕ) → h % 2 ^ o ≡ 0 → o ≤ m → h ≤ i → i < h + 2 ^ o → kind_at m kinds i ≡ kind_at m kinds h
+pub kind_inside : (m : ℕ) (kinds : List PageblockType) (h o i : ℕ) → h % 2 ^ o ≡ 0 → o ≤ m → h ≤ i → i < h + 2 ^ o → kind_at m kinds i ≡ kind_at m kinds h
 kind_inside m kinds h o i al le a b = ap (λ n. get_or kinds n Movable) (number_around h i o m le al a b)
 
 pub find_never : {X : Type 0} (p : X → Bool) (xs : List X) → ((x : X) → p x ≡ false) → find p xs ≡ None
@@ -129,7 +129,7 @@ restated_all m s s' n len each =
     (λ g lt. each g ∙ ap (λ o. restate o (state_at s g)) (sym (block_at s' g) ∙ ap (λ b. get_or b g None) (set_maximal m (blocks_of s') n)))
 
 -- the states, types and lists that are left where these pages are free now, and what they come from
-pub record IsSettled (m : ℕ) (u : List Bool) (s s' : List State) (kinds : List MigrateType) (l l' : List (List ℕ)) : Type 0 where
+pub record IsSettled (m : ℕ) (u : List Bool) (s s' : List State) (kinds : List PageblockType) (l l' : List (List ℕ)) : Type 0 where
   pub normal : IsNormal m (Starts (blocks_of s')) (In (cover (blocks_of s')))
   pub free : cover (blocks_of s') ≡ u
   pub restates : (g : ℕ) → IsRestated (state_at s g) (state_at s' g)
@@ -142,7 +142,7 @@ pub record IsSettled (m : ℕ) (u : List Bool) (s s' : List State) (kinds : List
   pub pages : length s' ≡ length s
   pub table : length l' ≡ length l
 
-module _ {m : ℕ} {u : List Bool} {s s' : List State} {kinds : List MigrateType} {l l' : List (List ℕ)} (x : IsSettled m u s s' kinds l l') where
+module _ {m : ℕ} {u : List Bool} {s s' : List State} {kinds : List PageblockType} {l l' : List (List ℕ)} (x : IsSettled m u s s' kinds l l') where
   settled_listed : (r : ℕ) → r < lists_count m → IsListed m (blocks_of s') kinds r (list_at l' r)
   settled_listed r lt =
       let held = held-settled m (cover (blocks_of s')) kinds r in
@@ -171,7 +171,7 @@ module _ {m : ℕ} {u : List Bool} {s s' : List State} {kinds : List MigrateType
       cc (x.free, free_lists m l' _ len each, states, sides_same m l l' x.table x.stays)
 
 -- a list that loses what does not pass a test, and gets at most one head
-module _ {m r : ℕ} {kinds : List MigrateType} {xs : List ℕ} {s : List (Option ℕ)} (t : List (Option ℕ)) (n : IsNormal m (Starts t) (In (cover t))) (old : IsListed m s kinds r xs) (p : ℕ → Bool)
+module _ {m r : ℕ} {kinds : List PageblockType} {xs : List ℕ} {s : List (Option ℕ)} (t : List (Option ℕ)) (n : IsNormal m (Starts t) (In (cover t))) (old : IsListed m s kinds r xs) (p : ℕ → Bool)
     (stays : (g : ℕ) → Here m s kinds r g → p g ≡ true → Here m t kinds r g) where
   kept : ((g : ℕ) → Here m s kinds r g → Here m t kinds r g → p g ≡ true) → filter (belongs m (cover t) kinds r) xs ≡ filter p xs
   kept f = filter_same _ p xs (λ g on. same_tests _ _ (λ b. f g (old.to g on) (belongs-to m t kinds r g n b)) (λ b. belongs-from m t kinds r g n (stays g (old.to g on) b)))

@@ -5,7 +5,7 @@ use Rattle.std.proofs.lemmas.List.{get_or-drop, length-drop, take-set-le, drop-s
 use Rattle.zp_model.specs.Block.{has, in_run}
 use Rattle.zp_model.specs.BlockSet.{cover}
 use Rattle.zp_model.specs.Frames.{Frames, IsClear}
-use Rattle.zp_model.specs.MigrateType.{types_count}
+use Rattle.zp_model.specs.PageblockType.{pageblock_types}
 use Rattle.zp_model.specs.Rows.{list_at, stands_in, with_list, front, rest, IsLoose}
 use Rattle.zp_model.specs.Area.{lists_count}
 use Rattle.zp_model.proofs.Settles.{stands_later, stands_cases}
@@ -77,7 +77,7 @@ module _ {m : ℕ} {a : Blocks} {free : ℕ} (x : IsHeld m a free) where
   pub loose_all : (p : ℕ) → has (cover (block_set a)) p ≡ false → IsLoose (frames_in m a).sides p → IsLoose a.rows.lists p
   loose_all p used loose r =
       elim (cases_lt r (lists_count m)) [
-        | inl lt ↦ false_from_ne_true _ (λ on. both_ways _ used (start_in m a x.sound p (r / types_count) ((x.sound.listed r lt).to p on).0))
+        | inl lt ↦ false_from_ne_true _ (λ on. both_ways _ used (start_in m a x.sound p (r / pageblock_types) ((x.sound.listed r lt).to p on).0))
         | inr ge ↦ let n : lists_count m + (r - lists_count m) ≡ r = omega arith in rw (← n) (rw (side_at m a (r - lists_count m)) (loose (r - lists_count m)))
       ]
 

@@ -3,13 +3,13 @@ use Rattle.std.proofs.Common.{ℕ, suc, zero, ◌+◌, ◌-◌, ◌*◌, ◌/◌
 use Rattle.std.proofs.lemmas.Nat.{pow_pos, pow_below}
 use Rattle.std.proofs.lemmas.Bool.{and_parts, both_ways, cases_lt, cases_eq, eq-eqb, ne_eqb, not-true}
 use Rattle.std.proofs.lemmas.List.{length-map}
-use Rattle.zp_model.specs.declared.migrate_type.MigrateType.{MigrateType}
+use Rattle.zp_model.specs.declared.pageblock_type.PageblockType.{PageblockType}
 use Rattle.zp_model.specs.declared.state.State.{State}
 use Rattle.zp_model.specs.declared.state.State.TheVariants.{Free, Tail}
 use Rattle.zp_model.specs.Block.{IsBlock, without}
 use Rattle.zp_model.specs.BlockSet.{Starts, cover}
 use Rattle.zp_model.specs.Frames.{with_area}
-use Rattle.zp_model.specs.MigrateType.{type_number, types_count}
+use Rattle.zp_model.specs.PageblockType.{pageblock_type_number, pageblock_types}
 use Rattle.zp_model.specs.Rows.{Rows, list_at, state_at, without_page}
 use Rattle.zp_model.specs.Area.{kind_at, list_number, lists_count, settled}
 use Rattle.zp_model.specs.Take.{leave}
@@ -29,7 +29,7 @@ use Rattle.zp_buddy.proofs.Settled.{IsRestated, IsSettled, kind_inside, removed_
 use Rattle.zp_model.specs.Lawful.{Here}
 
 -- s' and l' are s and l with the high halves of (h, o) down to order k, each free and in front of its list
-record IsSplit (h k o : ℕ) (t : MigrateType) (s s' : List State) (l l' : List (List ℕ)) : Type 0 where
+record IsSplit (h k o : ℕ) (t : PageblockType) (s s' : List State) (l l' : List (List ℕ)) : Type 0 where
   high : (j : ℕ) → k ≤ j → j < o → state_at s' (h + 2 ^ j) ≡ Free j
   other : (g : ℕ) → ((j : ℕ) → k ≤ j → j < o → g ≡ h + 2 ^ j → ⊥) → state_at s' g ≡ state_at s g
   listed : (j : ℕ) → k ≤ j → j < o → list_at l' (list_number j t) ≡ (h + 2 ^ j) ∷ list_at l (list_number j t)
@@ -38,7 +38,7 @@ record IsSplit (h k o : ℕ) (t : MigrateType) (s s' : List State) (l l' : List 
   table : length l' ≡ length l
 
 -- no half is added yet
-split_none : (h o : ℕ) (t : MigrateType) (s : List State) (l : List (List ℕ)) → IsSplit h o o t s s l l
+split_none : (h o : ℕ) (t : PageblockType) (s : List State) (l : List (List ℕ)) → IsSplit h o o t s s l l
 split_none h o t s l = record {
   high = λ j lo hi. absurd (omega arith);
   other = λ g f. refl;
@@ -49,11 +49,11 @@ split_none h o t s l = record {
 }
 
 -- the high half of order j is added to those of the orders above
-split_added : (m : ℕ) (a : Blocks) (h j o : ℕ) (s : List State) (l : List (List ℕ)) (kinds : List MigrateType) →
+split_added : (m : ℕ) (a : Blocks) (h j o : ℕ) (s : List State) (l : List (List ℕ)) (kinds : List PageblockType) →
     IsSplit h (j + 1) o (kind_at m kinds h) s a.rows.states l a.rows.lists → a.kinds ≡ kinds → j + 1 ≤ o → IsBlock m (length s) h o → lists_count m ≤ length l →
     IsSplit h j o (kind_at m kinds h) s (added m a (h + 2 ^ j) j).rows.states l (added m a (h + 2 ^ j) j).rows.lists
 split_added m a h j o s l kinds x ek le block table =
-    let t : MigrateType = kind_at m kinds h in
+    let t : PageblockType = kind_at m kinds h in
     let g : ℕ = h + 2 ^ j in
     let q : ℕ = list_number j t in
     let v : List ℕ = g ∷ list_at a.rows.lists q in
@@ -77,7 +77,7 @@ split_added m a h j o s l kinds x ek le block table =
     })
 
 -- all halves are added
-split_halves : (d m : ℕ) (a : Blocks) (h k o : ℕ) (s : List State) (l : List (List ℕ)) (kinds : List MigrateType) → IsSplit h (k + d) o (kind_at m kinds h) s a.rows.states l a.rows.lists → a.kinds ≡ kinds → k + d ≤ o →
+split_halves : (d m : ℕ) (a : Blocks) (h k o : ℕ) (s : List State) (l : List (List ℕ)) (kinds : List PageblockType) → IsSplit h (k + d) o (kind_at m kinds h) s a.rows.states l a.rows.lists → a.kinds ≡ kinds → k + d ≤ o →
     IsBlock m (length s) h o → lists_count m ≤ length l → IsSplit h k o (kind_at m kinds h) s (halves_added m a h k d).rows.states l (halves_added m a h k d).rows.lists × ((halves_added m a h k d).kinds ≡ kinds)
 split_halves zero m a h k o s l kinds x ek le block table = let here : k + 0 ≡ k = omega arith in (rw here at x, ek)
 split_halves (suc d) m a h k o s l kinds x ek le block table =
@@ -98,7 +98,7 @@ find_high h k (suc o) g =
     ]
 
 -- which high half's list this one is, or that it is of none
-find_row : (k o r : ℕ) (t : MigrateType) → ((i : ℕ) × (k ≤ i) × (i < o) × (r ≡ list_number i t)) ⊎ ((i : ℕ) → k ≤ i → i < o → r ≡ list_number i t → ⊥)
+find_row : (k o r : ℕ) (t : PageblockType) → ((i : ℕ) × (k ≤ i) × (i < o) × (r ≡ list_number i t)) ⊎ ((i : ℕ) → k ≤ i → i < o → r ≡ list_number i t → ⊥)
 find_row k zero r t = inr (λ i p q e. omega arith)
 find_row k (suc o) r t =
     elim (find_row k o r t) [
@@ -159,8 +159,8 @@ module _ {m h k o : ℕ} {a : Blocks} {w : Rows} (x : IsTaken m h k o a w) where
   -- the free list of the block's order and type loses the block, and those of its halves get them
   taken_list : (r : ℕ) → r < lists_count m → settled m (cover (blocks_of w.states)) a.kinds r (list_at a.rows.lists r) ≡ list_at w.lists r
   taken_list r below =
-      let t : MigrateType = kind_at m a.kinds h in
-      let b : type_number t < 3 = number_below t in
+      let t : PageblockType = kind_at m a.kinds h in
+      let b : pageblock_type_number t < pageblock_types = number_below t in
       let top : o ≤ m = x.sound.normal.order h o x.starts in
       let al = x.sound.normal.aligned h o x.starts in
       let old = x.sound.listed r below in
@@ -168,31 +168,31 @@ module _ {m h k o : ℕ} {a : Blocks} {w : Rows} (x : IsTaken m h k o a w) where
       let gone : list_at (removed m a h o).rows.lists r ≡ without_page h (list_at a.rows.lists r) =
       removed_list m a h o r (λ on. starts_row m a h o r x.sound x.starts below on) (omega (arith, list_number_below m o t top)) in
       let stays : (g : ℕ) → Here m (block_set a) a.kinds r g → not (g == h) ≡ true → Here m (blocks_of w.states) a.kinds r g =
-      λ g here f. (taken-from g (r / types_count) (inl (here.0, other g f)), here.1) in
-      let high : (g i : ℕ) → High h k o g i → type_number (kind_at m a.kinds g) ≡ type_number t = λ g i y.
+      λ g here f. (taken-from g (r / pageblock_types) (inl (here.0, other g f)), here.1) in
+      let high : (g i : ℕ) → High h k o g i → pageblock_type_number (kind_at m a.kinds g) ≡ pageblock_type_number t = λ g i y.
       let lies = high_lies h k o g i y in
-      ap type_number (kind_inside m a.kinds h o g al top (omega arith) (omega (arith, pow_pos i))) in
+      ap pageblock_type_number (kind_inside m a.kinds h o g al top (omega arith) (omega (arith, pow_pos i))) in
       elim (find_row k o r t) [
         | inl y ↦
             let i : ℕ = y.0 in
-            let e : r ≡ 3 * i + type_number t = y.3 in
-            let d : r / types_count ≡ i = omega arith in
-            let hi : High h k o (h + 2 ^ i) (r / types_count) = rw d (y.1, y.2, refl) in
-            let lies = high_lies h k o (h + 2 ^ i) (r / types_count) hi in
+            let e : r ≡ pageblock_types * i + pageblock_type_number t = y.3 in
+            let d : r / pageblock_types ≡ i = omega arith in
+            let hi : High h k o (h + 2 ^ i) (r / pageblock_types) = rw d (y.1, y.2, refl) in
+            let lies = high_lies h k o (h + 2 ^ i) (r / pageblock_types) hi in
             let more : list_at w.lists r ≡ (h + 2 ^ i) ∷ list_at (removed m a h o).rows.lists r = rw y.3 (x.split.listed i y.1 y.2) in
             settled_front (blocks_of w.states) taken_cover.0 old (λ g. not (g == h)) stays (h + 2 ^ i)
-            (taken-from (h + 2 ^ i) (r / types_count) (inr hi), high _ _ hi ∙ omega arith)
-            (λ here. let z = alone (h + 2 ^ i) (r / types_count) here.0 (omega arith) (omega (arith, pow_pos (r / types_count))) in omega (arith, pow_pos i))
-            (λ g here. elim (taken-to g (r / types_count) here.0) [
+            (taken-from (h + 2 ^ i) (r / pageblock_types) (inr hi), high _ _ hi ∙ omega arith)
+            (λ here. let z = alone (h + 2 ^ i) (r / pageblock_types) here.0 (omega arith) (omega (arith, pow_pos (r / pageblock_types))) in omega (arith, pow_pos i))
+            (λ g here. elim (taken-to g (r / pageblock_types) here.0) [
               | inl z ↦ inr ((z.0, here.1), rw (ne_eqb g h z.1) refl)
               | inr z ↦ inl (z.2 ∙ ap (λ n. h + 2 ^ n) d)
             ])
             ∙ sym (more ∙ ap (λ xs. (h + 2 ^ i) ∷ xs) gone)
         | inr none ↦
             settled_filter (blocks_of w.states) taken_cover.0 old (λ g. not (g == h)) stays
-            (λ g here. elim (taken-to g (r / types_count) here.0) [
+            (λ g here. elim (taken-to g (r / pageblock_types) here.0) [
               | inl z ↦ ((z.0, here.1), rw (ne_eqb g h z.1) refl)
-              | inr z ↦ absurd (none (r / types_count) z.0 z.1 (omega (arith, here.1, high _ _ z)))
+              | inr z ↦ absurd (none (r / pageblock_types) z.0 z.1 (omega (arith, here.1, high _ _ z)))
             ])
             ∙ sym (x.split.unlisted r none ∙ gone)
       ]
@@ -216,7 +216,7 @@ module _ {m h k o : ℕ} {a : Blocks} {w : Rows} (x : IsTaken m h k o a w) where
 
   taken : IsSettled m (without (cover (block_set a)) h k) a.rows.states w.states a.kinds a.rows.lists w.lists
   taken =
-      let t : MigrateType = kind_at m a.kinds h in
+      let t : PageblockType = kind_at m a.kinds h in
       let top : o ≤ m = x.sound.normal.order h o x.starts in
       let below : list_number o t < lists_count m = list_number_below m o t top in
       record {

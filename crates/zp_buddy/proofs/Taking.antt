@@ -6,10 +6,13 @@ use Rattle.std.proofs.lemmas.List.{get_or-drop}
 use Rattle.std.proofs.Math.Bool.{and-false}
 use Rattle.std.proofs.Math.Nat.{pow-le-pow_right}
 use Rattle.zp_model.specs.declared.migrate_type.MigrateType.{MigrateType}
+use Rattle.zp_model.specs.declared.pageblock_type.PageblockType.{PageblockType}
+use Rattle.zp_model.specs.declared.pageblock_type.PageblockType.TheVariants as of
+use Rattle.zp_model.specs.PageblockType.{is_isolate, noted_type, pageblock_type}
 use Rattle.zp_model.specs.declared.state.State.{State}
 use Rattle.zp_model.specs.Block.{has, size, without}
 use Rattle.zp_model.specs.BlockSet.{Starts, cover, lowest}
-use Rattle.zp_model.specs.Area.{lists_count, pageblock_pages}
+use Rattle.zp_model.specs.Area.{available_blocks, lists_count, pageblock_pages}
 use Rattle.zp_model.specs.Frames.{Frames, IsClear, with_area}
 use Rattle.zp_model.specs.Take.{leave, retype, taken, blocks_at_hand}
 use Rattle.zp_model.proofs.Covers.{length-without}
@@ -18,6 +21,7 @@ use Rattle.zp_model.proofs.Normal.{Filled}
 use Rattle.zp_model.proofs.Pages.{In}
 use Rattle.zp_laws.proofs.Areas.{free-taken, free-leave}
 use Rattle.zp_laws.proofs.Counting.{in_run-yes, size-without, has-without_any}
+use Rattle.zp_area.specs.Available.{choosable}
 use Rattle.zp_area.specs.Blocks.{Blocks, block_set}
 use Rattle.zp_buddy.specs.Choices.{area_in, frames_in, chosen_of, IsFreeBlock}
 use Rattle.zp_buddy.specs.Held.{IsHeld}
@@ -27,16 +31,23 @@ use Rattle.zp_buddy.proofs.Settled.{length-pages, restated_all, restated_same, s
 
 -- with a claim the pageblock gets its type first, and what is noted stays
 pub taken_claimed : (f g n : Frames) (k h b : ℕ) (t : MigrateType) (claims : Bool) → n ≡ with_area g (leave g.area h k) → claims ≡ true → b ≡ h / pageblock_pages f.area.largest →
-    g ≡ with_area f (retype f.area b t) → g.states ≡ f.states → n ≡ with_area f (taken f.area k t (Some (record { head = h; claims = claims })))
+    g ≡ with_area f (retype f.area b (pageblock_type t)) → g.states ≡ f.states → n ≡ with_area f (taken f.area k t (Some (record { head = h; claims = claims })))
 unfolding taken
 taken_claimed f g n k h b t claims en e eb eg es =
-    let a : g.area ≡ retype f.area (h / pageblock_pages f.area.largest) t = ap (λ (q : Frames). q.area) eg ∙ ap (λ q. retype f.area q t) eb in
+    let a : g.area ≡ retype f.area (h / pageblock_pages f.area.largest) (pageblock_type t) = ap (λ (q : Frames). q.area) eg ∙ ap (λ q. retype f.area q (pageblock_type t)) eb in
     let s : g.sides ≡ f.sides = ap (λ (q : Frames). q.sides) eg in
     rw (en, e) (cc)
 
--- the lowest block of a sound area
-pub lowest_at : (m : ℕ) (a : Blocks) (k : ℕ) → IsSound m a.rows.states a.kinds a.rows.lists → lowest (blocks_at_hand (area_in m a)) k ≡ lowest (block_set a) k
-lowest_at m a k x = ap (λ s. lowest s k) (sym (set_maximal m (block_set a) x.normal))
+-- the lowest block of a sound area outside isolated pageblocks
+pub lowest_at : (m : ℕ) (a : Blocks) (k : ℕ) → IsSound m a.rows.states a.kinds a.rows.lists → lowest (blocks_at_hand (area_in m a)) k ≡ lowest (choosable m a) k
+lowest_at m a k x = ap (λ s. lowest (available_blocks m a.kinds s) k) (sym (set_maximal m (block_set a) x.normal))
+
+-- its type, as it is noted, is that of its pageblock
+pub noted_back : (s : PageblockType) → is_isolate s ≡ false → pageblock_type (noted_type s) ≡ s
+noted_back of.Unmovable e = refl
+noted_back of.Reclaimable e = refl
+noted_back of.Movable e = refl
+noted_back of.Isolate e = absurd cc
 
 -- the low run (h, k) of a block (h, o) has left an area with so many free pages
 pub record IsRunTaken (m : ℕ) (a : Blocks) (free h o k : ℕ) (n : Blocks) : Type 0 where

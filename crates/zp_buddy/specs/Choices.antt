@@ -3,6 +3,7 @@ use Rattle.std.specs.Prelude.{ℕ, ◌≡◌, ◌≤◌, List, length, Option, N
 use Rattle.std.specs.List.{find}
 use Rattle.zp_model.specs.declared.migrate_type.MigrateType.{MigrateType}
 use Rattle.zp_model.specs.MigrateType.{foreign}
+use Rattle.zp_model.specs.PageblockType.{pageblock_type}
 use Rattle.zp_model.specs.BlockSet.{Starts, first_of}
 use Rattle.zp_model.specs.Rows.{front}
 use Rattle.zp_model.specs.Area.{Area, free_list, kind_at}
@@ -24,21 +25,21 @@ frames_in m a = frames_of m a.rows.states a.kinds a.rows.lists
 
 -- the front of the first list of order o and of one of these types that is not empty
 abbrev pub front_of_order : ℕ → Blocks → List MigrateType → ℕ → Option ℕ
-front_of_order m a ts o = first_of (λ t. front (free_list_of m a o t)) ts
+front_of_order m a ts o = first_of (λ t. front (free_list_of m a o (pageblock_type t))) ts
 
 -- the first block of order o and of one of these types in whose pageblock half of the pages are free
 abbrev pub half_free_of_order : ℕ → Blocks → List MigrateType → ℕ → Option ℕ
-half_free_of_order m a ts o = first_of (λ t. find (is_half_free m a) (free_list_of m a o t)) ts
+half_free_of_order m a ts o = first_of (λ t. find (is_half_free m a) (free_list_of m a o (pageblock_type t))) ts
 
 -- the first block of order o and of a type foreign to t that may be claimed for t
 abbrev pub claimable_of_order : Area → MigrateType → ℕ → Option ℕ
-claimable_of_order a t o = first_of (λ f. find (is_claimable a t o) (free_list a o f)) (foreign t)
+claimable_of_order a t o = first_of (λ f. find (is_claimable a t o) (free_list a o (pageblock_type f))) (foreign t)
 
 -- a block of the set that has order k or more, with the type of its pageblock
 pub record IsFreeBlock (a : Blocks) (k : ℕ) (b : FreeBlock) : Type 0 where
   pub enough : k ≤ b.order
   pub starts : Starts (block_set a) b.head b.order
-  pub typed : b.kind ≡ kind_at a.largest a.kinds b.head
+  pub typed : pageblock_type b.kind ≡ kind_at a.largest a.kinds b.head
 
 -- what is found has the head that is looked for
 abbrev pub IsFoundAs : Blocks → ℕ → Option ℕ → Option FreeBlock → Type 0

@@ -1,7 +1,7 @@
 -- What noting and listing the pages of a zone as free has come to.
 use Rattle.std.specs.Prelude.{ℕ, ◌≡◌, ◌≤◌, ◌<◌, ◌↔◌, ◌⊎◌, Bool, true, List, [], length, replicate, filter}
-use Rattle.zp_model.specs.declared.migrate_type.MigrateType.{MigrateType}
-use Rattle.zp_model.specs.declared.migrate_type.MigrateType.TheVariants.{Movable}
+use Rattle.zp_model.specs.declared.pageblock_type.PageblockType.{PageblockType}
+use Rattle.zp_model.specs.declared.pageblock_type.PageblockType.TheVariants.{Movable}
 use Rattle.zp_model.specs.declared.state.State.{State}
 use Rattle.zp_model.specs.declared.state.State.TheVariants.{Tail, Free}
 use Rattle.zp_model.specs.Block.{is_max}
@@ -12,7 +12,7 @@ use Rattle.zp_model.specs.Area.{lists_count, pageblocks_of, belongs, falling}
 abbrev pub all_pages : ℕ → List Bool
 all_pages n = replicate n true
 
-abbrev pub all_movable : ℕ → ℕ → List MigrateType
+abbrev pub all_movable : ℕ → ℕ → List PageblockType
 all_movable m n = replicate (pageblocks_of m n) Movable
 
 -- of n pages, the maximal blocks that start below page a are noted as free and listed, and nothing else is

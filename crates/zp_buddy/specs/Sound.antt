@@ -1,7 +1,7 @@
 -- What page states, types and lists mean, and when they are sound. The largest block has order m.
 use Rattle.std.specs.Prelude.{ℕ, ◌≤◌, ◌<◌, List, length, take, drop}
 use Rattle.zp_model.specs.declared.constants.TheConstants.{MAX_PAGES}
-use Rattle.zp_model.specs.declared.migrate_type.MigrateType.{MigrateType}
+use Rattle.zp_model.specs.declared.pageblock_type.PageblockType.{PageblockType}
 use Rattle.zp_model.specs.declared.state.State.{State}
 use Rattle.zp_model.specs.BlockSet.{Starts, cover}
 use Rattle.zp_model.specs.Rows.{list_at, IsOn}
@@ -13,13 +13,13 @@ use Rattle.zp_area.specs.NotedBlocks.{blocks_of}
 use Rattle.zp_model.specs.Lawful.{IsListed}
 
 -- the free area of these states, types and lists, where the largest block has order m; the lists past the free ones are further ones
-abbrev pub area_of : ℕ → List State → List MigrateType → List (List ℕ) → Area
+abbrev pub area_of : ℕ → List State → List PageblockType → List (List ℕ) → Area
 area_of m states kinds lists = record { largest = m; free = cover (blocks_of states); kinds = kinds; lists = take (lists_count m) lists }
 
-abbrev pub frames_of : ℕ → List State → List MigrateType → List (List ℕ) → Frames
+abbrev pub frames_of : ℕ → List State → List PageblockType → List (List ℕ) → Frames
 frames_of m states kinds lists = record { area = area_of m states kinds lists; states = states; sides = drop (lists_count m) lists }
 
-pub record IsSound (m : ℕ) (states : List State) (kinds : List MigrateType) (lists : List (List ℕ)) : Type 0 where
+pub record IsSound (m : ℕ) (states : List State) (kinds : List PageblockType) (lists : List (List ℕ)) : Type 0 where
   pub pages : length states ≤ MAX_PAGES
   pub table : lists_count m ≤ length lists
   -- the free blocks are disjoint, and no two of them could be joined

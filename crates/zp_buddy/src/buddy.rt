@@ -1,14 +1,16 @@
 //! The buddy allocator of one zone.
 //!
 //! In Linux: the `free_area` of a `struct zone`, `__rmqueue` and `__free_one_page`.
-ghost use Rattle.std.specs.Prelude.{ℕ, ◌≡◌, ◌<◌, ◌≤◌, ◌++◌, ◌∷◌, [], ◌^◌, ◌↔◌, false, length, slice_get, slice_set, IfOk, IfSome, IsTrue};
+ghost use Rattle.std.specs.Prelude.{ℕ, ◌≡◌, ◌<◌, ◌≤◌, ◌++◌, ◌∷◌, [], ◌^◌, ◌*◌, ◌↔◌, false, length, slice_get, slice_index_or, slice_set, IfOk, IfSome, IsTrue};
 ghost use Rattle.zp_model.specs.Block.{has, in_run, size};
 ghost use Rattle.zp_model.specs.Info.{counts_of};
 ghost use Rattle.zp_model.specs.Rows.{IsLoose, IsOn, after, front, list_at, rest, state_at};
 ghost use Rattle.zp_model.specs.Described.{IsLinkedAt};
 ghost use Rattle.zp_model.specs.Frames.{frames_opening, with_area, IsNote, IsFramed, IsClear, given};
-ghost use Rattle.zp_model.specs.Area.{list_number, free_list, kind_at};
-ghost use Rattle.zp_model.specs.Take.{take_answer, take_after, take_low_answer, take_low_after};
+ghost use Rattle.zp_model.specs.declared.pageblock_type.PageblockType.TheVariants.{Movable};
+ghost use Rattle.zp_model.specs.BlockSet.{largest_in, max_blocks};
+ghost use Rattle.zp_model.specs.Area.{available, list_number, free_list, kind_at, pageblock_pages, pageblocks_of, size_in};
+ghost use Rattle.zp_model.specs.Take.{retype, take_answer, take_after, take_low_answer, take_low_after};
 
 use crate::clear::{is_block, is_clear_run};
 use crate::join::join;
@@ -18,7 +20,9 @@ use crate::takes::take;
 use std::alloc::{AllocError, Global};
 use std::marker::Model;
 use zp_area::{FreeArea, LinkedPage};
-use zp_model::{Counts, Largest, MAX_PAGES, MigrateType, ORDERS, Order, PageAt, State};
+use zp_model::{
+    Counts, Largest, MAX_PAGES, MigrateType, ORDERS, Order, PageAt, PageblockType, State,
+};
 
 /// The free blocks of a zone, what is noted of its other pages, and further lists of those pages. Contracts see the plain
 /// free area with these.
@@ -73,8 +77,8 @@ impl Buddy {
         Some(head)
     }
 
-    /// Takes the lowest run of this order: the low part of the block of this order or more with the least head, of whatever
-    /// type.
+    /// Takes the lowest run of this order: the low part of the block of this order or more with the least head, of whatever type,
+    /// outside isolated pageblocks.
     pub fn take_low(&mut self, order: Order) -> Option<PageAt>
         ensures answer { result ≡ take_low_answer self.old.area order }
         ensures after { self.new ≡ with_area self.old (take_low_after self.old.area order) }
@@ -85,7 +89,7 @@ impl Buddy {
         ensures kept { (h k : ℕ) → IsClear self.old h k → IsClear self.new h k }
     {
         let (head, found) = self.area.lowest(order)?;
-        let kind = self.type_of(head);
+        let kind = self.type_of(head).noted();
         take_block(&mut self.area, head, found, kind, order);
         let pages = order.pages();
         self.free -= pages;
@@ -136,13 +140,57 @@ impl Buddy {
     }
 
     /// The type of a page's pageblock.
-    pub fn type_of(&self, at: PageAt) -> MigrateType
+    pub fn type_of(&self, at: PageAt) -> PageblockType
         requires { at < length self.now.states }
         ensures { result ≡ kind_at self.now.area.largest self.now.area.kinds at }
     {
         // a clause of this call says that each pageblock has a type
         let _pages = self.area.pages();
         self.area.type_of(self.area.largest().pageblock_of(at))
+    }
+
+    /// How many pageblocks there are.
+    pub fn pageblocks(&self) -> usize
+        ensures typed { result ≡ length self.now.area.kinds }
+        ensures pages { result ≡ pageblocks_of self.now.area.largest (length self.now.area.free) }
+    {
+        // the invariant is at hand where a field is
+        let _free = self.free;
+        self.area.pageblocks()
+    }
+
+    /// The type of a pageblock.
+    pub fn pageblock_type(&self, pageblock: usize) -> PageblockType
+        requires { pageblock < length self.now.area.kinds }
+        ensures { result ≡ slice_index_or self.now.area.kinds pageblock Movable }
+    {
+        self.area.type_of(pageblock)
+    }
+
+    /// How many pages of a pageblock are free.
+    pub fn free_in(&self, pageblock: usize) -> u32
+        requires { pageblock < length self.now.area.kinds }
+        ensures { result ≡ size_in self.now.area.largest self.now.area.free pageblock }
+    {
+        self.area.free_in(pageblock)
+    }
+
+    /// The order of the largest free block in a pageblock, where there is one.
+    pub fn largest_in(&self, pageblock: usize) -> Option<Order>
+        requires { pageblock < length self.now.area.kinds }
+        ensures { result ≡ largest_in (max_blocks self.now.area.largest self.now.area.free) (pageblock * pageblock_pages self.now.area.largest) self.now.area.largest }
+    {
+        self.area.largest_in(pageblock)
+    }
+
+    /// Gives a pageblock a type. Its free blocks go to the lists of the type, the highest in front. None of an isolated one is taken
+    /// until it gets another type.
+    pub fn retype(&mut self, pageblock: usize, kind: PageblockType)
+        requires { pageblock < length self.old.area.kinds }
+        ensures after { self.new ≡ with_area self.old (retype self.old.area pageblock kind) }
+        ensures kept { (h k : ℕ) → IsClear self.old h k → IsClear self.new h k }
+    {
+        self.area.retype(pageblock, kind);
     }
 
     /// What is noted of a page.
@@ -163,7 +211,7 @@ impl Buddy {
     }
 
     /// The block in front of the free list of an order and a type.
-    pub fn front(&self, order: Order, kind: MigrateType) -> Option<PageAt>
+    pub fn front(&self, order: Order, kind: PageblockType) -> Option<PageAt>
         ensures answer { result ≡ front (free_list self.now.area order kind) }
         ensures on { IfSome result (λ at. IsOn self.now.area.lists (list_number order kind) at) }
     {
@@ -171,7 +219,7 @@ impl Buddy {
     }
 
     /// The block after this one on the free list of an order and a type.
-    pub fn after(&self, order: Order, kind: MigrateType, at: PageAt) -> Option<PageAt>
+    pub fn after(&self, order: Order, kind: PageblockType, at: PageAt) -> Option<PageAt>
         requires { IsOn self.now.area.lists (list_number order kind) at }
         ensures answer { result ≡ after at (free_list self.now.area order kind) }
         ensures on { IfSome result (λ next. IsOn self.now.area.lists (list_number order kind) next) }
@@ -223,7 +271,14 @@ impl Buddy {
         self.free
     }
 
-    /// How many free blocks of each order there are, and how many free pages.
+    /// How many free pages lie outside isolated pageblocks.
+    pub fn available_pages(&self) -> u32
+        ensures { result ≡ size (available self.now.area.largest self.now.area.kinds self.now.area.free) }
+    {
+        self.free - self.area.isolated_pages()
+    }
+
+    /// How many free blocks of each order there are, and how many free pages, those of isolated pageblocks with them.
     pub fn counts(&self) -> Counts
         ensures { result ≡ counts_of self.now.area.largest self.now.area.free }
     {

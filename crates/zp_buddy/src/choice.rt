@@ -7,6 +7,7 @@ ghost use Rattle.zp_model.specs.declared.migrate_type.MigrateType.TheVariants.{M
 ghost use Rattle.zp_model.specs.BlockSet.{first_of, orders_from, Starts};
 ghost use Rattle.zp_model.specs.Area.{kind_at};
 ghost use Rattle.zp_model.specs.MigrateType.{same_type};
+ghost use Rattle.zp_model.specs.PageblockType.{pageblock_type};
 ghost use Rattle.zp_model.specs.Choose.{own, claim, borrow, least_movable_claim};
 ghost use Rattle.zp_area.specs.Blocks.{block_set, free_list_of};
 ghost use Rattle.zp_area.specs.Claims.{is_half_free};
@@ -42,7 +43,7 @@ fn front_of(area: &FreeArea, order: Order, kinds: &[MigrateType]) -> Option<Free
     ensures { IsFoundAs area.now order (front_of_order area.now.largest area.now kinds.now order) result }
 {
     'kinds: for kind in kinds {
-        if let Some(head) = area.front(order, *kind) {
+        if let Some(head) = area.front(order, kind.pageblock_type()) {
             let kind = *kind;
             return Some(FreeBlock { head, order, kind });
         }
@@ -81,19 +82,20 @@ fn borrowed_block(area: &FreeArea, order: Order, kind: MigrateType) -> Option<Fr
 
 /// The first block of a list in whose pageblock half of the pages are free.
 fn half_free_on(area: &FreeArea, order: Order, kind: MigrateType) -> Option<PageAt>
-    ensures found { result ≡ find (is_half_free area.now.largest area.now) (free_list_of area.now.largest area.now order kind) }
+    ensures found { result ≡ find (is_half_free area.now.largest area.now) (free_list_of area.now.largest area.now order (pageblock_type kind)) }
     ensures starts { IfSome result (λ at. Starts (block_set area.now) at order) }
-    ensures typed { IfSome result (λ at. kind ≡ kind_at area.now.largest area.now.kinds at) }
+    ensures typed { IfSome result (λ at. pageblock_type kind ≡ kind_at area.now.largest area.now.kinds at) }
 {
     // a clause of this call says that no page stands twice
     let _pages = area.pages();
     let largest = area.largest();
-    let mut next = area.front(order, kind);
+    let list = kind.pageblock_type();
+    let mut next = area.front(order, list);
     'heads: while let Some(head) = next {
         if area.free_in(largest.pageblock_of(head)) >= largest.claim_pages() {
             return Some(head);
         }
-        next = area.after(order, kind, head);
+        next = area.after(order, list, head);
     }
     None
 }

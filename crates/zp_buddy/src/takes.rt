@@ -35,7 +35,7 @@ fn take_chosen(area: &mut FreeArea, chosen: Choice, order: Order, kind: MigrateT
         take_block(area, head, found, own, order);
         return head;
     }
-    area.retype(area.largest().pageblock_of(head), kind);
+    area.retype(area.largest().pageblock_of(head), kind.pageblock_type());
     let _pages = area.pages();
     take_block(area, head, found, kind, order);
     head

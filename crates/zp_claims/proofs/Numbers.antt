@@ -9,12 +9,10 @@ use Rattle.std.proofs.lemmas.List.Sums.{sum_by-cons, sum_by-set, get_or-le-sum_b
 use Rattle.zp_model.specs.declared.constants.TheConstants.{MAX_PAGES, ORDERS}
 use Rattle.zp_model.specs.declared.migrate_type.MigrateType.{MigrateType}
 use Rattle.zp_model.specs.declared.migrate_type.MigrateType.TheVariants.{Unmovable, Reclaimable, Movable}
-use Rattle.zp_model.specs.Area.{list_number}
 use Rattle.zp_model.specs.MigrateType.{type_number, types_count}
-use Rattle.zp_model.proofs.TypeNumbers.{number_below}
 use Rattle.zp_claims.specs.declared.claim.Claim.{Claim}
 use Rattle.zp_claims.specs.declared.code.TheConstants.{CODES}
-use Rattle.zp_claims.specs.Codes.{IsNumbered, claim_of, code_of, type_of}
+use Rattle.zp_claims.specs.Codes.{claim_number, IsNumbered, claim_of, code_of, type_of}
 use Rattle.zp_claims.specs.Noted.{noted_at}
 
 -- a code and what it says
@@ -28,7 +26,10 @@ number-of_type zero lt = refl
 number-of_type (suc zero) lt = refl
 number-of_type (suc (suc n)) lt = omega arith
 
-claim-of_number : (r o : ℕ) (t : MigrateType) → r ≡ list_number o t → claim_of (suc r) ≡ Some (record { kind = t; order = o })
+number_below : (t : MigrateType) → type_number t < types_count
+number_below t = grind arith
+
+claim-of_number : (r o : ℕ) (t : MigrateType) → r ≡ claim_number o t → claim_of (suc r) ≡ Some (record { kind = t; order = o })
 claim-of_number r o t e =
     let k : r % types_count ≡ type_number t = omega (arith, number_below t) in
     let j : r / types_count ≡ o = omega (arith, number_below t) in
@@ -38,8 +39,8 @@ claim-of_number r o t e =
 pub claim-of_code : (x : Option Claim) → claim_of (code_of x) ≡ x
 claim-of_code None = refl
 claim-of_code (Some c) =
-    let e : code_of (Some c) ≡ suc (list_number c.order c.kind) = omega arith in
-    ap claim_of e ∙ claim-of_number (list_number c.order c.kind) c.order c.kind refl
+    let e : code_of (Some c) ≡ suc (claim_number c.order c.kind) = omega arith in
+    ap claim_of e ∙ claim-of_number (claim_number c.order c.kind) c.order c.kind refl
 
 pub code-of_claim : (d : ℕ) → code_of (claim_of d) ≡ d
 code-of_claim zero = refl

@@ -1,13 +1,34 @@
 -- Beginnings of mapped lists, and counts that come back from their words.
-use Rattle.std.proofs.Common.{◌≡◌, ℕ, ◌<◌, List, [], ◌∷◌, ◌++◌, ◌+◌, length, map, take, set, get_or, sym, ap, ◌∙◌, arith}
-use Rattle.std.proofs.lemmas.List.{map-append, get_or-map, length-map, length-set, length-take-le, get_or-take, ext_get_or, take_all, take_at, take_more_set, get_or_at}
+use Rattle.std.proofs.Common.{◌≡◌, ℕ, ◌<◌, ◌-◌, List, [], ◌∷◌, ◌++◌, ◌+◌, Some, length, length-append, map, take, set, get_or, subst, sym, ap, ◌∙◌, arith}
+use Rattle.std.proofs.lemmas.Option.{get_or_from_slice_get, slice_get-get_or, slice_get-map, slice_get_within}
+use Rattle.std.proofs.lemmas.List.{get_or_append_left, map-append, get_or-map, length-map, length-set, length-take-le, get_or-take, ext_get_or, take_all, take_at, take_more_set, get_or_at}
 use mathlib.Core.List.{IsPrefix}
 use Rattle.zp_model.specs.declared.constants.TheConstants.{ORDERS}
-use Rattle.zp_counts.specs.CountBoards.{count_in, counts_in}
+use Rattle.zp_model.specs.declared.counts.Counts.{Counts}
+use Rattle.std.specs.Option.{option_map}
+use Rattle.zp_board.specs.Boards.{entry_at, last_of}
+use Rattle.zp_counts.specs.declared.reading.Reading.{Reading}
+use Rattle.zp_counts.specs.CountBoards.{IsReadingOf, count_in, counts_in}
 
 -- a beginning of a list is mapped to a beginning of what the list is mapped to
 pub prefix_map : {X Y : Type 0} (f : X → Y) (xs ys : List X) → IsPrefix xs ys → IsPrefix (map f xs) (map f ys)
 prefix_map f xs ys p = (map f p.0, sym (map-append f xs p.0) ∙ ap (map f) p.1)
+
+-- the last of some entries, read as counts, is a reading of theirs
+pub reading_last : (es : List (List ℕ)) (ws : List ℕ) (r : Reading) → r.place + 1 ≡ length es → ws ≡ last_of es → r.counts ≡ counts_in ws → IsReadingOf (map counts_in es) r
+reading_last es ws r place words counts =
+    let at : r.place ≡ length es - 1 = omega arith in
+    slice_get-map counts_in es r.place
+    ∙ ap (option_map counts_in) (slice_get-get_or es r.place [] (omega arith) ∙ ap (λ n. Some (entry_at es n)) at ∙ ap Some (sym words))
+    ∙ ap Some (sym counts)
+
+-- a reading of some counts is one of those that begin with them
+pub reading_kept : (xs ys : List Counts) (r : Reading) → IsPrefix xs ys → IsReadingOf xs r → IsReadingOf ys r
+reading_kept xs ys r p taken =
+    let lt : r.place < length xs = slice_get_within xs r.place r.counts taken in
+    let here : get_or (xs ++ p.0) r.place r.counts ≡ r.counts = get_or_append_left xs p.0 r.counts r.place lt ∙ get_or_from_slice_get xs r.place r.counts r.counts taken in
+    subst (λ l. IsReadingOf l r) p.1
+    (slice_get-get_or (xs ++ p.0) r.place r.counts (omega (arith, lt, length-append xs p.0)) ∙ ap Some here)
 
 -- a list that agrees with another up to its last place, where x is put, is the other with x after it
 pub last_put : (xs ys : List ℕ) (n x : ℕ) → length xs ≡ n → length ys ≡ n + 1 → ((k : ℕ) → k < n → get_or ys k 0 ≡ get_or xs k 0) → set ys n x ≡ xs ++ x ∷ []

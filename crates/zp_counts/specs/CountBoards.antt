@@ -1,8 +1,9 @@
 -- The counts of a zone on a board (this profile).
-use Rattle.std.specs.Prelude.{ℕ, ◌-◌, List, [], ◌∷◌, ◌++◌, length, map, min, take, slice_index_or}
+use Rattle.std.specs.Prelude.{ℕ, ◌≡◌, ◌-◌, Some, slice_get, List, [], ◌∷◌, ◌++◌, length, map, min, take, slice_index_or}
 use Rattle.atomic_table.specs.Seated.{TableId}
 use Rattle.zp_model.specs.declared.constants.TheConstants.{ORDERS}
 use Rattle.zp_model.specs.declared.counts.Counts.{Counts}
+use Rattle.zp_counts.specs.declared.reading.Reading.{Reading}
 use Rattle.zp_board.specs.Boards.{PublisherState, ReaderState}
 
 -- the words of counts: those of each order, the least order first, and the free pages
@@ -36,3 +37,11 @@ seen_counts r = record { tie = r.tie; seen = map counts_in r.seen }
 -- the last of some counts
 abbrev pub last_counts : List Counts → Counts
 last_counts cs = slice_index_or cs (length cs - 1) (counts_in [])
+
+-- the same with their place
+abbrev pub last_reading : List Counts → Reading
+last_reading cs = record { counts = last_counts cs; place = length cs - 1 }
+
+-- the reading is one of these counts, at its place
+abbrev pub IsReadingOf : List Counts → Reading → Type 0
+IsReadingOf cs r = slice_get cs r.place ≡ Some r.counts

@@ -1,12 +1,15 @@
 //! A board on which counts are published, its publisher and its readers.
 ghost use Rattle.std.specs.Prelude.{◌≡◌, ◌+◌, ◌*◌, ◌^◌, ◌<◌, ◌≤◌, ◌↔◌, [], ◌∷◌, ◌++◌, length, IfOk, IsTrue};
 ghost use mathlib.Core.List.{IsPrefix};
-ghost use Rattle.zp_counts.specs.CountBoards.{last_counts};
+ghost use Rattle.zp_counts.specs.CountBoards.{IsReadingOf, counts_in, last_reading};
+ghost use Rattle.zp_counts.specs.declared.reading.Reading.{Reading};
 ghost use Rattle.zp_counts.specs.declared.words.TheConstants.{COUNT_WORDS};
 
+use crate::reading::Reading;
 use crate::words::{COUNT_WORDS, counts_in, words_of};
 use std::alloc::{AllocError, Global};
 use std::marker::Model;
+use zp_board::WordReading;
 use zp_model::Counts;
 
 /// The words that all threads share. Contracts see the identity of its tie, and for how many counts it has room besides the opening
@@ -89,29 +92,48 @@ impl Publisher {
         }
     }
 
-    /// The last counts that are published, which the reader has then seen with all before them.
-    pub fn read_board(&mut self, board: &Board, reader: &mut BoardReader) -> Counts
+    /// The last counts that are published, with their place. The reader has then seen them, and all before them.
+    pub fn read_board(&mut self, board: &Board, reader: &mut BoardReader) -> Reading
         requires tie { self.old.tie ≡ board.now.tie }
         requires reader { reader.old.tie ≡ board.now.tie }
         ensures same { self.new ≡ self.old }
         ensures before { IsPrefix reader.old.seen self.old.published }
         ensures reader { reader.new ≡ record { tie = reader.old.tie; seen = self.old.published } }
-        ensures last { result ≡ last_counts self.old.published }
+        ensures last { result ≡ last_reading self.old.published }
+
+        // What was read before is of what is published, and so is this.
+        ensures taken { IsReadingOf self.old.published result }
+        ensures kept { (r : Reading) → IsReadingOf reader.old.seen r → IsReadingOf self.old.published r }
     {
-        counts_in(&self.entries.read_board(board, &mut reader.entries))
+        reading_of(&self.entries.read_board(board, &mut reader.entries))
     }
 }
 
 impl BoardReader {
-    /// The last counts of those that are then seen: one load of the place, and one of each word. They begin with all that was seen
-    /// before. Takes no lock and never waits.
-    pub fn read(&mut self, board: &Board) -> Counts
+    /// The last counts of those that are then seen, with their place: one load of the place, and one of each word. They begin with all
+    /// that was seen before. Takes no lock and never waits.
+    pub fn read(&mut self, board: &Board) -> Reading
         requires { self.old.tie ≡ board.now.tie }
         ensures tie { self.new.tie ≡ self.old.tie }
         ensures seen { IsPrefix self.old.seen self.new.seen }
         ensures some { 0 < length self.new.seen }
-        ensures last { result ≡ last_counts self.new.seen }
+        ensures last { result ≡ last_reading self.new.seen }
+
+        // What was read before is of what is seen still, and so is this.
+        ensures taken { IsReadingOf self.new.seen result }
+        ensures kept { (r : Reading) → IsReadingOf self.old.seen r → IsReadingOf self.new.seen r }
     {
-        counts_in(&self.entries.read(board))
+        reading_of(&self.entries.read(board))
+    }
+}
+
+/// The counts that the words of a reading stand for, with their place.
+fn reading_of(found: &WordReading<COUNT_WORDS>) -> Reading
+    ensures counts { result.counts ≡ counts_in found.now.words }
+    ensures place { result.place ≡ found.now.place }
+{
+    Reading {
+        counts: counts_in(&found.words),
+        place: found.place,
     }
 }

@@ -1,13 +1,15 @@
 //! The board of a zone's counts: how many free blocks of each order it has, and how many free pages, after each of its requests.
 //!
 //! In Linux `/proc/buddyinfo` is read order by order, so its line may be a state that never was; here a reader takes no lock, and what
-//! it reads was the zone's at one moment.
+//! it reads was the zone's at one moment, and it knows after how many requests.
 #![tactic(auto)]
 
 mod board;
+mod reading;
 mod words;
 
 pub use board::{Board, BoardReader, Publisher, new_board};
+pub use reading::Reading;
 pub use words::COUNT_WORDS;
 
 #[cfg(test)]

@@ -1,3 +1,4 @@
 pub mod SameReply
 pub mod Repeating
 pub mod Replayed
+pub mod FirstEntries

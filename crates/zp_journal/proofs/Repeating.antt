@@ -9,7 +9,7 @@ use Rattle.std.proofs.lemmas.Simd.{map-map}
 use Rattle.zp_model.specs.Entries.{Entry}
 use Rattle.zp_model.specs.declared.request.Request.{Request}
 use Rattle.zp_model.specs.declared.request.Reply.{Reply}
-use Rattle.zp_model.specs.Zone.{workers_of}
+use Rattle.zp_model.specs.Zone.{PlainZone, workers_of}
 use Rattle.zp_model.specs.Step.{step}
 use Rattle.zp_model.specs.Run.{may_ask, IsDefined, IsLegalEntry}
 use Rattle.zp_laws.proofs.Sameness.{step-same}
@@ -72,3 +72,8 @@ answered_alike z y w e q true f a same =
     )
 answered_alike z y w e q false f a same = λ l.
     let yes : IsTrue false = same.1 (a.1 ∙ ap (λ v. (step z.plain v e.request).reply) f ∙ l.1) in cc
+
+-- the seats of a zone of n workers, when it was opened so and they are lent
+pub seats_opened : (z : ZoneState) (made seats : List SeatState) (o : PlainZone) (n : ℕ) → All (IsSeatOf z) made → made ≡ seats_of z.tie (books z) n → z.plain ≡ o →
+    workers_of o ≡ n → seats ≡ made → AreSeatsOf z seats
+seats_opened z made seats o n fits are opened workers same = subst (AreSeatsOf z) (sym same) (seats_made z made n fits are (ap workers_of opened ∙ workers))

@@ -1,6 +1,8 @@
 -- A zone's journal, and what a replay finds of it (this profile).
-use Rattle.std.specs.Prelude.{ℕ, ◌≡◌, ◌≤◌, ◌-◌, List, length, take, slice_get, Some}
+use Rattle.std.specs.Prelude.{ℕ, ◌≡◌, ◌≤◌, ◌-◌, List, length, take, slice_get, Option, None, Some}
+use Rattle.zp_model.specs.declared.counts.Counts.{Counts}
 use Rattle.zp_model.specs.Entries.{Entry}
+use Rattle.zp_model.specs.Info.{counts_of}
 use Rattle.zp_model.specs.Zone.{PlainZone}
 use Rattle.zp_model.specs.Run.{run, IsLegal, IsLegalEntry, IsHistory}
 use Rattle.zp_zone.specs.Seats.{ZoneState}
@@ -30,3 +32,23 @@ pub record IsFirstIllegal (z : PlainZone) (es : List Entry) (n : ℕ) : Type 0 w
 abbrev pub IsChecked : List ℕ → PlainZone → List Entry → JournalCheck → Type 0
 IsChecked name z es (Legal y) = IsLegal z es × (y.name ≡ name) × (y.plain ≡ run z es) × (y.entries ≡ es)
 IsChecked name z es (Differs n) = IsFirstIllegal z es n
+
+-- the counts of a zone that was opened so, after the first n of these entries
+abbrev pub counts_after : PlainZone → List Entry → ℕ → Counts
+counts_after z es n = let y : PlainZone = run z (take n es) in counts_of y.area.largest y.area.free
+
+-- there are so many entries, and they are legal
+pub record IsLegalUpTo (z : PlainZone) (es : List Entry) (n : ℕ) : Type 0 where
+  pub within : n ≤ length es
+  pub legal : IsLegal z (take n es)
+
+-- what is told of the first n entries: the counts after them, where there are so many and they are legal, and else nothing
+abbrev pub IsCountedAfter : PlainZone → List Entry → ℕ → Option Counts → Type 0
+IsCountedAfter z es n None = IsLegalUpTo z es n → ⊥
+IsCountedAfter z es n (Some c) = IsLegalUpTo z es n × (c ≡ counts_after z es n)
+
+-- what is found where the first n entries are repeated in a zone of which nothing was asked, and the zone that it leaves: that they
+-- are legal, with the zone of their run; or the first of them that is not
+abbrev pub IsRepeatedUpTo : ZoneState → List Entry → ℕ → Option ℕ → ZoneState → Type 0
+IsRepeatedUpTo z es n None y = IsChecked z.name z.plain (take n es) (Legal y)
+IsRepeatedUpTo z es n (Some first) y = (first ≤ n) × IsFirstIllegal z.plain es first

@@ -48,7 +48,11 @@ fn may_ask(zone: &Zone, seat: &Seat, workers: usize, request: &Request) -> bool
         Request::Drain(_, pages) => {
             holds_all(zone, seat, pages.as_slice()) && has_no_page_twice(pages.as_slice())
         }
-        Request::Alloc(_, _, _) | Request::AllocLow(_) | Request::Collect => true,
+        Request::Alloc(_, _, _)
+        | Request::AllocLow(_)
+        | Request::Collect
+        | Request::Isolate(_)
+        | Request::Release(_, _) => true,
     }
 }
 

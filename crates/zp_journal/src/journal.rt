@@ -48,6 +48,7 @@ impl Journal {
     /// How many entries there are.
     pub fn len(&self) -> u32
         ensures entries { result ≡ length self.now.entries }
+        ensures room { result ≤ self.now.capacity }
         ensures within { result ≤ LONGEST_JOURNAL }
     {
         self.len

@@ -3,7 +3,9 @@ use Rattle.std.proofs.Common.{ℕ, ◌/◌, ◌≡◌, refl, ◌∙◌, ap, Bool
 use Rattle.std.specs.Prelude.{slice_set}
 use Rattle.std.proofs.lemmas.List.{length-set}
 use Rattle.zp_model.specs.declared.migrate_type.MigrateType.{MigrateType}
+use Rattle.zp_model.specs.declared.pageblock_type.PageblockType.{PageblockType}
 use Rattle.zp_model.specs.Block.{without, with_run}
+use Rattle.zp_model.specs.PageblockType.{pageblock_type}
 use Rattle.zp_model.specs.Area.{Area, pageblock_pages, settle}
 use Rattle.zp_model.specs.Choose.{Chosen}
 use Rattle.zp_model.specs.Take.{leave, give, retype, taken}
@@ -43,7 +45,7 @@ module _ (a : Area) (h k : ℕ) where
   unfolding give
   lists-give l = settle_lists (record a { free = with_run a.free h k }) l.distinct
 
-module _ (a : Area) (b : ℕ) (t : MigrateType) where
+module _ (a : Area) (b : ℕ) (t : PageblockType) where
   pub free-retype : (retype a b t).free ≡ a.free
   unfolding retype settle
   free-retype = refl
@@ -69,19 +71,19 @@ module _ (a : Area) (b : ℕ) (t : MigrateType) where
 
 module _ (a : Area) (k : ℕ) (t : MigrateType) (c : Chosen) where
   abbrev before : Area
-  before = cond c.claims (retype a (c.head / pageblock_pages a.largest) t) a
+  before = cond c.claims (retype a (c.head / pageblock_pages a.largest) (pageblock_type t)) a
 
   pub free-taken : (taken a k t (Some c)).free ≡ without a.free c.head k
   unfolding taken
-  free-taken = free-leave before c.head k ∙ ap (λ (u : List Bool). without u c.head k) (claimed a (c.head / pageblock_pages a.largest) t c.claims).0
+  free-taken = free-leave before c.head k ∙ ap (λ (u : List Bool). without u c.head k) (claimed a (c.head / pageblock_pages a.largest) (pageblock_type t) c.claims).0
 
   pub largest-taken : (taken a k t (Some c)).largest ≡ a.largest
   unfolding taken
-  largest-taken = largest-leave before c.head k ∙ (claimed a (c.head / pageblock_pages a.largest) t c.claims).1
+  largest-taken = largest-leave before c.head k ∙ (claimed a (c.head / pageblock_pages a.largest) (pageblock_type t) c.claims).1
 
   pub kinds-taken : length (taken a k t (Some c)).kinds ≡ length a.kinds
   unfolding taken
-  kinds-taken = ap length (kinds-leave before c.head k) ∙ (claimed a (c.head / pageblock_pages a.largest) t c.claims).2
+  kinds-taken = ap length (kinds-leave before c.head k) ∙ (claimed a (c.head / pageblock_pages a.largest) (pageblock_type t) c.claims).2
 
   pub kinds-unclaimed : c.claims ≡ false → (taken a k t (Some c)).kinds ≡ a.kinds
   unfolding taken
@@ -89,4 +91,4 @@ module _ (a : Area) (k : ℕ) (t : MigrateType) (c : Chosen) where
 
   pub lists-taken : IsListedArea a → IsListedArea (taken a k t (Some c))
   unfolding taken
-  lists-taken l = lists-leave before c.head k ((claimed a (c.head / pageblock_pages a.largest) t c.claims).3 l)
+  lists-taken l = lists-leave before c.head k ((claimed a (c.head / pageblock_pages a.largest) (pageblock_type t) c.claims).3 l)

@@ -1,12 +1,13 @@
 -- No request changes what is other workers'.
 use Rattle.std.proofs.Common.{ℕ, ◌-◌, ◌≡◌, ◌≢◌, ◌<◌, refl, sym, ◌∙◌, ap, arith, true, cond, List, [], ◌∷◌, ◌++◌, Option, Some, None, ne_eqb}
-use Rattle.std.specs.Prelude.{slice_set}
+use Rattle.std.specs.Prelude.{slice_get, slice_set}
 use Rattle.std.proofs.Math.Seq.{map-set_same}
 use Rattle.std.proofs.lemmas.Bool.{and_parts}
 use Rattle.std.proofs.lemmas.Bool.Decides.{nat_tests}
 use Rattle.zp_model.specs.Entries.{Entry}
 use Rattle.zp_model.specs.declared.request.Request.{Request}
 use Rattle.zp_model.specs.Area.{kind_at}
+use Rattle.zp_model.specs.PageblockType.{noted_type}
 use Rattle.zp_model.specs.Zone.{PlainZone, Holding, holding_at, workers_of}
 use Rattle.zp_model.specs.Step.{drained, step}
 use Rattle.zp_model.specs.Run.{may_ask}
@@ -14,7 +15,7 @@ use Rattle.zp_model.specs.Lawful.{IsLawful}
 use Rattle.zp_model.specs.Books.{Books, only, own, made_by, part, entry_of, entered}
 use Rattle.zp_laws.proofs.Held.{IsHolding, out_held}
 use Rattle.zp_laws.proofs.Keeping.{posted_place}
-use Rattle.zp_laws.proofs.Outcomes.{alloc_by, low_by, collected_by, refill_by}
+use Rattle.zp_laws.proofs.Outcomes.{alloc_by, low_by, collected_by, isolated_by, released_by, refill_by}
 use Rattle.zp_laws.proofs.Sameness.{step-same}
 use Rattle.zp_laws.proofs.StaysOut.{chosen_place, low_place}
 use Rattle.zp_laws.proofs.Steps.{chosen_lawful, drained_by}
@@ -47,7 +48,7 @@ own-step : (u w : ℕ) (z : PlainZone) (r : Request) → IsLawful z → w < work
 own-step u w z (Request.Alloc k t m) l lt e ne =
     alloc_by (λ o. own u o.zone.out ≡ own u z.out) z w k t m (λ r. refl) (λ c e. own-taken u c.head z.out (record { order = k; kind = t; worker = w }) ne (chosen_place z k t c e l).1)
 own-step u w z (Request.AllocLow k) l lt e ne = low_by (λ o. own u o.zone.out ≡ own u z.out) z w k refl (λ h e.
-    own-taken u h z.out (record { order = k; kind = kind_at z.area.largest z.area.kinds h; worker = w }) ne (low_place z k h e l).1)
+    own-taken u h z.out (record { order = k; kind = noted_type (kind_at z.area.largest z.area.kinds h); worker = w }) ne (low_place z k h e l).1)
 own-step u w z (Request.Free p k) l lt e ne = own-left z u w (p - z.base) k (out_held z w p k e) ne
 own-step u w z (Request.Post p k to) l lt e ne =
     let x = out_held z w p k (and_parts _ _ e).0 in
@@ -62,6 +63,8 @@ own-step u w z (Request.Refill t m n) l lt e ne =
 own-step u w z (Request.Drain t ps) l lt e ne =
     let a = and_parts _ _ e in
     drained_by (λ y qs. own u (drained y qs).out ≡ own u y.out) w (λ y k. refl) (λ y p qs k out r. r ∙ own-left y u w (p - y.base) 0 (out_held y w p 0 out) ne) z ps a.0 a.1 l
+own-step u w z (Request.Isolate b) l lt e ne = isolated_by (λ o. own u o.zone.out ≡ own u z.out) z b (slice_get z.area.kinds b) (λ r. refl) refl
+own-step u w z (Request.Release b t) l lt e ne = released_by (λ o. own u o.zone.out ≡ own u z.out) z b t (slice_get z.area.kinds b) (λ r. refl) refl
 
 -- a request that may be made leaves what is other workers'
 pub request_others : (u w : ℕ) (r : Request) (b : Books) → IsLawful b.plain → w < workers_of b.plain → may_ask b.plain w r ≡ true → u ≢ w → part u (entered w r b) ≡ part u b

@@ -1,6 +1,6 @@
 -- What a worker's request does to its own part of the books is said by the request and its reply alone.
 use Rattle.std.proofs.Common.{ℕ, ◌+◌, ◌-◌, ◌≡◌, refl, ◌∙◌, ap, arith, true, List, [], ◌∷◌, ◌++◌, length, cond, Option, Some, None, eq-eqb}
-use Rattle.std.specs.Prelude.{slice_set}
+use Rattle.std.specs.Prelude.{slice_get, slice_set}
 use Rattle.std.proofs.lemmas.Bool.{and_parts}
 use Rattle.std.proofs.lemmas.Bool.Decides.{nat_tests}
 use Rattle.std.proofs.lemmas.List.{map-set, length-append}
@@ -8,12 +8,13 @@ use Rattle.zp_model.specs.Entries.{Entry}
 use Rattle.zp_model.specs.declared.request.Request.{Request}
 use Rattle.zp_model.specs.declared.request.Reply.{Reply}
 use Rattle.zp_model.specs.Area.{kind_at}
+use Rattle.zp_model.specs.PageblockType.{noted_type}
 use Rattle.zp_model.specs.Zone.{PlainZone, Holding}
 use Rattle.zp_model.specs.Step.{freed, drained, step}
 use Rattle.zp_model.specs.Run.{may_ask}
 use Rattle.zp_model.specs.Books.{Books, Part, only, own, made_by, part, entry_of, entered, with_pages, without_pages, blocks_after, noted}
 use Rattle.zp_laws.proofs.Held.{out_held}
-use Rattle.zp_laws.proofs.Outcomes.{alloc_by, low_by, collected_by, refill_by}
+use Rattle.zp_laws.proofs.Outcomes.{alloc_by, low_by, collected_by, isolated_by, released_by, refill_by}
 use Rattle.zp_laws.proofs.Sameness.{step-same}
 
 made_same : (e : Entry) (entries : List Entry) → made_by e.worker (entries ++ e ∷ []) ≡ made_by e.worker entries ++ e ∷ []
@@ -49,7 +50,7 @@ own-step_after w z (Request.Alloc k t m) e =
     (λ c e. own-back (record { order = k; kind = t; worker = w }) z.base c.head z.out)
 own-step_after w z (Request.AllocLow k) e =
     low_by (λ o. own w o.zone.out ≡ blocks_after z.base w (Request.AllocLow k) o.reply (own w z.out)) z w k refl
-    (λ h e. own-back (record { order = k; kind = kind_at z.area.largest z.area.kinds h; worker = w }) z.base h z.out)
+    (λ h e. own-back (record { order = k; kind = noted_type (kind_at z.area.largest z.area.kinds h); worker = w }) z.base h z.out)
 own-step_after w z (Request.Free p k) e = own_gone w (p - z.base) z.out
 own-step_after w z (Request.Post p k to) e = let x = out_held z w p k (and_parts _ _ e).0 in rw x.at (own_gone w (p - z.base) z.out)
 own-step_after w z Request.Collect e =
@@ -64,6 +65,10 @@ own-step_after w z (Request.Refill t m n) e =
     (i.0, own_set x y.out c.head ∙ rw (with_pages-push z.base x got (y.base + c.head) (own w z.out), b, i.1)))
     (λ y r i. i.1) (λ y got i. i.1) z [] n (refl, refl)
 own-step_after w z (Request.Drain t ps) e = own-drained_after w z ps
+own-step_after w z (Request.Isolate b) e =
+    isolated_by (λ o. own w o.zone.out ≡ blocks_after z.base w (Request.Isolate b) o.reply (own w z.out)) z b (slice_get z.area.kinds b) (λ r. refl) refl
+own-step_after w z (Request.Release b t) e =
+    released_by (λ o. own w o.zone.out ≡ blocks_after z.base w (Request.Release b t) o.reply (own w z.out)) z b t (slice_get z.area.kinds b) (λ r. refl) refl
 
 part_to : (w : ℕ) (r : Request) (b : Books) → (step b.plain w r).zone.base ≡ b.plain.base →
     own w (step b.plain w r).zone.out ≡ blocks_after b.plain.base w r (step b.plain w r).reply (own w b.plain.out) → part w (entered w r b) ≡ noted w r (step b.plain w r).reply (part w b)

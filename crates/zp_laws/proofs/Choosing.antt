@@ -1,22 +1,24 @@
 -- What choosing gives: the head of a free block that is large enough.
-use Rattle.std.proofs.Common.{ℕ, suc, ◌+◌, ◌-◌, ◌/◌, ◌^◌, ◌≡◌, ◌≤◌, ◌<◌, ◌⊎◌, inl, inr, refl, sym, ◌∙◌, ap, arith, Bool, true, false, List, [], ◌∷◌, length, reverse, get_or, Option, Some, None, leb}
+use Rattle.std.proofs.Common.{ℕ, suc, ◌+◌, ◌-◌, ◌/◌, ◌%◌, ◌^◌, ◌≡◌, ◌≤◌, ◌<◌, ◌⊎◌, inl, inr, refl, sym, ◌∙◌, ap, arith, Bool, true, false, List, [], ◌∷◌, length, map, reverse, get_or, Option, Some, None, cond, leb}
 use Rattle.std.specs.List.{All, find, range_with_len}
 use Rattle.std.specs.Option.{option_or, option_map}
 use Rattle.std.proofs.Math.Nat.{pow-le-pow_right}
 use Rattle.std.proofs.lemmas.Nat.{pow_pos}
-use Rattle.std.proofs.lemmas.Bool.{cases_lt, cases_Bool, and_parts, leb-true}
+use Rattle.std.proofs.lemmas.Bool.{cases_lt, cases_Bool, and_parts, leb-true, eqb-true}
 use Rattle.std.proofs.lemmas.Option.{none-some, same_Some}
 use Rattle.std.proofs.lemmas.List.{get_or-reverse, length-reverse, get_or_past}
-use Rattle.std.proofs.lemmas.List.FromFn.{get_or-range_with_len, length-range_with_len}
+use Rattle.std.proofs.lemmas.List.FromFn.{get_or-range_with_len, length-range_with_len, get_or-map-range_with_len, length-map-range_with_len}
 use Rattle.zp_model.specs.declared.migrate_type.MigrateType.{MigrateType}
-use Rattle.zp_model.specs.declared.migrate_type.MigrateType.TheVariants.{Movable}
-use Rattle.zp_model.specs.MigrateType.{types_count, foreign}
+use Rattle.zp_model.specs.declared.migrate_type.MigrateType.TheVariants.{Unmovable, Reclaimable, Movable}
+use Rattle.zp_model.specs.declared.pageblock_type.PageblockType.{PageblockType}
+use Rattle.zp_model.specs.MigrateType.{foreign}
+use Rattle.zp_model.specs.PageblockType.{pageblock_types, pageblock_type, pageblock_type_number, is_isolate}
 use Rattle.zp_model.specs.Block.{is_max, IsBlock}
 use Rattle.zp_model.specs.BlockSet.{first_of, orders_from, max_blocks, lowest, block_if}
 use Rattle.zp_model.specs.Rows.{stands_in, front}
-use Rattle.zp_model.specs.Area.{Area, belongs, free_list, list_number}
+use Rattle.zp_model.specs.Area.{Area, belongs, free_list, list_number, kind_at, is_isolated, available_blocks}
 use Rattle.zp_model.specs.Choose.{Chosen, chosen_at, own, claim, borrow, choose, is_claimable}
-use Rattle.zp_model.specs.Take.{take_low_answer}
+use Rattle.zp_model.specs.Take.{blocks_at_hand, take_low_answer}
 use Rattle.zp_model.specs.Lawful.{IsListedArea}
 use Rattle.zp_model.proofs.Heads.{aligned_down}
 use Rattle.zp_model.proofs.MaximalBlocks.{length-max, max_block}
@@ -25,7 +27,7 @@ use Rattle.zp_model.proofs.Pages.{In, is_max-to}
 use Rattle.zp_model.proofs.Covers.{has_below}
 use Rattle.zp_model.proofs.RowLists.{front_stands}
 use Rattle.zp_model.proofs.Settles.{stands_first, stands_later}
-use Rattle.zp_model.proofs.TypeNumbers.{number_below, list_number_below}
+use Rattle.zp_model.proofs.TypeNumbers.{number_below, number_one, list_number_below}
 use Rattle.zp_laws.specs.Found.{IsFound}
 
 or_Some : {Y : Type 0} (o p : Option Y) (y : Y) → option_or o p ≡ Some y → (o ≡ Some y) ⊎ (p ≡ Some y)
@@ -60,49 +62,64 @@ orders_back m k i d lt =
     let n : length (reverse (orders_from m k)) ≡ length (orders_from m k) = length-reverse (orders_from m k) in
     rw (get_or-reverse (orders_from m k) i d (omega arith)) (orders_within m k (length (orders_from m k) - 1 - i) d (omega arith))
 
-pub list_order : (o : ℕ) (t : MigrateType) → list_number o t / types_count ≡ o
+pub list_order : (o : ℕ) (t : PageblockType) → list_number o t / pageblock_types ≡ o
 list_order o t = omega (arith, number_below t)
 
+pub list_type : (o : ℕ) (t : PageblockType) → list_number o t % pageblock_types ≡ pageblock_type_number t
+list_type o t = omega (arith, number_below t)
+
+-- no request's type is that of isolated pageblocks
+pub asked-not_isolate : (t : MigrateType) → is_isolate (pageblock_type t) ≡ false
+asked-not_isolate Unmovable = refl
+asked-not_isolate Reclaimable = refl
+asked-not_isolate Movable = refl
+
+-- at page h starts a free block of order k or more, outside isolated pageblocks
+abbrev pub IsAtHand : Area → ℕ → ℕ → Type 0
+IsAtHand a k h = IsFound a.largest a.free k h × (is_isolated a.largest a.kinds h ≡ false)
+
 module _ (a : Area) (l : IsListedArea a) (k : ℕ) where
-  -- what stands on a free list is a free block of its order
-  listed_found : (o h : ℕ) (f : MigrateType) → (k ≤ o) × (o ≤ a.largest) → stands_in h (free_list a o f) ≡ true → IsFound a.largest a.free k h
+  -- what stands on a free list that requests read is a free block of its order
+  listed_found : (o h : ℕ) (f : MigrateType) → (k ≤ o) × (o ≤ a.largest) → stands_in h (free_list a o (pageblock_type f)) ≡ true → IsAtHand a k h
   unfolding belongs
   listed_found o h f within e =
-      let b : belongs a.largest a.free a.kinds (list_number o f) h ≡ true = sym (l.held (list_number o f) h (list_number_below a.largest o f within.1)) ∙ e in
-      let m : is_max a.largest a.free h (list_number o f / types_count) ≡ true = (and_parts _ _ b).0 in
-      record { order = o; enough = within.0; maximal = rw (list_order o f) at m }
+      let t : PageblockType = pageblock_type f in
+      let b : belongs a.largest a.free a.kinds (list_number o t) h ≡ true = sym (l.held (list_number o t) h (list_number_below a.largest o t within.1)) ∙ e in
+      let p = and_parts _ _ b in
+      let m : is_max a.largest a.free h (list_number o t / pageblock_types) ≡ true = p.0 in
+      let s : kind_at a.largest a.kinds h ≡ t = number_one (kind_at a.largest a.kinds h) t (eqb-true _ _ p.1 ∙ list_type o t) in
+      (record { order = o; enough = within.0; maximal = rw (list_order o t) at m }, rw s (asked-not_isolate f))
 
   module _ (t : MigrateType) (h : ℕ) where
-    own_found : own a k t ≡ Some h → IsFound a.largest a.free k h
+    own_found : own a k t ≡ Some h → IsAtHand a k h
     unfolding own
     own_found e =
-        let x = first_of-gives (λ o. front (free_list a o t)) (orders_from a.largest k) 0 h e in
+        let x = first_of-gives (λ o. front (free_list a o (pageblock_type t))) (orders_from a.largest k) 0 h e in
         listed_found (get_or (orders_from a.largest k) x.0 0) h t (orders_within a.largest k x.0 0 x.1) (front_stands _ (Some h) (sym x.2))
 
-    claim_found : claim a k t ≡ Some h → IsFound a.largest a.free k h
+    claim_found : claim a k t ≡ Some h → IsAtHand a k h
     unfolding claim
     claim_found e =
-        let x = first_of-gives (λ o. first_of (λ f. find (is_claimable a t o) (free_list a o f)) (foreign t)) (reverse (orders_from a.largest k)) 0 h e in
+        let x = first_of-gives (λ o. first_of (λ f. find (is_claimable a t o) (free_list a o (pageblock_type f))) (foreign t)) (reverse (orders_from a.largest k)) 0 h e in
         let o = get_or (reverse (orders_from a.largest k)) x.0 0 in
-        let y = first_of-gives (λ f. find (is_claimable a t o) (free_list a o f)) (foreign t) Movable h x.2 in
+        let y = first_of-gives (λ f. find (is_claimable a t o) (free_list a o (pageblock_type f))) (foreign t) Movable h x.2 in
         listed_found o h (get_or (foreign t) y.0 Movable) (orders_back a.largest k x.0 0 x.1) (find-passes (is_claimable a t o) _ h y.2).1
 
-    borrow_found : borrow a k t ≡ Some h → IsFound a.largest a.free k h
+    borrow_found : borrow a k t ≡ Some h → IsAtHand a k h
     unfolding borrow
     borrow_found e =
-        let x = first_of-gives (λ o. first_of (λ f. front (free_list a o f)) (foreign t)) (orders_from a.largest k) 0 h e in
+        let x = first_of-gives (λ o. first_of (λ f. front (free_list a o (pageblock_type f))) (foreign t)) (orders_from a.largest k) 0 h e in
         let o = get_or (orders_from a.largest k) x.0 0 in
-        let y = first_of-gives (λ f. front (free_list a o f)) (foreign t) Movable h x.2 in
+        let y = first_of-gives (λ f. front (free_list a o (pageblock_type f))) (foreign t) Movable h x.2 in
         listed_found o h (get_or (foreign t) y.0 Movable) (orders_within a.largest k x.0 0 x.1) (front_stands _ (Some h) (sym y.2))
 
 chosen-head : (claims : Bool) (o : Option ℕ) (c : Chosen) → chosen_at claims o ≡ Some c → o ≡ Some c.head
 chosen-head claims None c e = absurd (none-some c e)
 chosen-head claims (Some h) c e = ap (λ n. Some n) (ap (λ (x : Chosen). x.head) (same_Some _ c e))
 
--- what is chosen heads a free block that is large enough
-pub choose_found : (a : Area) (k : ℕ) (t : MigrateType) (c : Chosen) → IsListedArea a → choose a k t ≡ Some c → IsFound a.largest a.free k c.head
+choose_at_hand : (a : Area) (k : ℕ) (t : MigrateType) (c : Chosen) → IsListedArea a → choose a k t ≡ Some c → IsAtHand a k c.head
 unfolding choose
-choose_found a k t c l e =
+choose_at_hand a k t c l e =
     elim (or_Some (chosen_at false (own a k t)) (option_or (chosen_at true (claim a k t)) (chosen_at false (borrow a k t))) c e) [
       | inl mine ↦ own_found a l k t c.head (chosen-head false (own a k t) c mine)
       | inr other ↦
@@ -111,6 +128,14 @@ choose_found a k t c l e =
             | inr borrows ↦ borrow_found a l k t c.head (chosen-head false (borrow a k t) c borrows)
           ]
     ]
+
+-- what is chosen heads a free block that is large enough
+pub choose_found : (a : Area) (k : ℕ) (t : MigrateType) (c : Chosen) → IsListedArea a → choose a k t ≡ Some c → IsFound a.largest a.free k c.head
+choose_found a k t c l e = (choose_at_hand a k t c l e).0
+
+-- and lies in no isolated pageblock
+pub choose_passes : (a : Area) (k : ℕ) (t : MigrateType) (c : Chosen) → IsListedArea a → choose a k t ≡ Some c → is_isolated a.largest a.kinds c.head ≡ false
+choose_passes a k t c l e = (choose_at_hand a k t c l e).1
 
 -- the low run of order k of such a block is a block of the zone
 pub found_block : (m : ℕ) (free : List Bool) (k h : ℕ) → IsFound m free k h → IsBlock m (length free) h k
@@ -146,15 +171,51 @@ max_blocks-to m u h j e =
       | inr ge ↦ absurd (none-some j (sym (get_or_past (max_blocks m u) h None (omega (arith, length-max m u))) ∙ e))
     ]
 
-pub take_low_found : (a : Area) (k h : ℕ) → take_low_answer a k ≡ Some h → IsFound a.largest a.free k h
-unfolding take_low_answer lowest
-take_low_found a k h e = go (lowest (max_blocks a.largest a.free) k) refl e
+pub length-available_blocks : (m : ℕ) (kinds : List PageblockType) (s : List (Option ℕ)) → length (available_blocks m kinds s) ≡ length s
+unfolding available_blocks
+length-available_blocks m kinds s = length-map-range_with_len _ 0 (length s)
+
+-- what the blocks outside isolated pageblocks say of a page
+pub available_blocks-at : (m : ℕ) (kinds : List PageblockType) (s : List (Option ℕ)) (h : ℕ) →
+    get_or (available_blocks m kinds s) h None ≡ cond (is_isolated m kinds h) None (get_or s h None)
+unfolding available_blocks
+available_blocks-at m kinds s h =
+    let at : ℕ → Option ℕ = λ g. cond (is_isolated m kinds g) None (get_or s g None) in
+    elim (cases_lt h (length s)) [
+      | inl lt ↦ get_or-map-range_with_len at 0 (length s) h h None lt (omega arith)
+      | inr ge ↦ get_or_past (map at (range_with_len 0 (length s))) h None (omega (arith, length-available_blocks m kinds s)) ∙ sym (either (is_isolated m kinds h) (get_or s h None) (get_or_past s h None ge))
+    ]
   where
-    go : (o : Option (ℕ × ℕ)) → lowest (max_blocks a.largest a.free) k ≡ o → option_map (λ (b : ℕ × ℕ). b.0) o ≡ Some h → IsFound a.largest a.free k h
+    either : (b : Bool) (o : Option ℕ) → o ≡ None → cond b None o ≡ None
+    either true o e = refl
+    either false o e = e
+
+pub available_blocks-to : (m : ℕ) (kinds : List PageblockType) (s : List (Option ℕ)) (h j : ℕ) → get_or (available_blocks m kinds s) h None ≡ Some j →
+    (get_or s h None ≡ Some j) × (is_isolated m kinds h ≡ false)
+available_blocks-to m kinds s h j e = elim (cases_Bool (is_isolated m kinds h)) [
+  | inl shut ↦ absurd (none-some j (rw shut at (sym (available_blocks-at m kinds s h) ∙ e)))
+  | inr apart ↦ (rw apart at (sym (available_blocks-at m kinds s h) ∙ e), apart)
+]
+
+take_low_at_hand : (a : Area) (k h : ℕ) → take_low_answer a k ≡ Some h → IsAtHand a k h
+unfolding take_low_answer lowest
+take_low_at_hand a k h e = go (lowest (blocks_at_hand a) k) refl e
+  where
+    go : (o : Option (ℕ × ℕ)) → lowest (blocks_at_hand a) k ≡ o → option_map (λ (b : ℕ × ℕ). b.0) o ≡ Some h → IsAtHand a k h
     go None q e = absurd (none-some h e)
     go (Some b) q e =
-        let places = range_with_len 0 (length (max_blocks a.largest a.free)) in
-        let x = first_of-gives (λ g. block_if (λ f j. leb k j) g (get_or (max_blocks a.largest a.free) g None)) places 0 b q in
+        let places = range_with_len 0 (length (blocks_at_hand a)) in
+        let x = first_of-gives (λ g. block_if (λ f j. leb k j) g (get_or (blocks_at_hand a) g None)) places 0 b q in
         let g = get_or places x.0 0 in
-        let s = block_if-some (λ f j. leb k j) g (get_or (max_blocks a.largest a.free) g None) b x.2 in
-        record { order = b.1; enough = leb-true k b.1 s.2; maximal = rw (s.1, same_Some b.0 h e) at (max_blocks-to a.largest a.free g b.1 s.0) }
+        let s = block_if-some (λ f j. leb k j) g (get_or (blocks_at_hand a) g None) b x.2 in
+        let y = available_blocks-to a.largest a.kinds (max_blocks a.largest a.free) g b.1 s.0 in
+        let same : g ≡ h = s.1 ∙ same_Some b.0 h e in
+        rw (← same) (record { order = b.1; enough = leb-true k b.1 s.2; maximal = max_blocks-to a.largest a.free g b.1 y.0 }, y.1)
+
+-- the lowest block is a free one that is large enough
+pub take_low_found : (a : Area) (k h : ℕ) → take_low_answer a k ≡ Some h → IsFound a.largest a.free k h
+take_low_found a k h e = (take_low_at_hand a k h e).0
+
+-- and lies in no isolated pageblock
+pub take_low_passes : (a : Area) (k h : ℕ) → take_low_answer a k ≡ Some h → is_isolated a.largest a.kinds h ≡ false
+take_low_passes a k h e = (take_low_at_hand a k h e).1

@@ -3,13 +3,16 @@ use Rattle.std.proofs.Common.{ℕ, suc, zero, ◌+◌, ◌≡◌, refl, true, fa
 use Rattle.zp_model.specs.declared.migrate_type.MigrateType.{MigrateType}
 use Rattle.zp_model.specs.declared.mark.Mark.{Mark}
 use Rattle.zp_model.specs.declared.refused.Refused.{Refused}
-use Rattle.zp_model.specs.declared.refused.Refused.TheVariants.{BelowMark, NoBlock, NothingPosted}
+use Rattle.zp_model.specs.declared.refused.Refused.TheVariants.{BelowMark, NoBlock, NothingPosted, BadPageblock, AlreadyIsolated, NotIsolated}
 use Rattle.zp_model.specs.declared.request.Reply.{Reply}
+use Rattle.zp_model.specs.declared.pageblock_type.PageblockType.{PageblockType}
+use Rattle.zp_model.specs.declared.pageblock_type.PageblockType.TheVariants.{Isolate}
 use Rattle.zp_model.specs.Choose.{Chosen, choose}
 use Rattle.zp_model.specs.Mark.{passes}
+use Rattle.zp_model.specs.PageblockType.{is_isolate, pageblock_type}
 use Rattle.zp_model.specs.Take.{take_low_answer}
 use Rattle.zp_model.specs.Zone.{PlainZone, PostedBlock, posted_to}
-use Rattle.zp_model.specs.Step.{Outcome, alloc, alloc_chosen, alloc_low_at, refuse, collected, refill, refill_end, page_of}
+use Rattle.zp_model.specs.Step.{Outcome, alloc, alloc_chosen, alloc_low_at, refuse, collected, refill, refill_end, page_of, with_kind, isolated, released}
 
 -- a request for a block is refused, or a block is chosen
 pub alloc_by : (P : Outcome → Type 0) (z : PlainZone) (w k : ℕ) (t : MigrateType) (m : Mark) → ((r : Refused) → P (refuse z r)) →
@@ -42,6 +45,26 @@ collected_by P z w none some = front (posted_to z w) refl
     front : (ps : List PostedBlock) → posted_to z w ≡ ps → P (collected z w ps)
     front [] e = none
     front (p ∷ ps) e = some p ps e
+
+-- a pageblock is isolated, or that is refused
+pub isolated_by : (P : Outcome → Type 0) (z : PlainZone) (b : ℕ) (o : Option PageblockType) → ((r : Refused) → P (refuse z r)) →
+    P (record { reply = Reply.Isolated; zone = with_kind z b Isolate }) → P (isolated z b o)
+isolated_by P z b None none some = none BadPageblock
+isolated_by P z b (Some now) none some =
+    elim (is_isolate now) as (λ i. P (cond i (refuse z AlreadyIsolated) (record { reply = Reply.Isolated; zone = with_kind z b Isolate }))) [
+      | true ↦ none AlreadyIsolated
+      | false ↦ some
+    ]
+
+-- it is released, or that is refused
+pub released_by : (P : Outcome → Type 0) (z : PlainZone) (b : ℕ) (t : MigrateType) (o : Option PageblockType) → ((r : Refused) → P (refuse z r)) →
+    P (record { reply = Reply.Released; zone = with_kind z b (pageblock_type t) }) → P (released z b t o)
+released_by P z b t None none some = none BadPageblock
+released_by P z b t (Some now) none some =
+    elim (is_isolate now) as (λ i. P (cond i (record { reply = Reply.Released; zone = with_kind z b (pageblock_type t) }) (refuse z NotIsolated))) [
+      | true ↦ some
+      | false ↦ none NotIsolated
+    ]
 
 -- a refill takes a page more, or ends: refused with no page, or with those that it has got
 module _ (P : Outcome → Type 0) (I : PlainZone → List ℕ → Type 0) (w : ℕ) (t : MigrateType) (m : Mark)

@@ -1,11 +1,12 @@
 -- A refused request leaves the zone as it was.
 use Rattle.std.proofs.Common.{ℕ, ◌≡◌, refl, List, [], ◌∷◌, ◌++◌}
+use Rattle.std.specs.Prelude.{slice_get}
 use Rattle.zp_model.specs.declared.refused.Refused.{Refused}
 use Rattle.zp_model.specs.declared.request.Request.{Request}
 use Rattle.zp_model.specs.declared.request.Reply.{Reply}
 use Rattle.zp_model.specs.Zone.{PlainZone}
 use Rattle.zp_model.specs.Step.{Outcome, step}
-use Rattle.zp_laws.proofs.Outcomes.{alloc_by, low_by, collected_by, refill_by}
+use Rattle.zp_laws.proofs.Outcomes.{alloc_by, low_by, collected_by, isolated_by, released_by, refill_by}
 
 -- an outcome that is a refusal and leaves the zone, or is none
 abbrev pub IsFair : PlainZone → Outcome → Type 0
@@ -24,3 +25,5 @@ refusal-same z w (Request.Refill t m n) =
     grown [] p e = cc
     grown (g ∷ got) p e = cc
 refusal-same z w (Request.Drain t ps) = λ r e. absurd (cc)
+refusal-same z w (Request.Isolate b) = isolated_by (IsFair z) z b (slice_get z.area.kinds b) (λ x r e. refl) (λ r e. absurd (cc))
+refusal-same z w (Request.Release b t) = released_by (IsFair z) z b t (slice_get z.area.kinds b) (λ x r e. refl) (λ r e. absurd (cc))

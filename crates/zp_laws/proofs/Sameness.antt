@@ -1,15 +1,19 @@
 -- What no request changes of a zone: its largest order, its size, its base, its least mark and the number of its workers.
 use Rattle.std.proofs.Common.{ℕ, ◌-◌, refl, ◌∙◌, ap, List, [], ◌∷◌, ◌++◌, length, Option, Some, None}
+use Rattle.std.specs.Prelude.{slice_get}
 use Rattle.std.proofs.lemmas.List.{length-set}
 use Rattle.zp_model.specs.declared.migrate_type.MigrateType.{MigrateType}
+use Rattle.zp_model.specs.declared.pageblock_type.PageblockType.{PageblockType}
+use Rattle.zp_model.specs.declared.pageblock_type.PageblockType.TheVariants.{Isolate}
 use Rattle.zp_model.specs.declared.request.Request.{Request}
 use Rattle.zp_model.specs.Choose.{Chosen}
+use Rattle.zp_model.specs.PageblockType.{pageblock_type}
 use Rattle.zp_model.specs.Zone.{PlainZone, Holding, holding_at, posted_to}
-use Rattle.zp_model.specs.Step.{alloc_chosen, freed, handed_on, drained, step}
+use Rattle.zp_model.specs.Step.{alloc_chosen, freed, handed_on, drained, with_kind, step}
 use Rattle.zp_model.proofs.Covers.{length-without, length-with}
 use Rattle.zp_laws.specs.FreePages.{IsSameZone}
-use Rattle.zp_laws.proofs.Areas.{free-taken, free-leave, free-give, largest-taken, largest-leave, largest-give}
-use Rattle.zp_laws.proofs.Outcomes.{alloc_by, low_by, collected_by, refill_by}
+use Rattle.zp_laws.proofs.Areas.{free-taken, free-leave, free-give, free-retype, largest-taken, largest-leave, largest-give, largest-retype}
+use Rattle.zp_laws.proofs.Outcomes.{alloc_by, low_by, collected_by, isolated_by, released_by, refill_by}
 
 same : (z : PlainZone) → IsSameZone z z
 same z = record { largest = refl; pages = refl; base = refl; min = refl; workers = refl }
@@ -36,6 +40,10 @@ drained-same z [] = same z
 drained-same z (p ∷ ps) =
     same_next z (freed z (p - z.base) 0) (drained (freed z (p - z.base) 0) ps) (freed-same z (p - z.base) 0) (drained-same (freed z (p - z.base) 0) ps)
 
+with_kind-same : (z : PlainZone) (b : ℕ) (t : PageblockType) → IsSameZone z (with_kind z b t)
+with_kind-same z b t =
+    record { largest = largest-retype z.area b t; pages = ap length (free-retype z.area b t); base = refl; min = refl; workers = refl }
+
 pub step-same : (z : PlainZone) (w : ℕ) (q : Request) → IsSameZone z (step z w q).zone
 step-same z w (Request.Alloc k t m) = alloc_by (λ o. IsSameZone z o.zone) z w k t m (λ r. same z) (λ c e. chosen-same z w k t c)
 step-same z w (Request.AllocLow k) = low_by (λ o. IsSameZone z o.zone) z w k (same z) (λ h e.
@@ -48,3 +56,6 @@ step-same z w (Request.Refill t m n) =
     refill_by (λ o. IsSameZone z o.zone) (λ y got. IsSameZone z y) w t m (λ y got c e i. same_next z y (alloc_chosen y w 0 t (Some c)).zone i (chosen-same y w 0 t c)) (λ y r i. i) (λ y got i. i)
     z [] n (same z)
 step-same z w (Request.Drain t ps) = drained-same z ps
+step-same z w (Request.Isolate b) = isolated_by (λ o. IsSameZone z o.zone) z b (slice_get z.area.kinds b) (λ r. same z) (with_kind-same z b Isolate)
+step-same z w (Request.Release b t) =
+    released_by (λ o. IsSameZone z o.zone) z b t (slice_get z.area.kinds b) (λ r. same z) (with_kind-same z b (pageblock_type t))

@@ -6,9 +6,9 @@ use Rattle.std.proofs.lemmas.Bool.{and_parts, or_cases, lt-ltb, le-ltb, both_way
 use Rattle.std.proofs.lemmas.Bool.Decides.{nat_tests}
 use Rattle.std.proofs.lemmas.List.Folds.{list_any-append}
 use Rattle.std.proofs.lemmas.List.FromFn.{get_or-map-range_with_len, length-map-range_with_len}
-use Rattle.zp_model.specs.declared.migrate_type.MigrateType.{MigrateType}
-use Rattle.zp_model.specs.declared.migrate_type.MigrateType.TheVariants.{Movable}
-use Rattle.zp_model.specs.MigrateType.{types_count}
+use Rattle.zp_model.specs.declared.pageblock_type.PageblockType.{PageblockType}
+use Rattle.zp_model.specs.declared.pageblock_type.PageblockType.TheVariants.{Movable}
+use Rattle.zp_model.specs.PageblockType.{pageblock_types}
 use Rattle.zp_model.specs.Rows.{list_at, stands_in}
 use Rattle.zp_model.specs.Area.{Area, falling, belongs, settled, settle, opening, lists_count, pageblocks_of}
 use Rattle.zp_model.specs.Lawful.{IsListedArea}
@@ -42,14 +42,14 @@ distinct-append (x ∷ xs) ys d e f =
     distinct_more x (xs ++ ys) (distinct-append xs ys (distinct_rest x xs d) e (λ h s t. f h (stands_later h x xs s) t))
     (λ s. elim (or_cases _ _ (sym (stands-append x xs ys) ∙ s)) [ inl a ↦ distinct_first x xs d a | inr b ↦ f x (stands_first x xs) b ])
 
-pub belongs_below : (m : ℕ) (free : List Bool) (kinds : List MigrateType) (r h : ℕ) → belongs m free kinds r h ≡ true → h < length free
+pub belongs_below : (m : ℕ) (free : List Bool) (kinds : List PageblockType) (r h : ℕ) → belongs m free kinds r h ≡ true → h < length free
 unfolding belongs
 belongs_below m free kinds r h e =
     let a = and_parts _ _ e in
-    let x = is_max-to m free h (r / types_count) a.0 in
-    has_below free h (x.inside h (omega arith) (omega (arith, pow_pos (r / types_count))))
+    let x = is_max-to m free h (r / pageblock_types) a.0 in
+    has_below free h (x.inside h (omega arith) (omega (arith, pow_pos (r / pageblock_types))))
 
-module _ (m : ℕ) (free : List Bool) (kinds : List MigrateType) (r : ℕ) where
+module _ (m : ℕ) (free : List Bool) (kinds : List PageblockType) (r : ℕ) where
   -- a settled list holds what belongs on it
   pub held-settled : (h : ℕ) (old : List ℕ) → stands_in h (settled m free kinds r old) ≡ belongs m free kinds r h
   unfolding settled

@@ -9,6 +9,7 @@ use Rattle.zp_model.specs.declared.block.Block.{Block}
 use Rattle.zp_model.specs.declared.request.Request.TheVariants as request
 use Rattle.zp_model.specs.declared.request.Reply.TheVariants as Reply
 use Rattle.zp_model.specs.Area.{Area, kind_at}
+use Rattle.zp_model.specs.PageblockType.{noted_type}
 use Rattle.zp_model.specs.Choose.{Chosen, choose}
 use Rattle.zp_model.specs.Take.{taken, leave, give, take_low_answer}
 use Rattle.zp_model.specs.Zone.{PlainZone, Holding, PostedBlock, holding_at, is_of, workers_of, hand_out}
@@ -72,14 +73,14 @@ module _ (z : PlainZone) (w k : ℕ) (t : MigrateType) (m : Mark) (l : IsLawful 
 module _ (z : PlainZone) (w k : ℕ) (l : IsLawful z) where
   pub alloc_low-kept : (v p j : ℕ) → is_out z v p j ≡ true → is_out (step z w (request.AllocLow k)).zone v p j ≡ true
   alloc_low-kept v p j q = low_by (λ o. is_out o.zone v p j ≡ true) z w k q (λ h e.
-      (handed z (leave z.area h k) z.posted w h k (kind_at z.area.largest z.area.kinds h) (low_place z k h e l)).kept v p j q)
+      (handed z (leave z.area h k) z.posted w h k (noted_type (kind_at z.area.largest z.area.kinds h)) (low_place z k h e l)).kept v p j q)
 
   -- the block that is answered, with the order asked for
   pub alloc_low-handed : (b : Block) → Reply.Block b ≡ (step z w (request.AllocLow k)).reply → (b.order ≡ k) × IsHandedOut z (step z w (request.AllocLow k)).zone w b.page k
   alloc_low-handed b r = low_by (λ o. Reply.Block b ≡ o.reply → (b.order ≡ k) × IsHandedOut z o.zone w b.page k) z w k (λ r. absurd (cc)) (λ h e r.
-      let x : Block = record { page = z.base + h; order = k; kind = kind_at z.area.largest z.area.kinds h } in
+      let x : Block = record { page = z.base + h; order = k; kind = noted_type (kind_at z.area.largest z.area.kinds h) } in
       let same : b ≡ x = cc in
-      rw same (refl, handed z (leave z.area h k) z.posted w h k (kind_at z.area.largest z.area.kinds h) (low_place z k h e l))) r
+      rw same (refl, handed z (leave z.area h k) z.posted w h k (noted_type (kind_at z.area.largest z.area.kinds h)) (low_place z k h e l))) r
 
 -- collecting a posted block
 module _ (z : PlainZone) (w : ℕ) (l : IsLawful z) (lt : w < workers_of z) where

@@ -1,23 +1,27 @@
 -- Each step that is defined moves exactly the pages that it hands out or that are given back.
 use Rattle.std.proofs.Common.{ℕ, ◌+◌, ◌-◌, ◌^◌, ◌≡◌, ◌<◌, ◌==◌, inl, inr, refl, sym, ◌∙◌, ap, arith, true, ◌||◌, [], ◌∷◌, ◌++◌, Option, Some, None}
+use Rattle.std.specs.Prelude.{slice_get}
 use Rattle.std.proofs.Math.Bool.{or-false}
 use Rattle.std.proofs.lemmas.Bool.{and_parts, cases_order, le-leb, lt-leb, lt-ltb, le-ltb, eq-eqb, ne_eqb}
 use Rattle.zp_model.specs.declared.migrate_type.MigrateType.{MigrateType}
+use Rattle.zp_model.specs.declared.pageblock_type.PageblockType.{PageblockType}
+use Rattle.zp_model.specs.declared.pageblock_type.PageblockType.TheVariants.{Isolate}
 use Rattle.zp_model.specs.declared.request.Request.{Request}
 use Rattle.zp_model.specs.Block.{in_run}
 use Rattle.zp_model.specs.Rows.{stands_in}
 use Rattle.zp_model.specs.Choose.{Chosen, choose}
+use Rattle.zp_model.specs.PageblockType.{pageblock_type}
 use Rattle.zp_model.specs.Zone.{PlainZone, Holding, holding_at, workers_of}
-use Rattle.zp_model.specs.Step.{alloc_chosen, alloc_low_at, freed, handed_on, collected, drained, step}
+use Rattle.zp_model.specs.Step.{alloc_chosen, alloc_low_at, freed, handed_on, collected, drained, with_kind, step}
 use Rattle.zp_model.specs.Run.{may_ask, is_out}
 use Rattle.zp_model.specs.Lawful.{IsLawful}
 use Rattle.zp_laws.specs.FreePages.{handed_out, given_back, IsMove}
 use Rattle.zp_laws.proofs.Settling.{stands-append}
-use Rattle.zp_laws.proofs.Areas.{free-taken, free-leave, free-give}
+use Rattle.zp_laws.proofs.Areas.{free-taken, free-leave, free-give, free-retype}
 use Rattle.zp_laws.proofs.Choosing.{choose_found, take_low_found, found_free}
 use Rattle.zp_laws.proofs.Held.{IsHolding, out-to, out_held, held_block, held-not_free}
 use Rattle.zp_laws.proofs.Moves.{none, move_by, move_none, move_out, move_back, move_out_out, move_back_back}
-use Rattle.zp_laws.proofs.Outcomes.{alloc_by, low_by, collected_by, refill_by}
+use Rattle.zp_laws.proofs.Outcomes.{alloc_by, low_by, collected_by, isolated_by, released_by, refill_by}
 use Rattle.zp_laws.proofs.Steps.{chosen_lawful, drained_by}
 
 nothing : (z : PlainZone) → IsMove z z none none
@@ -39,6 +43,9 @@ freed-moves z w p k l e =
 posted-moves : (z : PlainZone) (to h : ℕ) (o : Option Holding) → IsMove z (handed_on z to h o) none none
 posted-moves z to h None = nothing z
 posted-moves z to h (Some x) = move_none z (handed_on z to h (Some x)) refl refl
+
+with_kind-moves : (z : PlainZone) (b : ℕ) (t : PageblockType) → IsMove z (with_kind z b t) none none
+with_kind-moves z b t = move_none z (with_kind z b t) refl (free-retype z.area b t)
 
 run-one : (a p : ℕ) → in_run a 0 p ≡ (p == a)
 run-one a p = elim (cases_order a p) [
@@ -79,3 +86,8 @@ step_moves z w (Request.Drain t ps) l lt e =
     let x = freed y (q - y.base) 0 in
     move_by y (drained x qs) none none (λ p. in_run q 0 p || stands_in p qs) (λ p. stands_in p (q ∷ qs))
     (move_back_back y x (drained x qs) (in_run q 0) (λ p. stands_in p qs) (freed-moves y w q 0 k out) rest) (λ p. refl) (λ p. rw (run-one q p))) z ps a.0 a.1 l
+step_moves z w (Request.Isolate b) l lt e =
+    isolated_by (λ o. IsMove z o.zone (handed_out (Request.Isolate b) o.reply) none) z b (slice_get z.area.kinds b) (λ r. nothing z) (with_kind-moves z b Isolate)
+step_moves z w (Request.Release b t) l lt e =
+    released_by (λ o. IsMove z o.zone (handed_out (Request.Release b t) o.reply) none) z b t (slice_get z.area.kinds b) (λ r. nothing z)
+    (with_kind-moves z b (pageblock_type t))

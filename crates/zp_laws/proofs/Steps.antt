@@ -1,26 +1,31 @@
 -- Each step that is defined keeps a lawful zone lawful, and so does a legal list of entries.
 use Rattle.std.proofs.Common.{ℕ, ◌-◌, ◌≡◌, ◌≤◌, ◌<◌, ◌==◌, refl, sym, ◌∙◌, ap, arith, Bool, true, false, List, [], ◌∷◌, length, Option, Some, None}
+use Rattle.std.specs.Prelude.{slice_get}
 use Rattle.std.specs.List.{list_all}
 use Rattle.std.proofs.lemmas.Bool.{and_parts, and_from, ltb-true, eq-eqb, not-true, or_parts, both_ways, le-leb}
-use Rattle.std.proofs.lemmas.List.{get_or-set_other}
+use Rattle.std.proofs.lemmas.List.{length-set, get_or-set_other}
 use Rattle.zp_model.specs.declared.migrate_type.MigrateType.{MigrateType}
+use Rattle.zp_model.specs.declared.pageblock_type.PageblockType.{PageblockType}
+use Rattle.zp_model.specs.declared.pageblock_type.PageblockType.TheVariants.{Isolate}
 use Rattle.zp_model.specs.declared.mark.Mark.{Mark}
 use Rattle.zp_model.specs.Entries.{Entry}
 use Rattle.zp_model.specs.declared.request.Request.{Request}
 use Rattle.zp_model.specs.Area.{kind_at}
+use Rattle.zp_model.specs.PageblockType.{noted_type, pageblock_type}
 use Rattle.zp_model.specs.Block.{with_run}
 use Rattle.zp_model.specs.Choose.{Chosen, choose}
 use Rattle.zp_model.specs.Rows.{stands_in}
 use Rattle.zp_model.specs.Take.{taken, leave, give, take_low_answer}
 use Rattle.zp_model.specs.Zone.{PlainZone, Holding, holding_at, posted_to, is_of, workers_of}
-use Rattle.zp_model.specs.Step.{alloc, alloc_chosen, alloc_low_at, freed, handed_on, collected, refill, drained, step}
+use Rattle.zp_model.specs.Step.{alloc, alloc_chosen, alloc_low_at, freed, handed_on, collected, refill, drained, with_kind, step}
 use Rattle.zp_model.specs.Run.{may_ask, is_out, is_distinct, run, IsLegal}
 use Rattle.zp_model.specs.Lawful.{IsLawful}
-use Rattle.zp_laws.proofs.Areas.{free-taken, largest-taken, kinds-taken, lists-taken, free-leave, largest-leave, kinds-leave, lists-leave, free-give, largest-give, kinds-give, lists-give}
+use Rattle.zp_laws.proofs.Areas.{free-taken, largest-taken, kinds-taken, lists-taken, free-leave, largest-leave, kinds-leave, lists-leave, free-give, largest-give, kinds-give, lists-give, free-retype, largest-retype, kinds-retype, lists-retype}
 use Rattle.zp_laws.proofs.Choosing.{choose_found, take_low_found}
+use Rattle.zp_laws.proofs.HandedOut.{times-parts}
 use Rattle.zp_laws.proofs.Held.{IsHolding, out-to, out_held}
 use Rattle.zp_laws.proofs.Keeping.{goes_out, comes_back, posted_lawful, front_lawful}
-use Rattle.zp_laws.proofs.Outcomes.{alloc_by, low_by, collected_by, refill_by}
+use Rattle.zp_laws.proofs.Outcomes.{alloc_by, low_by, collected_by, isolated_by, released_by, refill_by}
 
 -- a block that is chosen goes out
 pub chosen_lawful : (z : PlainZone) (w k : ℕ) (t : MigrateType) (c : Chosen) → choose z.area k t ≡ Some c → IsLawful z → w < workers_of z → IsLawful (alloc_chosen z w k t (Some c)).zone
@@ -33,7 +38,7 @@ alloc_lawful z w k t m l lt = alloc_by (λ o. IsLawful o.zone) z w k t m (λ r. 
 
 pub alloc_low_lawful : (z : PlainZone) (w k : ℕ) → IsLawful z → w < workers_of z → IsLawful (alloc_low_at z w k (take_low_answer z.area k)).zone
 alloc_low_lawful z w k l lt = low_by (λ o. IsLawful o.zone) z w k l (λ h e.
-    goes_out z l (leave z.area h k) w h k (kind_at z.area.largest z.area.kinds h) lt (take_low_found z.area k h e) (lists-leave z.area h k l.lists) (largest-leave z.area h k)
+    goes_out z l (leave z.area h k) w h k (noted_type (kind_at z.area.largest z.area.kinds h)) lt (take_low_found z.area k h e) (lists-leave z.area h k l.lists) (largest-leave z.area h k)
     (free-leave z.area h k) (ap length (kinds-leave z.area h k)))
 
 pub freed_lawful : (z : PlainZone) (w h k : ℕ) → IsLawful z → IsHolding z w h k → IsLawful (freed z h k)
@@ -84,6 +89,17 @@ drained_by Q w none more z (p ∷ ps) e d l =
     (all_kept (λ q. is_out z w q 0) (λ q. is_out y w q 0) p ps (not-true _ b.0) (λ q ne out. still_out z w p 0 q 0 (out-to z w p 0 a.0).0 ne out) a.1) b.1
     (freed_lawful z w (p - z.base) 0 l (out_held z w p 0 a.0)))
 
+-- no page leaves its place when a pageblock gets another type
+retyped_lawful : (z : PlainZone) (b : ℕ) (t : PageblockType) → IsLawful z → IsLawful (with_kind z b t)
+retyped_lawful z b t l = record {
+  places = l.places ∙ sym (ap length (free-retype z.area b t));
+  kinds = rw (free-retype z.area b t, largest-retype z.area b t, kinds-retype z.area b t) (length-set z.area.kinds b t ∙ l.kinds);
+  out = rw (free-retype z.area b t, largest-retype z.area b t) l.out;
+  posted = rw (free-retype z.area b t, largest-retype z.area b t) l.posted;
+  once = λ i lt. times-parts (with_kind z b t) i ∙ rw (free-retype z.area b t) (sym (times-parts z i) ∙ l.once i (rw (free-retype z.area b t) at lt));
+  lists = lists-retype z.area b t l.lists;
+}
+
 pub step_lawful : (z : PlainZone) (w : ℕ) (q : Request) → IsLawful z → w < workers_of z → may_ask z w q ≡ true → IsLawful (step z w q).zone
 step_lawful z w (Request.Alloc k t m) l lt e = alloc_lawful z w k t m l lt
 step_lawful z w (Request.AllocLow k) l lt e = alloc_low_lawful z w k l lt
@@ -92,6 +108,9 @@ step_lawful z w (Request.Post p k to) l lt e = post_lawful z to (p - z.base) l (
 step_lawful z w Request.Collect l lt e = collect_lawful z w l lt
 step_lawful z w (Request.Refill t m n) l lt e = refill_lawful z w t m [] n l lt
 step_lawful z w (Request.Drain t ps) l lt e = let a = and_parts _ _ e in drained_by (λ y qs. IsLawful (drained y qs)) w (λ y k. k) (λ y p qs k out r. r) z ps a.0 a.1 l
+step_lawful z w (Request.Isolate b) l lt e = isolated_by (λ o. IsLawful o.zone) z b (slice_get z.area.kinds b) (λ r. l) (retyped_lawful z b Isolate l)
+step_lawful z w (Request.Release b t) l lt e =
+    released_by (λ o. IsLawful o.zone) z b t (slice_get z.area.kinds b) (λ r. l) (retyped_lawful z b (pageblock_type t) l)
 
 pub run_lawful : (z : PlainZone) (es : List Entry) → IsLawful z → IsLegal z es → IsLawful (run z es)
 run_lawful z [] l legal = l

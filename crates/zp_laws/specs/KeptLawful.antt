@@ -1,13 +1,14 @@
 -- What keeps a zone lawful.
-use Rattle.std.specs.Prelude.{ℕ, ◌≡◌, ◌<◌, ◌==◌, List, None, Some}
+use Rattle.std.specs.Prelude.{ℕ, ◌≡◌, ◌<◌, ◌==◌, false, List, None, Some}
 use Rattle.std.specs.List.{IsDistinct}
 use Rattle.zp_model.specs.declared.migrate_type.MigrateType.{MigrateType}
 use Rattle.zp_model.specs.declared.mark.Mark.{Mark}
 use Rattle.zp_model.specs.Entries.{Entry}
 use Rattle.zp_model.specs.declared.request.Request.{Request}
-use Rattle.zp_model.specs.Area.{Area, settle, lists_count}
+use Rattle.zp_model.specs.Area.{Area, settle, lists_count, is_isolated}
 use Rattle.zp_model.specs.Rows.{list_at}
 use Rattle.zp_model.specs.Choose.{Chosen, choose}
+use Rattle.zp_model.specs.Take.{take_low_answer}
 use Rattle.zp_model.specs.Zone.{PlainZone, zone_opening, workers_of}
 use Rattle.zp_model.specs.Step.{alloc, step}
 use Rattle.zp_model.specs.Run.{IsDefined, run, IsLegal}
@@ -27,10 +28,24 @@ abbrev pub ChoosingFindsFree : Type 0
 ChoosingFindsFree =
     (a : Area) (k : ℕ) (t : MigrateType) (c : Chosen) → IsListedArea a → choose a k t ≡ Some c → IsFound a.largest a.free k c.head
 
--- and where none is chosen, no free block is large enough
+-- and it lies in no isolated pageblock
+abbrev pub ChoosingPassesIsolated : Type 0
+ChoosingPassesIsolated =
+    (a : Area) (k : ℕ) (t : MigrateType) (c : Chosen) → IsListedArea a → choose a k t ≡ Some c → is_isolated a.largest a.kinds c.head ≡ false
+
+-- where none is chosen, no free block outside isolated pageblocks is large enough
 abbrev pub ChoosingMissesNone : Type 0
 ChoosingMissesNone =
-    (a : Area) (k : ℕ) (t : MigrateType) (h : ℕ) → IsListedArea a → choose a k t ≡ None → IsFound a.largest a.free k h → ⊥
+    (a : Area) (k : ℕ) (t : MigrateType) (h : ℕ) → IsListedArea a → choose a k t ≡ None → is_isolated a.largest a.kinds h ≡ false → IsFound a.largest a.free k h → ⊥
+
+-- the lowest block that is looked for lies in no isolated pageblock either
+abbrev pub LowestPassesIsolated : Type 0
+LowestPassesIsolated = (a : Area) (k h : ℕ) → take_low_answer a k ≡ Some h → is_isolated a.largest a.kinds h ≡ false
+
+-- and where there is none, no free block outside isolated pageblocks is large enough
+abbrev pub LowestMissesNone : Type 0
+LowestMissesNone =
+    (a : Area) (k h : ℕ) → take_low_answer a k ≡ None → is_isolated a.largest a.kinds h ≡ false → IsFound a.largest a.free k h → ⊥
 
 abbrev pub AllocKeepsLawful : Type 0
 AllocKeepsLawful =

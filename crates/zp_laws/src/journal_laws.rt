@@ -1,6 +1,6 @@
 //! Laws on journals, and on taking and giving back. Each function does nothing: its contract is the law.
 ghost use Rattle.zp_laws.specs.Journals.{JournalsReplay, LegalHistoriesAreJournals, HistoriesBegin, HistoriesGoOn};
-ghost use Rattle.zp_laws.specs.TakenBack.{GivingBackRestores};
+ghost use Rattle.zp_laws.specs.TakenBack.{GivingBackRestores, ReleasingRestores};
 
 /// A journal run from where it began gives the zone that made it, and is legal there.
 pub fn journals_replay()
@@ -25,4 +25,9 @@ pub fn histories_go_on()
 /// A block that is taken and given back leaves the free pages as they were, and the types where none was claimed.
 pub fn giving_back_restores()
     ensures { GivingBackRestores }
+{}
+
+/// A pageblock that is isolated, and released with its type, leaves the free pages, the types and the books as they were.
+pub fn releasing_restores()
+    ensures { ReleasingRestores }
 {}

@@ -12,10 +12,11 @@ pub use book_laws::{
 };
 pub use journal_laws::{
     giving_back_restores, histories_begin, histories_go_on, journals_replay,
-    legal_histories_are_journals,
+    legal_histories_are_journals, releasing_restores,
 };
 pub use page_laws::{pages_add_up, refusals_change_nothing, steps_keep_the_zone, steps_move_pages};
 pub use zone_laws::{
-    alloc_keeps_lawful, choosing_finds_free, choosing_misses_none, opening_is_lawful,
-    runs_keep_lawful, settling_lists_the_area, steps_keep_lawful,
+    alloc_keeps_lawful, choosing_finds_free, choosing_misses_none, choosing_passes_isolated,
+    lowest_misses_none, lowest_passes_isolated, opening_is_lawful, runs_keep_lawful,
+    settling_lists_the_area, steps_keep_lawful,
 };

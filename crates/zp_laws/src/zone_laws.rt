@@ -3,7 +3,10 @@ ghost use Rattle.zp_laws.specs.KeptLawful.{
   OpeningIsLawful,
   SettlingListsTheArea,
   ChoosingFindsFree,
+  ChoosingPassesIsolated,
   ChoosingMissesNone,
+  LowestPassesIsolated,
+  LowestMissesNone,
   AllocKeepsLawful,
   StepsKeepLawful,
   RunsKeepLawful,
@@ -24,9 +27,24 @@ pub fn choosing_finds_free()
     ensures { ChoosingFindsFree }
 {}
 
-/// None is chosen only where no free block is large enough.
+/// What is chosen lies in no isolated pageblock.
+pub fn choosing_passes_isolated()
+    ensures { ChoosingPassesIsolated }
+{}
+
+/// None is chosen only where no free block outside isolated pageblocks is large enough.
 pub fn choosing_misses_none()
     ensures { ChoosingMissesNone }
+{}
+
+/// The lowest block that is looked for lies in no isolated pageblock.
+pub fn lowest_passes_isolated()
+    ensures { LowestPassesIsolated }
+{}
+
+/// None is found only where no free block outside isolated pageblocks is large enough.
+pub fn lowest_misses_none()
+    ensures { LowestMissesNone }
 {}
 
 /// Handing out a block keeps a lawful zone lawful.

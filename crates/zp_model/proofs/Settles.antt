@@ -4,8 +4,8 @@ use Rattle.std.specs.List.{filter, IsDistinct, AllByRecursion}
 use Rattle.std.proofs.Math.Bool.{or-true}
 use Rattle.std.proofs.lemmas.Nat.{pow_pos}
 use Rattle.std.proofs.lemmas.Bool.{and_parts, and_from, or_cases, cases_eq, eqb-true, eq-eqb, false≢true, not-true, both_ways, false_from_ne_true}
-use Rattle.zp_model.specs.declared.migrate_type.MigrateType.{MigrateType}
-use Rattle.zp_model.specs.MigrateType.{types_count}
+use Rattle.zp_model.specs.declared.pageblock_type.PageblockType.{PageblockType}
+use Rattle.zp_model.specs.PageblockType.{pageblock_types}
 use Rattle.zp_model.specs.Rows.{stands_in}
 use Rattle.zp_model.specs.Area.{falling, belongs, settled}
 use Rattle.zp_model.specs.BlockSet.{Starts, cover}
@@ -64,17 +64,17 @@ pub distinct_rest : (h : ℕ) (xs : List ℕ) → IsDistinct (λ x y. x == y) (h
 unfolding IsDistinct
 distinct_rest h xs d = d.1
 
-module _ (m : ℕ) (t : List (Option ℕ)) (kinds : List MigrateType) (r : ℕ) where
+module _ (m : ℕ) (t : List (Option ℕ)) (kinds : List PageblockType) (r : ℕ) where
   pub belongs-to : (h : ℕ) → IsNormal m (Starts t) (In (cover t)) → belongs m (cover t) kinds r h ≡ true → Here m t kinds r h
   unfolding belongs
   belongs-to h z e =
       let a = and_parts _ _ e in
-      (maximal_to m (Starts t) (In (cover t)) z h (r / types_count) (is_max-to m (cover t) h (r / types_count) a.0), eqb-true _ _ a.1)
+      (maximal_to m (Starts t) (In (cover t)) z h (r / pageblock_types) (is_max-to m (cover t) h (r / pageblock_types) a.0), eqb-true _ _ a.1)
 
   pub belongs-from : (h : ℕ) → IsNormal m (Starts t) (In (cover t)) → Here m t kinds r h → belongs m (cover t) kinds r h ≡ true
   unfolding belongs
   belongs-from h z x =
-      and_from _ _ (is_max-from m (cover t) h (r / types_count) (maximal_from m (Starts t) (In (cover t)) z h (r / types_count) x.0)) (eq-eqb _ _ x.1)
+      and_from _ _ (is_max-from m (cover t) h (r / pageblock_types) (maximal_from m (Starts t) (In (cover t)) z h (r / pageblock_types) x.0)) (eq-eqb _ _ x.1)
 
   old_left : (xs : List ℕ) → IsNormal m (Starts t) (In (cover t)) → ((h : ℕ) → stands_in h xs ≡ true → Here m t kinds r h) → filter (belongs m (cover t) kinds r) xs ≡ xs
   old_left xs z f = filter_all (belongs m (cover t) kinds r) xs (λ x e. belongs-from x z (f x e))
@@ -95,7 +95,7 @@ module _ (m : ℕ) (t : List (Option ℕ)) (kinds : List MigrateType) (r : ℕ) 
   unfolding settled
   settled_new g xs ys z e w out f =
       let p : ℕ → Bool = λ h. belongs m (cover t) kinds r h && not (stands_in h xs) in
-      let inside : In (cover t) g = z.inside g (r / types_count) w.0 g (omega arith) (omega (arith, pow_pos (r / types_count))) in
+      let inside : In (cover t) g = z.inside g (r / pageblock_types) w.0 g (omega arith) (omega (arith, pow_pos (r / pageblock_types))) in
       let new : stands_in g xs ≡ false = false_from_ne_true _ out in
       let only : (x : ℕ) → p x ≡ true → x ≡ g = λ x q.
       let a = and_parts _ _ q in

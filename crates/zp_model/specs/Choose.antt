@@ -6,6 +6,7 @@ use Rattle.zp_model.specs.declared.migrate_type.MigrateType.{MigrateType}
 use Rattle.zp_model.specs.declared.migrate_type.MigrateType.TheVariants.{Movable}
 use Rattle.zp_model.specs.BlockSet.{first_of, orders_from}
 use Rattle.zp_model.specs.MigrateType.{foreign, same_type}
+use Rattle.zp_model.specs.PageblockType.{pageblock_type}
 use Rattle.zp_model.specs.Rows.{front}
 use Rattle.zp_model.specs.Area.{Area, pageblock_pages, free_list, size_in}
 
@@ -21,7 +22,7 @@ chosen_at claims (Some h) = Some (record { head = h; claims = claims })
 
 -- own lists, the least order first: the front block
 unfoldable pub own : Area → ℕ → MigrateType → Option ℕ
-own a k t = first_of (λ o. front (free_list a o t)) (orders_from a.largest k)
+own a k t = first_of (λ o. front (free_list a o (pageblock_type t))) (orders_from a.largest k)
 
 -- the least order of a free block that a Movable request may claim a pageblock by
 abbrev pub least_movable_claim : ℕ → ℕ
@@ -39,11 +40,11 @@ is_claimable a t o h =
 
 -- foreign lists, the largest order first: the first block that may be claimed
 unfoldable pub claim : Area → ℕ → MigrateType → Option ℕ
-claim a k t = first_of (λ o. first_of (λ f. find (is_claimable a t o) (free_list a o f)) (foreign t)) (reverse (orders_from a.largest k))
+claim a k t = first_of (λ o. first_of (λ f. find (is_claimable a t o) (free_list a o (pageblock_type f))) (foreign t)) (reverse (orders_from a.largest k))
 
 -- foreign lists, the least order first: the front block
 unfoldable pub borrow : Area → ℕ → MigrateType → Option ℕ
-borrow a k t = first_of (λ o. first_of (λ f. front (free_list a o f)) (foreign t)) (orders_from a.largest k)
+borrow a k t = first_of (λ o. first_of (λ f. front (free_list a o (pageblock_type f))) (foreign t)) (orders_from a.largest k)
 
 unfoldable pub choose : Area → ℕ → MigrateType → Option Chosen
 choose a k t =

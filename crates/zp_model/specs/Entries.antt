@@ -5,9 +5,9 @@ use Rattle.zp_model.specs.declared.entry.Asked.TheVariants as asked
 use Rattle.zp_model.specs.declared.entry.Answered.{Answered}
 use Rattle.zp_model.specs.declared.entry.Answered.TheVariants as answered
 use Rattle.zp_model.specs.declared.request.Request.{Request}
-use Rattle.zp_model.specs.declared.request.Request.TheVariants.{Alloc, AllocLow, Free, Post, Collect, Refill, Drain}
+use Rattle.zp_model.specs.declared.request.Request.TheVariants.{Alloc, AllocLow, Free, Post, Collect, Refill, Drain, Isolate, Release}
 use Rattle.zp_model.specs.declared.request.Reply.{Reply}
-use Rattle.zp_model.specs.declared.request.Reply.TheVariants.{Page, Block, Freed, Posted, Pages, Drained, Refused}
+use Rattle.zp_model.specs.declared.request.Reply.TheVariants.{Page, Block, Freed, Posted, Pages, Drained, Isolated, Released, Refused}
 
 -- one request that a worker made of a zone, with its reply
 pub record Entry : Type 0 where
@@ -46,6 +46,8 @@ asked_of (Post p k to) = asked.Post p k to
 asked_of Collect = asked.Collect
 asked_of (Refill t m n) = asked.Refill t m n
 asked_of (Drain t ps) = asked.Drain t
+asked_of (Isolate b) = asked.Isolate b
+asked_of (Release b t) = asked.Release b t
 
 abbrev pub request_of : Asked → List ℕ → Request
 request_of (asked.Alloc k t m) ps = Alloc k t m
@@ -55,6 +57,8 @@ request_of (asked.Post p k to) ps = Post p k to
 request_of asked.Collect ps = Collect
 request_of (asked.Refill t m n) ps = Refill t m n
 request_of (asked.Drain t) ps = Drain t ps
+request_of (asked.Isolate b) ps = Isolate b
+request_of (asked.Release b t) ps = Release b t
 
 -- a reply without its list, and with it again
 abbrev pub answered_of : Reply → Answered
@@ -64,6 +68,8 @@ answered_of Freed = answered.Freed
 answered_of Posted = answered.Posted
 answered_of (Pages ps) = answered.Pages
 answered_of Drained = answered.Drained
+answered_of Isolated = answered.Isolated
+answered_of Released = answered.Released
 answered_of (Refused r) = answered.Refused r
 
 abbrev pub reply_of : Answered → List ℕ → Reply
@@ -73,6 +79,8 @@ reply_of answered.Freed ps = Freed
 reply_of answered.Posted ps = Posted
 reply_of answered.Pages ps = Pages ps
 reply_of answered.Drained ps = Drained
+reply_of answered.Isolated ps = Isolated
+reply_of answered.Released ps = Released
 reply_of (answered.Refused r) ps = Refused r
 
 abbrev pub entry_of_parts : ℕ → Asked → Answered → List ℕ → Entry

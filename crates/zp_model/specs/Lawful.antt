@@ -1,7 +1,7 @@
 -- When a plain zone is lawful: each page lies in exactly one place, and each free list holds what belongs there, each once.
 use Rattle.std.specs.Prelude.{ℕ, ◌+◌, ◌/◌, ◌%◌, ◌≡◌, ◌<◌, ◌==◌, Bool, true, false, List, length, cond, Option, None, Some, All}
-use Rattle.zp_model.specs.declared.migrate_type.MigrateType.{MigrateType}
-use Rattle.zp_model.specs.MigrateType.{type_number, types_count}
+use Rattle.zp_model.specs.declared.pageblock_type.PageblockType.{PageblockType}
+use Rattle.zp_model.specs.PageblockType.{pageblock_type_number, pageblock_types}
 use Rattle.std.specs.List.{range_with_len, count_by, sum_by, IsDistinct}
 use Rattle.zp_model.specs.Block.{has, in_run, IsBlock}
 use Rattle.zp_model.specs.Rows.{list_at, stands_in}
@@ -32,11 +32,11 @@ pub record IsListedArea (a : Area) : Type 0 where
   pub held : (r h : ℕ) → r < lists_count a.largest → stands_in h (list_at a.lists r) ≡ belongs a.largest a.free a.kinds r h
 
 -- the block of the row's order starts at h, in a pageblock of the row's type
-abbrev pub Here : ℕ → List (Option ℕ) → List MigrateType → ℕ → ℕ → Type 0
-Here m s kinds r h = Starts s h (r / types_count) × (type_number (kind_at m kinds h) ≡ r % types_count)
+abbrev pub Here : ℕ → List (Option ℕ) → List PageblockType → ℕ → ℕ → Type 0
+Here m s kinds r h = Starts s h (r / pageblock_types) × (pageblock_type_number (kind_at m kinds h) ≡ r % pageblock_types)
 
 -- the list holds, each once, what belongs in row r
-pub record IsListed (m : ℕ) (s : List (Option ℕ)) (kinds : List MigrateType) (r : ℕ) (xs : List ℕ) : Type 0 where
+pub record IsListed (m : ℕ) (s : List (Option ℕ)) (kinds : List PageblockType) (r : ℕ) (xs : List ℕ) : Type 0 where
   pub distinct : IsDistinct (λ x y. x == y) xs
   pub to : (h : ℕ) → stands_in h xs ≡ true → Here m s kinds r h
   pub from : (h : ℕ) → Here m s kinds r h → stands_in h xs ≡ true

@@ -1,6 +1,7 @@
 pub mod Block
 pub mod BlockSet
 pub mod MigrateType
+pub mod PageblockType
 pub mod Rows
 pub mod Area
 pub mod Frames

@@ -4,6 +4,7 @@ use Rattle.zp_model.specs.declared.mark.Mark.{Mark}
 use Rattle.zp_model.specs.declared.mark.Mark.TheVariants.{Low, Min, Any}
 use Rattle.zp_model.specs.declared.mark.Level.{Level}
 use Rattle.zp_model.specs.Block.{size}
+use Rattle.zp_model.specs.Area.{available}
 use Rattle.zp_model.specs.Zone.{PlainZone}
 
 abbrev pub low_mark : ℕ → ℕ
@@ -12,20 +13,20 @@ low_mark min = min + min / 4
 abbrev pub high_mark : ℕ → ℕ
 high_mark min = min + min / 2
 
--- whether a request of order k may go on at a mark, with so many free pages over so small a least mark
+-- whether a request of order k may go on at a mark, with so many pages at hand over so small a least mark
 abbrev pub is_above : ℕ → ℕ → ℕ → Mark → Bool
 is_above min free k Low = ltb (low_mark min + 2 ^ k - 1) free
 is_above min free k Min = ltb (min + 2 ^ k - 1) free
 is_above min free k Any = true
 
--- the pages that marks look at: the free ones
+-- the pages that marks look at: the free ones outside isolated pageblocks
 abbrev pub pages_at_hand : PlainZone → ℕ
-pages_at_hand z = size z.area.free
+pages_at_hand z = size (available z.area.largest z.area.kinds z.area.free)
 
 abbrev pub passes : PlainZone → ℕ → Mark → Bool
 passes z k m = is_above z.min (pages_at_hand z) k m
 
--- the highest mark that the free pages are above
+-- the highest mark that the pages at hand are above
 abbrev pub level_above : ℕ → ℕ → Level
 level_above min free =
     if ltb (high_mark min) free

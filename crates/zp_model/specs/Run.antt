@@ -4,7 +4,7 @@ use Rattle.std.specs.List.{list_all}
 use Rattle.zp_model.specs.declared.constants.TheConstants.{MAX_BATCH}
 use Rattle.zp_model.specs.Entries.{Entry}
 use Rattle.zp_model.specs.declared.request.Request.{Request}
-use Rattle.zp_model.specs.declared.request.Request.TheVariants.{Alloc, AllocLow, Free, Post, Collect, Refill, Drain}
+use Rattle.zp_model.specs.declared.request.Request.TheVariants.{Alloc, AllocLow, Free, Post, Collect, Refill, Drain, Isolate, Release}
 use Rattle.zp_model.specs.Rows.{stands_in}
 use Rattle.zp_model.specs.Zone.{PlainZone, holds, pages_of, workers_of, zone_opening}
 use Rattle.zp_model.specs.Step.{step}
@@ -26,6 +26,8 @@ may_ask z w (Post p k to) = is_out z w p k && ltb to (workers_of z)
 may_ask z w Collect = true
 may_ask z w (Refill t m n) = leb 1 n && leb n MAX_BATCH
 may_ask z w (Drain t ps) = list_all (λ p. is_out z w p 0) ps && is_distinct ps
+may_ask z w (Isolate b) = true
+may_ask z w (Release b t) = true
 
 abbrev pub run : PlainZone → List Entry → PlainZone
 run z [] = z

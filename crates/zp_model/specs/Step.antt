@@ -1,14 +1,17 @@
 -- The step of a plain zone: what a worker's request is answered, and what it leaves. Pages in requests and replies are absolute.
-use Rattle.std.specs.Prelude.{ℕ, suc, zero, ◌+◌, ◌-◌, List, [], ◌∷◌, ◌++◌, cond, Option, None, Some, slice_set}
+use Rattle.std.specs.Prelude.{ℕ, suc, zero, ◌+◌, ◌-◌, List, [], ◌∷◌, ◌++◌, cond, Option, None, Some, slice_get, slice_set}
 use Rattle.zp_model.specs.declared.migrate_type.MigrateType.{MigrateType}
 use Rattle.zp_model.specs.declared.mark.Mark.{Mark}
 use Rattle.zp_model.specs.declared.refused.Refused.{Refused}
-use Rattle.zp_model.specs.declared.refused.Refused.TheVariants.{BelowMark, NoBlock, NothingPosted}
+use Rattle.zp_model.specs.declared.refused.Refused.TheVariants.{BelowMark, NoBlock, NothingPosted, BadPageblock, AlreadyIsolated, NotIsolated}
 use Rattle.zp_model.specs.declared.request.Request.{Request}
 use Rattle.zp_model.specs.declared.request.Reply.{Reply}
+use Rattle.zp_model.specs.declared.pageblock_type.PageblockType.{PageblockType}
+use Rattle.zp_model.specs.declared.pageblock_type.PageblockType.TheVariants.{Isolate}
+use Rattle.zp_model.specs.PageblockType.{is_isolate, noted_type, pageblock_type}
 use Rattle.zp_model.specs.Area.{kind_at}
 use Rattle.zp_model.specs.Choose.{Chosen, choose}
-use Rattle.zp_model.specs.Take.{taken, leave, give, take_low_answer}
+use Rattle.zp_model.specs.Take.{taken, leave, give, retype, take_low_answer}
 use Rattle.zp_model.specs.Zone.{PlainZone, Holding, PostedBlock, hand_out, take_back, holding_at, posted_to}
 use Rattle.zp_model.specs.Mark.{passes}
 
@@ -34,8 +37,8 @@ abbrev pub alloc_low_at : PlainZone → ℕ → ℕ → Option ℕ → Outcome
 alloc_low_at z w k None = refuse z NoBlock
 alloc_low_at z w k (Some h) =
     record {
-      reply = Reply.Block (record { page = z.base + h; order = k; kind = kind_at z.area.largest z.area.kinds h });
-      zone = hand_out (record z { area = leave z.area h k }) w h k (kind_at z.area.largest z.area.kinds h);
+      reply = Reply.Block (record { page = z.base + h; order = k; kind = noted_type (kind_at z.area.largest z.area.kinds h) });
+      zone = hand_out (record z { area = leave z.area h k }) w h k (noted_type (kind_at z.area.largest z.area.kinds h));
     }
 
 -- the block (h, k) is out no more, and its pages are free
@@ -79,6 +82,21 @@ abbrev pub drained : PlainZone → List ℕ → PlainZone
 drained z [] = z
 drained z (p ∷ ps) = drained (freed z (p - z.base) 0) ps
 
+-- pageblock b gets a type
+abbrev pub with_kind : PlainZone → ℕ → PageblockType → PlainZone
+with_kind z b t = record z { area = retype z.area b t }
+
+-- pageblock b, which has this type now, or is none of the zone's, is isolated
+abbrev pub isolated : PlainZone → ℕ → Option PageblockType → Outcome
+isolated z b None = refuse z BadPageblock
+isolated z b (Some now) = cond (is_isolate now) (refuse z AlreadyIsolated) (record { reply = Reply.Isolated; zone = with_kind z b Isolate })
+
+-- and it is released, as one for requests of type t
+abbrev pub released : PlainZone → ℕ → MigrateType → Option PageblockType → Outcome
+released z b t None = refuse z BadPageblock
+released z b t (Some now) =
+    cond (is_isolate now) (record { reply = Reply.Released; zone = with_kind z b (pageblock_type t) }) (refuse z NotIsolated)
+
 abbrev pub step : PlainZone → ℕ → Request → Outcome
 step z w (Request.Alloc k t m) = alloc z w k t m
 step z w (Request.AllocLow k) = alloc_low_at z w k (take_low_answer z.area k)
@@ -88,3 +106,5 @@ step z w (Request.Post p k to) =
 step z w Request.Collect = collected z w (posted_to z w)
 step z w (Request.Refill t m n) = refill z w t m [] n
 step z w (Request.Drain t ps) = record { reply = Reply.Drained; zone = drained z ps }
+step z w (Request.Isolate b) = isolated z b (slice_get z.area.kinds b)
+step z w (Request.Release b t) = released z b t (slice_get z.area.kinds b)

@@ -14,6 +14,9 @@ pub const ORDERS: usize = LARGEST_ORDER as usize + 1;
 /// How many migrate types there are.
 pub const TYPES: usize = 3;
 
+/// How many types a pageblock can have: the migrate types, and Isolate.
+pub const PAGEBLOCK_TYPES: usize = TYPES + 1;
+
 /// The largest number of pages of a zone.
 pub const MAX_PAGES: u32 = 65536;
 

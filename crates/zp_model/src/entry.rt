@@ -15,6 +15,8 @@ pub enum Asked {
     Collect,
     Refill(MigrateType, Mark, u8),
     Drain(MigrateType),
+    Isolate(u32),
+    Release(u32, MigrateType),
 }
 
 /// A reply, without the pages of a refill.
@@ -26,6 +28,8 @@ pub enum Answered {
     Posted,
     Pages,
     Drained,
+    Isolated,
+    Released,
     Refused(Refused),
 }
 
@@ -118,6 +122,8 @@ impl Entry {
             Asked::Collect => Request::Collect,
             Asked::Refill(kind, mark, count) => Request::Refill(kind, mark, count),
             Asked::Drain(kind) => Request::Drain(kind, self.pages.copied()),
+            Asked::Isolate(pageblock) => Request::Isolate(pageblock),
+            Asked::Release(pageblock, kind) => Request::Release(pageblock, kind),
         }
     }
 
@@ -132,6 +138,8 @@ impl Entry {
             Answered::Posted => Reply::Posted,
             Answered::Pages => Reply::Pages(self.pages.copied()),
             Answered::Drained => Reply::Drained,
+            Answered::Isolated => Reply::Isolated,
+            Answered::Released => Reply::Released,
             Answered::Refused(refused) => Reply::Refused(refused),
         }
     }
@@ -165,6 +173,8 @@ fn asked_of(request: &Request) -> Asked
         Request::Collect => Asked::Collect,
         Request::Refill(kind, mark, count) => Asked::Refill(*kind, *mark, *count),
         Request::Drain(kind, _) => Asked::Drain(*kind),
+        Request::Isolate(pageblock) => Asked::Isolate(*pageblock),
+        Request::Release(pageblock, kind) => Asked::Release(*pageblock, *kind),
     }
 }
 
@@ -180,6 +190,8 @@ fn answered_of(reply: &Reply) -> Answered
         Reply::Posted => Answered::Posted,
         Reply::Pages(_) => Answered::Pages,
         Reply::Drained => Answered::Drained,
+        Reply::Isolated => Answered::Isolated,
+        Reply::Released => Answered::Released,
         Reply::Refused(refused) => Answered::Refused(*refused),
     }
 }

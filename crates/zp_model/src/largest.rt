@@ -2,12 +2,12 @@
 //!
 //! In Linux: `MAX_PAGE_ORDER` and `pageblock_order`, which are fixed when the kernel is built.
 ghost use Rattle.std.specs.Prelude.{◌≡◌, ◌≤◌, ◌*◌, ◌/◌, ◌↔◌, IfSome, IsSome};
-ghost use Rattle.zp_model.specs.declared.constants.TheConstants.{LARGEST_BLOCK_PAGES, LARGEST_ORDER, MAX_PAGES, ORDERS, TYPES};
+ghost use Rattle.zp_model.specs.declared.constants.TheConstants.{LARGEST_BLOCK_PAGES, LARGEST_ORDER, MAX_PAGES, ORDERS, PAGEBLOCK_TYPES};
 ghost use Rattle.zp_model.specs.Area.{lists_count, pageblock_pages, pageblocks_of};
 ghost use Rattle.zp_model.specs.Bounds.{IsLargest};
 ghost use Rattle.zp_model.specs.Choose.{claim_pages, least_movable_claim};
 
-use crate::constants::{LARGEST_ORDER, MAX_PAGES, TYPES};
+use crate::constants::{LARGEST_ORDER, MAX_PAGES, PAGEBLOCK_TYPES};
 use crate::{Order, PageAt};
 use std::marker::Model;
 
@@ -66,12 +66,12 @@ impl Largest {
         Order::at(self.number)
     }
 
-    /// How many free lists a zone has: one for each order and type.
+    /// How many free lists a zone has: one for each order and type of a pageblock.
     pub const fn lists(self) -> usize
         ensures lists { result ≡ lists_count self }
-        ensures within { result ≤ TYPES * ORDERS }
+        ensures within { result ≤ PAGEBLOCK_TYPES * ORDERS }
     {
-        TYPES * (self.number as usize + 1)
+        PAGEBLOCK_TYPES * (self.number as usize + 1)
     }
 
     /// How many pages a pageblock has, which is as large as the largest block.

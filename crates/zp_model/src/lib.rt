@@ -17,6 +17,7 @@ mod name;
 mod order;
 mod page;
 mod page_list;
+mod pageblock_type;
 mod refused;
 mod request;
 mod state;
@@ -26,7 +27,8 @@ pub use block::Block;
 pub use blocks_law::{each_page_in_one_block, unjoined_blocks_are_maximal};
 pub use constants::{
     BASE_LIMIT, BASE_STEP, LARGEST_BLOCK_PAGES, LARGEST_ORDER, LONGEST_LIST, LONGEST_NAME,
-    MAX_BATCH, MAX_PAGES, MAX_WORKERS, MAX_ZONES, NAME_PLACES, NUMBER_PLACES, ORDERS, TYPES,
+    MAX_BATCH, MAX_PAGES, MAX_WORKERS, MAX_ZONES, NAME_PLACES, NUMBER_PLACES, ORDERS,
+    PAGEBLOCK_TYPES, TYPES,
 };
 pub use counts::Counts;
 pub use entry::Entry;
@@ -37,6 +39,7 @@ pub use name::Name;
 pub use order::Order;
 pub use page::{PageAt, PageNo};
 pub use page_list::PageList;
+pub use pageblock_type::PageblockType;
 pub use refused::Refused;
 pub use request::{Reply, Request};
 pub use state::State;

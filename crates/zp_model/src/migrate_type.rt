@@ -3,10 +3,12 @@
 //! In Linux: `enum migratetype`.
 ghost use Rattle.std.specs.Prelude.{◌≡◌, ◌<◌};
 ghost use Rattle.zp_model.specs.MigrateType.{foreign, type_number};
+ghost use Rattle.zp_model.specs.PageblockType.{pageblock_type};
 
+use crate::PageblockType;
 use crate::constants::TYPES;
 
-/// What kind of use a page is asked for; each pageblock has one.
+/// What kind of use a page is asked for.
 #[derive(Clone, Copy, PartialEq, Eq, Debug, Drop)]
 pub enum MigrateType {
     Unmovable,
@@ -24,6 +26,17 @@ impl MigrateType {
             MigrateType::Unmovable => 0,
             MigrateType::Reclaimable => 1,
             MigrateType::Movable => 2,
+        }
+    }
+
+    /// The type of a pageblock whose pages are for such use.
+    pub const fn pageblock_type(self) -> PageblockType
+        ensures { result ≡ pageblock_type self }
+    {
+        match self {
+            MigrateType::Unmovable => PageblockType::Unmovable,
+            MigrateType::Reclaimable => PageblockType::Reclaimable,
+            MigrateType::Movable => PageblockType::Movable,
         }
     }
 

@@ -17,12 +17,18 @@ pub enum Refused {
     BadWorkers,
     /// 6: there is no memory for the making.
     Memory,
-    /// 10: the request would take the free pages to its mark or below.
+    /// 10: the request would take the free pages outside isolated pageblocks to its mark or below.
     BelowMark,
-    /// 11: no free block is large enough.
+    /// 11: no free block outside isolated pageblocks is large enough.
     NoBlock,
     /// 12: nothing is posted to the worker.
     NothingPosted,
+    /// 13: the zone has no pageblock of this number.
+    BadPageblock,
+    /// 14: the pageblock is isolated already.
+    AlreadyIsolated,
+    /// 15: the pageblock is not isolated.
+    NotIsolated,
     /// 20: the block is not lent.
     NotLent,
     /// 21: the worker's list is full.
@@ -48,6 +54,9 @@ impl Refused {
             Refused::BelowMark => 10,
             Refused::NoBlock => 11,
             Refused::NothingPosted => 12,
+            Refused::BadPageblock => 13,
+            Refused::AlreadyIsolated => 14,
+            Refused::NotIsolated => 15,
             Refused::NotLent => 20,
             Refused::ListFull => 21,
             Refused::JournalFull => 30,

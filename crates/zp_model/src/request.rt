@@ -20,6 +20,10 @@ pub enum Request {
     Refill(MigrateType, Mark, u8),
     /// Gives back these pages; the type is only noted.
     Drain(MigrateType, PageList),
+    /// Isolates the pageblock of this number: its free pages are chosen by nobody until it is released.
+    Isolate(u32),
+    /// Gives the pageblock of this number, which is isolated, a migrate type.
+    Release(u32, MigrateType),
 }
 
 /// What a zone answers. Pages are absolute.
@@ -31,6 +35,8 @@ pub enum Reply {
     Posted,
     Pages(PageList),
     Drained,
+    Isolated,
+    Released,
     Refused(Refused),
 }
 
@@ -47,6 +53,8 @@ impl Request {
             Request::Collect => Request::Collect,
             Request::Refill(kind, mark, count) => Request::Refill(*kind, *mark, *count),
             Request::Drain(kind, pages) => Request::Drain(*kind, pages.copied()),
+            Request::Isolate(pageblock) => Request::Isolate(*pageblock),
+            Request::Release(pageblock, kind) => Request::Release(*pageblock, *kind),
         }
     }
 }
@@ -63,6 +71,8 @@ impl Reply {
             Reply::Posted => Reply::Posted,
             Reply::Pages(pages) => Reply::Pages(pages.copied()),
             Reply::Drained => Reply::Drained,
+            Reply::Isolated => Reply::Isolated,
+            Reply::Released => Reply::Released,
             Reply::Refused(refused) => Reply::Refused(*refused),
         }
     }

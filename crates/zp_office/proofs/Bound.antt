@@ -8,7 +8,7 @@ use Rattle.std.proofs.lemmas.List.Sums.{fails_before_first}
 use Rattle.std.proofs.lemmas.Slice.Eq.{bytes_eq-Decides}
 use Rattle.zp_trace.specs.declared.bounds.TheConstants.{MOST_LINES}
 use Rattle.zp_trace.specs.declared.line.Call.{Call}
-use Rattle.zp_trace.specs.declared.line.Call.TheVariants.{Info, Alloc, Low, Free, Post, Collect, Drain}
+use Rattle.zp_trace.specs.declared.line.Call.TheVariants.{Info, Alloc, Low, Free, Post, Collect, Drain, Isolate, Release}
 use Rattle.zp_trace.specs.declared.line.CommandLine.{CommandLine}
 use Rattle.zp_trace.specs.declared.trace.Header.{Header}
 use Rattle.zp_trace.specs.declared.trace.Trace.{Trace}
@@ -32,6 +32,8 @@ label_more xs ys worker (Free label) has = any_more (Binds worker label) xs ys h
 label_more xs ys worker (Post label to) has = any_more (Binds worker label) xs ys has
 label_more xs ys worker (Collect label zone) has = tt
 label_more xs ys worker Drain has = tt
+label_more xs ys worker (Isolate zone b) has = tt
+label_more xs ys worker (Release zone b t) has = tt
 
 -- one command of the lines goes over to those before it
 moved : (h : Header) (done cs : List CommandLine) (c : CommandLine) → IsBeginning (lines_with h done ++ map line.CommandLine (c ∷ cs)) →
@@ -121,6 +123,8 @@ slot_fits names cs worker (Post label to) k lt is has = slot_there cs worker lab
 slot_fits names cs worker (Collect label zone) k lt is has =
     first_below (binds label) (calls_of cs worker) k (Collect label zone) lt (ap (binds label) is ∙ label_itself label)
 slot_fits names cs worker Drain k lt is has = tt
+slot_fits names cs worker (Isolate zone b) k lt is has = tt
+slot_fits names cs worker (Release zone b t) k lt is has = tt
 
 pub slots_fit : (names : List (List ℕ)) (cs : List CommandLine) (worker : ℕ) → All (λ (c : CommandLine). HasLabel cs c.worker c.call) cs →
     All (HasSlotBelow (length (calls_of cs worker))) (map (scripted names (calls_of cs worker)) (calls_of cs worker))

@@ -8,7 +8,7 @@ use Rattle.std.proofs.lemmas.List.Sums.{fails_before_first}
 use Rattle.std.proofs.lemmas.Slice.Eq.{bytes_eq-Decides}
 use Rattle.zp_trace.specs.declared.line.ZoneLine.{ZoneLine}
 use Rattle.zp_trace.specs.declared.line.Call.{Call}
-use Rattle.zp_trace.specs.declared.line.Call.TheVariants.{Info, Alloc, Low, Free, Post, Collect, Drain}
+use Rattle.zp_trace.specs.declared.line.Call.TheVariants.{Info, Alloc, Low, Free, Post, Collect, Drain, Isolate, Release}
 use Rattle.zp_trace.specs.declared.line.CommandLine.{CommandLine}
 use Rattle.zp_trace.specs.declared.trace.Header.{Header}
 use Rattle.zp_trace.specs.Grammar.{IsCallOf, IsCommandOf, IsDeclared}
@@ -40,6 +40,8 @@ named h calls (Free label) is = tt
 named h calls (Post label to) is = is.1
 named h calls (Collect label zone) is = number_there h zone is.1
 named h calls Drain is = tt
+named h calls (Isolate zone b) is = number_there h zone is.0
+named h calls (Release zone b t) is = number_there h zone is.0
 
 pub names_there : (h : Header) (cs : List CommandLine) (worker : ℕ) (calls : List Call) → All (IsCommandOf h) cs →
     All (NamesBelow (length h.zones) h.workers) (map (scripted (names_of h.zones) calls) (calls_of cs worker))

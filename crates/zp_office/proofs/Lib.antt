@@ -11,3 +11,4 @@ pub mod Commands
 pub mod Leaving
 pub mod OpenedDesks
 pub mod Running
+pub mod HandedBack

@@ -5,14 +5,14 @@ use Rattle.std.specs.List.{AllZip}
 use Rattle.zp_board.specs.Boards.{BoardState}
 use Rattle.zp_counts.specs.CountBoards.{CountsSeen}
 use Rattle.zp_share.specs.Shares.{ZoneKey}
-use Rattle.zp_shared.specs.Rows.{AreReaders, OpenedState, opened_board, opened_key}
+use Rattle.zp_shared.specs.Rows.{AreKept, AreReaders, OpenedState, opened_board, opened_key}
 use Rattle.zp_shared.proofs.Opening.{zip_from_all}
 use Rattle.zp_shared.proofs.Readers.{kept_same}
 use Rattle.std.specs.Prelude.{Result, Ok, Err}
 use Rattle.zp_model.specs.declared.refused.Refused.{Refused}
 use Rattle.zp_model.specs.declared.refused.Refused.TheVariants.{NoThread}
 use Rattle.zp_office.specs.Desks.{DeskState, IsWorked}
-use Rattle.zp_office.specs.Runs.{AreKept, IsLentTo, IsRun, IsStopped}
+use Rattle.zp_office.specs.Runs.{IsLentTo, IsRun, IsStopped}
 
 pub all_front : {X : Type 0} (P : X → Type 0) (xs : List X) (x : X) (rest : List X) → All P xs → xs ≡ x ∷ rest → P x
 all_front P xs x rest h is = subst (λ ys. All P ys) is h zero x (omega arith)

@@ -6,7 +6,7 @@ use Rattle.zp_zone.specs.NamedZone.{NamedZone}
 use Rattle.zp_shared.proofs.Places.{zip_more}
 use Rattle.zp_office.specs.declared.command.Command.{Command}
 use Rattle.zp_office.specs.declared.reply.CommandReply.{CommandReply}
-use Rattle.zp_office.specs.declared.command.Command.TheVariants.{Info, Alloc, Low, Free, Post, Collect, Drain}
+use Rattle.zp_office.specs.declared.command.Command.TheVariants.{Info, Alloc, Low, Free, Post, Collect, Drain, Isolate, Release}
 use Rattle.zp_office.specs.Desks.{DeskState, PlainDesk, DeskWorld, IsDeskLeft, after_command, after_commands, desk_world, next_of, IsCommandFor, IsScriptFor}
 use Rattle.zp_share.specs.Shares.{ZoneKey, no_key}
 use Rattle.zp_office.specs.Scripts.{NamesBelow}
@@ -44,6 +44,8 @@ command_for keys workers (Free s) crew below = tt
 command_for keys workers (Post s to) crew below = λ i lt. omega (arith, below, crew i no_key lt)
 command_for keys workers (Collect s i) crew below = below
 command_for keys workers Drain crew below = tt
+command_for keys workers (Isolate i b) crew below = below
+command_for keys workers (Release i b t) crew below = below
 command_for keys workers Info crew below = tt
 
 pub script_for : (keys : List ZoneKey) (zones workers : ℕ) (script : List Command) → length keys ≡ zones → All (λ (k : ZoneKey). k.workers ≡ workers) keys →

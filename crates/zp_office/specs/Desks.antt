@@ -8,15 +8,14 @@ use Rattle.zp_model.specs.declared.refused.Refused.TheVariants.{NoBlock, Nothing
 use Rattle.zp_model.specs.declared.request.Request.TheVariants as request
 use Rattle.zp_model.specs.declared.request.Reply.{Reply as ZoneReply}
 use Rattle.zp_model.specs.declared.request.Reply.TheVariants as zone_reply
-use Rattle.zp_model.specs.Info.{counts_of}
 use Rattle.zp_zone.specs.NamedZone.{NamedZone}
 use Rattle.zp_share.specs.declared.commands.Lent.{Lent}
 use Rattle.zp_share.specs.PlainShares.{PlainShare}
-use Rattle.zp_share.specs.ZoneShares.{IsAllocRefusal}
-use Rattle.zp_share.specs.Commands.{World, Done, done, told_as, section, done_answer, alloc_down, free_in, drain_all, zone_at}
+use Rattle.zp_share.specs.ZoneShares.{IsAllocRefusal, IsIsolateRefusal, IsReleaseRefusal}
+use Rattle.zp_share.specs.Commands.{World, Done, done, told_as, section, done_answer, alloc_down, free_in, drain_all, counts_at}
 use Rattle.zp_share.specs.Shares.{ShareState, ZoneKey, IsShareOf, IsSameShare, HasWorkerAt, plain, ties_of}
 use Rattle.zp_office.specs.declared.command.Command.{Command}
-use Rattle.zp_office.specs.declared.command.Command.TheVariants.{Alloc, Low, Free, Post, Collect, Drain, Info}
+use Rattle.zp_office.specs.declared.command.Command.TheVariants.{Alloc, Low, Free, Post, Collect, Drain, Isolate, Release, Info}
 use Rattle.zp_office.specs.declared.reply.CommandReply.{CommandReply}
 use Rattle.zp_office.specs.declared.reply.CommandReply.TheVariants as reply
 
@@ -62,6 +61,8 @@ IsCommandFor keys (Alloc s k t i m) = i < length keys
 IsCommandFor keys (Low s k i) = i < length keys
 IsCommandFor keys (Post s to) = HaveWorker keys to
 IsCommandFor keys (Collect s i) = i < length keys
+IsCommandFor keys (Isolate i b) = i < length keys
+IsCommandFor keys (Release i b t) = i < length keys
 IsCommandFor keys c = ⊤
 
 abbrev pub IsScriptFor : List ZoneKey → List Command → Type 0
@@ -116,9 +117,6 @@ post_kept slots (Some l) to w =
 abbrev pub kept_at : Slots → ℕ → Option Lent
 kept_at slots s = slice_index_or slots s None
 
-abbrev pub counts_at : List NamedZone → ℕ → Counts
-counts_at zones i = let z = (zone_at zones i).plain in counts_of z.area.largest z.area.free
-
 -- the counts of each zone
 abbrev pub counts_in : World → List Counts
 counts_in w = map (counts_at w.zones) (range_with_len 0 (length w.share.zones))
@@ -131,6 +129,8 @@ carried_out slots w (Free s) = free_kept slots (kept_at slots s) w
 carried_out slots w (Post s to) = post_kept slots (kept_at slots s) to w
 carried_out slots w (Collect s i) = told_as (block_answer slots s i (λ b. reply.Block b)) (section w i request.Collect)
 carried_out slots w Drain = told_as (drained_answer slots) (drain_all w)
+carried_out slots w (Isolate i b) = told_as (λ q. plain_answer slots reply.Isolated (done_answer q)) (section w i (request.Isolate b))
+carried_out slots w (Release i b t) = told_as (λ q. plain_answer slots reply.Released (done_answer q)) (section w i (request.Release b t))
 carried_out slots w Info = done (answer_with slots (reply.Info (counts_in w))) w
 
 -- a desk without what ties its share to the zones
@@ -203,6 +203,16 @@ IsDrainAnswer (reply.Drained pages) = ⊤
 IsDrainAnswer (reply.Refused e) = e ≡ JournalFull
 IsDrainAnswer q = ⊥
 
+abbrev pub IsIsolateAnswer : CommandReply → Type 0
+IsIsolateAnswer reply.Isolated = ⊤
+IsIsolateAnswer (reply.Refused e) = IsIsolateRefusal e
+IsIsolateAnswer q = ⊥
+
+abbrev pub IsReleaseAnswer : CommandReply → Type 0
+IsReleaseAnswer reply.Released = ⊤
+IsReleaseAnswer (reply.Refused e) = IsReleaseRefusal e
+IsReleaseAnswer q = ⊥
+
 abbrev pub IsInfoAnswer : ℕ → CommandReply → Type 0
 IsInfoAnswer n (reply.Info counts) = length counts ≡ n
 IsInfoAnswer n q = ⊥
@@ -214,6 +224,8 @@ IsAnswerTo n (Free s) = IsFreeAnswer
 IsAnswerTo n (Post s to) = IsPostAnswer
 IsAnswerTo n (Collect s i) = IsCollectAnswer
 IsAnswerTo n Drain = IsDrainAnswer
+IsAnswerTo n (Isolate i b) = IsIsolateAnswer
+IsAnswerTo n (Release i b t) = IsReleaseAnswer
 IsAnswerTo n Info = IsInfoAnswer n
 
 -- one reply more, which answers the next command; the script, and what ties the share to its zones, stay

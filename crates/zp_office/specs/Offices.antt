@@ -24,12 +24,6 @@ pub record OfficeState : Type 0 where
 abbrev pub office_of : List ZoneState → List DeskState → OfficeState
 office_of zones desks = record { zones = map named_zone zones; desks = map plain_desk desks }
 
-abbrev pub names_in : OfficeState → List (List ℕ)
-names_in o = map (λ (z : NamedZone). z.name) o.zones
-
-abbrev pub largest_in : OfficeState → List ℕ
-largest_in o = map (λ (z : NamedZone). z.plain.area.largest) o.zones
-
 -- past the last worker there is no desk
 abbrev pub no_desk : PlainDesk
 no_desk = record { share = record { batch = 0; high_len = 0; zones = [] }; script = []; slots = []; replies = [] }

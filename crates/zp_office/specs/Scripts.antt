@@ -4,7 +4,7 @@ use Rattle.std.specs.List.{position_or_len}
 use Rattle.std.specs.Str.{bytes_eq}
 use Rattle.zp_trace.specs.declared.line.ZoneLine.{ZoneLine}
 use Rattle.zp_trace.specs.declared.line.Call.{Call}
-use Rattle.zp_trace.specs.declared.line.Call.TheVariants.{Info, Alloc, Low, Free, Post, Collect, Drain}
+use Rattle.zp_trace.specs.declared.line.Call.TheVariants.{Info, Alloc, Low, Free, Post, Collect, Drain, Isolate, Release}
 use Rattle.zp_trace.specs.declared.line.CommandLine as line
 use Rattle.zp_trace.specs.declared.trace.Trace.{Trace}
 use Rattle.zp_trace.specs.Grammar.{bound_label}
@@ -44,6 +44,8 @@ scripted names calls (Free label) = command.Free (slot_of calls label)
 scripted names calls (Post label to) = command.Post (slot_of calls label) to
 scripted names calls (Collect label zone) = command.Collect (slot_of calls label) (number_of names zone)
 scripted names calls Drain = command.Drain
+scripted names calls (Isolate zone b) = command.Isolate (number_of names zone) b
+scripted names calls (Release zone b t) = command.Release (number_of names zone) b t
 
 abbrev pub script_of : Trace → ℕ → List Command
 script_of t worker =
@@ -58,4 +60,6 @@ NamesBelow zones workers (command.Free s) = Unit {0}
 NamesBelow zones workers (command.Post s to) = to < workers
 NamesBelow zones workers (command.Collect s i) = i < zones
 NamesBelow zones workers command.Drain = Unit {0}
+NamesBelow zones workers (command.Isolate i b) = i < zones
+NamesBelow zones workers (command.Release i b t) = i < zones
 NamesBelow zones workers command.Info = Unit {0}

@@ -1,5 +1,7 @@
 //! One command, carried out.
-ghost use Rattle.std.specs.Prelude.{◌≡◌, List, length, All, Some};
+ghost use Rattle.std.specs.Prelude.{◌≡◌, List, length, map, All, Some};
+ghost use Rattle.std.specs.List.{range_with_len};
+ghost use Rattle.zp_model.specs.declared.counts.Counts.{Counts};
 ghost use Rattle.zp_zone.specs.NamedZone.{NamedZone};
 ghost use Rattle.zp_share.specs.Shares.{IsDone, IsSameShare, IsShareOf, world};
 ghost use Rattle.zp_office.specs.Desks.{HaveWorker, HasSlotBelow, IsAnswerTo, IsCommandFor, IsFreeAnswer, IsInRow, IsPostAnswer, Slots, answer_with, carried_out, counts_in, free_kept, lent_of, post_kept};
@@ -27,6 +29,7 @@ pub fn carry_out<Z: Zones>(
     ensures slots { length slots.new ≡ length slots.old }
     ensures kept { All (IsInRow (length share.old.zones)) slots.new }
     ensures answers { IsAnswerTo (length share.old.zones) command result }
+    ensures shown { (cs : List Counts) → result ≡ CommandReply.Info cs → cs ≡ map (Z.shown zones.new) (range_with_len 0 (length share.old.zones)) }
     ensures told { (rows : List NamedZone) → Z.told zones.old ≡ Some rows → IsDone (carried_out slots.old (world rows share.old) command) (answer_with slots.new result) (Z.told zones.new) share.new }
 {
     match command {
@@ -62,6 +65,18 @@ pub fn carry_out<Z: Zones>(
         },
         Command::Drain => match drain_all(share, zones) {
             Ok(pages) => CommandReply::Drained(pages as u32),
+            Err(refused) => CommandReply::Refused(refused),
+        },
+        Command::Isolate { zone, pageblock } => match zones.isolate(share, zone, pageblock) {
+            Ok(()) => CommandReply::Isolated,
+            Err(refused) => CommandReply::Refused(refused),
+        },
+        Command::Release {
+            zone,
+            pageblock,
+            kind,
+        } => match zones.release(share, zone, pageblock, kind) {
+            Ok(()) => CommandReply::Released,
             Err(refused) => CommandReply::Refused(refused),
         },
         Command::Info => CommandReply::Info(counts_in(share, zones)),
@@ -128,6 +143,7 @@ fn counts_in<Z: Zones>(share: &Share, zones: &mut Z) -> CountsRow
     requires { IsShareOf (Z.keys zones.old) share.now }
     ensures keys { Z.keys zones.new ≡ Z.keys zones.old }
     ensures each { length result ≡ length share.now.zones }
+    ensures shown { result ≡ map (Z.shown zones.new) (range_with_len 0 (length share.now.zones)) }
     ensures told { (rows : List NamedZone) → Z.told zones.old ≡ Some rows → (result ≡ counts_in (world rows share.now)) × (Z.told zones.new ≡ Some rows) }
 {
     let mut row = CountsRow::new();

@@ -36,6 +36,17 @@ pub enum Command {
     },
     /// All pages of the worker's lists, given back.
     Drain,
+    /// The pageblock of this number of this zone, isolated.
+    Isolate {
+        zone: usize,
+        pageblock: u32,
+    },
+    /// The isolated pageblock of this number of this zone, given this type.
+    Release {
+        zone: usize,
+        pageblock: u32,
+        kind: MigrateType,
+    },
     /// The counts of each zone.
     Info,
 }

@@ -2,6 +2,9 @@
 ghost use Rattle.std.specs.Prelude.{◌≡◌, ◌<◌, ◌≤◌, [], ◌∷◌, ◌++◌, All, IfOk, IfErr, length};
 ghost use Rattle.zp_model.specs.declared.refused.Refused.TheVariants.{Memory};
 ghost use Rattle.zp_office.specs.declared.desk.TheConstants.{MAX_COMMANDS};
+ghost use Rattle.zp_zone.specs.Seats.{IsSeatOf};
+ghost use Rattle.zp_share.specs.ZoneShares.{SharesIn};
+ghost use Rattle.zp_share.specs.Shares.{share_at};
 ghost use Rattle.zp_office.specs.Desks.{HasSlotBelow, next_of, opening_desk};
 
 use crate::command::Command;
@@ -10,6 +13,7 @@ use std::alloc::Global;
 use std::marker::Model;
 use zp_model::{Refused, Worker};
 use zp_share::{Lent, Share};
+use zp_zone::Zone;
 
 /// How many commands a script has at most.
 pub const MAX_COMMANDS: usize = 65_536;
@@ -84,6 +88,17 @@ impl Desk {
         ensures within { length result.now ≤ length self.now.script }
     {
         &self.replies
+    }
+
+    /// Nothing changes, and the share agrees with the zone at this place.
+    pub(crate) fn check(&mut self, zone: &mut Zone, place: usize)
+        requires place { place < length self.old.share.zones }
+        requires seat { IsSeatOf zone.old (share_at self.old.share place).seat }
+        ensures zone { zone.new ≡ zone.old }
+        ensures desk { self.new ≡ self.old }
+        ensures agree { SharesIn zone.old (share_at self.old.share place) }
+    {
+        self.share.check(zone, place);
     }
 
     /// The share as the commands left it.

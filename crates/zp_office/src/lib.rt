@@ -27,6 +27,6 @@ pub use office::Office;
 pub use opening::opened;
 pub use reply::CommandReply;
 pub use script::script_of;
-pub use sharing::run_zones;
+pub use sharing::{ClosedZones, run_zones};
 pub use workers::run_workers;
 pub use working::{work, work_next};

@@ -14,6 +14,8 @@ pub enum CommandReply {
     Posted,
     /// How many pages were given back.
     Drained(u32),
+    Isolated,
+    Released,
     /// The counts of each zone, the lowest zone first.
     Info(CountsRow),
     Refused(Refused),

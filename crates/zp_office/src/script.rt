@@ -81,5 +81,18 @@ fn scripted(zones: &[ZoneLine], calls: &[Call], call: &Call) -> Command
             zone: number_of(zones, zone),
         },
         Call::Drain => Command::Drain,
+        Call::Isolate { zone, pageblock } => Command::Isolate {
+            zone: number_of(zones, zone),
+            pageblock,
+        },
+        Call::Release {
+            zone,
+            pageblock,
+            kind,
+        } => Command::Release {
+            zone: number_of(zones, zone),
+            pageblock,
+            kind,
+        },
     }
 }

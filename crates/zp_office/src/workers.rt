@@ -4,8 +4,8 @@ ghost use Rattle.std.specs.List.{AllZip};
 ghost use Rattle.std.specs.Thread.{IsSend, IsSync};
 ghost use Rattle.zp_model.specs.declared.refused.Refused.TheVariants.{NoThread};
 ghost use Rattle.zp_office.specs.Desks.{IsReady, IsWorked};
-ghost use Rattle.zp_shared.specs.Rows.{AreReaders, IsRowOf, seen_by};
-ghost use Rattle.zp_office.specs.Runs.{AreKept, IsLentTo, IsRun, IsStopped};
+ghost use Rattle.zp_shared.specs.Rows.{AreKept, AreReaders, IsRowOf, seen_by};
+ghost use Rattle.zp_office.specs.Runs.{IsLentTo, IsRun, IsStopped};
 
 use crate::desk::Desk;
 use crate::gate::Gate;

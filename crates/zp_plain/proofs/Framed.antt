@@ -1,9 +1,10 @@
 -- Notes that are restated say what is free, and frames stay framed; which blocks are clear, before and after.
-use Rattle.std.proofs.Common.{ℕ, ◌+◌, ◌-◌, ◌≡◌, ◌≤◌, ◌<◌, ◌↔◌, refl, sym, ◌∙◌, ap, arith, inl, inr, Bool, true, false, List, length, get_or, Option, Some, None, ◌^◌, set, get_or-set_same, get_or-set_other, length-set}
+use Rattle.std.proofs.Common.{ℕ, ◌+◌, ◌≡◌, ◌≤◌, ◌<◌, ◌↔◌, refl, sym, ◌∙◌, ap, arith, inl, inr, Bool, true, false, List, length, get_or, Option, Some, None, ◌^◌, set, get_or-set_same, get_or-set_other, length-set}
 use Rattle.std.proofs.lemmas.Nat.{pow_pos}
 use Rattle.std.proofs.lemmas.Bool.{cases_lt, false_from_ne_true, both_ways, cases_eq}
 use Rattle.std.proofs.lemmas.List.{get_or_past}
-use Rattle.std.proofs.lemmas.List.FromFn.{get_or-map-range_with_len, length-map-range_with_len, fill_by_all}
+use Rattle.std.proofs.lemmas.List.FromFn.{fill_by_all}
+use Rattle.zp_model.specs.declared.pageblock_type.PageblockType.{PageblockType}
 use Rattle.zp_model.specs.declared.state.State.{State}
 use Rattle.zp_model.specs.declared.state.State.TheVariants.{Tail, Free}
 use Rattle.zp_model.specs.Block.{has, is_max, without, with_run}
@@ -11,41 +12,17 @@ use Rattle.zp_model.specs.BlockSet.{max_blocks}
 use Rattle.zp_model.specs.Rows.{state_at, list_at, stands_in}
 use Rattle.zp_model.specs.Area.{Area, pageblocks_of}
 use Rattle.zp_model.specs.Frames.{Frames, IsFramed, restate, restated, with_area, IsClear, given, IsNote}
-use Rattle.zp_model.proofs.Pages.{In, is_max-to}
-use Rattle.zp_model.proofs.Maximal.{maximal-apart}
 use Rattle.zp_model.proofs.Covers.{has_below, length-without, without-decides, length-with, with-decides}
 use Rattle.zp_laws.proofs.Choosing.{max_blocks-to, found_block, found_free}
-use Rattle.zp_plain.proofs.Looking.{find_only, max_block}
-use Rattle.zp_model.specs.Take.{give}
+use Rattle.zp_model.proofs.MaximalBlocks.{length-restated, max_block_some, max_has, state-restated}
+use Rattle.zp_model.specs.Take.{give, retype}
 use Rattle.zp_laws.specs.Found.{IsFound}
-use Rattle.zp_laws.proofs.Areas.{free-give, kinds-give, largest-give}
-
-one_order : (m : ℕ) (u : List Bool) (h k j : ℕ) → is_max m u h k ≡ true → is_max m u h j ≡ true → j ≡ k
-one_order m u h k j a b =
-    (maximal-apart m (In u) h j h k h (is_max-to m u h j b) (is_max-to m u h k a)
-    (omega arith) (omega (arith, pow_pos j)) (omega arith) (omega (arith, pow_pos k))).1
-
-max_block_some : (m : ℕ) (u : List Bool) (h k : ℕ) → h < length u → is_max m u h k ≡ true → get_or (max_blocks m u) h None ≡ Some k
-max_block_some m u h k lt e =
-    let le : k ≤ m = (is_max-to m u h k e).order in
-    max_block m u h lt ∙ find_only (is_max m u h) 0 (m + 1 - 0) k (omega arith) (omega arith) e (λ i f. one_order m u h k i e f)
-
--- the head of a maximal block is in the set
-pub max_has : (m : ℕ) (u : List Bool) (h k : ℕ) → is_max m u h k ≡ true → has u h ≡ true
-max_has m u h k e = (is_max-to m u h k e).inside h (omega arith) (omega (arith, pow_pos k))
+use Rattle.zp_laws.proofs.Areas.{free-give, kinds-give, largest-give, free-retype, kinds-retype, largest-retype}
 
 restate_free : (o : Option ℕ) (s : State) (k : ℕ) → restate o s ≡ Free k → o ≡ Some k
 restate_free (Some j) s k e = let d : Free j ≡ Free k = e in cc
 restate_free None Tail k e = cc
 restate_free None s k e = cc
-
-state-restated : (m : ℕ) (u : List Bool) (ss : List State) (g : ℕ) → g < length ss → state_at (restated m u ss) g ≡ restate (get_or (max_blocks m u) g None) (state_at ss g)
-unfolding restated
-state-restated m u ss g lt = get_or-map-range_with_len (λ h. restate (get_or (max_blocks m u) h None) (state_at ss h)) 0 (length ss) g g Tail lt (omega arith)
-
-pub length-restated : (m : ℕ) (u : List Bool) (ss : List State) → length (restated m u ss) ≡ length ss
-unfolding restated
-length-restated m u ss = length-map-range_with_len (λ h. restate (get_or (max_blocks m u) h None) (state_at ss h)) 0 (length ss)
 
 -- notes that are restated by an area's marks are those of the frames with that area
 pub written : (a b : Area) (m : ℕ) (u : List Bool) (ss es : List State) (xs : List (List ℕ)) → es ≡ restated m u ss → u ≡ a.free → a.largest ≡ m → a ≡ b →
@@ -120,6 +97,16 @@ pub kept_left : (f : Frames) (a : Area) (h k : ℕ) → IsFramed f → a.largest
 kept_left f a h k x top free kinds =
     framed_with f a (rw (free, length-without) x.pages) (rw (kinds, top) x.typed) (λ r p e. rw free (false_from_ne_true _ (λ t.
     both_ways _ (x.beside r p e) ((without-decides f.area.free h k p (omega (arith, has_below (without f.area.free h k) p t, length-without f.area.free h k))).0 t).0)))
+
+-- a pageblock gets another type
+pub kept_retyped : (f : Frames) (b : ℕ) (t : PageblockType) → IsFramed f → IsFramed (with_area f (retype f.area b t))
+kept_retyped f b t x =
+    framed_with f (retype f.area b t) (rw (free-retype f.area b t) x.pages)
+    (rw (largest-retype f.area b t) (ap length (kinds-retype f.area b t) ∙ length-set f.area.kinds b t ∙ x.typed)) (λ r p e. rw (free-retype f.area b t) (x.beside r p e))
+
+pub clear_retyped : (f : Frames) (b : ℕ) (t : PageblockType) (h k : ℕ) → IsClear f h k → IsClear (with_area f (retype f.area b t)) h k
+clear_retyped f b t h k x =
+    record { block = rw (free-retype f.area b t, largest-retype f.area b t) x.block; free = λ i lo hi. rw (free-retype f.area b t) (x.free i lo hi); aside = x.aside }
 
 -- frames g are frames f without the free block of order k at h, which is clear now, as each block is that was
 pub record IsWithout (f g : Frames) (h k : ℕ) : Type 0 where

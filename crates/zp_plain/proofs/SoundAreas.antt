@@ -1,7 +1,7 @@
 -- Areas that are opened, changed and settled are sound.
 use Rattle.std.proofs.Common.{ℕ, ◌≡◌, ◌≤◌, refl, sym, ◌∙◌, ap, arith, Bool, List, length, length-set, ◌==◌, inl, inr, true, [], replicate}
 use Rattle.zp_model.specs.declared.constants.TheConstants.{MAX_PAGES}
-use Rattle.zp_model.specs.declared.migrate_type.MigrateType.{MigrateType}
+use Rattle.zp_model.specs.declared.pageblock_type.PageblockType.{PageblockType}
 use Rattle.zp_model.specs.Area.{Area, pageblocks_of, settle, lists_count, opening}
 use Rattle.zp_model.specs.Take.{give, leave, retype}
 use Rattle.zp_model.specs.Lawful.{IsListedArea}
@@ -12,7 +12,7 @@ use Rattle.zp_plain.specs.Sound.{IsSoundArea, IsTable}
 use Rattle.std.specs.List.{IsDistinct}
 use Rattle.std.proofs.lemmas.Bool.{cases_lt, false≢true}
 use Rattle.std.proofs.lemmas.List.{get_or-replicate, get_or_past, length-replicate}
-use Rattle.zp_model.specs.declared.migrate_type.MigrateType.TheVariants.{Movable}
+use Rattle.zp_model.specs.declared.pageblock_type.PageblockType.TheVariants.{Movable}
 use Rattle.zp_model.specs.declared.state.State.TheVariants.{Tail}
 use Rattle.zp_model.specs.Rows.{list_at, stands_in}
 use Rattle.zp_model.specs.Frames.{IsFramed, with_area}
@@ -20,7 +20,7 @@ use Rattle.zp_laws.proofs.Opening.{free-opening, largest-opening, kinds-opening}
 use Rattle.zp_plain.proofs.Framed.{framed_with}
 
 -- as many marks and types as before, over the lists of a sound area
-pub table_of : (u : List Bool) (ks : List MigrateType) (a : Area) → IsSoundArea a → length u ≡ length a.free → length ks ≡ length a.kinds → IsTable a.largest u ks a.lists
+pub table_of : (u : List Bool) (ks : List PageblockType) (a : Area) → IsSoundArea a → length u ≡ length a.free → length ks ≡ length a.kinds → IsTable a.largest u ks a.lists
 table_of u ks a x n m = record {
   small = omega (arith, x.small);
   typed = rw (m, n) x.typed;
@@ -30,7 +30,7 @@ table_of u ks a x n m = record {
 }
 
 -- the fields after a settling are the settled area
-pub settled_as : (m : ℕ) (u v : List Bool) (ks js : List MigrateType) (ls xs : List (List ℕ)) → v ≡ u → js ≡ ks → xs ≡ (settle (record { largest = m; free = v; kinds = js; lists = ls })).lists →
+pub settled_as : (m : ℕ) (u v : List Bool) (ks js : List PageblockType) (ls xs : List (List ℕ)) → v ≡ u → js ≡ ks → xs ≡ (settle (record { largest = m; free = v; kinds = js; lists = ls })).lists →
     (let a : Area = record { largest = m; free = u; kinds = ks; lists = xs } in a) ≡ settle (record { largest = m; free = u; kinds = ks; lists = ls })
 unfolding settle
 settled_as m u v ks js ls xs e f g = rw (g, e, f) refl
@@ -46,7 +46,7 @@ pub sound_leave : (a : Area) (h k : ℕ) → IsSoundArea a → IsSoundArea (leav
 sound_leave a h k x =
     sound_as a (leave a h k) x (largest-leave a h k) (ap length (free-leave a h k) ∙ length-without a.free h k) (ap length (kinds-leave a h k)) (lists-leave a h k x.lists)
 
-pub sound_retype : (a : Area) (b : ℕ) (t : MigrateType) → IsSoundArea a → IsSoundArea (retype a b t)
+pub sound_retype : (a : Area) (b : ℕ) (t : PageblockType) → IsSoundArea a → IsSoundArea (retype a b t)
 sound_retype a b t x =
     sound_as a (retype a b t) x (largest-retype a b t) (ap length (free-retype a b t)) (ap length (kinds-retype a b t) ∙ length-set a.kinds b t) (lists-retype a b t x.lists)
 

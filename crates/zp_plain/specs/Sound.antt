@@ -2,13 +2,13 @@
 use Rattle.std.specs.Prelude.{ℕ, ◌≡◌, ◌≤◌, ◌<◌, ◌==◌, Bool, true, List, length}
 use Rattle.std.specs.List.{IsDistinct}
 use Rattle.zp_model.specs.declared.constants.TheConstants.{MAX_PAGES}
-use Rattle.zp_model.specs.declared.migrate_type.MigrateType.{MigrateType}
+use Rattle.zp_model.specs.declared.pageblock_type.PageblockType.{PageblockType}
 use Rattle.zp_model.specs.Rows.{list_at, stands_in}
 use Rattle.zp_model.specs.Area.{Area, lists_count, pageblocks_of}
 use Rattle.zp_model.specs.Lawful.{IsListedArea}
 
 -- lists that may be settled for this largest order, these free pages and types: each has each page once, and pages of the zone alone
-pub record IsTable (m : ℕ) (free : List Bool) (kinds : List MigrateType) (lists : List (List ℕ)) : Type 0 where
+pub record IsTable (m : ℕ) (free : List Bool) (kinds : List PageblockType) (lists : List (List ℕ)) : Type 0 where
   pub small : length free ≤ MAX_PAGES
   pub typed : length kinds ≡ pageblocks_of m (length free)
   pub table : length lists ≡ lists_count m

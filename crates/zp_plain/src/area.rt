@@ -2,28 +2,37 @@
 ghost use Rattle.std.specs.Prelude.{◌≡◌, ◌<◌, ◌≤◌, ◌==◌, ◌&&◌, ◌/◌, ℕ, true, not, [], ◌++◌, length, filter};
 ghost use Rattle.std.specs.List.{IsDistinct};
 ghost use Rattle.zp_model.specs.declared.constants.TheConstants.{MAX_PAGES};
+ghost use Rattle.zp_model.specs.Block.{has, size};
 ghost use Rattle.zp_model.specs.Rows.{stands_in};
-ghost use Rattle.zp_model.specs.Area.{Area, belongs, falling, kind_at, list_number, lists_count, pageblock_pages, pageblocks_of, settle, settled, size_in};
+ghost use Rattle.zp_model.specs.Area.{Area, belongs, falling, available, is_isolated, kind_at, list_number, lists_count, pageblock_pages, pageblocks_of, settle, settled, size_in};
 ghost use Rattle.zp_plain.specs.Sound.{IsTable};
 
 use crate::block::{has, is_max, order_of};
 use crate::page_row::PageRow;
 use std::mem;
-use zp_model::{Largest, MAX_PAGES, MigrateType, Order, PageAt, TYPES};
+use zp_model::{Largest, MAX_PAGES, Order, PAGEBLOCK_TYPES, PageAt, PageblockType};
 
 /// The number of the free list of an order and a type.
-pub fn list_of(order: Order, kind: MigrateType) -> usize
+pub fn list_of(order: Order, kind: PageblockType) -> usize
     ensures { result ≡ list_number order kind }
 {
-    TYPES * order.index() + kind.number()
+    PAGEBLOCK_TYPES * order.index() + kind.number()
 }
 
 /// The type of a page's pageblock.
-pub fn kind_at(largest: Largest, kinds: &[MigrateType], head: PageAt) -> MigrateType
+pub fn kind_at(largest: Largest, kinds: &[PageblockType], head: PageAt) -> PageblockType
     requires { head / pageblock_pages largest < length kinds.now }
     ensures { result ≡ kind_at largest kinds.now head }
 {
     kinds[largest.pageblock_of(head)]
+}
+
+/// Whether a page lies in an isolated pageblock.
+pub fn is_isolated(largest: Largest, kinds: &[PageblockType], head: PageAt) -> bool
+    requires { head / pageblock_pages largest < length kinds.now }
+    ensures { result ≡ is_isolated largest kinds.now head }
+{
+    kind_at(largest, kinds, head).is_isolate()
 }
 
 /// Whether a page belongs on a list.
@@ -31,7 +40,7 @@ pub fn kind_at(largest: Largest, kinds: &[MigrateType], head: PageAt) -> Migrate
 fn belongs(
     largest: Largest,
     free: &[bool],
-    kinds: &[MigrateType],
+    kinds: &[PageblockType],
     list: usize,
     head: PageAt,
 ) -> bool
@@ -40,8 +49,8 @@ fn belongs(
     requires list { list < lists_count largest }
     ensures { result ≡ belongs largest free.now kinds.now list head }
 {
-    is_max(largest, free, head, order_of(list / TYPES))
-        && kind_at(largest, kinds, head).number() == list % TYPES
+    is_max(largest, free, head, order_of(list / PAGEBLOCK_TYPES))
+        && kind_at(largest, kinds, head).number() == list % PAGEBLOCK_TYPES
 }
 
 /// Whether a page stands on a list.
@@ -55,7 +64,7 @@ pub fn stands_in(page: PageAt, pages: &[PageAt]) -> bool
 fn is_fresh(
     largest: Largest,
     free: &[bool],
-    kinds: &[MigrateType],
+    kinds: &[PageblockType],
     list: usize,
     old: &[PageAt],
     head: PageAt,
@@ -73,7 +82,7 @@ fn is_fresh(
 fn put_fresh(
     largest: Largest,
     free: &[bool],
-    kinds: &[MigrateType],
+    kinds: &[PageblockType],
     list: usize,
     old: &[PageAt],
     new: &mut PageRow,
@@ -98,7 +107,7 @@ fn put_fresh(
 fn put_kept(
     largest: Largest,
     free: &[bool],
-    kinds: &[MigrateType],
+    kinds: &[PageblockType],
     list: usize,
     old: &[PageAt],
     new: &mut PageRow,
@@ -121,7 +130,7 @@ fn put_kept(
 fn settle_list(
     largest: Largest,
     free: &[bool],
-    kinds: &[MigrateType],
+    kinds: &[PageblockType],
     list: usize,
     old: &[PageAt],
     new: &mut PageRow,
@@ -142,7 +151,7 @@ fn settle_list(
 pub fn settle(
     largest: Largest,
     free: &[bool],
-    kinds: &[MigrateType],
+    kinds: &[PageblockType],
     lists: &mut Vec<PageRow>,
     scratch: &mut PageRow,
 )
@@ -166,6 +175,30 @@ pub fn size_in(largest: Largest, set: &[bool], pageblock: usize) -> u32
     let mut pages = 0;
     'pages: for i in first..first + length {
         if has(set, i) {
+            pages += 1;
+        }
+    }
+    pages
+}
+
+/// Whether a page of the zone is in the set, outside isolated pageblocks.
+fn is_available(largest: Largest, set: &[bool], kinds: &[PageblockType], page: PageAt) -> bool
+    requires page { page < length set.now }
+    requires typed { length kinds.now ≡ pageblocks_of largest (length set.now) }
+    ensures { result ≡ (has set.now page && not (is_isolated largest kinds.now page)) }
+{
+    has(set, page.index()) && !is_isolated(largest, kinds, page)
+}
+
+/// How many pages of the set lie outside isolated pageblocks.
+pub fn available_size(largest: Largest, set: &[bool], kinds: &[PageblockType]) -> u32
+    requires small { length set.now ≤ MAX_PAGES }
+    requires typed { length kinds.now ≡ pageblocks_of largest (length set.now) }
+    ensures { result ≡ size (available largest kinds.now set.now) }
+{
+    let mut pages = 0;
+    'pages: for i in 0..set.len() {
+        if is_available(largest, set, kinds, PageAt::at(i as u32)) {
             pages += 1;
         }
     }

@@ -1,11 +1,13 @@
 //! The free area of one zone.
-ghost use Rattle.std.specs.Prelude.{ℕ, ◌≡◌, ◌<◌, ◌≤◌, ◌^◌, ◌↔◌, false, length, slice_set, IfOk, IfSome, IsTrue};
+ghost use Rattle.std.specs.Prelude.{ℕ, ◌≡◌, ◌<◌, ◌≤◌, ◌*◌, ◌^◌, ◌↔◌, false, length, slice_index_or, slice_set, IfOk, IfSome, IsTrue};
 ghost use Rattle.zp_model.specs.Block.{has, size};
 ghost use Rattle.zp_model.specs.Info.{counts_of};
 ghost use Rattle.zp_model.specs.Rows.{IsOn, after, front, state_at};
 ghost use Rattle.zp_model.specs.Frames.{frames_opening, given, with_area, IsNote, IsFramed, IsClear};
-ghost use Rattle.zp_model.specs.Area.{list_number, free_list, kind_at};
-ghost use Rattle.zp_model.specs.Take.{take_answer, take_after, take_low_answer, take_low_after};
+ghost use Rattle.zp_model.specs.Area.{available, list_number, free_list, kind_at, pageblock_pages, pageblocks_of, size_in};
+ghost use Rattle.zp_model.specs.BlockSet.{largest_in, max_blocks};
+ghost use Rattle.zp_model.specs.declared.pageblock_type.PageblockType.TheVariants.{Movable};
+ghost use Rattle.zp_model.specs.Take.{retype, take_answer, take_after, take_low_answer, take_low_after};
 
 use crate::block::size;
 use crate::choose::choose;
@@ -15,7 +17,7 @@ use crate::page_row::{PageRow, empty_rows};
 use crate::take::PlainArea;
 use std::alloc::{AllocError, Global};
 use std::marker::Model;
-use zp_model::{Counts, Largest, MAX_PAGES, MigrateType, Order, PageAt, State};
+use zp_model::{Counts, Largest, MAX_PAGES, MigrateType, Order, PageAt, PageblockType, State};
 
 /// The free area of a zone, what is noted of its pages, and further lists of pages that are not free. Contracts see the
 /// plain free area with these.
@@ -76,7 +78,7 @@ impl Buddy {
     }
 
     /// Takes the lowest run of this order of the free pages: the low part of the block of this order or more with the least
-    /// head, of whatever type.
+    /// head, of whatever type, outside isolated pageblocks.
     pub fn take_low(&mut self, order: Order) -> Option<PageAt>
         ensures answer { result ≡ take_low_answer self.old.area order }
         ensures after { self.new ≡ with_area self.old (take_low_after self.old.area order) }
@@ -92,7 +94,7 @@ impl Buddy {
     }
 
     /// The type of a page's pageblock.
-    pub fn type_of(&self, at: PageAt) -> MigrateType
+    pub fn type_of(&self, at: PageAt) -> PageblockType
         requires { at < length self.now.states }
         ensures { result ≡ kind_at self.now.area.largest self.now.area.kinds at }
     {
@@ -117,6 +119,13 @@ impl Buddy {
         restate_all(self.area.largest(), self.area.marks(), &mut self.notes);
     }
 
+    /// The order of the largest block.
+    pub fn largest(&self) -> Largest
+        ensures { result ≡ self.now.area.largest }
+    {
+        self.area.largest()
+    }
+
     /// How many pages the zone has. What is noted as free is what is free.
     pub fn pages(&self) -> u32
         ensures pages { result ≡ length self.now.states }
@@ -139,6 +148,50 @@ impl Buddy {
         self.notes[at.index()] = state;
     }
 
+    /// How many pageblocks there are.
+    pub fn pageblocks(&self) -> usize
+        ensures typed { result ≡ length self.now.area.kinds }
+        ensures pages { result ≡ pageblocks_of self.now.area.largest (length self.now.area.free) }
+    {
+        // a clause of this call says that each pageblock has a type
+        let _marks = self.area.marks();
+        self.area.pageblocks()
+    }
+
+    /// The type of a pageblock.
+    pub fn pageblock_type(&self, pageblock: usize) -> PageblockType
+        requires { pageblock < length self.now.area.kinds }
+        ensures { result ≡ slice_index_or self.now.area.kinds pageblock Movable }
+    {
+        self.area.pageblock_type(pageblock)
+    }
+
+    /// How many pages of a pageblock are free.
+    pub fn free_in(&self, pageblock: usize) -> u32
+        requires { pageblock < length self.now.area.kinds }
+        ensures { result ≡ size_in self.now.area.largest self.now.area.free pageblock }
+    {
+        self.area.free_in(pageblock)
+    }
+
+    /// The order of the largest free block in a pageblock, where there is one.
+    pub fn largest_in(&self, pageblock: usize) -> Option<Order>
+        requires { pageblock < length self.now.area.kinds }
+        ensures { result ≡ largest_in (max_blocks self.now.area.largest self.now.area.free) (pageblock * pageblock_pages self.now.area.largest) self.now.area.largest }
+    {
+        self.area.largest_in(pageblock)
+    }
+
+    /// Gives a pageblock a type. None of the free blocks of an isolated one is taken until it gets another type.
+    pub fn retype(&mut self, pageblock: usize, kind: PageblockType)
+        requires { pageblock < length self.old.area.kinds }
+        ensures after { self.new ≡ with_area self.old (retype self.old.area pageblock kind) }
+        ensures kept { (h k : ℕ) → IsClear self.old h k → IsClear self.new h k }
+    {
+        self.area.retype(pageblock, kind);
+        restate_all(self.area.largest(), self.area.marks(), &mut self.notes);
+    }
+
     /// What is noted of a page.
     pub fn holding(&self, at: PageAt) -> State
         requires { at < length self.now.states }
@@ -148,7 +201,7 @@ impl Buddy {
     }
 
     /// The block in front of the free list of an order and a type.
-    pub fn front(&self, order: Order, kind: MigrateType) -> Option<PageAt>
+    pub fn front(&self, order: Order, kind: PageblockType) -> Option<PageAt>
         ensures answer { result ≡ front (free_list self.now.area order kind) }
         ensures on { IfSome result (λ at. IsOn self.now.area.lists (list_number order kind) at) }
     {
@@ -156,7 +209,7 @@ impl Buddy {
     }
 
     /// The block after this one on the free list of an order and a type.
-    pub fn after(&self, order: Order, kind: MigrateType, at: PageAt) -> Option<PageAt>
+    pub fn after(&self, order: Order, kind: PageblockType, at: PageAt) -> Option<PageAt>
         requires { IsOn self.now.area.lists (list_number order kind) at }
         ensures answer { result ≡ after at (free_list self.now.area order kind) }
         ensures on { IfSome result (λ next. IsOn self.now.area.lists (list_number order kind) next) }
@@ -170,6 +223,13 @@ impl Buddy {
         ensures framed { IsFramed self.now }
     {
         size(self.area.marks())
+    }
+
+    /// How many free pages lie outside isolated pageblocks.
+    pub fn available_pages(&self) -> u32
+        ensures { result ≡ size (available self.now.area.largest self.now.area.kinds self.now.area.free) }
+    {
+        self.area.available()
     }
 
     /// How many free blocks of each order there are, and how many free pages.

@@ -23,7 +23,7 @@ fn front_of(area: &PlainArea, order: Order, kinds: &[MigrateType]) -> Option<Pag
     ensures { result ≡ first_of (front_at area.now order) kinds.now }
 {
     'kinds: for kind in kinds {
-        if let Some(head) = area.front(order, *kind) {
+        if let Some(head) = area.front(order, kind.pageblock_type()) {
             return Some(head);
         }
     }
@@ -93,7 +93,12 @@ fn claimable_of(
     ensures { result ≡ first_of (claimable_at area.now kind order) kinds.now }
 {
     'kinds: for from in kinds {
-        if let Some(head) = claimable_on(area, area.list(order, *from), kind, order) {
+        if let Some(head) = claimable_on(
+            area,
+            area.list(order, from.pageblock_type()),
+            kind,
+            order,
+        ) {
             return Some(head);
         }
     }

@@ -1,27 +1,30 @@
 //! The free area: what `Take.antt` says of giving and taking. Marks or types change, and the lists are settled anew.
-ghost use Rattle.std.specs.Prelude.{◌≡◌, ◌<◌, ◌≤◌, ◌+◌, length, IfOk, Some};
+ghost use Rattle.std.specs.Prelude.{◌≡◌, ◌<◌, ◌≤◌, ◌+◌, ◌*◌, length, slice_index_or, IfOk, Some};
 ghost use Rattle.zp_model.specs.declared.constants.TheConstants.{MAX_PAGES, ORDERS};
 ghost use Rattle.zp_model.specs.Rows.{after, front};
-ghost use Rattle.zp_model.specs.Area.{free_list, kind_at, opening};
+ghost use Rattle.zp_model.specs.Area.{available, free_list, kind_at, opening, pageblock_pages, size_in};
+ghost use Rattle.zp_model.specs.Block.{size};
+ghost use Rattle.zp_model.specs.BlockSet.{largest_in, max_blocks};
+ghost use Rattle.zp_model.specs.declared.pageblock_type.PageblockType.TheVariants.{Movable};
 ghost use Rattle.zp_model.specs.Take.{give, leave, retype, taken, take_low_after, take_low_answer};
 ghost use Rattle.zp_plain.specs.Chosen.{as_chosen};
 ghost use Rattle.zp_plain.specs.Sound.{IsSoundArea};
 
-use crate::area::{kind_at, list_of, settle};
+use crate::area::{available_size, kind_at, list_of, settle, size_in};
 use crate::block::{add_run, remove_run};
-use crate::block_set::lowest;
+use crate::block_set::{largest_in, lowest};
 use crate::choose::Choice;
 use crate::page_row::{PageRow, empty_rows};
 use std::alloc::{AllocError, Global};
 use std::marker::Model;
-use zp_model::{Largest, MAX_PAGES, MigrateType, Order, PageAt};
+use zp_model::{Largest, MAX_PAGES, MigrateType, Order, PageAt, PageblockType};
 
 /// A free area, as the definitions have it, and a list where lists are settled.
 #[derive(Drop)]
 pub struct PlainArea {
     largest: Largest,
     free: Vec<bool>,
-    kinds: Vec<MigrateType>,
+    kinds: Vec<PageblockType>,
     lists: Vec<PageRow>,
     scratch: PageRow,
 }
@@ -44,7 +47,7 @@ impl PlainArea {
         ensures { IfOk result (λ a. a ≡ opening largest pages) }
     {
         let free = Vec::from_elem(alloc, true, pages as usize)?;
-        let kinds = Vec::from_elem(alloc, MigrateType::Movable, largest.pageblocks(pages))?;
+        let kinds = Vec::from_elem(alloc, PageblockType::Movable, largest.pageblocks(pages))?;
         let mut lists = empty_rows(alloc, largest.lists())?;
         let mut scratch = PageRow::new(alloc)?;
         settle(largest, &free, &kinds, &mut lists, &mut scratch);
@@ -73,7 +76,7 @@ impl PlainArea {
     }
 
     /// The free list of an order and a type, which is empty where no block has the order.
-    pub fn list(&self, order: Order, kind: MigrateType) -> &[PageAt]
+    pub fn list(&self, order: Order, kind: PageblockType) -> &[PageAt]
         ensures { result.now ≡ free_list self.now order kind }
     {
         match self.lists.get(list_of(order, kind)) {
@@ -83,14 +86,14 @@ impl PlainArea {
     }
 
     /// The front of the free list of an order and a type.
-    pub fn front(&self, order: Order, kind: MigrateType) -> Option<PageAt>
+    pub fn front(&self, order: Order, kind: PageblockType) -> Option<PageAt>
         ensures { result ≡ front (free_list self.now order kind) }
     {
         self.lists.get(list_of(order, kind))?.front()
     }
 
     /// The page after this one on the free list of an order and a type.
-    pub fn after(&self, order: Order, kind: MigrateType, at: PageAt) -> Option<PageAt>
+    pub fn after(&self, order: Order, kind: PageblockType, at: PageAt) -> Option<PageAt>
         ensures { result ≡ after at (free_list self.now order kind) }
     {
         self.lists.get(list_of(order, kind))?.after(at)
@@ -104,8 +107,46 @@ impl PlainArea {
         &self.free
     }
 
+    /// How many pageblocks there are.
+    pub fn pageblocks(&self) -> usize
+        ensures { result ≡ length self.now.kinds }
+    {
+        self.kinds.len()
+    }
+
+    /// The type of a pageblock.
+    pub fn pageblock_type(&self, pageblock: usize) -> PageblockType
+        requires { pageblock < length self.now.kinds }
+        ensures { result ≡ slice_index_or self.now.kinds pageblock Movable }
+    {
+        self.kinds[pageblock]
+    }
+
+    /// How many pages of a pageblock are free.
+    pub fn free_in(&self, pageblock: usize) -> u32
+        requires { pageblock < length self.now.kinds }
+        ensures { result ≡ size_in self.now.largest self.now.free pageblock }
+    {
+        size_in(self.largest, &self.free, pageblock)
+    }
+
+    /// The order of the largest free block in a pageblock, where there is one.
+    pub fn largest_in(&self, pageblock: usize) -> Option<Order>
+        requires { pageblock < length self.now.kinds }
+        ensures { result ≡ largest_in (max_blocks self.now.largest self.now.free) (pageblock * pageblock_pages self.now.largest) self.now.largest }
+    {
+        largest_in(self.largest, &self.free, pageblock)
+    }
+
+    /// How many free pages lie outside isolated pageblocks.
+    pub fn available(&self) -> u32
+        ensures { result ≡ size (available self.now.largest self.now.kinds self.now.free) }
+    {
+        available_size(self.largest, &self.free, &self.kinds)
+    }
+
     /// A pageblock gets a type.
-    fn retype(&mut self, pageblock: usize, kind: MigrateType)
+    pub fn retype(&mut self, pageblock: usize, kind: PageblockType)
         requires { pageblock < length self.old.kinds }
         ensures { self.new ≡ retype self.old pageblock kind }
     {
@@ -149,19 +190,19 @@ impl PlainArea {
     }
 
     /// The type of a page's pageblock.
-    pub fn kind_at(&self, at: PageAt) -> MigrateType
+    pub fn kind_at(&self, at: PageAt) -> PageblockType
         requires { at < length self.now.free }
         ensures { result ≡ kind_at self.now.largest self.now.kinds at }
     {
         kind_at(self.largest, &self.kinds, at)
     }
 
-    /// Takes the low run of this order of the lowest block that has it.
+    /// Takes the low run of this order of the lowest block that has it, outside isolated pageblocks.
     pub fn take_low(&mut self, order: Order) -> Option<PageAt>
         ensures answer { result ≡ take_low_answer self.old order }
         ensures after { self.new ≡ take_low_after self.old order }
     {
-        let (head, _) = lowest(self.largest, &self.free, order)?;
+        let (head, _) = lowest(self.largest, &self.free, &self.kinds, order)?;
         self.leave(head, order);
         Some(head)
     }
@@ -176,7 +217,7 @@ impl PlainArea {
         let Choice { head, claims } = chosen;
         if claims {
             let pageblock = self.largest().pageblock_of(head);
-            self.retype(pageblock, kind);
+            self.retype(pageblock, kind.pageblock_type());
         }
         self.leave(head, order);
     }

@@ -9,10 +9,10 @@ use Rattle.zp_model.specs.declared.mark.Mark.{Mark}
 use Rattle.zp_model.specs.declared.mark.Mark.TheVariants as mark
 use Rattle.zp_model.specs.Bounds.{IsCrew, IsLargest, AreLists}
 use Rattle.zp_model.specs.declared.constants.TheConstants.{LARGEST_ORDER, MAX_PAGES, MAX_WORKERS, BASE_LIMIT, LONGEST_NAME}
-use Rattle.zp_trace.specs.declared.bounds.TheConstants.{MOST_LINES}
+use Rattle.zp_trace.specs.declared.bounds.TheConstants.{LARGEST_PAGEBLOCK, MOST_LINES}
 use Rattle.zp_trace.specs.declared.line.ZoneLine.{ZoneLine}
 use Rattle.zp_trace.specs.declared.line.Call.{Call}
-use Rattle.zp_trace.specs.declared.line.Call.TheVariants.{Info, Alloc, Low, Free, Post, Collect, Drain}
+use Rattle.zp_trace.specs.declared.line.Call.TheVariants.{Info, Alloc, Low, Free, Post, Collect, Drain, Isolate, Release}
 use Rattle.zp_trace.specs.declared.line.CommandLine.{CommandLine}
 use Rattle.zp_trace.specs.declared.trace.Header.{Header}
 use Rattle.zp_trace.specs.declared.trace.Trace.{Trace}
@@ -43,6 +43,9 @@ order_short k le = length-decimal-le 2 k (omega arith) (omega arith) (omega arit
 largest_short : (named : Option ℕ) → IfSome named IsLargest → spaced (largest_words named) ≤ 3
 largest_short None is = omega arith
 largest_short (Some m) is = omega (arith, order_short m is.1)
+
+pageblock_short : (b : ℕ) → b ≤ LARGEST_PAGEBLOCK → length (decimal b) ≤ 5
+pageblock_short b le = length-decimal-le 5 b (omega arith) (omega arith) (omega arith)
 
 zone_short : (z : ZoneLine) → IsZoneLine z → length (line_text (line.Zone z)) ≤ 40
 zone_short z is =
@@ -116,6 +119,16 @@ call_short h worker (Collect label zone) good at is =
     let l : length label ≤ LONGEST_NAME = is.0.1 in
     let n = declared_short h zone good is.1 in
     omega arith
+call_short h worker (Isolate zone pageblock) good at is =
+    let w : length (decimal worker) ≤ 2 = worker_short worker (omega (arith, good.workers.1)) in
+    let n = declared_short h zone good is.0 in
+    let b = pageblock_short pageblock is.1 in
+    omega arith
+call_short h worker (Release zone pageblock kind) good at is =
+    let w : length (decimal worker) ≤ 2 = worker_short worker (omega (arith, good.workers.1)) in
+    let n = declared_short h zone good is.0 in
+    let b = pageblock_short pageblock is.1 in
+    omega (arith, length-kind_word kind)
 
 command_short : (h : Header) (c : CommandLine) → IsHeader h → IsCommandOf h c → length (line_text (line.CommandLine c)) ≤ 40
 command_short h c good is =

@@ -7,7 +7,7 @@ use Rattle.zp_model.specs.Refused.{refused_number}
 use Rattle.zp_model.specs.Info.{counts_of, info_line}
 use Rattle.zp_zone.specs.NamedZone.{NamedZone}
 use Rattle.zp_office.specs.declared.reply.CommandReply.{CommandReply}
-use Rattle.zp_office.specs.declared.reply.CommandReply.TheVariants.{Page, Block, Freed, Posted, Drained, Info, Refused}
+use Rattle.zp_office.specs.declared.reply.CommandReply.TheVariants.{Page, Block, Freed, Posted, Drained, Isolated, Released, Info, Refused}
 
 abbrev pub line_feed : ℕ
 line_feed = 10
@@ -19,6 +19,8 @@ reply_words (Block b) = codes "block " ++ (decimal b.page ++ (codes " order " ++
 reply_words Freed = codes "freed"
 reply_words Posted = codes "posted"
 reply_words (Drained n) = codes "drained " ++ decimal n
+reply_words Isolated = codes "isolated"
+reply_words Released = codes "released"
 reply_words (Refused r) = codes "refused " ++ decimal (refused_number r)
 reply_words (Info counts) = []
 

@@ -23,7 +23,8 @@ const DIGITS: usize = 10;
 /// A line, as it is made.
 pub type Line = ArrayString<LINE>;
 
-/// What a worker is answered: `W: page P`, `W: block P order K`, `W: freed`, `W: posted`, `W: drained N` or `W: refused C`.
+/// What a worker is answered: `W: page P`, `W: block P order K`, `W: freed`, `W: posted`, `W: drained N`, `W: isolated`, `W: released`
+/// or `W: refused C`.
 pub fn reply_line(worker: Worker, reply: &CommandReply) -> Line
     ensures { result.bytes ≡ reply_line worker reply.now }
 {
@@ -48,6 +49,8 @@ fn push_reply(line: &mut Line, reply: &CommandReply)
         CommandReply::Freed => line.push_str("freed"),
         CommandReply::Posted => line.push_str("posted"),
         CommandReply::Drained(pages) => push_counted(line, "drained ", *pages),
+        CommandReply::Isolated => line.push_str("isolated"),
+        CommandReply::Released => line.push_str("released"),
         CommandReply::Refused(refused) => push_counted(
             line,
             "refused ",

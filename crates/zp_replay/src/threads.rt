@@ -7,7 +7,7 @@ ghost use Rattle.zp_trace.specs.declared.line.CommandLine.{CommandLine};
 ghost use Rattle.zp_journal.specs.declared.journal.TheConstants.{LONGEST_JOURNAL};
 ghost use Rattle.zp_office.specs.Offices.{AreDesksOf};
 ghost use Rattle.zp_replay.specs.Replaying.{AddUp, IsParsed, IsRefusedAt, IsUnanswered};
-ghost use Rattle.zp_replay.specs.Serving.{IsHistoryOf, IsJudgedOffice, IsOfficeServed, IsReportCut, IsReported, IsServed, IsTraceReported, IsTraceReportBegun, IsUnworked, entries_in, journaled_report};
+ghost use Rattle.zp_replay.specs.Serving.{AreSections, IsHistoryOf, IsJudgedOffice, IsOfficeServed, IsReportCut, IsReported, IsServed, IsTraceReported, IsTraceReportBegun, IsUnworked, entries_in, journaled_report};
 
 use crate::ending::{Ending, ReplayFault};
 use crate::journals::{ZoneJournal, judge, write_ending};
@@ -39,6 +39,7 @@ fn serve_at_once<T: Threads + Wait + Sync, G: Gate + Sync>(
     requires { IsParsed trace.now }
     ensures served { IfOk result (λ s. IsServed trace.now s.0) }
     ensures journals { IfOk result (λ s. AllZip IsHistoryOf s.0.zones (entries_in s.1.items)) }
+    ensures sections { IfOk result (λ s. AreSections s.0 (entries_in s.1.items)) }
     ensures only { (result ≡ Err ReplayFault.Read → ⊥) × (result ≡ Err ReplayFault.Write → ⊥) }
 {
     let (zones, desks) = match opened_desks(alloc, trace) {
@@ -65,11 +66,12 @@ fn serve<T: Threads + Wait + Sync, G: Gate + Sync>(
     requires unworked { All IsUnworked desks.items }
     ensures office { IfOk result (λ s. IsOfficeServed zones.items desks.items s.0) }
     ensures journals { IfOk result (λ s. AllZip IsHistoryOf s.0.zones (entries_in s.1.items)) }
+    ensures sections { IfOk result (λ s. AreSections s.0 (entries_in s.1.items)) }
     ensures only { (result ≡ Err ReplayFault.Read → ⊥) × (result ≡ Err ReplayFault.Write → ⊥) }
 {
     let mut desks = desks;
     match run_zones(rt, alloc, zones, capacity, &mut desks, gate) {
-        Ok((zones, journals)) => Ok((Office::new(zones, desks), journals)),
+        Ok(closed) => Ok((Office::new(closed.zones, desks), closed.journals)),
         Err(Refused::Memory) => Err(ReplayFault::Memory),
         Err(_) => Err(ReplayFault::NoThread),
     }

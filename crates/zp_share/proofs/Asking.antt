@@ -1,6 +1,6 @@
 -- One section of a share, whatever is asked: what the request names and the reply gives fits the share, and its lists stay short.
 use Rattle.std.specs.Prelude.{slice_set, IsTrue, IfOk, Result, Ok, Err}
-use Rattle.std.proofs.Common.{ℕ, ◌-◌, ◌≡◌, ◌<◌, ◌≤◌, sym, ◌∙◌, ap, subst, arith, All, get_or, List, length, inl, inr, refl, Bool, true}
+use Rattle.std.proofs.Common.{ℕ, ◌-◌, ◌≡◌, ◌<◌, ◌≤◌, ◌⊎◌, sym, ◌∙◌, ap, subst, arith, All, get_or, List, length, inl, inr, refl, Bool, true}
 use Rattle.std.proofs.lemmas.List.Elements.{All-set, All-get_or}
 use Rattle.std.proofs.lemmas.List.{length-set}
 use Rattle.std.proofs.lemmas.Bool.{eq-eqb}
@@ -9,6 +9,7 @@ use Rattle.zp_model.specs.declared.migrate_type.MigrateType.{MigrateType}
 use Rattle.zp_model.specs.declared.constants.TheConstants.{MAX_BATCH}
 use Rattle.zp_model.specs.declared.mark.Mark.{Mark}
 use Rattle.zp_model.specs.declared.refused.Refused.{Refused}
+use Rattle.zp_model.specs.declared.refused.Refused.TheVariants.{BelowMark, NoBlock, BadPageblock, AlreadyIsolated, NotIsolated, JournalFull}
 use Rattle.zp_model.specs.declared.request.Request.{Request}
 use Rattle.zp_model.specs.declared.request.Reply.{Reply}
 use Rattle.zp_model.specs.Zone.{PlainZone, is_of}
@@ -17,7 +18,7 @@ use Rattle.zp_zone.specs.Asking.{IsGiven, MaySeatAsk}
 use Rattle.zp_zone.specs.NamedZone.{page_reply}
 use Rattle.zp_zone.specs.Seats.{SeatState, IsNewTo, has, replied}
 use Rattle.zp_share.specs.PlainShares.{lends_for}
-use Rattle.zp_share.specs.ZoneShares.{ZoneShareState, HasAtMost, answered, IsAllocRefusal, IsNew, IsShare, RefillsAtMost, is_lent, plain_share, use_in}
+use Rattle.zp_share.specs.ZoneShares.{ZoneShareState, HasAtMost, answered, IsNew, IsShare, RefillsAtMost, is_lent, plain_share, use_in}
 use Rattle.zp_share.specs.declared.page_use.PageUse.{PageUse}
 use Rattle.zp_share.specs.declared.page_use.PageUse.TheVariants.{Lent}
 use Rattle.zp_share.specs.declared.zone_share.ZoneShare.TheInside.{Inside}
@@ -26,7 +27,7 @@ use Rattle.zp_share.specs.Sections.{HasPlaces, IsReplyTo, MayAsk}
 use Rattle.zp_share.proofs.OneUse.{IsIn, use-set}
 use Rattle.zp_share.proofs.Listing.{All-by_standing}
 use Rattle.zp_share.proofs.Closing.{IsFit, lent_in, IsWhole, held_at, new_page, new_pages, share_of, back_distinct, back_has, back_in, places}
-use Rattle.zp_share.proofs.Tried.{IsNoneWhy, IsWhy, IfRefused, step-why}
+use Rattle.zp_share.proofs.Tried.{IsWhy, IfRefused, step-why}
 
 -- what a worker's share keeps of its shares of zones: they are few, the worker's, and with short lists
 abbrev pub AreWhole : List ZoneShareState → ℕ → ℕ → ℕ → Type 0
@@ -117,9 +118,10 @@ lent_now : (j k p : ℕ) (t : MigrateType) (s u : ZoneShareState) (r : Request) 
 lent_now j k p t s u r q n us jk e =
     ap (λ v. is_lent v p j) e ∙ ap (λ l. is_lent_as j (use_of s.seat.part.base l p)) us ∙ ap (is_lent_as j) (use-set s.seat.part.base p (Lent k t) s.uses n.place) ∙ eq-eqb k j (sym jk)
 
-none_why : (e : Refused) → IsNoneWhy e → IsAllocRefusal e
-none_why e (inl x) = inl x
-none_why e (inr x) = inr (inl x)
+-- why a zone refuses is one of the reasons that a section may be refused for
+zone_why : (a b e : Refused) → (e ≡ a) ⊎ (e ≡ b) → (e ≡ a) ⊎ ((e ≡ b) ⊎ (e ≡ JournalFull))
+zone_why a b e (inl x) = inl x
+zone_why a b e (inr x) = inr (inl x)
 
 -- the reply is one to the request
 pub reply_to : (r : Request) (q : Reply) (z : PlainZone) (w : ℕ) (a b : SeatState) (s u : ZoneShareState) → IsFit r q s → u ≡ answered r q s → q ≡ (step z w r).reply → IsGiven r q a b →
@@ -128,7 +130,7 @@ reply_to r q z w a b s u f e is g = go r q f e g (subst (IfRefused (IsWhy r)) (s
   where
     go : (r : Request) (q : Reply) → IsFit r q s → u ≡ answered r q s → IsGiven r q a b → IfRefused (IsWhy r) q → IsReplyTo r q s u
     go (Request.Alloc k t m) (Reply.Page p) f e g y = record { fresh = f; lent = lent_now k k p t s u (Request.Alloc k t m) (Reply.Page p) f refl refl e }
-    go (Request.Alloc k t m) (Reply.Refused v) f e g y = none_why v y
+    go (Request.Alloc k t m) (Reply.Refused v) f e g y = zone_why BelowMark NoBlock v y
     go (Request.AllocLow k) (Reply.Block x) f e g y = (g.0, record { fresh = f; lent = lent_now x.order k x.page x.kind s u (Request.AllocLow k) (Reply.Block x) f refl g.0 e })
     go (Request.AllocLow k) (Reply.Refused v) f e g y = inl y
     go (Request.Free p k) Reply.Freed f e g y = tt
@@ -136,6 +138,10 @@ reply_to r q z w a b s u f e is g = go r q f e g (subst (IfRefused (IsWhy r)) (s
     go Request.Collect (Reply.Block x) f e g y = record { fresh = f; lent = lent_now x.order x.order x.page x.kind s u Request.Collect (Reply.Block x) f refl refl e }
     go Request.Collect (Reply.Refused v) f e g y = inl y
     go (Request.Refill t m n) (Reply.Pages ps) f e g y = record { some = g.some; most = g.most; fresh = All-by_standing (IsNew s) ps f.each }
-    go (Request.Refill t m n) (Reply.Refused v) f e g y = none_why v y
+    go (Request.Refill t m n) (Reply.Refused v) f e g y = zone_why BelowMark NoBlock v y
     go (Request.Drain t ps) Reply.Drained f e g y = tt
+    go (Request.Isolate p) Reply.Isolated f e g y = tt
+    go (Request.Isolate p) (Reply.Refused v) f e g y = zone_why BadPageblock AlreadyIsolated v y
+    go (Request.Release p t) Reply.Released f e g y = tt
+    go (Request.Release p t) (Reply.Refused v) f e g y = zone_why BadPageblock NotIsolated v y
     go r q f e g y = absurd g

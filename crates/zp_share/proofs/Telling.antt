@@ -7,6 +7,8 @@ use Rattle.zp_model.specs.declared.refused.Refused.{Refused}
 use Rattle.zp_model.specs.declared.request.Request.{Request}
 use Rattle.zp_model.specs.declared.request.Reply.{Reply}
 use Rattle.zp_model.specs.Step.{step}
+use Rattle.zp_model.specs.Zone.{PlainZone}
+use Rattle.zp_laws.specs.FreePages.{IsSameZone}
 use Rattle.zp_laws.proofs.Sameness.{step-same}
 use Rattle.zp_zone.specs.NamedZone.{NamedZone}
 use Rattle.zp_zone.specs.Seats.{ZoneState, IsSeatOf}
@@ -39,12 +41,17 @@ pub record IsCall (zs : List ZoneState) (s t : ShareState) (i : ℕ) (z : ZoneSt
   pub zone : z ≡ get_or zs i z
   pub others : t ≡ with_zone_share i (share_at t i) s
 
+-- a zone that is the same but for what is free, out and posted has the same key
+pub same-key : (z : ZoneState) (y : PlainZone) → IsSameZone z.plain y → key_of (record z { plain = y }) ≡ key_of z
+same-key z y kept = λ i.
+    record { tie = z.tie; name = z.name; base = kept.base i; pages = kept.pages i; min = kept.min i; largest = kept.largest i; workers = kept.workers i }
+
 -- whatever comes of the request, the zone's key stays
 key-kept : (e : Option Refused) (r : Request) (q : Reply) (z y : ZoneState) (a b : ZoneShareState) → ComesOf e r q z y a b → key_of y ≡ key_of z
 key-kept (Some e) r q z y a b x = ap key_of x.1.zone
 key-kept None r q z y a b x =
     let kept = step-same z.plain a.seat.worker r in
-    ap key_of x.zone ∙ (λ i. record { tie = z.tie; name = z.name; largest = kept.largest i; workers = kept.workers i })
+    ap key_of x.zone ∙ same-key z (step z.plain a.seat.worker r).zone kept
 
 -- where nothing changed, the answer and the zones are those of a refusal; and a section is the step of the zone at its place
 comes_told : (e : Option Refused) (r : Request) (q : Reply) (zs : List ZoneState) (s t : ShareState) (i : ℕ) (z y : ZoneState) → IsCall zs s t i z →

@@ -1,17 +1,18 @@
 -- What a request to a zone may come to: one section, or no section, with nothing changed.
-use Rattle.std.specs.Prelude.{◌↔◌}
+use Rattle.std.specs.Prelude.{◌↔◌, slice_get}
 use Rattle.std.proofs.Common.{ℕ, suc, zero, ◌≡◌, ◌⊎◌, ◌++◌, inl, inr, refl, sym, ◌∙◌, ap, arith, Bool, true, false, cond, List, [], ◌∷◌, Option, Some, None}
 use Rattle.zp_model.specs.declared.mark.Mark.{Mark}
 use Rattle.zp_model.specs.declared.migrate_type.MigrateType.{MigrateType}
 use Rattle.zp_model.specs.declared.refused.Refused.{Refused}
-use Rattle.zp_model.specs.declared.refused.Refused.TheVariants.{BelowMark, NoBlock, NothingPosted, NotLent, JournalFull}
+use Rattle.zp_model.specs.declared.refused.Refused.TheVariants.{BelowMark, NoBlock, NothingPosted, BadPageblock, AlreadyIsolated, NotIsolated, NotLent, JournalFull}
 use Rattle.zp_model.specs.declared.request.Request.{Request}
 use Rattle.zp_model.specs.declared.request.Reply.{Reply}
+use Rattle.zp_model.specs.declared.pageblock_type.PageblockType.{PageblockType}
 use Rattle.zp_model.specs.Choose.{Chosen, choose}
 use Rattle.zp_model.specs.Take.{take_low_answer}
 use Rattle.zp_model.specs.Mark.{passes}
 use Rattle.zp_model.specs.Zone.{PlainZone, PostedBlock, posted_to}
-use Rattle.zp_model.specs.Step.{Outcome, alloc, alloc_chosen, alloc_low_at, refuse, collected, refill, refill_end, page_of, step}
+use Rattle.zp_model.specs.Step.{Outcome, alloc, alloc_chosen, alloc_low_at, refuse, collected, isolated, refill, refill_end, page_of, released, step}
 use Rattle.zp_zone.specs.Seats.{ZoneState}
 use Rattle.zp_share.specs.PlainShares.{refusal}
 use Rattle.zp_share.specs.Sections.{ComesOf}
@@ -28,6 +29,8 @@ IsWhy (Request.Alloc k t m) e = IsNoneWhy e
 IsWhy (Request.AllocLow k) e = e ≡ NoBlock
 IsWhy Request.Collect e = e ≡ NothingPosted
 IsWhy (Request.Refill t m n) e = IsNoneWhy e
+IsWhy (Request.Isolate b) e = (e ≡ BadPageblock) ⊎ (e ≡ AlreadyIsolated)
+IsWhy (Request.Release b t) e = (e ≡ BadPageblock) ⊎ (e ≡ NotIsolated)
 IsWhy r e = ⊥
 
 abbrev pub IfRefused : (Refused → Type 0) → Reply → Type 0
@@ -72,6 +75,14 @@ step-why z w Request.Collect = go (posted_to z w)
     go (p ∷ ps) = tt
 step-why z w (Request.Refill t m n) = refill-why z w t m [] n
 step-why z w (Request.Drain t ps) = tt
+step-why z w (Request.Isolate b) = go (slice_get z.area.kinds b)
+  where
+    go : (now : Option PageblockType) → IfRefused (IsWhy (Request.Isolate b)) (isolated z b now).reply
+    go now = grind arith
+step-why z w (Request.Release b t) = go (slice_get z.area.kinds b)
+  where
+    go : (now : Option PageblockType) → IfRefused (IsWhy (Request.Release b t)) (released z b t now).reply
+    go now = grind arith
 
 -- so each step's reply is a section
 pub step-section : (z : PlainZone) (w : ℕ) (r : Request) → is_section (step z w r).reply ≡ true

@@ -2,6 +2,8 @@
 -- sections, each one request to one zone, and of moves on the worker's own lists.
 use Rattle.std.specs.Prelude.{ℕ, zero, suc, ◌+◌, ◌==◌, ◌&&◌, Bool, true, false, not, List, [], ◌∷◌, length, slice_index_or, slice_set, Option, None, Some, Result, Ok, Err, cond, leb}
 use Rattle.std.specs.List.{range_with_len}
+use Rattle.zp_model.specs.declared.counts.Counts.{Counts}
+use Rattle.zp_model.specs.Info.{counts_of}
 use Rattle.zp_model.specs.declared.mark.Mark.{Mark}
 use Rattle.zp_model.specs.declared.migrate_type.MigrateType.{MigrateType}
 use Rattle.zp_model.specs.declared.migrate_type.MigrateType.TheVariants.{Unmovable, Reclaimable, Movable}
@@ -43,6 +45,10 @@ no_zone = record { name = []; plain = zone_opening 0 0 0 0 0 }
 
 abbrev pub zone_at : List NamedZone → ℕ → NamedZone
 zone_at zones i = slice_index_or zones i no_zone
+
+-- the counts of zone i
+abbrev pub counts_at : List NamedZone → ℕ → Counts
+counts_at zones i = let z = (zone_at zones i).plain in counts_of z.area.largest z.area.free
 
 -- the row where zone i has become this plain zone
 abbrev pub row_with : List NamedZone → ℕ → Outcome → List NamedZone

@@ -11,7 +11,7 @@ use Rattle.zp_model.specs.Rows.{list_at}
 use Rattle.zp_zone.specs.Seats.{ZoneState, IsSeatOf, KeepsSeats}
 use Rattle.zp_share.specs.PageUses.{UsesState, IsPlace}
 use Rattle.zp_share.specs.PlainShares.{back, refusal_of}
-use Rattle.zp_share.specs.ZoneShares.{ZoneShareState, IsAllocRefusal, IsLeft, IsNew, IsSameSeat, IsSection, cached_of, is_lent, plain_share}
+use Rattle.zp_share.specs.ZoneShares.{ZoneShareState, IsAllocRefusal, IsIsolateRefusal, IsLeft, IsNew, IsReleaseRefusal, IsSameSeat, IsSection, cached_of, is_lent, plain_share}
 
 -- these pages are those at the back of a type's list, the last one first
 pub record IsBack (s : ZoneShareState) (t : MigrateType) (ps : List ℕ) : Type 0 where
@@ -53,6 +53,10 @@ IsReplyTo (Request.Refill t m n) (Reply.Pages ps) s u = AreCachedPages n ps s
 IsReplyTo (Request.Refill t m n) (Reply.Refused e) s u = IsAllocRefusal e
 IsReplyTo (Request.Drain t ps) Reply.Drained s u = Unit {0}
 IsReplyTo (Request.Drain t ps) (Reply.Refused e) s u = e ≡ JournalFull
+IsReplyTo (Request.Isolate b) Reply.Isolated s u = Unit {0}
+IsReplyTo (Request.Isolate b) (Reply.Refused e) s u = IsIsolateRefusal e
+IsReplyTo (Request.Release b t) Reply.Released s u = Unit {0}
+IsReplyTo (Request.Release b t) (Reply.Refused e) s u = IsReleaseRefusal e
 IsReplyTo r q s u = ⊥
 
 -- where it is refused, nothing was asked of the zone and nothing changed; else it is one section

@@ -6,7 +6,7 @@ use Rattle.zp_model.specs.declared.refused.Refused.TheVariants.{NotLent, Journal
 use Rattle.zp_model.specs.declared.request.Request.{Request}
 use Rattle.zp_model.specs.declared.request.Reply.{Reply}
 use Rattle.zp_model.specs.declared.migrate_type.MigrateType.{MigrateType}
-use Rattle.zp_model.specs.Zone.{workers_of}
+use Rattle.zp_model.specs.Zone.{PlainZone, pages_of, workers_of, zone_opening}
 use Rattle.zp_zone.specs.NamedZone.{NamedZone}
 use Rattle.zp_zone.specs.Seats.{ZoneState, SeatState}
 use Rattle.zp_share.specs.declared.commands.Lent.{Lent}
@@ -44,15 +44,32 @@ plain s = record { batch = s.batch; high_len = s.high_len; zones = map plain_sha
 abbrev pub world : List NamedZone → ShareState → World
 world zones s = record { zones = zones; share = plain s }
 
--- what of a zone never changes: its tie, its name, its largest order, and the number of its workers
+-- what of a zone never changes: its tie, and what it was made with
 pub record ZoneKey : Type 0 where
   pub tie : TableId
   pub name : List ℕ
+  -- the absolute number of its first page, how many pages it has, its least mark, and the order of its largest block
+  pub base : ℕ
+  pub pages : ℕ
+  pub min : ℕ
   pub largest : ℕ
   pub workers : ℕ
 
 abbrev pub key_of : ZoneState → ZoneKey
-key_of z = record { tie = z.tie; name = z.name; largest = z.plain.area.largest; workers = workers_of z.plain }
+key_of z =
+    record {
+      tie = z.tie;
+      name = z.name;
+      base = z.plain.base;
+      pages = pages_of z.plain;
+      min = z.plain.min;
+      largest = z.plain.area.largest;
+      workers = workers_of z.plain;
+    }
+
+-- the zone as it was made
+abbrev pub opening_by : ZoneKey → PlainZone
+opening_by k = zone_opening k.largest k.base k.pages k.min k.workers
 
 -- the zone without its tie and its entries
 abbrev pub named_zone : ZoneState → NamedZone
@@ -67,7 +84,7 @@ IsShareOf keys s = ties_of s ≡ map (λ (k : ZoneKey). k.tie) keys
 
 -- past the end of a row there is no zone, and no worker
 abbrev pub no_key : ZoneKey
-no_key = record { tie = no_tie; name = []; largest = 0; workers = 0 }
+no_key = record { tie = no_tie; name = []; base = 0; pages = 0; min = 0; largest = 0; workers = 0 }
 
 abbrev pub workers_at : List ZoneKey → ℕ → ℕ
 workers_at keys i = (slice_index_or keys i no_key).workers

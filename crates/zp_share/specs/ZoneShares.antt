@@ -4,7 +4,7 @@ use Rattle.std.specs.Prelude.{ℕ, ◌≡◌, ◌==◌, ◌<◌, ◌≤◌, ◌�
 use Rattle.std.specs.List.{IsDistinct}
 use Rattle.zp_model.specs.declared.migrate_type.MigrateType.{MigrateType}
 use Rattle.zp_model.specs.declared.refused.Refused.{Refused}
-use Rattle.zp_model.specs.declared.refused.Refused.TheVariants.{BelowMark, NoBlock, JournalFull}
+use Rattle.zp_model.specs.declared.refused.Refused.TheVariants.{BelowMark, NoBlock, BadPageblock, AlreadyIsolated, NotIsolated, JournalFull}
 use Rattle.zp_model.specs.Entries.{Entry}
 use Rattle.zp_model.specs.declared.request.Request.{Request}
 use Rattle.zp_model.specs.declared.request.Reply.{Reply}
@@ -109,6 +109,13 @@ pub record IsSameSeat (s t : ZoneShareState) : Type 0 where
 -- why no block is given: the mark, the want of a block, or that no section can be made
 abbrev pub IsAllocRefusal : Refused → Type 0
 IsAllocRefusal e = (e ≡ BelowMark) ⊎ ((e ≡ NoBlock) ⊎ (e ≡ JournalFull))
+
+-- why no pageblock is isolated, and why none is released: the zone has none of that number, its type, or that no section can be made
+abbrev pub IsIsolateRefusal : Refused → Type 0
+IsIsolateRefusal e = (e ≡ BadPageblock) ⊎ ((e ≡ AlreadyIsolated) ⊎ (e ≡ JournalFull))
+
+abbrev pub IsReleaseRefusal : Refused → Type 0
+IsReleaseRefusal e = (e ≡ BadPageblock) ⊎ ((e ≡ NotIsolated) ⊎ (e ≡ JournalFull))
 
 -- nothing was asked of the zone, and nothing changed
 pub record IsLeft (z y : ZoneState) (s t : ZoneShareState) : Type 0 where

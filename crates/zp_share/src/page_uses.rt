@@ -130,6 +130,8 @@ impl PageUses {
                     self.set_all(pages.as_slice(), PageUse::Away);
                 }
             }
+            // a page is to the worker what it was, whatever the type of its pageblock
+            Request::Isolate(_) | Request::Release(_, _) => {}
         }
     }
 }

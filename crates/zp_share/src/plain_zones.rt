@@ -64,11 +64,14 @@ impl PlainZones {
 
 impl Zones for PlainZones {
     ghost use Rattle.std.specs.Prelude.{map, Some};
+    ghost use Rattle.zp_share.specs.Commands.{counts_at};
     ghost use Rattle.zp_share.specs.Shares.{key_of, named_zone};
 
     ghost keys = { λ z. map key_of z };
 
     ghost told = { λ z. Some (map named_zone z) };
+
+    ghost shown = { λ z i. counts_at (map named_zone z) i };
 
     #[inline(always)]
     fn section(&mut self, share: &mut Share, zone: usize, request: &Request) -> Reply {

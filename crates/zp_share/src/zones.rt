@@ -1,13 +1,13 @@
 //! A row of zones to which a worker turns with its share.
-ghost use Rattle.std.specs.Prelude.{◌≡◌, ◌<◌, ◌≤◌, List, [], length, Option, Some};
+ghost use Rattle.std.specs.Prelude.{ℕ, ◌≡◌, ◌≢◌, ◌<◌, ◌≤◌, List, [], length, Option, Some};
+ghost use Rattle.zp_model.specs.declared.counts.Counts.{Counts};
 ghost use Rattle.zp_model.specs.declared.request.Request.TheVariants as request;
 ghost use Rattle.zp_model.specs.declared.request.Reply.TheVariants as reply;
-ghost use Rattle.zp_model.specs.Info.{counts_of};
-ghost use Rattle.zp_zone.specs.NamedZone.{NamedZone, page_reply, block_reply};
+ghost use Rattle.zp_zone.specs.NamedZone.{NamedZone, page_reply, block_reply, isolate_reply, release_reply};
 ghost use Rattle.zp_share.specs.PlainShares.{back};
 ghost use Rattle.zp_share.specs.Sections.{MayAsk, done_reply, list_reply};
 ghost use Rattle.zp_share.specs.ZoneShares.{cached_of};
-ghost use Rattle.zp_share.specs.Commands.{zone_at};
+ghost use Rattle.zp_share.specs.Commands.{counts_at};
 ghost use Rattle.zp_share.specs.Shares.{ZoneKey, IsShareOf, HasWorkerAt, IsAskedAt, share_at, workers_at};
 
 use crate::answered;
@@ -18,12 +18,15 @@ use zp_model::{
 
 /// A row of zones. A section makes one request to the zone at a place of the row, and the same change in the share: one section
 /// more, of this request and this reply, or a refusal 20 or 30 with nothing changed. Where the row tells what its zones are, they and
-/// the answer are exactly those of one step of that zone. Each of the seven typed calls is the section of its request.
+/// the answer are exactly those of one step of that zone. Each of the nine typed calls is the section of its request.
 pub trait Zones {
     // What ties each zone to its seats, its name, and how many workers it has; this never changes.
     ghost keys: { Self → List ZoneKey };
     // The zones, where the row tells them.
     ghost told: { Self → Option (List NamedZone) };
+    // The counts that a reading of each zone answers: the zone's own, where the row tells its zones; where it does not, those that were
+    // seen last.
+    ghost shown: { Self → ℕ → Counts };
 
     /// One request to the zone at a place. Refused 20 where the block that it names is not lent, 30, and as the zone refuses it.
     fn section(&mut self, share: &mut Share, zone: usize, request: &Request) -> Reply
@@ -32,11 +35,13 @@ pub trait Zones {
         requires may { MayAsk (workers_at (keys self.old) zone) share.old.batch request.now (share_at share.old zone) }
         ensures { IsAskedAt zone request.now result (keys self.old) (keys self.new) (told self.old) (told self.new) share.old share.new };
 
-    /// How many free blocks of each order the zone has, and how many free pages.
+    /// How many free blocks of each order the zone has, and how many free pages, as a reading of it answers.
     fn counts(&mut self, zone: usize) -> Counts
         requires { zone < length (keys self.old) }
         ensures keys { keys self.new ≡ keys self.old }
-        ensures told { (rows : List NamedZone) → told self.old ≡ Some rows → (told self.new ≡ Some rows) × (result ≡ counts_of (zone_at rows zone).plain.area.largest (zone_at rows zone).plain.area.free) };
+        ensures shown { result ≡ shown self.new zone }
+        ensures others { (i : ℕ) → i ≢ zone → shown self.new i ≡ shown self.old i }
+        ensures told { (rows : List NamedZone) → told self.old ≡ Some rows → (told self.new ≡ Some rows) × (result ≡ counts_at rows zone) };
 
     /// A block of this order for this type, held to this mark, which is then lent: its first page. Refused 10, 11 or 30.
     // (out of line, and so are a refill and a drain: what is done for each page of a list is small without them)
@@ -146,5 +151,32 @@ pub trait Zones {
     {
         let request = Request::Drain(kind, share.back(zone, kind, count));
         answered!(self.section(share, zone, &request), Reply::Drained => ())
+    }
+
+    /// Isolates the zone's pageblock of this number. The worker's lists and lent blocks stay, also those of the pageblock. Refused
+    /// 13, 14 or 30.
+    fn isolate(&mut self, share: &mut Share, zone: usize, pageblock: u32) -> Result<(), Refused>
+        requires fits { IsShareOf (keys self.old) share.old }
+        requires zone { zone < length share.old.zones }
+        ensures { IsAskedAt zone (request.Isolate pageblock) (isolate_reply result) (keys self.old) (keys self.new) (told self.old) (told self.new) share.old share.new }
+    {
+        let request = Request::Isolate(pageblock);
+        answered!(self.section(share, zone, &request), Reply::Isolated => ())
+    }
+
+    /// Gives an isolated pageblock of the zone a migrate type. Refused 13, 15 or 30.
+    fn release(
+        &mut self,
+        share: &mut Share,
+        zone: usize,
+        pageblock: u32,
+        kind: MigrateType,
+    ) -> Result<(), Refused>
+        requires fits { IsShareOf (keys self.old) share.old }
+        requires zone { zone < length share.old.zones }
+        ensures { IsAskedAt zone (request.Release pageblock kind) (release_reply result) (keys self.old) (keys self.new) (told self.old) (told self.new) share.old share.new }
+    {
+        let request = Request::Release(pageblock, kind);
+        answered!(self.section(share, zone, &request), Reply::Released => ())
     }
 }

@@ -1,9 +1,9 @@
 -- A request of a share to the guarded zone at its place: what the zone, its journal, its board and the share are after it.
-use Rattle.std.proofs.Common.{ℕ, ◌≡◌, ◌≢◌, ◌<◌, ◌≤◌, ◌==◌, ◌++◌, ◌-◌, ◌⊎◌, inl, inr, Bool, true, false, leb, refl, sym, ◌∙◌, ap, ap₂, subst, arith, cond, List, [], ◌∷◌, get_or, length, length-append, None, Some, ◌↔◌}
+use Rattle.std.proofs.Common.{ℕ, ◌≡◌, ◌≢◌, ◌<◌, ◌≤◌, ◌==◌, ◌+◌, ◌++◌, ◌-◌, ◌⊎◌, inl, inr, Bool, true, false, leb, refl, sym, ◌∙◌, ap, ap₂, subst, arith, cond, List, [], ◌∷◌, get_or, length, length-append, None, Some, ◌↔◌}
 use Rattle.std.proofs.lemmas.Bool.{eqb-true, leb-false}
 use Rattle.std.proofs.Math.ListN.{get_or-map}
-use Rattle.std.proofs.Math.Seq.{map-set_same, get_or-append_seam}
-use Rattle.std.proofs.lemmas.List.{set-get_or}
+use Rattle.std.proofs.Math.Seq.{map-set_same}
+use Rattle.std.proofs.lemmas.List.{set-get_or, take_all}
 use Rattle.std.specs.List.{filter}
 use Rattle.zp_model.specs.declared.counts.Counts.{Counts}
 use Rattle.zp_model.specs.Entries.{Entry}
@@ -11,19 +11,26 @@ use Rattle.zp_model.specs.declared.refused.Refused.TheVariants.{NotLent, Journal
 use Rattle.zp_model.specs.declared.request.Request.{Request}
 use Rattle.zp_model.specs.declared.request.Reply.{Reply}
 use Rattle.zp_model.specs.Books.{entry_of, made_by}
+use Rattle.zp_model.specs.Info.{counts_of}
+use Rattle.zp_model.specs.Zone.{PlainZone}
+use Rattle.zp_model.specs.Step.{step}
+use Rattle.zp_model.specs.Run.{IsHistory, opening_of, run}
+use Rattle.zp_laws.proofs.Histories.{opening-step, run_more}
 use Rattle.zp_laws.proofs.Sameness.{step-same}
 use Rattle.zp_zone.specs.Seats.{ZoneState, IsSeatOf}
 use Rattle.zp_board.specs.Boards.{BoardState}
-use Rattle.zp_counts.specs.CountBoards.{CountsPublished, counts_in, last_counts}
+use Rattle.zp_counts.specs.CountBoards.{CountsPublished}
 use Rattle.zp_journal.specs.declared.journal.TheConstants.{LONGEST_JOURNAL}
-use Rattle.zp_journal.specs.Journals.{JournalState}
+use Rattle.zp_journal.specs.Journals.{JournalState, counts_after}
 use Rattle.zp_share.specs.declared.sections.TheConstants.{LAST_SECTION}
 use Rattle.zp_share.specs.PlainShares.{lends, lends_for, refusal, refused_full}
 use Rattle.zp_share.specs.Sections.{ComesOf, IsAsked, IsReplyTo}
 use Rattle.zp_share.specs.ZoneShares.{ZoneShareState, SharesIn, IsLeft, IsSection, answered, opening_share, plain_share}
 use Rattle.zp_share.specs.Shares.{ShareState, ZoneKey, IsAskedAt, IsShareOf, no_key, no_tie, key_of, ties_of, share_at, with_zone_share, is_section, noted_at, no_seat}
+use Rattle.zp_share.proofs.Telling.{same-key}
 use Rattle.zp_share.proofs.Tried.{not_lent_alone, step-section}
-use Rattle.zp_shared.specs.Rows.{GuardedZone, IsAskedUnderLock, IsPublished, IsPublishedOnce, board_at, is_journal_full, key_at, zone_counts}
+use Rattle.zp_shared.proofs.Publishing.{counts_more}
+use Rattle.zp_shared.specs.Rows.{AreCountsAfter, GuardedZone, IsAskedUnderLock, IsPublished, IsPublishedOnce, board_at, is_journal_full, key_at, zone_counts}
 
 -- the guarded zone is that of the share's seat at its place
 pub seat_at : (keys : List ZoneKey) (i : ℕ) (z : ZoneState) (s : ShareState) → key_of z ≡ key_at keys i → IsShareOf keys s → IsSeatOf z (share_at s i).seat
@@ -36,8 +43,7 @@ seat_at keys i z s key fits =
 -- the zone's key stays
 key_kept : (r : Request) (q : Reply) (z y : ZoneState) (a b : ZoneShareState) → IsSection r q z y a b → key_of y ≡ key_of z
 key_kept r q z y a b made =
-    let kept = step-same z.plain a.seat.worker r in
-    ap key_of made.zone ∙ (λ i. record { tie = z.tie; name = z.name; largest = kept.largest i; workers = kept.workers i })
+    ap key_of made.zone ∙ same-key z (step z.plain a.seat.worker r).zone (step-same z.plain a.seat.worker r)
 
 -- the share is one of the row still
 share_kept : (keys : List ZoneKey) (r : Request) (q : Reply) (z y : ZoneState) (s t : ShareState) (i : ℕ) → IsShareOf keys s →
@@ -67,7 +73,7 @@ one_entry r q z y a b j k made was noted =
       ap (λ (v : JournalState). v.capacity) more,
     )
 
-filter_few : {X : Type 0} (p : X → Bool) (xs : List X) → length (filter p xs) ≤ length xs
+pub filter_few : {X : Type 0} (p : X → Bool) (xs : List X) → length (filter p xs) ≤ length xs
 filter_few p [] = omega arith
 filter_few p (x ∷ xs) = go (p x) refl (filter_few p xs)
   where
@@ -111,18 +117,27 @@ counts_published g h e more published = record {
   made = λ d also. published;
 }
 
-last_published : (cs ds : List Counts) (c : Counts) → ds ≡ cs ++ c ∷ [] → last_counts ds ≡ c
-last_published cs ds c more =
-    let none : Counts = counts_in [] in
-    let n : length ds - 1 ≡ length cs = omega (arith, ap length more, length-append cs (c ∷ [])) in
-    ap (λ k. get_or ds k none) n ∙ ap (λ l. get_or l (length cs) none) more ∙ get_or-append_seam cs c [] none
-
 -- one entry more, and the zone's counts
-still_published : (z y : ZoneState) (cs ds : List Counts) (e : Entry) → IsPublished z cs → y.entries ≡ z.entries ++ e ∷ [] → ds ≡ cs ++ zone_counts y ∷ [] → IsPublished y ds
-still_published z y cs ds e was more published = record {
-  many = omega (arith, was.many, ap length more, ap length published, length-append z.entries (e ∷ []), length-append cs (zone_counts y ∷ []));
-  last = last_published cs ds (zone_counts y) published;
-}
+still_published : (r : Request) (q : Reply) (z y : ZoneState) (a b : ZoneShareState) (cs ds : List Counts) → IsPublished z cs → IsHistory z.plain z.entries → IsSection r q z y a b →
+    ds ≡ cs ++ zone_counts y ∷ [] → IsPublished y ds
+still_published r q z y a b cs ds was history made published =
+    let w = a.seat.worker in
+    let e : Entry = entry_of z.plain w r in
+    let o = opening_of z.plain in
+    let more : y.entries ≡ z.entries ++ e ∷ [] = ap (λ (v : ZoneState). v.entries) made.zone in
+    let opened : opening_of y.plain ≡ o = ap (λ (v : ZoneState). opening_of v.plain) made.zone ∙ opening-step z.plain w r in
+    let run_is : run o (z.entries ++ e ∷ []) ≡ y.plain =
+    run_more o z.entries e ∙ ap (λ x. (step x w r).zone) history.run ∙ sym (ap (λ (v : ZoneState). v.plain) made.zone) in
+    let own : zone_counts y ≡ counts_after o (z.entries ++ e ∷ []) (length z.entries + 1) =
+    ap (λ (p : PlainZone). counts_of p.area.largest p.area.free)
+    (sym (ap (run o) (take_all (length z.entries + 1) (z.entries ++ e ∷ []) (omega (arith, length-append z.entries (e ∷ [])))) ∙ run_is)) in
+    record {
+      many = omega (arith, was.many, ap length more, ap length published, length-append z.entries (e ∷ []), length-append cs (zone_counts y ∷ []));
+      each =
+          subst (λ v. AreCountsAfter v y.entries ds) (sym opened)
+          (subst (λ es. AreCountsAfter o es ds) (sym more)
+          (subst (AreCountsAfter o (z.entries ++ e ∷ [])) (sym published) (counts_more o z.entries e cs (zone_counts y) was.many was.each own)));
+    }
 
 -- a share turned to the guarded zone at its place, with which the zone, its journal, and what the share has of it alone became others:
 -- one section was made, and noted; then the zone's counts were published
@@ -133,6 +148,7 @@ pub record IsCall (keys : List ZoneKey) (boards : List BoardState) (r : Request)
   pub asked : IsAsked r q p.zone y (share_at s p.place) (share_at t p.place)
   pub is_section : is_section q ≡ true
   pub noted : (e : Entry) → (share_at t p.place).sections.last ≡ Some e → k ≡ record { capacity = p.journal.capacity; entries = p.journal.entries ++ e ∷ [] }
+  pub history : IsHistory p.zone.plain p.zone.entries
   pub tie : u.tie ≡ p.publisher.tie
   pub published : u.published ≡ p.publisher.published ++ zone_counts y ∷ []
 
@@ -163,7 +179,7 @@ after keys boards r q g p y k u s t c view room =
     let more : y.entries ≡ p.zone.entries ++ e ∷ [] = ap (λ (v : ZoneState). v.entries) made.0.zone in
     subst (λ v. IsAfter keys boards r q v n s t) view
     (record {
-      guarded = (key, entry.0, c.tie ∙ c.guarded.2, entry.1 ∙ c.guarded.3, still_published p.zone y p.publisher.published u.published e c.guarded.4 more c.published);
+      guarded = (key, entry.0, c.tie ∙ c.guarded.2, entry.1 ∙ c.guarded.3, still_published r q p.zone y (share_at s i) (share_at t i) p.publisher.published u.published c.guarded.4 c.history made.0 c.published);
       asked =
           record {
             made = made.1;
@@ -217,6 +233,8 @@ full_reply (Request.Post p k to) s t = one_of (lends (plain_share s) p k)
 full_reply Request.Collect s t = inr refl
 full_reply (Request.Refill u m n) s t = inr (inr refl)
 full_reply (Request.Drain u ps) s t = refl
+full_reply (Request.Isolate b) s t = inr (inr refl)
+full_reply (Request.Release b u) s t = inr (inr refl)
 
 pub full_made : (lent full : Bool) (r : Request) (z : ZoneState) (a : ZoneShareState) → full ≡ true → ComesOf (refusal lent full) r (Reply.Refused (cond lent JournalFull NotLent)) z z a a
 full_made false full r z a f = (refl, record { zone = refl; share = refl })

@@ -1,11 +1,16 @@
 -- A row of zones that threads share, each behind a lock of its own, under one name: the keys of its zones (this profile).
-use Rattle.std.specs.Prelude.{ℕ, ◌≡◌, ◌≢◌, ◌+◌, Bool, leb, List, [], ◌∷◌, ◌++◌, length, map, slice_index_or}
+use Rattle.std.specs.Prelude.{ℕ, ◌≡◌, ◌≢◌, ◌<◌, ◌≤◌, ◌+◌, ◌⊎◌, Bool, true, false, leb, List, [], ◌∷◌, ◌++◌, All, Some, length, map, slice_get, slice_index_or}
 use mathlib.Core.List.{IsPrefix}
 use Rattle.zp_model.specs.declared.counts.Counts.{Counts}
 use Rattle.zp_model.specs.Entries.{Entry}
 use Rattle.zp_model.specs.Info.{counts_of}
+use Rattle.zp_model.specs.declared.refused.Refused.TheVariants.{NotLent, JournalFull}
+use Rattle.zp_model.specs.Zone.{PlainZone}
+use Rattle.zp_model.specs.Run.{IsLegal, opening_of}
 use Rattle.zp_board.specs.Boards.{BoardState}
+use Rattle.zp_counts.specs.declared.reading.Reading.{Reading}
 use Rattle.zp_counts.specs.CountBoards.{CountsSeen, last_counts}
+use Rattle.zp_journal.specs.Journals.{JournalState, counts_after}
 use Rattle.std.specs.Global.{Vec}
 use Rattle.std.specs.List.{range_with_len}
 use Rattle.zp_model.specs.declared.request.Request.{Request}
@@ -14,16 +19,24 @@ use Rattle.zp_zone.specs.Seats.{ZoneState, KeepsSeats}
 use Rattle.zp_share.specs.PlainShares.{lends_for, refusal}
 use Rattle.zp_share.specs.Sections.{ComesOf, IsReplyTo}
 use Rattle.zp_share.specs.ZoneShares.{IsSameSeat, plain_share}
-use Rattle.zp_share.specs.Shares.{ShareState, ZoneKey, IsShareOf, key_of, no_key, no_tie, noted_at, share_at, with_zone_share}
+use Rattle.zp_share.specs.Shares.{ShareState, ZoneKey, IsShareOf, is_section, key_of, no_key, no_tie, noted_at, opening_by, sections_at, share_at, with_zone_share}
 
 -- how many free blocks of each order the zone has, and how many free pages
 abbrev pub zone_counts : ZoneState → Counts
 zone_counts z = counts_of z.plain.area.largest z.plain.area.free
 
--- what is published of a zone: counts at its opening and after each of its entries, the last of them its own
+-- these are counts of a zone that was opened so: each at its place, the counts after so many of these entries
+abbrev pub AreCountsAfter : PlainZone → List Entry → List Counts → Type 0
+AreCountsAfter z es cs = (i : ℕ) (c : Counts) → slice_get cs i ≡ Some c → c ≡ counts_after z es i
+
+-- what is published of a zone: its counts at its opening and after each of its entries
 pub record IsPublished (z : ZoneState) (cs : List Counts) : Type 0 where
   pub many : length cs ≡ length z.entries + 1
-  pub last : last_counts cs ≡ zone_counts z
+  pub each : AreCountsAfter (opening_of z.plain) z.entries cs
+
+-- a reading is the counts of the zone after as many of its entries as its place says
+abbrev pub IsCountsOf : ZoneState → Reading → Type 0
+IsCountsOf z r = r.counts ≡ counts_after (opening_of z.plain) z.entries r.place
 
 -- a zone that is opened for threads, with its board
 pub record OpenedState : Type 0 where
@@ -84,6 +97,41 @@ HaveSeen before after = (i : ℕ) → IsPrefix (seen_at before i) (seen_at after
 abbrev pub seen_by : List CountsSeen → List (List Counts)
 seen_by rs = map (λ (r : CountsSeen). r.seen) rs
 
+-- a worker's view: its readers, and whether it found a zone under the lock of another place
+pub record ViewState : Type 0 where
+  pub readers : List CountsSeen
+  pub strayed : Bool
+
+-- the counts that its reader of a place saw last
+abbrev pub shown_at : ViewState → ℕ → Counts
+shown_at v i = last_counts (seen_at (seen_by v.readers) i)
+
+-- the readers had seen a beginning of these counts, and have seen all of them
+pub record HaveReadAll (cs : List Counts) (old new : List CountsSeen) : Type 0 where
+  pub before : All (λ (r : CountsSeen). IsPrefix r.seen cs) old
+  pub after : new ≡ map (λ (r : CountsSeen). record r { seen = cs }) old
+
+-- they have seen all that was published of the zone
+abbrev pub HaveReadZone : ZoneState → List CountsSeen → List CountsSeen → Type 0
+HaveReadZone z old new = (cs : List Counts) × IsPublished z cs × HaveReadAll cs old new
+
+-- the readers are those of the same boards, and have seen all that they had seen
+abbrev pub AreKept : List ZoneKey → List BoardState → Vec CountsSeen → Vec CountsSeen → Type 0
+AreKept keys boards rs ss = AreReaders keys boards ss × HaveSeen (seen_by rs.items) (seen_by ss.items)
+
+-- the readers of a row have seen all that was published of these zones, place by place
+abbrev pub HaveReadZones : List ZoneState → Vec CountsSeen → Type 0
+HaveReadZones zs rs = (i : ℕ) (z : ZoneState) → slice_get zs i ≡ Some z → IsPublished z (seen_at (seen_by rs.items) i)
+
+-- the readers have seen all that was published of the zone at a place of the row, and at the others what they had seen
+pub record HaveReadAt (i : ℕ) (z : ZoneState) (rs ss : Vec CountsSeen) : Type 0 where
+  pub here : IsPublished z (seen_at (seen_by ss.items) i)
+  pub others : (j : ℕ) → j ≢ i → seen_at (seen_by ss.items) j ≡ seen_at (seen_by rs.items) j
+
+-- the entries of the journal are a legal list from the opening of the zone with this key
+abbrev pub IsLegalBy : ZoneKey → JournalState → Type 0
+IsLegalBy k j = IsLegal (opening_by k) j.entries
+
 -- these are the places of the row with these keys: each place once, in order
 abbrev pub IsRowOf : List ZoneKey → List ℕ → Type 0
 IsRowOf keys places = places ≡ range_with_len 0 (length keys)
@@ -115,3 +163,36 @@ pub record IsAskedUnderLock (keys : List ZoneKey) (r : Request) (q : Reply) (g h
   pub kept : IsKeptAt keys g h s t
   pub share : t ≡ noted_at g.place r q s
   pub reply : IsReplyTo r q (share_at s g.place) (share_at t g.place)
+
+-- whether a request was refused as the block that it names is not lent
+abbrev pub is_not_lent : Reply → Bool
+is_not_lent (Reply.Refused NotLent) = true
+is_not_lent q = false
+
+-- all that is published of the guarded zone was seen; its journal has as many entries at most as its board has room for
+pub record IsReadWhole (capacity : ℕ) (h : GuardedZone) (cs : List Counts) : Type 0 where
+  pub seen : cs ≡ h.published
+  pub published : IsPublished h.zone h.published
+  pub room : (length h.zone.entries ≤ h.capacity) × (h.capacity ≡ capacity)
+
+-- what a reader has seen when a request was answered so and left the guarded zone like this: all that is published, or as before where no
+-- such block was lent
+pub record HasReadAfter (capacity : ℕ) (q : Reply) (h : GuardedZone) (r s : CountsSeen) : Type 0 where
+  pub tie : s.tie ≡ r.tie
+  pub before : IsPrefix r.seen s.seen
+  pub left : is_not_lent q ≡ true → s ≡ r
+  pub read : is_not_lent q ≡ false → IsReadWhole capacity h s.seen
+
+-- what a worker's view has read when a request to the zone of place i was answered so, over a board with room for so many entries
+pub record IsReadAfter (capacity i : ℕ) (q : Reply) (t : ShareState) (before after : ViewState) : Type 0 where
+  -- where it was a section, more than the share has made sections there: no later reading is older than they are
+  pub own : is_section q ≡ true → sections_at t i < length (seen_at (seen_by after.readers) i)
+  -- where there was no room, all that the board has room for, unless the zone lay under another's lock
+  pub full : q ≡ Reply.Refused JournalFull → (after.strayed ≡ true) ⊎ (length (seen_at (seen_by after.readers) i) ≡ capacity + 1)
+  -- where no such block was lent, nothing
+  pub not_lent : q ≡ Reply.Refused NotLent → after.readers ≡ before.readers
+  pub seen : HaveSeen (seen_by before.readers) (seen_by after.readers)
+  pub others : (j : ℕ) → j ≢ i → seen_at (seen_by after.readers) j ≡ seen_at (seen_by before.readers) j
+  -- it has strayed for good, and does not where a section was made
+  pub strayed : before.strayed ≡ true → after.strayed ≡ true
+  pub stays : is_section q ≡ true → after.strayed ≡ before.strayed

@@ -1,31 +1,35 @@
 //! What lies under a lock: a zone, its journal and the right to publish its counts, with the place in the row that the zone says is
 //! its own.
-ghost use Rattle.std.specs.Prelude.{◌≡◌, ◌<◌, ◌≤◌, ◌++◌, ◌∷◌, [], length, Some};
+ghost use Rattle.std.specs.Prelude.{◌≡◌, ◌<◌, ◌≤◌, ◌++◌, ◌∷◌, ◌↔◌, [], length, IfSome, IsSome, Some};
 ghost use Rattle.zp_model.specs.Entries.{Entry};
 ghost use Rattle.zp_model.specs.Info.{counts_of};
 ghost use Rattle.zp_model.specs.Lawful.{IsLawful};
-ghost use Rattle.zp_model.specs.Zone.{workers_of};
+ghost use Rattle.zp_model.specs.Area.{pageblocks_of};
+ghost use Rattle.zp_model.specs.Zone.{pages_of, workers_of};
+ghost use Rattle.zp_zone.specs.NamedZone.{IsPageblockOf};
 ghost use Rattle.zp_journal.specs.Journals.{IsJournalOf};
 ghost use Rattle.zp_share.specs.Shares.{IsShareOf, key_of, share_at};
 ghost use Rattle.zp_share.specs.ZoneShares.{IsShare, SharesIn};
 ghost use mathlib.Core.List.{IsPrefix};
-ghost use Rattle.zp_shared.specs.Rows.{IsPublished, board_at, key_at, opened_key, zone_counts};
+ghost use Rattle.zp_counts.specs.declared.reading.Reading.{Reading};
+ghost use Rattle.zp_counts.specs.CountBoards.{IsReadingOf};
+ghost use Rattle.zp_shared.specs.Rows.{IsCountsOf, IsPublished, board_at, key_at, opened_key, zone_counts};
 
 use crate::naming::Naming;
 use crate::opened::OpenedZone;
 use std::marker::{Model, PhantomData};
-use zp_counts::{Board, BoardReader, Publisher};
+use zp_counts::{Board, BoardReader, Publisher, Reading};
 use zp_journal::Journal;
 use zp_model::Counts;
 use zp_share::Share;
-use zp_zone::Zone;
+use zp_zone::{Pageblock, Zone};
 
 mod sections;
 
 /// A zone that says its place in the row, the journal of all that was asked of it since its opening, and the right to publish its
 /// counts. A lock forgets what it holds but for the type, so the type says it: what never changes of the zone, and its board, are what
-/// the row's name has at that place; the journal's entries are those that the zone and its seats agree on; and what is published is
-/// one entry more, the last of which is the zone's counts.
+/// the row's name has at that place; the journal's entries are those that the zone and its seats agree on; and what is published are the
+/// zone's counts at its opening and after each of these entries.
 #[derive(Drop)]
 pub struct Guarded<J: Naming> {
     place: usize,
@@ -95,15 +99,30 @@ impl<J: Naming> Guarded<J> {
         self.zone.counts()
     }
 
-    /// The zone's counts, read off its board. The reader has then seen all that is published.
-    pub fn read_board(&mut self, board: &Board, reader: &mut BoardReader) -> Counts
+    /// What the zone tells of its pageblock of this number, where it has one.
+    pub fn pageblock(&self, pageblock: u32) -> Option<Pageblock>
+        ensures when { IsSome result ↔ (pageblock < pageblocks_of self.now.zone.plain.area.largest (pages_of self.now.zone.plain)) }
+        ensures told { IfSome result (IsPageblockOf self.now.zone.plain pageblock) }
+    {
+        self.zone.pageblock(pageblock)
+    }
+
+    /// The zone's counts, read off its board, and how many entries the journal has. The reader has then seen all that is published: each
+    /// reading that it took, this one too, is the zone's counts after as many entries of the journal as the reading's place says.
+    pub fn read_board(&mut self, board: &Board, reader: &mut BoardReader) -> Reading
         requires board { board.now ≡ board_at J.boards self.old.place }
         requires reader { reader.old.tie ≡ board.now.tie }
         ensures same { self.new ≡ self.old }
-        ensures counts { result ≡ zone_counts self.old.zone }
+        ensures counts { result ≡ record { counts = zone_counts self.old.zone; place = length self.old.zone.entries } }
         ensures before { IsPrefix reader.old.seen self.old.published }
         ensures reader { reader.new ≡ record { tie = reader.old.tie; seen = self.old.published } }
+        ensures published { IsPublished self.old.zone self.old.published }
+        ensures taken { (r : Reading) → IsReadingOf reader.old.seen r → IsCountsOf self.old.zone r }
+        ensures room { (length self.old.zone.entries ≤ self.old.capacity) × (self.old.capacity ≡ (board_at J.boards self.old.place).capacity) }
     {
+        // clauses of these calls say that the zone is the run of its entries, and that the journal has room for them
+        self.zone.history();
+        let _entries = self.journal.len();
         self.publisher.read_board(board, reader)
     }
 
@@ -126,6 +145,7 @@ impl<J: Naming> Guarded<J> {
         ensures zone { result.0 ≡ self.zone }
         ensures key { key_of result.0 ≡ key_at J.zones self.place }
         ensures journal { IsJournalOf result.0 result.1 }
+        ensures room { result.1.capacity ≡ (board_at J.boards self.place).capacity }
     {
         let Guarded { zone, journal, .. } = self;
         zone.history();

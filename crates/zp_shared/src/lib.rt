@@ -15,4 +15,4 @@ pub use naming::{Earlier, Naming};
 pub use opened::OpenedZone;
 pub use row::{close_zones, open_zones, reader_rows, readers_of, share_zones};
 pub use shared_zone::{Closed, SharedZone};
-pub use zp_counts::{Board, BoardReader};
+pub use zp_counts::{Board, BoardReader, Reading};

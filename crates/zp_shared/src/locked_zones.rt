@@ -1,38 +1,41 @@
 //! One worker's view of a row of zones that threads share.
-ghost use Rattle.std.specs.Prelude.{ℕ, ◌≡◌, ◌≢◌, ◌<◌, length, IfSome};
+ghost use Rattle.std.specs.Prelude.{ℕ, ◌≡◌, ◌≢◌, ◌<◌, false, length, IfSome, None};
 ghost use Rattle.std.specs.Sync.Mutex.{mutex_guard_value};
 ghost use mathlib.Core.List.{IsPrefix};
-ghost use Rattle.zp_counts.specs.CountBoards.{last_counts};
-ghost use Rattle.zp_shared.specs.Rows.{IsRowOf, AreReadersOf, HaveSeen, board_at, seen_at, seen_by};
+ghost use Rattle.zp_counts.specs.CountBoards.{last_reading};
+ghost use Rattle.zp_share.specs.Sections.{MayAsk};
+ghost use Rattle.zp_share.specs.Shares.{IsAskedAt, IsShareOf, share_at, workers_at};
+ghost use Rattle.zp_shared.specs.Rows.{IsRowOf, AreReadersOf, HaveSeen, HasReadAfter, IsAskedUnderLock, IsReadAfter, board_at, is_not_lent, seen_at, seen_by};
 
 use crate::guarded::Guarded;
 use crate::naming::{Earlier, Naming};
 use crate::shared_zone::SharedZone;
 use std::marker::{Model, PhantomData};
 use std::sync::{MutexGuard, Wait};
-use zp_counts::{Board, BoardReader};
-use zp_model::{Counts, Reply, Request};
+use zp_counts::{Board, BoardReader, Reading};
+use zp_model::{Counts, Refused, Reply, Request};
 use zp_share::{Share, Zones};
 
 /// A row of zones as one worker turns to them, with a reader of each zone's board: each request takes the lock of its zone, once, and
-/// counts are read with no lock. Where the zone of another place lies under a lock, the request is refused 30 and nothing is asked. It
-/// does not tell what its zones are. Contracts see its readers; they have seen all that `E` names.
+/// counts are read with no lock. Each section that is not refused 20 ends with a reading of the zone's board, while the lock is held: so no
+/// reading after it is older than it. Where the zone of another place lies under a lock, the request is refused 30, nothing is asked, and
+/// the view has strayed. It does not tell what its zones are. Contracts see its readers, which have seen all that `E` names, and whether it
+/// has strayed.
 #[derive(Drop)]
 pub struct LockedZones<'a, J: Naming, E: Earlier, R> {
     rt: &'a R,
     zones: &'a [SharedZone<J>],
     readers: Vec<BoardReader>,
+    strayed: bool,
     since: PhantomData<E>,
 }
 
 impl<'a, J: Naming, E: Earlier, R> Model for LockedZones<'a, J, E, R> {
-    ghost use Rattle.std.specs.Prelude.{List};
-    ghost use Rattle.zp_counts.specs.CountBoards.{CountsSeen};
-    ghost use Rattle.zp_shared.specs.Rows.{IsRowOf, AreReadersOf, HaveSeen, seen_by};
+    ghost use Rattle.zp_shared.specs.Rows.{IsRowOf, AreReadersOf, HaveSeen, ViewState, seen_by};
 
-    ghost Value = { List CountsSeen };
+    ghost Value = { ViewState };
 
-    ghost view = { λ z. z.readers.items };
+    ghost view = { λ z. record { readers = z.readers.items; strayed = z.strayed } };
 
     ghost invariant = { λ z. IsRowOf J.zones z.zones.now × AreReadersOf J.zones J.boards z.readers.items × HaveSeen E.seen (seen_by z.readers.items) };
 }
@@ -47,32 +50,41 @@ impl<'a, J: Naming, E: Earlier, R> LockedZones<'a, J, E, R> {
         requires row { IsRowOf J.zones zones.now }
         requires readers { AreReadersOf J.zones J.boards readers.items }
         requires seen { HaveSeen E.seen (seen_by readers.items) }
-        ensures { result ≡ readers.items }
+        ensures { result ≡ record { readers = readers.items; strayed = false } }
     {
         LockedZones {
             rt,
             zones,
             readers,
+            strayed: false,
             since: PhantomData,
         }
     }
 
+    /// Whether the zone of another place was found under a lock.
+    pub fn strayed(&self) -> bool
+        ensures { result ≡ self.now.strayed }
+    {
+        self.strayed
+    }
+
     /// The readers, which have seen all that they had seen when they were lent, and more where more was read.
     pub fn into_readers(self) -> Vec<BoardReader>
-        ensures same { result.items ≡ self.entry }
+        ensures same { result.items ≡ self.entry.readers }
         ensures fit { AreReadersOf J.zones J.boards result.items }
         ensures seen { HaveSeen E.seen (seen_by result.items) }
     {
         self.readers
     }
 
-    /// The counts of the zone at a place: the last of those that its reader has then seen, which begin with all that it had seen.
-    /// Takes no lock and never waits.
-    pub fn read(&mut self, zone: usize) -> Counts
+    /// The counts of the zone at a place, with their place: the last of those that its reader has then seen, which begin with all that
+    /// it had seen. Takes no lock and never waits.
+    pub fn read(&mut self, zone: usize) -> Reading
         requires { zone < length J.zones }
-        ensures last { result ≡ last_counts (seen_at (seen_by self.new) zone) }
-        ensures seen { IsPrefix (seen_at (seen_by self.old) zone) (seen_at (seen_by self.new) zone) }
-        ensures others { (i : ℕ) → i ≢ zone → seen_at (seen_by self.new) i ≡ seen_at (seen_by self.old) i }
+        ensures last { result ≡ last_reading (seen_at (seen_by self.new.readers) zone) }
+        ensures seen { IsPrefix (seen_at (seen_by self.old.readers) zone) (seen_at (seen_by self.new.readers) zone) }
+        ensures others { (i : ℕ) → i ≢ zone → seen_at (seen_by self.new.readers) i ≡ seen_at (seen_by self.old.readers) i }
+        ensures strayed { self.new.strayed ≡ self.old.strayed }
     {
         let board = self.shared_at(zone).board();
         self.readers[zone].read(board)
@@ -108,21 +120,65 @@ impl<'a, J: Naming, E: Earlier, R: Wait> LockedZones<'a, J, E, R> {
 
 impl<'a, J: Naming, E: Earlier, R: Wait> Zones for LockedZones<'a, J, E, R> {
     ghost use Rattle.std.specs.Prelude.{None};
+    ghost use Rattle.zp_shared.specs.Rows.{shown_at};
 
     ghost keys = { λ z. J.zones };
 
     ghost told = { λ z. None };
 
+    ghost shown = { shown_at };
+
     // (in line: where a caller knows which request it is, no room is cleared for a list of pages)
     #[inline(always)]
-    fn section(&mut self, share: &mut Share, zone: usize, request: &Request) -> Reply {
+    fn section(&mut self, share: &mut Share, zone: usize, request: &Request) -> Reply
+        requires fits { IsShareOf J.zones share.old }
+        requires zone { zone < length share.old.zones }
+        requires may { MayAsk (workers_at J.zones zone) share.old.batch request.now (share_at share.old zone) }
+        ensures asked { IsAskedAt zone request.now result J.zones J.zones None None share.old share.new }
+        ensures read { IsReadAfter (board_at J.boards zone).capacity zone result share.new self.old self.new }
+    {
         let Some((mut guarded, board)) = self.locked(zone) else {
+            self.strayed = true;
             return share.refuse(zone, request);
         };
-        guarded.section(board, share, request)
+        let reader = &mut self.readers[zone];
+        section_and_reading(&mut guarded, board, reader, share, request)
     }
 
     fn counts(&mut self, zone: usize) -> Counts {
-        self.read(zone)
+        self.read(zone).counts
     }
+}
+
+/// One request to the guarded zone, and then a reading of its board, unless it was refused as the block that it names is not lent.
+#[inline(always)]
+fn section_and_reading<J: Naming>(
+    guarded: &mut Guarded<J>,
+    board: &Board,
+    reader: &mut BoardReader,
+    share: &mut Share,
+    request: &Request,
+) -> Reply
+    requires fits { IsShareOf J.zones share.old }
+    requires place { guarded.old.place < length share.old.zones }
+    requires board { board.now ≡ board_at J.boards guarded.old.place }
+    requires reader { reader.old.tie ≡ board.now.tie }
+    requires may { MayAsk (workers_at J.zones guarded.old.place) share.old.batch request.now (share_at share.old guarded.old.place) }
+    ensures asked { IsAskedUnderLock J.zones request.now result guarded.old guarded.new share.old share.new }
+    ensures read { HasReadAfter board.now.capacity result guarded.new reader.old reader.new }
+{
+    let reply = guarded.section(board, share, request);
+    if is_not_lent(&reply) {
+        return reply;
+    }
+    guarded.read_board(board, reader);
+    reply
+}
+
+/// Whether a request was refused as the block that it names is not lent.
+#[inline(always)]
+fn is_not_lent(reply: &Reply) -> bool
+    ensures { result ≡ is_not_lent reply.now }
+{
+    matches!(reply, Reply::Refused(Refused::NotLent))
 }

@@ -1,15 +1,17 @@
 //! A zone behind a lock.
-ghost use Rattle.std.specs.Prelude.{◌≡◌, true, false};
+ghost use Rattle.std.specs.Prelude.{◌≡◌, All, true, false};
+ghost use Rattle.zp_counts.specs.declared.reading.Reading.{Reading};
+ghost use Rattle.zp_counts.specs.CountBoards.{CountsSeen, IsReadingOf};
 ghost use Rattle.zp_journal.specs.Journals.{IsJournalOf};
 ghost use Rattle.zp_share.specs.Shares.{key_of};
-ghost use Rattle.zp_shared.specs.Rows.{board_at, key_at, opened_key, IsElsewhere};
+ghost use Rattle.zp_shared.specs.Rows.{board_at, key_at, opened_key, HaveReadAll, HaveReadZone, IsCountsOf, IsElsewhere};
 
 use crate::guarded::Guarded;
 use crate::naming::Naming;
 use crate::opened::OpenedZone;
 use std::marker::Model;
 use std::sync::Mutex;
-use zp_counts::Board;
+use zp_counts::{Board, BoardReader};
 use zp_journal::Journal;
 use zp_zone::Zone;
 
@@ -70,15 +72,25 @@ impl<J: Naming> SharedZone<J> {
         &self.board
     }
 
-    /// The zone and its journal, out of their lock for good.
-    pub fn close(self) -> Closed
+    /// The zone and its journal, out of their lock for good. Where the zone is the one of the lock's place, each of the readers has then seen
+    /// all that was published: each reading that it took is the zone's counts after as many entries of the journal as the reading's place
+    /// says. Else none is read.
+    pub fn close(self, readers: &mut [BoardReader]) -> Closed
+        requires { All (λ (r : CountsSeen). r.tie ≡ (board_at J.boards self).tie) readers.old }
         ensures journal { IsJournalOf result.zone result.journal }
         ensures here { result.at_place ≡ true → key_of result.zone ≡ key_at J.zones self }
-        ensures strayed { result.at_place ≡ false → IsElsewhere J.zones self result.zone }
+        ensures room { result.at_place ≡ true → result.journal.capacity ≡ (board_at J.boards self).capacity }
+        ensures read { result.at_place ≡ true → HaveReadZone result.zone readers.old readers.new }
+        ensures taken { result.at_place ≡ true → (r : Reading) → All (λ (s : CountsSeen). IsReadingOf s.seen r → IsCountsOf result.zone r) readers.old }
+        ensures strayed { result.at_place ≡ false → IsElsewhere J.zones self result.zone × (readers.new ≡ readers.old) }
     {
-        let SharedZone { state, place, .. } = self;
-        let guarded = state.into_inner();
+        let (mut guarded, board, place) = self.into_guarded();
         let at_place = guarded.place() == place;
+        // a clause of this call says what is published
+        guarded.counts();
+        if at_place {
+            read_all(&mut guarded, &board, readers);
+        }
         let (zone, journal) = guarded.into_parts();
         Closed {
             zone,
@@ -86,4 +98,31 @@ impl<J: Naming> SharedZone<J> {
             at_place,
         }
     }
+
+    /// What lies under the lock, the board of the lock's place, and that place.
+    pub(crate) fn into_guarded(self) -> (Guarded<J>, Board, usize)
+        ensures board { result.1 ≡ board_at J.boards self }
+        ensures place { result.2 ≡ self }
+    {
+        let SharedZone {
+            state,
+            board,
+            place,
+        } = self;
+        (state.into_inner(), board, place)
+    }
+}
+
+/// Has each of the readers read the board of a zone.
+fn read_all<J: Naming>(guarded: &mut Guarded<J>, board: &Board, readers: &mut [BoardReader])
+    requires board { board.now ≡ board_at J.boards guarded.old.place }
+    requires readers { All (λ (r : CountsSeen). r.tie ≡ board.now.tie) readers.old }
+    ensures same { guarded.new ≡ guarded.old }
+    ensures read { HaveReadAll guarded.old.published readers.old readers.new }
+{
+    let Some((first, rest)) = readers.split_first_mut() else {
+        return;
+    };
+    guarded.read_board(board, first);
+    read_all(guarded, board, rest);
 }

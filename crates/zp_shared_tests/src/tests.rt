@@ -5,6 +5,8 @@ mod case;
 mod full;
 mod gates;
 mod histories;
+mod one_zone;
+mod places;
 mod plan;
 mod readings;
 mod rows;

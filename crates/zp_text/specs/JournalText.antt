@@ -4,9 +4,9 @@ use Rattle.std.specs.List.{flat_map, range_with_len, zip}
 use Rattle.std.specs.Fmt.{decimal}
 use Rattle.zp_model.specs.Entries.{Entry}
 use Rattle.zp_model.specs.declared.request.Request.{Request}
-use Rattle.zp_model.specs.declared.request.Request.TheVariants.{Alloc, AllocLow, Free, Post, Collect, Refill, Drain}
+use Rattle.zp_model.specs.declared.request.Request.TheVariants.{Alloc, AllocLow, Free, Post, Collect, Refill, Drain, Isolate, Release}
 use Rattle.zp_model.specs.declared.request.Reply.{Reply}
-use Rattle.zp_model.specs.declared.request.Reply.TheVariants.{Page, Block, Freed, Posted, Pages, Drained, Refused}
+use Rattle.zp_model.specs.declared.request.Reply.TheVariants.{Page, Block, Freed, Posted, Pages, Drained, Isolated, Released, Refused}
 use Rattle.zp_model.specs.Refused.{refused_number}
 use Rattle.zp_trace.specs.Spelling.{joined, kind_word, line_feed, mark_word, space}
 use Rattle.zp_text.specs.declared.verdict.Verdict.{Verdict}
@@ -21,6 +21,8 @@ request_words (Post page order to) = codes "post" ∷ decimal page ∷ decimal o
 request_words Collect = codes "collect" ∷ []
 request_words (Refill kind mark count) = codes "refill" ∷ kind_word kind ∷ decimal count ∷ mark_word mark ∷ []
 request_words (Drain kind pages) = codes "drain" ∷ kind_word kind ∷ map decimal pages
+request_words (Isolate pageblock) = codes "isolate" ∷ decimal pageblock ∷ []
+request_words (Release pageblock kind) = codes "release" ∷ decimal pageblock ∷ kind_word kind ∷ []
 
 -- the lowest block was asked for
 abbrev pub is_low : Request → Bool
@@ -31,6 +33,8 @@ is_low (Post page order to) = false
 is_low Collect = false
 is_low (Refill kind mark count) = false
 is_low (Drain kind pages) = false
+is_low (Isolate pageblock) = false
+is_low (Release pageblock kind) = false
 
 -- what was answered; who asked for the lowest block knows its order
 abbrev pub reply_words : Bool → Reply → List (List ℕ)
@@ -41,6 +45,8 @@ reply_words low Freed = codes "freed" ∷ []
 reply_words low Posted = codes "posted" ∷ []
 reply_words low (Pages ps) = codes "pages" ∷ map decimal ps
 reply_words low Drained = codes "freed" ∷ []
+reply_words low Isolated = codes "isolated" ∷ []
+reply_words low Released = codes "released" ∷ []
 reply_words low (Refused r) = codes "refused" ∷ decimal (refused_number r) ∷ []
 
 -- the line of entry n of the zone of this name

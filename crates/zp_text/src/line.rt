@@ -89,6 +89,15 @@ fn push_request(line: &mut Line, request: &Request)
             push_word(line, kind_word(*kind));
             push_pages(line, given.as_slice());
         }
+        Request::Isolate(pageblock) => {
+            push_word(line, "isolate");
+            push_number(line, *pageblock);
+        }
+        Request::Release(pageblock, kind) => {
+            push_word(line, "release");
+            push_number(line, *pageblock);
+            push_word(line, kind_word(*kind));
+        }
     }
 }
 
@@ -113,6 +122,8 @@ fn push_reply(line: &mut Line, low: bool, reply: &Reply)
             push_word(line, "pages");
             push_pages(line, taken.as_slice());
         }
+        Reply::Isolated => push_word(line, "isolated"),
+        Reply::Released => push_word(line, "released"),
         Reply::Refused(refused) => {
             push_word(line, "refused");
             push_number(line, u32::from(refused.number()));

@@ -8,7 +8,7 @@ use Rattle.zp_model.specs.declared.mark.Mark.TheVariants as mark
 use Rattle.zp_model.specs.Bounds.{IsLargest}
 use Rattle.zp_trace.specs.declared.line.ZoneLine.{ZoneLine}
 use Rattle.zp_trace.specs.declared.line.Call.{Call}
-use Rattle.zp_trace.specs.declared.line.Call.TheVariants.{Info, Alloc, Low, Free, Post, Collect, Drain}
+use Rattle.zp_trace.specs.declared.line.Call.TheVariants.{Info, Alloc, Low, Free, Post, Collect, Drain, Isolate, Release}
 use Rattle.zp_trace.specs.declared.line.CommandLine.{CommandLine}
 use Rattle.zp_trace.specs.declared.trace.Header.{Header}
 use Rattle.zp_trace.specs.declared.trace.Trace.{Trace}
@@ -86,6 +86,19 @@ same_call h (Collect label zone) (Collect lab name) header p q e =
     cc
 same_call h Drain Info header p q e = absurd (omega (arith, first_byte (call_words Drain) (call_words Info) e))
 same_call h Drain Drain header p q e = refl
+same_call h (Low label order zone) (Release name number typ) header p q e = absurd (omega (arith, first_byte (call_words (Low label order zone)) (call_words (Release name number typ)) e))
+same_call h (Release zone pageblock kind) (Low lab ord name) header p q e = absurd (omega (arith, first_byte (call_words (Release zone pageblock kind)) (call_words (Low lab ord name)) e))
+same_call h (Post label to) (Isolate name number) header p q e = absurd (omega (arith, first_byte (call_words (Post label to)) (call_words (Isolate name number)) e))
+same_call h (Isolate zone pageblock) (Post lab other) header p q e = absurd (omega (arith, first_byte (call_words (Isolate zone pageblock)) (call_words (Post lab other)) e))
+same_call h (Collect label zone) (Isolate name number) header p q e = absurd (omega (arith, first_byte (call_words (Collect label zone)) (call_words (Isolate name number)) e))
+same_call h (Isolate zone pageblock) (Collect lab name) header p q e = absurd (omega (arith, first_byte (call_words (Isolate zone pageblock)) (call_words (Collect lab name)) e))
+same_call h (Isolate zone pageblock) (Isolate name number) header p q e =
+    let same_pageblock = same_number (decimal pageblock) pageblock number (omega (arith, p.1)) (omega (arith, q.1)) refl cc in
+    cc
+same_call h (Release zone pageblock kind) (Release name number typ) header p q e =
+    let same_pageblock = same_number (decimal pageblock) pageblock number (omega (arith, p.1)) (omega (arith, q.1)) refl cc in
+    let same_type = same_kind kind typ cc in
+    cc
 same_call h a b header p q e = cc
 
 pub same_command : (h : Header) (c d : CommandLine) → IsHeader h → IsCommandOf h c → IsCommandOf h d → command_words c ≡ command_words d → c ≡ d

@@ -20,7 +20,7 @@ use Rattle.zp_model.specs.declared.mark.Mark.TheVariants as mark
 use Rattle.zp_model.specs.Bounds.{IsCrew, IsLargest, AreLists}
 use Rattle.zp_trace.specs.declared.line.ZoneLine.{ZoneLine}
 use Rattle.zp_trace.specs.declared.line.Call.{Call}
-use Rattle.zp_trace.specs.declared.line.Call.TheVariants.{Info, Alloc, Low, Free, Post, Collect, Drain}
+use Rattle.zp_trace.specs.declared.line.Call.TheVariants.{Info, Alloc, Low, Free, Post, Collect, Drain, Isolate, Release}
 use Rattle.zp_trace.specs.declared.line.CommandLine.{CommandLine}
 use Rattle.zp_trace.specs.declared.trace.Header.{Header}
 use Rattle.zp_trace.specs.Grammar.{IsZoneLine, IsHeader, IsDeclared, IsCallOf, IsCommandOf}
@@ -234,6 +234,10 @@ call_are_words h (Post label to) header is =
     (omega arith, (search rules, (name_is_word label is.0, (number_is_word to (omega (arith, is.1, header.workers.1)), tt))))
 call_are_words h (Collect label zone) header is =
     (omega arith, (search rules, (name_is_word label is.0, (name_is_word zone (declared_name h zone header is.1), tt))))
+call_are_words h (Isolate zone pageblock) header is =
+    (omega arith, (search rules, (name_is_word zone (declared_name h zone header is.0), (number_is_word pageblock (omega (arith, is.1)), tt))))
+call_are_words h (Release zone pageblock kind) header is =
+    (omega arith, (search rules, (name_is_word zone (declared_name h zone header is.0), (number_is_word pageblock (omega (arith, is.1)), (kind_is_word kind, tt)))))
 
 pub command_are_words : (h : Header) (c : CommandLine) → IsHeader h → IsCommandOf h c → AreWords (command_words c)
 command_are_words h c header is =

@@ -3,10 +3,10 @@ use Rattle.std.specs.Prelude.{ℕ, ◌+◌, ◌≡◌, ◌≢◌, ◌<◌, ◌�
 use Rattle.zp_model.specs.declared.constants.TheConstants.{LARGEST_ORDER, MAX_ZONES}
 use Rattle.zp_model.specs.Bounds.{IsBase, IsPages, IsLargest, IsCrew, AreLists}
 use Rattle.zp_model.specs.Naming.{IsName}
-use Rattle.zp_trace.specs.declared.bounds.TheConstants.{MOST_LINES}
+use Rattle.zp_trace.specs.declared.bounds.TheConstants.{LARGEST_PAGEBLOCK, MOST_LINES}
 use Rattle.zp_trace.specs.declared.line.ZoneLine.{ZoneLine}
 use Rattle.zp_trace.specs.declared.line.Call.{Call}
-use Rattle.zp_trace.specs.declared.line.Call.TheVariants.{Info, Alloc, Low, Free, Post, Collect, Drain}
+use Rattle.zp_trace.specs.declared.line.Call.TheVariants.{Info, Alloc, Low, Free, Post, Collect, Drain, Isolate, Release}
 use Rattle.zp_trace.specs.declared.line.CommandLine.{CommandLine}
 use Rattle.zp_trace.specs.declared.trace.Header.{Header}
 use Rattle.zp_trace.specs.declared.trace.Trace.{Trace}
@@ -50,6 +50,8 @@ IsCallOf h (Free label) = IsName label
 IsCallOf h (Post label to) = IsName label × (to < h.workers)
 IsCallOf h (Collect label zone) = IsName label × IsDeclared h zone
 IsCallOf h Drain = Unit {0}
+IsCallOf h (Isolate zone pageblock) = IsDeclared h zone × (pageblock ≤ LARGEST_PAGEBLOCK)
+IsCallOf h (Release zone pageblock kind) = IsDeclared h zone × (pageblock ≤ LARGEST_PAGEBLOCK)
 
 abbrev pub IsCommandOf : Header → CommandLine → Type 0
 IsCommandOf h c = (c.worker < h.workers) × IsCallOf h c.call
@@ -63,6 +65,8 @@ bound_label (Free label) = None
 bound_label (Post label to) = None
 bound_label (Collect label zone) = Some label
 bound_label Drain = None
+bound_label (Isolate zone pageblock) = None
+bound_label (Release zone pageblock kind) = None
 
 -- the command binds this label of this worker, if it is answered a block
 abbrev pub Binds : ℕ → List ℕ → CommandLine → Type 0
@@ -77,6 +81,8 @@ HasLabel before worker (Free label) = Any (Binds worker label) before
 HasLabel before worker (Post label to) = Any (Binds worker label) before
 HasLabel before worker (Collect label zone) = Unit {0}
 HasLabel before worker Drain = Unit {0}
+HasLabel before worker (Isolate zone pageblock) = Unit {0}
+HasLabel before worker (Release zone pageblock kind) = Unit {0}
 
 -- a command that may stand after these in a trace of this header
 abbrev pub IsNextCommand : Header → List CommandLine → CommandLine → Type 0

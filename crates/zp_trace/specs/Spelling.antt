@@ -10,7 +10,7 @@ use Rattle.zp_model.specs.declared.mark.Mark.TheVariants as mark
 use Rattle.zp_trace.specs.declared.bounds.TheConstants.{MOST_WORDS}
 use Rattle.zp_trace.specs.declared.line.ZoneLine.{ZoneLine}
 use Rattle.zp_trace.specs.declared.line.Call.{Call}
-use Rattle.zp_trace.specs.declared.line.Call.TheVariants.{Info, Alloc, Low, Free, Post, Collect, Drain}
+use Rattle.zp_trace.specs.declared.line.Call.TheVariants.{Info, Alloc, Low, Free, Post, Collect, Drain, Isolate, Release}
 use Rattle.zp_trace.specs.declared.trace.Header.{Header}
 use Rattle.zp_trace.specs.declared.line.CommandLine.{CommandLine}
 use Rattle.zp_trace.specs.Lines.{Line}
@@ -71,6 +71,8 @@ call_words (Free label) = codes "free" ∷ label ∷ []
 call_words (Post label to) = codes "post" ∷ label ∷ decimal to ∷ []
 call_words (Collect label zone) = codes "collect" ∷ label ∷ zone ∷ []
 call_words Drain = codes "drain" ∷ []
+call_words (Isolate zone pageblock) = codes "isolate" ∷ zone ∷ decimal pageblock ∷ []
+call_words (Release zone pageblock kind) = codes "release" ∷ zone ∷ decimal pageblock ∷ kind_word kind ∷ []
 
 abbrev pub command_words : CommandLine → List (List ℕ)
 command_words c = decimal c.worker ∷ call_words c.call

@@ -4,14 +4,14 @@ ghost use Rattle.zp_model.specs.declared.migrate_type.MigrateType.{MigrateType};
 ghost use Rattle.zp_model.specs.declared.mark.Mark.{Mark};
 ghost use Rattle.zp_trace.specs.declared.trace.Header.{Header};
 ghost use Rattle.zp_trace.specs.declared.line.Call.{Call};
-ghost use Rattle.zp_trace.specs.declared.line.Call.TheVariants.{Info, Alloc, Low, Free, Post, Collect, Drain};
+ghost use Rattle.zp_trace.specs.declared.line.Call.TheVariants.{Info, Alloc, Low, Free, Post, Collect, Drain, Isolate, Release};
 ghost use Rattle.zp_trace.specs.declared.line.CommandLine.{CommandLine};
 ghost use Rattle.zp_trace.specs.Spelling.{spelled, call_words, command_words};
 ghost use Rattle.zp_trace.specs.Grammar.{IsHeader, IsDeclared, IsCallOf, IsCommandOf};
 
 use crate::line::{Call, CommandLine};
 use crate::trace::Header;
-use crate::values::{is_text, is_word, kind_of, mark_of, order_of, worker_of};
+use crate::values::{is_text, is_word, kind_of, mark_of, order_of, pageblock_of, worker_of};
 use zp_model::Name;
 
 fn is_info(words: &[&[u8]]) -> bool
@@ -139,6 +139,45 @@ fn collect_of(header: &Header, words: &[&[u8]]) -> Option<Call>
     Some(Call::Collect { label, zone })
 }
 
+/// The isolate of such words after this header.
+fn isolate_of(header: &Header, words: &[&[u8]]) -> Option<Call>
+    ensures some { IfSome result (λ call. IsCallOf header.now call × (spelled words.now ≡ call_words call)) }
+    ensures none { IfNone result ((zone : List ℕ) (pageblock : ℕ)
+        → IsCallOf header.now (Isolate zone pageblock) → spelled words.now ≡ call_words (Isolate zone pageblock) → ⊥) }
+{
+    let [keyword, zone, pageblock] = words else {
+        return None;
+    };
+    if !is_text(keyword, "isolate") {
+        return None;
+    }
+    let zone = zone_named(header, zone)?;
+    let pageblock = pageblock_of(pageblock)?;
+    Some(Call::Isolate { zone, pageblock })
+}
+
+/// The release of such words after this header.
+fn release_of(header: &Header, words: &[&[u8]]) -> Option<Call>
+    ensures some { IfSome result (λ call. IsCallOf header.now call × (spelled words.now ≡ call_words call)) }
+    ensures none { IfNone result ((zone : List ℕ) (pageblock : ℕ) (kind : MigrateType)
+        → IsCallOf header.now (Release zone pageblock kind) → spelled words.now ≡ call_words (Release zone pageblock kind) → ⊥) }
+{
+    let [keyword, zone, pageblock, kind] = words else {
+        return None;
+    };
+    if !is_text(keyword, "release") {
+        return None;
+    }
+    let zone = zone_named(header, zone)?;
+    let pageblock = pageblock_of(pageblock)?;
+    let kind = kind_of(kind)?;
+    Some(Call::Release {
+        zone,
+        pageblock,
+        kind,
+    })
+}
+
 /// What such words ask for after this header.
 fn call_of(header: &Header, words: &[&[u8]]) -> Option<Call>
     requires { IsHeader header.now }
@@ -161,6 +200,12 @@ fn call_of(header: &Header, words: &[&[u8]]) -> Option<Call>
         return Some(call);
     }
     if let Some(call) = collect_of(header, words) {
+        return Some(call);
+    }
+    if let Some(call) = isolate_of(header, words) {
+        return Some(call);
+    }
+    if let Some(call) = release_of(header, words) {
         return Some(call);
     }
     free_of(words)

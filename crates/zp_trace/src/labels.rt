@@ -27,7 +27,12 @@ pub fn has_label(before: &[CommandLine], command: &CommandLine) -> bool
         Call::Free { label } | Call::Post { label, .. } => {
             is_bound(before, command.worker, label)
         }
-        Call::Info | Call::Alloc { .. } | Call::Low { .. } | Call::Collect { .. } | Call::Drain =>
-            true,
+        Call::Info
+        | Call::Alloc { .. }
+        | Call::Low { .. }
+        | Call::Collect { .. }
+        | Call::Drain
+        | Call::Isolate { .. }
+        | Call::Release { .. } => true,
     }
 }

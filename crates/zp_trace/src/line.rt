@@ -65,6 +65,17 @@ pub enum Call {
     },
     /// All pages of the worker's lists, given back.
     Drain,
+    /// The pageblock of this number of the zone of this name, isolated.
+    Isolate {
+        zone: Name,
+        pageblock: u32,
+    },
+    /// The pageblock of this number, which is isolated, given this type.
+    Release {
+        zone: Name,
+        pageblock: u32,
+        kind: MigrateType,
+    },
 }
 
 /// One worker line: who asks, and for what.
@@ -83,7 +94,12 @@ impl Call {
             Call::Alloc { label, .. } | Call::Low { label, .. } | Call::Collect { label, .. } => {
                 Some(*label)
             }
-            Call::Info | Call::Free { .. } | Call::Post { .. } | Call::Drain => None,
+            Call::Info
+            | Call::Free { .. }
+            | Call::Post { .. }
+            | Call::Drain
+            | Call::Isolate { .. }
+            | Call::Release { .. } => None,
         }
     }
 }

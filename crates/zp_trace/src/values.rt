@@ -6,6 +6,7 @@ ghost use Rattle.zp_model.specs.declared.mark.Mark.{Mark};
 ghost use Rattle.zp_model.specs.Bounds.{IsBase, IsPages, IsLargest, IsCrew};
 ghost use Rattle.zp_trace.specs.Spelling.{kind_word, mark_word};
 
+use crate::bounds::LARGEST_PAGEBLOCK;
 use crate::number::parse_number;
 use zp_model::{
     BASE_LIMIT, BASE_STEP, LARGEST_ORDER, Largest, MAX_PAGES, MAX_WORKERS, Mark, MigrateType,
@@ -95,6 +96,25 @@ pub fn worker_of(word: &[u8], workers: u32) -> Option<Worker>
     let number = parse_number(word)?;
     if number < workers {
         Worker::new(number as u8)
+    } else {
+        None
+    }
+}
+
+fn may_be_pageblock(number: u32) -> bool
+    ensures { IsTrue result ↔ (number ≤ LARGEST_PAGEBLOCK) }
+{
+    number <= LARGEST_PAGEBLOCK
+}
+
+/// The number of a pageblock.
+pub fn pageblock_of(word: &[u8]) -> Option<u32>
+    ensures some { IfSome result (λ n. (n ≤ LARGEST_PAGEBLOCK) × (word.now ≡ decimal n)) }
+    ensures none { IfNone result ((n : ℕ) → n ≤ LARGEST_PAGEBLOCK → word.now ≡ decimal n → ⊥) }
+{
+    let pageblock = parse_number(word)?;
+    if may_be_pageblock(pageblock) {
+        Some(pageblock)
     } else {
         None
     }

@@ -1,8 +1,8 @@
 //! What the words of one group tell of its blocks.
-ghost use Rattle.std.specs.Prelude.{◌≡◌, ◌<◌, ◌≤◌, ◌^◌, ◌+◌, ◌*◌, ◌/◌, ℕ, length, IfSome};
+ghost use Rattle.std.specs.Prelude.{◌≡◌, ◌<◌, ◌≤◌, ◌^◌, ◌+◌, ◌*◌, ◌/◌, ℕ, length, IfSome, IsTrue};
 ghost use Rattle.zp_model.specs.declared.constants.TheConstants.{LARGEST_ORDER};
 ghost use Rattle.zp_tree.specs.declared.constants.TheConstants.{PLACES, WORD_LEVELS, GROUP_PAGES, MOST_GROUPS};
-ghost use Rattle.zp_tree.specs.Marks.{IsLowAlone, IsWords, IsInGroups, HasHigh, IsRankOf, IsFirstMark, IsFirstLow, IsFirstHigh, words_before, order_at, IsLargestMark};
+ghost use Rattle.zp_tree.specs.Marks.{IsLowAlone, IsWords, IsInGroups, HasHigh, HasLow, IsRankOf, IsFirstMark, IsFirstLow, IsFirstHigh, words_before, order_at, IsLargestMark};
 
 use crate::constants::{GROUP_PAGES, PLACES, WORD_LEVELS};
 use crate::meter::Meter;
@@ -33,6 +33,14 @@ pub fn rank_of(low: &[Word], high: &[Word], group: usize) -> Rank
         Some(level) => Rank::of_number(level),
         None => Rank::none(),
     }
+}
+
+/// Whether the low word around a page has a block of this order and none above. Where it does, the page's group has a block of the order.
+pub fn has_in_word(low: &[Word], at: PageAt, order: Order) -> bool
+    requires { at / PLACES < length low.now }
+    ensures { IsTrue result → (i : ℕ) × HasLow low.now i order × (i / PLACES ≡ at / PLACES) }
+{
+    order.number() < WORD_LEVELS && low[low_word(at)].largest() == Some(order.number())
 }
 
 /// The first block of this order or more of those below order 5 that start in some first low words of a group.

@@ -4,7 +4,9 @@ ghost use Rattle.zp_model.specs.declared.constants.TheConstants.{MAX_PAGES};
 
 use std::alloc::{AllocError, Global};
 use std::process::Abort;
-use zp_model::{Largest, MAX_PAGES, MigrateType, ORDERS, Order, PageAt, State, Worker};
+use zp_model::{
+    Largest, MAX_PAGES, MigrateType, ORDERS, Order, PageAt, PageblockType, State, Worker,
+};
 
 /// How many further lists a pair has.
 const SIDES: usize = 2;
@@ -40,7 +42,7 @@ impl Pair {
         head
     }
 
-    /// Takes the lowest block from both, and notes it as out for the type of its pageblock.
+    /// Takes the lowest block from both, and notes it as out for the type of its pageblock, which is not isolated.
     pub fn take_low(&mut self, rt: &impl Abort, order: Order) -> Option<PageAt> {
         let head = self.buddy.take_low(order);
         let plain_head = self.plain.take_low(order);
@@ -48,9 +50,11 @@ impl Pair {
         if let (Some(at), Some(plain_at)) = (head, plain_head) {
             let kind = self.buddy.type_of(at);
             assert!(rt; kind == self.plain.type_of(plain_at));
+            assert!(rt; !kind.is_isolate());
             let worker = Worker::new(0).expect(rt, "no worker");
-            self.buddy.hold(at, State::Out(order, kind, worker));
-            self.plain.hold(plain_at, State::Out(order, kind, worker));
+            self.buddy.hold(at, State::Out(order, kind.noted(), worker));
+            self.plain
+                .hold(plain_at, State::Out(order, kind.noted(), worker));
         }
         head
     }
@@ -67,6 +71,22 @@ impl Pair {
         clear
     }
 
+    /// How many pageblocks there are.
+    pub fn pageblocks(&self) -> usize {
+        self.buddy.pageblocks()
+    }
+
+    /// Gives a pageblock a type in both, where they have it.
+    pub fn retype(&mut self, rt: &impl Abort, pageblock: usize, kind: PageblockType) -> bool {
+        assert_eq!(rt; self.buddy.pageblocks(), self.plain.pageblocks());
+        let known = pageblock < self.buddy.pageblocks() && pageblock < self.plain.pageblocks();
+        if known {
+            self.buddy.retype(pageblock, kind);
+            self.plain.retype(pageblock, kind);
+        }
+        known
+    }
+
     /// Asks both whether a block may come back.
     pub fn compare_clear(&self, rt: &impl Abort, at: PageAt, order: Order) {
         let clear = self.buddy.is_clear(at, order);
@@ -77,16 +97,37 @@ impl Pair {
     pub fn compare(&self, rt: &impl Abort) {
         self.compare_counts(rt);
         self.compare_lists(rt);
+        self.compare_pageblocks(rt);
         self.compare_notes(rt);
     }
 
     /// Compares the counts.
     pub fn compare_counts(&self, rt: &impl Abort) {
         assert_eq!(rt; self.buddy.free_pages(), self.plain.free_pages());
+        assert_eq!(rt; self.buddy.available_pages(), self.plain.available_pages());
         let counts = self.buddy.counts();
         let plain_counts = self.plain.counts();
         assert_eq!(rt; counts.free, plain_counts.free);
         assert!(rt; counts.by_order.as_slice() == plain_counts.by_order.as_slice());
+    }
+
+    /// Compares the type of each pageblock, how many of its pages are free, and its largest free block.
+    fn compare_pageblocks(&self, rt: &impl Abort) {
+        assert_eq!(rt; self.buddy.pageblocks(), self.plain.pageblocks());
+        for number in 0..self.buddy.pageblocks().min(self.plain.pageblocks()) {
+            let kind = self.buddy.pageblock_type(number);
+            assert!(rt;
+                kind == self.plain.pageblock_type(number),
+                "pageblock {number}"
+            );
+            let free = self.buddy.free_in(number);
+            assert!(rt; free == self.plain.free_in(number), "pageblock {number}");
+            let largest = self.buddy.largest_in(number);
+            assert!(rt;
+                largest == self.plain.largest_in(number),
+                "pageblock {number}"
+            );
+        }
     }
 
     /// Compares what is noted of each page, and the type of its pageblock.
@@ -106,16 +147,17 @@ impl Pair {
         for number in 0..ORDERS as u8 {
             let order = Order::new(number).expect(rt, "no order");
             for kind in [
-                MigrateType::Unmovable,
-                MigrateType::Reclaimable,
-                MigrateType::Movable,
+                PageblockType::Unmovable,
+                PageblockType::Reclaimable,
+                PageblockType::Movable,
+                PageblockType::Isolate,
             ] {
                 assert!(rt; self.is_same_list(order, kind), "order {number}");
             }
         }
     }
 
-    fn is_same_list(&self, order: Order, kind: MigrateType) -> bool {
+    fn is_same_list(&self, order: Order, kind: PageblockType) -> bool {
         let mut head = self.buddy.front(order, kind);
         let mut plain_head = self.plain.front(order, kind);
         // No list has more blocks than a zone has pages.

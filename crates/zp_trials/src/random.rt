@@ -6,7 +6,7 @@ use rand_pcg::Pcg32;
 use std::alloc::AllocGlobal;
 use std::process::Abort;
 use std::test::Fail;
-use zp_model::{Largest, MAX_PAGES, MigrateType, Order, PageAt};
+use zp_model::{Largest, MAX_PAGES, MigrateType, Order, PageAt, PageblockType};
 
 /// How many random requests there are, for blocks below which order, and after how many of them the two are compared whole.
 #[derive(Clone, Copy, Drop)]
@@ -25,6 +25,15 @@ fn kind_of(word: u32) -> MigrateType {
     }
 }
 
+/// A type of a pageblock, by a random word: one in four is isolated.
+fn pageblock_type_of(word: u32) -> PageblockType {
+    if word % 4 == 0 {
+        PageblockType::Isolate
+    } else {
+        kind_of(word / 4).pageblock_type()
+    }
+}
+
 /// One of the first so many orders, by a random word.
 fn order_below(word: u32, orders: u8) -> Order {
     let number = word % u32::from(orders.max(1));
@@ -32,7 +41,7 @@ fn order_below(word: u32, orders: u8) -> Order {
 }
 
 /// Makes random requests of a pair whose zone has so many pages: takes, each fourth of them of the lowest block, and gives of
-/// what they took.
+/// what they took. Before each eighth a pageblock gets a type.
 pub fn ask_at_random(
     rt: &(impl Abort + AllocGlobal),
     pair: &mut Pair,
@@ -47,6 +56,14 @@ pub fn ask_at_random(
     let mut random = Pcg32::new(u64::from(pages), u64::from(count));
     let mut taken: Vec<(PageAt, Order)> = Vec::new(rt.alloc());
     for number in 0..count {
+        if random.next_u32() % 8 == 0 {
+            let pageblock = random.next_u32() as usize % pair.pageblocks().max(1);
+            let kind = pageblock_type_of(random.next_u32());
+            assert!(rt;
+                pair.retype(rt, pageblock, kind),
+                "request {number} of {pages} pages"
+            );
+        }
         if random.next_u32() % 9 < 5 || taken.is_empty() {
             let order = order_below(random.next_u32(), orders);
             let word = random.next_u32();

@@ -4,7 +4,7 @@ use crate::pair::Pair;
 use std::alloc::AllocGlobal;
 use std::process::Abort;
 use std::test::Fail;
-use zp_model::{Largest, MAX_PAGES, MigrateType, Order, PageAt};
+use zp_model::{Largest, MAX_PAGES, MigrateType, Order, PageAt, PageblockType};
 
 const UNMOVABLE: MigrateType = MigrateType::Unmovable;
 
@@ -23,6 +23,8 @@ enum Step {
     Give(u32, u8),
     /// No block of this order at this page may come back, though all its pages are out.
     Keep(u32, u8),
+    /// The pageblock of this number gets a type.
+    Retype(usize, PageblockType),
 }
 
 /// Makes a step of both, and compares the answer.
@@ -47,6 +49,9 @@ fn make_step(rt: &impl Abort, pair: &mut Pair, step: Step) {
             let at = PageAt::new(page).expect(rt, "no page");
             let order = Order::new(order).expect(rt, "no order");
             assert!(rt; !pair.give(rt, at, order), "page {page}");
+        }
+        Step::Retype(pageblock, kind) => {
+            assert!(rt; pair.retype(rt, pageblock, kind), "pageblock {pageblock}");
         }
     }
 }
@@ -179,6 +184,54 @@ fn the_lowest_blocks_are_taken(rt: HostRuntime) -> Result<(), Fail> {
             Step::Low(0, Some(9)),
             Step::Low(0, Some(10)),
             Step::Low(0, None),
+        ],
+    )
+}
+
+/// Nothing is taken of an isolated pageblock, whose free blocks stay free, and are joined, until it is released.
+#[test]
+fn isolated_pageblocks_are_passed_over(rt: HostRuntime) -> Result<(), Fail> {
+    compare_steps(
+        &rt,
+        2,
+        12,
+        &[
+            Step::Retype(2, PageblockType::Isolate),
+            // The front of the Movable list is page 4 now, of which pages 5 to 7 are left to Unmovable, and then to Reclaimable.
+            Step::Take(0, UNMOVABLE, Some(4)),
+            Step::Take(2, MOVABLE, Some(0)),
+            Step::Take(1, RECLAIMABLE, Some(6)),
+            Step::Take(0, MOVABLE, Some(5)),
+            Step::Take(0, MOVABLE, None),
+            Step::Low(0, None),
+            Step::Retype(2, PageblockType::Movable),
+            Step::Take(0, MOVABLE, Some(8)),
+            Step::Low(1, Some(10)),
+        ],
+    )?;
+    compare_steps(
+        &rt,
+        2,
+        12,
+        &[
+            Step::Retype(2, PageblockType::Isolate),
+            Step::Take(2, MOVABLE, Some(4)),
+            Step::Low(0, Some(0)),
+            Step::Low(2, None),
+            Step::Take(2, UNMOVABLE, None),
+            // Pages 1 to 3 are free, and page 0 comes back to them.
+            Step::Retype(0, PageblockType::Isolate),
+            Step::Take(0, MOVABLE, None),
+            Step::Low(0, None),
+            Step::Give(0, 0),
+            Step::Take(0, UNMOVABLE, None),
+            // The block of four pages is Reclaimable when it is released, and Movable claims it.
+            Step::Retype(0, PageblockType::Reclaimable),
+            Step::Take(0, MOVABLE, Some(0)),
+            Step::Retype(2, PageblockType::Unmovable),
+            Step::Take(2, UNMOVABLE, Some(8)),
+            Step::Give(4, 2),
+            Step::Low(2, Some(4)),
         ],
     )
 }

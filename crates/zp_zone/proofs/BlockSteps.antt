@@ -6,12 +6,14 @@ use Rattle.std.proofs.lemmas.Nat.{pow_pos}
 use Rattle.std.proofs.lemmas.Bool.{and_parts, both_ways, false_from_ne_true, cases_lt, cases_eq, or_cases, false≢true}
 use Rattle.std.proofs.lemmas.List.{length-map, get_or_past}
 use Rattle.zp_model.specs.declared.migrate_type.MigrateType.{MigrateType}
+use Rattle.zp_model.specs.declared.pageblock_type.PageblockType.{PageblockType}
 use Rattle.zp_model.specs.declared.mark.Mark.{Mark}
 use Rattle.zp_model.specs.declared.refused.Refused.TheVariants.{BelowMark, NoBlock}
 use Rattle.zp_model.specs.declared.state.State.TheVariants.{Tail, Out, Free}
 use Rattle.zp_model.specs.Block.{has, without, size, in_run, IsBlock}
 use Rattle.zp_model.specs.Rows.{state_at, list_at, stands_in}
-use Rattle.zp_model.specs.Area.{Area, kind_at}
+use Rattle.zp_model.specs.Area.{Area, available, kind_at}
+use Rattle.zp_model.specs.PageblockType.{noted_type}
 use Rattle.zp_model.specs.Choose.{Chosen, choose}
 use Rattle.zp_model.specs.Take.{taken, take_answer, take_after, leave, take_low_answer, take_low_after, give}
 use Rattle.zp_model.specs.Frames.{Frames, IsFramed, with_area, restated, IsClear, given}
@@ -85,7 +87,7 @@ abbrev pub named : List ℕ → PlainZone → NamedZone
 named name z = record { name = name; plain = z }
 
 -- the mark's test, as the code makes it
-pub passes_by : (f : Frames) (base min free k : ℕ) (m : Mark) (b : Bool) → free ≡ size f.area.free → b ≡ is_above min free k m → passes (plain_of f base min) k m ≡ b
+pub passes_by : (f : Frames) (base min free k : ℕ) (m : Mark) (b : Bool) → free ≡ size (available f.area.largest f.area.kinds f.area.free) → b ≡ is_above min free k m → passes (plain_of f base min) k m ≡ b
 passes_by f base min free k m b e g = sym (g ∙ ap (λ n. is_above min n k m) e)
 
 -- nothing is taken: the frames stay as they are, but for what is restated
@@ -158,32 +160,32 @@ none_stays f f2 k e e2 = e2 ∙ ap (with_area f) (after_none f.area k e)
 
 -- the lowest block, at h, goes out
 abbrev pub low_out : Frames → ℕ → ℕ → ℕ → Frames
-low_out f w h k = frames_out f (leave f.area h k) w h k (kind_at f.area.largest f.area.kinds h)
+low_out f w h k = frames_out f (leave f.area h k) w h k (noted_type (kind_at f.area.largest f.area.kinds h))
 
 pub low_left : (f : Frames) (base min w h k : ℕ) → IsAsked f base min → Some h ≡ take_low_answer f.area k →
     plain_of (low_out f w h k) base min ≡ (step (plain_of f base min) w (request.AllocLow k)).zone
 low_left f base min w h k x e =
-    left_out f (leave f.area h k) base min w h k (kind_at f.area.largest f.area.kinds h) x (take_low_found f.area k h (sym e)) (free-leave f.area h k)
+    left_out f (leave f.area h k) base min w h k (noted_type (kind_at f.area.largest f.area.kinds h)) x (take_low_found f.area k h (sym e)) (free-leave f.area h k)
     ∙ ap (λ (o : Option ℕ). (alloc_low_at (plain_of f base min) w k o).zone) e
 
 pub low_out_kept : {count : ℕ} → (name : List ℕ) (f : Frames) (base min w h k : ℕ) → IsKept name f base min count → IsFramed f → w < workers_of (plain_of f base min) →
     Some h ≡ take_low_answer f.area k → IsKept name (low_out f w h k) base min count
 low_out_kept name f base min w h k x y lt e =
-    out_kept f (leave f.area h k) base min w h k (kind_at f.area.largest f.area.kinds h) (record { framed = y; lawful = x.lawful }) (take_low_found f.area k h (sym e)) (free-leave f.area h k) name x
+    out_kept f (leave f.area h k) base min w h k (noted_type (kind_at f.area.largest f.area.kinds h)) (record { framed = y; lawful = x.lawful }) (take_low_found f.area k h (sym e)) (free-leave f.area h k) name x
     (rw (← e) at (alloc_low_lawful (plain_of f base min) w k x.lawful lt))
 
 -- the type of the pageblock stays, so that it may be read once the block is taken
-pub kind_stays : (f f2 : Frames) (h k : ℕ) (t : MigrateType) → f2 ≡ with_area f (take_low_after f.area k) → Some h ≡ take_low_answer f.area k →
+pub kind_stays : (f f2 : Frames) (h k : ℕ) (t : PageblockType) → f2 ≡ with_area f (take_low_after f.area k) → Some h ≡ take_low_answer f.area k →
     t ≡ kind_at f2.area.largest f2.area.kinds h → t ≡ kind_at f.area.largest f.area.kinds h
 kind_stays f f2 h k t e2 e et = et ∙ rw (e2, after_some f.area k h e, largest-leave f.area h k, kinds-leave f.area h k)
 
-pub low_reply : (f : Frames) (base min w h k p : ℕ) (t : MigrateType) → Some h ≡ take_low_answer f.area k → p ≡ base + h → t ≡ kind_at f.area.largest f.area.kinds h →
+pub low_reply : (f : Frames) (base min w h k p : ℕ) (t : MigrateType) → Some h ≡ take_low_answer f.area k → p ≡ base + h → t ≡ noted_type (kind_at f.area.largest f.area.kinds h) →
     Reply.Block (record { page = p; order = k; kind = t }) ≡ (step (plain_of f base min) w (request.AllocLow k)).reply
 low_reply f base min w h k p t e ep et = rw (← e, ep, et)
 
 -- the frames that hold the block, in the words of the code
 pub held_low : (f f2 f3 : Frames) (w h k : ℕ) (t : MigrateType) → f2 ≡ with_area f (take_low_after f.area k) → Some h ≡ take_low_answer f.area k →
-    t ≡ kind_at f.area.largest f.area.kinds h → f3 ≡ record f2 { states = set f2.states h (Out k t w) } → f3 ≡ low_out f w h k
+    t ≡ noted_type (kind_at f.area.largest f.area.kinds h) → f3 ≡ record f2 { states = set f2.states h (Out k t w) } → f3 ≡ low_out f w h k
 held_low f f2 f3 w h k t e2 e et e3 = rw (e3, e2, after_some f.area k h e, et)
 
 -- the head of a posted block lies in it

@@ -8,3 +8,4 @@ pub mod PostSteps
 pub mod Tied
 pub mod NewSeats
 pub mod BlockSteps
+pub mod RetypeSteps

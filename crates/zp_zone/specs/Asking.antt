@@ -15,6 +15,8 @@ MaySeatAsk n (Request.Post p k to) s = IsTrue (has s p k) × (to < n)
 MaySeatAsk n Request.Collect s = Unit {0}
 MaySeatAsk n (Request.Refill t m c) s = (1 ≤ c) × (c ≤ MAX_BATCH)
 MaySeatAsk n (Request.Drain t ps) s = HasPages s ps × IsTrue (is_distinct ps)
+MaySeatAsk n (Request.Isolate p) s = Unit {0}
+MaySeatAsk n (Request.Release p t) s = Unit {0}
 
 -- a block answered is the seat's, and was not before
 pub record IsGivenBlock (p k : ℕ) (a b : SeatState) : Type 0 where
@@ -41,4 +43,8 @@ IsGiven Request.Collect (Reply.Refused e) a b = Unit {0}
 IsGiven (Request.Refill t m n) (Reply.Pages ps) a b = AreGivenPages n ps a b
 IsGiven (Request.Refill t m n) (Reply.Refused e) a b = Unit {0}
 IsGiven (Request.Drain t ps) Reply.Drained a b = Unit {0}
+IsGiven (Request.Isolate p) Reply.Isolated a b = Unit {0}
+IsGiven (Request.Isolate p) (Reply.Refused e) a b = Unit {0}
+IsGiven (Request.Release p t) Reply.Released a b = Unit {0}
+IsGiven (Request.Release p t) (Reply.Refused e) a b = Unit {0}
 IsGiven r q a b = ⊥

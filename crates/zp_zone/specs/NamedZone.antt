@@ -1,11 +1,15 @@
 -- A zone without its seats, as contracts see it, and what a call leaves of it for the calls after it (this profile).
-use Rattle.std.specs.Prelude.{ℕ, ◌≡◌, ◌≢◌, ◌<◌, ◌≤◌, ◌+◌, ◌-◌, List, All, Option, Result, Ok, Err, IsTrue, false}
+use Rattle.std.specs.Prelude.{ℕ, ◌≡◌, ◌≢◌, ◌<◌, ◌≤◌, ◌+◌, ◌-◌, ◌*◌, slice_index_or, List, All, Option, Result, Ok, Err, IsTrue, false}
 use Rattle.std.specs.Option.{option_map}
 use Rattle.arrayvec.specs.ArrayVec.{ArrayVec}
 use Rattle.zp_model.specs.declared.block.Block.{Block}
 use Rattle.zp_model.specs.declared.refused.Refused.{Refused}
 use Rattle.zp_model.specs.declared.request.Reply.{Reply}
 use Rattle.zp_model.specs.declared.state.State.{State}
+use Rattle.zp_model.specs.declared.pageblock_type.PageblockType.TheVariants.{Movable}
+use Rattle.zp_model.specs.Area.{pageblock_pages, size_in}
+use Rattle.zp_model.specs.BlockSet.{largest_in, max_blocks}
+use Rattle.zp_zone.specs.declared.pageblock.Pageblock.{Pageblock}
 use Rattle.zp_model.specs.Rows.{stands_in}
 use Rattle.zp_model.specs.Zone.{PlainZone, pages_of}
 use Rattle.zp_model.specs.Run.{is_out}
@@ -51,6 +55,12 @@ pub record IsToldOf (z : PlainZone) (p : ℕ) (state : State) (back forward : Op
   pub forward_at : forward ≡ absolute z forward_place
   pub described : IsDescribedAt z (p - z.base) state back_place forward_place
 
+-- what a zone tells of pageblock n is so of the zone: its type, how many of its pages are free, and the order of the largest free block in it
+pub record IsPageblockOf (z : PlainZone) (n : ℕ) (b : Pageblock) : Type 0 where
+  pub kind : b.kind ≡ slice_index_or z.area.kinds n Movable
+  pub free : b.free ≡ size_in z.area.largest z.area.free n
+  pub largest : b.largest ≡ largest_in (max_blocks z.area.largest z.area.free) (n * pageblock_pages z.area.largest) z.area.largest
+
 -- a request's answer as a reply of the plain zone
 abbrev pub page_reply : Result ℕ Refused → Reply
 page_reply (Ok p) = Reply.Page p
@@ -59,6 +69,14 @@ page_reply (Err r) = Reply.Refused r
 abbrev pub block_reply : Result Block Refused → Reply
 block_reply (Ok b) = Reply.Block b
 block_reply (Err r) = Reply.Refused r
+
+abbrev pub isolate_reply : Result (Unit {0}) Refused → Reply
+isolate_reply (Ok u) = Reply.Isolated
+isolate_reply (Err r) = Reply.Refused r
+
+abbrev pub release_reply : Result (Unit {0}) Refused → Reply
+release_reply (Ok u) = Reply.Released
+release_reply (Err r) = Reply.Refused r
 
 abbrev pub pages_reply : Result (ArrayVec ℕ) Refused → Reply
 pages_reply (Ok v) = Reply.Pages v.items

@@ -119,3 +119,23 @@ impl<'a> Act<Books, (MigrateType, &'a [PageNo])> for EntersDrain {
 
     ghost to = { λ w a b. entered w (Drain a.0 a.1.now) b };
 }
+
+/// A pageblock that is to be isolated is entered.
+pub struct EntersIsolate;
+
+impl Act<Books, u32> for EntersIsolate {
+    ghost use Rattle.zp_model.specs.declared.request.Request.TheVariants.{Isolate};
+    ghost use Rattle.zp_model.specs.Books.{entered};
+
+    ghost to = { λ w pageblock b. entered w (Isolate pageblock) b };
+}
+
+/// A pageblock that is to be released is entered.
+pub struct EntersRelease;
+
+impl Act<Books, (u32, MigrateType)> for EntersRelease {
+    ghost use Rattle.zp_model.specs.declared.request.Request.TheVariants.{Release};
+    ghost use Rattle.zp_model.specs.Books.{entered};
+
+    ghost to = { λ w a b. entered w (Release a.0 a.1) b };
+}

@@ -4,11 +4,13 @@
 mod books;
 mod config;
 mod page;
+mod pageblock;
 mod seat;
 mod untied_zone;
 mod zone;
 
 pub use config::ZoneConfig;
 pub use page::ZonePage;
+pub use pageblock::Pageblock;
 pub use seat::Seat;
 pub use zone::{Zone, page_reply};

@@ -9,14 +9,17 @@ ghost use Rattle.zp_model.specs.Info.{counts_of};
 ghost use Rattle.zp_model.specs.Run.{is_out};
 ghost use Rattle.zp_model.specs.Lawful.{IsLawful};
 ghost use Rattle.zp_model.specs.Naming.{IsName};
-ghost use Rattle.zp_zone.specs.NamedZone.{IsPageOf, IsToldOf};
+ghost use Rattle.zp_model.specs.Area.{pageblocks_of};
+ghost use Rattle.zp_zone.specs.NamedZone.{IsPageOf, IsPageblockOf, IsToldOf};
 ghost use Rattle.zp_zone.specs.Making.{wanted, IsGood, IsWhy};
 
 mod batches;
 mod blocks;
+mod pageblocks;
 
 use crate::config::{ZoneConfig, checked_name};
 use crate::page::ZonePage;
+use crate::pageblock::Pageblock;
 use std::alloc::Global;
 use std::marker::Model;
 use zp_buddy::Buddy;
@@ -133,6 +136,22 @@ impl UntiedZone {
         })
     }
 
+    /// What the zone tells of a pageblock, where it has one of this number.
+    pub fn pageblock(&self, pageblock: u32) -> Option<Pageblock>
+        ensures when { IsSome result ↔ (pageblock < pageblocks_of self.now.plain.area.largest (pages_of self.now.plain)) }
+        ensures told { IfSome result (IsPageblockOf self.now.plain pageblock) }
+    {
+        let number = pageblock as usize;
+        if number >= self.buddy.pageblocks() {
+            return None;
+        }
+        Some(Pageblock {
+            kind: self.buddy.pageblock_type(number),
+            free: self.buddy.free_in(number),
+            largest: self.buddy.largest_in(number),
+        })
+    }
+
     /// How many free blocks of each order there are, and how many free pages. Each zone is lawful.
     pub fn counts(&self) -> Counts
         ensures counts { result ≡ counts_of self.now.plain.area.largest self.now.plain.area.free }
@@ -141,11 +160,11 @@ impl UntiedZone {
         self.buddy.counts()
     }
 
-    /// The highest mark that the free pages are above.
+    /// The highest mark that the free pages outside isolated pageblocks are above.
     pub fn level(&self) -> Level
         ensures { result ≡ level_of self.now.plain }
     {
-        level_above(self.min, self.buddy.free_pages())
+        level_above(self.min, self.buddy.available_pages())
     }
 
     /// How many pages are in posted blocks.

@@ -9,17 +9,20 @@ ghost use Rattle.zp_model.specs.Info.{counts_of};
 ghost use Rattle.zp_model.specs.Run.{IsHistory, is_out};
 ghost use Rattle.zp_model.specs.Lawful.{IsLawful};
 ghost use Rattle.zp_model.specs.Naming.{IsName};
-ghost use Rattle.zp_zone.specs.NamedZone.{IsPageOf, IsToldOf};
+ghost use Rattle.zp_model.specs.Area.{pageblocks_of};
+ghost use Rattle.zp_zone.specs.NamedZone.{IsPageOf, IsPageblockOf, IsToldOf};
 ghost use Rattle.zp_zone.specs.Seats.{IsSeatOf, IsUnused, Agrees, books, has, seats_of};
 ghost use Rattle.zp_zone.specs.Making.{wanted, IsGood, IsWhy};
 
 mod asking;
 mod batches;
 mod blocks;
+mod pageblocks;
 
 use crate::books::{Books, Opens, Part, Parts};
 use crate::config::ZoneConfig;
 use crate::page::ZonePage;
+use crate::pageblock::Pageblock;
 use crate::seat::{Seat, seats};
 use crate::untied_zone::UntiedZone;
 pub use asking::page_reply;
@@ -128,6 +131,16 @@ impl Zone {
         self.untied.entry(page)
     }
 
+    /// What the zone tells of its pageblock of this number, from 0 on, where it has one: in a zone whose largest order is m, pageblock n has
+    /// the 2^m pages from its base plus n times 2^m on. No list is looked at, and no page but those of an isolated pageblock, for the
+    /// largest free block in it.
+    pub fn pageblock(&self, pageblock: u32) -> Option<Pageblock>
+        ensures when { IsSome result ↔ (pageblock < pageblocks_of self.now.plain.area.largest (pages_of self.now.plain)) }
+        ensures told { IfSome result (IsPageblockOf self.now.plain pageblock) }
+    {
+        self.untied.pageblock(pageblock)
+    }
+
     /// How many free blocks of each order there are, and how many free pages. Each zone is lawful.
     pub fn counts(&self) -> Counts
         ensures counts { result ≡ counts_of self.now.plain.area.largest self.now.plain.area.free }
@@ -144,7 +157,7 @@ impl Zone {
         let _ = &self.untied;
     }
 
-    /// The highest mark that the free pages are above.
+    /// The highest mark that the free pages outside isolated pageblocks are above.
     pub fn level(&self) -> Level
         ensures { result ≡ level_of self.now.plain }
     {

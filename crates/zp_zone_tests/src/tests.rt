@@ -3,12 +3,13 @@ ghost use Rattle.zp_zone.specs.Seats.{IsSeatOf};
 
 mod choosing;
 mod histories;
+mod isolating;
 mod requests;
 
 use arrayvec::ArrayVec;
 use std::process::Abort;
 use std::test::*;
-use zp_model::{Counts, Largest, Level, Mark, MigrateType, Order, Refused};
+use zp_model::{Counts, Largest, Level, Mark, MigrateType, Order, PageblockType, Refused};
 use zp_text::{WriteFault, Writer, write_counts};
 use zp_zone::{Seat, Zone, ZoneConfig};
 
@@ -150,6 +151,38 @@ fn marks_are_rounded_down(rt: HostRuntime) -> Result<(), Fail> {
             free_at_refusal(&mut zone, seat, Mark::Any),
         );
         assert_eq!(rt; found, (high, low, min, 0));
+    }
+    Ok(())
+}
+
+/// A zone of which each pageblock has lent something: the short last one a page, the next a half, and the lowest, which it claims, one
+/// more page.
+#[test]
+fn pageblocks_are_told(rt: HostRuntime) -> Result<(), Fail> {
+    let config = ZoneConfig {
+        name: "DMA",
+        base: 1024,
+        pages: 40,
+        min: 0,
+        largest: Largest::new(4).ok_or("a zone can have this largest order")?,
+    };
+    let (mut zone, mut seats) = Zone::new(rt.alloc(), config, 1)?;
+    let seat = &mut seats[0];
+    let half = Order::new(3).ok_or("there is such an order")?;
+    zone.alloc(seat, Order::zero(), MigrateType::Movable, Mark::Any)?;
+    zone.alloc(seat, half, MigrateType::Movable, Mark::Any)?;
+    zone.alloc(seat, Order::zero(), MigrateType::Reclaimable, Mark::Any)?;
+    for (pageblock, told) in [
+        (0, Some((PageblockType::Reclaimable, 15, Order::new(3)))),
+        (1, Some((PageblockType::Movable, 8, Order::new(3)))),
+        (2, Some((PageblockType::Movable, 7, Order::new(2)))),
+        (3, None),
+        (u32::MAX, None),
+    ] {
+        let found = zone
+            .pageblock(pageblock)
+            .map(|it| (it.kind, it.free, it.largest));
+        assert_eq!(rt; found, told, "pageblock {pageblock}");
     }
     Ok(())
 }

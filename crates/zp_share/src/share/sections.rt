@@ -4,7 +4,7 @@ ghost use Rattle.std.specs.Prelude.{◌≡◌, ◌<◌, ◌≤◌, length, []};
 ghost use Rattle.zp_model.specs.Zone.{workers_of};
 ghost use Rattle.zp_model.specs.declared.request.Request.TheVariants as request;
 ghost use Rattle.zp_model.specs.declared.request.Reply.TheVariants as reply;
-ghost use Rattle.zp_zone.specs.NamedZone.{page_reply, block_reply};
+ghost use Rattle.zp_zone.specs.NamedZone.{page_reply, block_reply, isolate_reply, release_reply};
 ghost use Rattle.zp_zone.specs.Seats.{IsSeatOf};
 ghost use Rattle.zp_share.specs.PlainShares.{back};
 ghost use Rattle.zp_share.specs.Sections.{IsAsked, MayAsk, done_reply, list_reply};
@@ -149,5 +149,34 @@ impl Share {
     {
         let request = Request::Drain(kind, self.back(place, kind, count));
         answered!(self.section(zone, place, &request), Reply::Drained => ())
+    }
+
+    /// Isolates the pageblock of this number. The worker's lists and lent blocks stay, also those of the pageblock. Refused 13, 14
+    /// or 30.
+    pub fn isolate(&mut self, zone: &mut Zone, place: usize, pageblock: u32) -> Result<(), Refused>
+        requires place { place < length self.old.zones }
+        requires seat { IsSeatOf zone.old (share_at self.old place).seat }
+        ensures section { IsAsked (request.Isolate pageblock) (isolate_reply result) zone.old zone.new (share_at self.old place) (share_at self.new place) }
+        ensures others { self.new ≡ with_zone_share place (share_at self.new place) self.old }
+    {
+        let request = Request::Isolate(pageblock);
+        answered!(self.section(zone, place, &request), Reply::Isolated => ())
+    }
+
+    /// Gives an isolated pageblock a migrate type. Refused 13, 15 or 30.
+    pub fn release(
+        &mut self,
+        zone: &mut Zone,
+        place: usize,
+        pageblock: u32,
+        kind: MigrateType,
+    ) -> Result<(), Refused>
+        requires place { place < length self.old.zones }
+        requires seat { IsSeatOf zone.old (share_at self.old place).seat }
+        ensures section { IsAsked (request.Release pageblock kind) (release_reply result) zone.old zone.new (share_at self.old place) (share_at self.new place) }
+        ensures others { self.new ≡ with_zone_share place (share_at self.new place) self.old }
+    {
+        let request = Request::Release(pageblock, kind);
+        answered!(self.section(zone, place, &request), Reply::Released => ())
     }
 }

@@ -1,10 +1,10 @@
 //! One section of a share with a guarded zone: a request on the zone, the same change in the share, one entry of the journal, and then
 //! the zone's counts published once, also where the zone refuses the request. Where the journal is full the zone is not asked, and
-//! nothing is published. Each of the seven typed calls is the section of its request.
+//! nothing is published. Each of the nine typed calls is the section of its request.
 ghost use Rattle.std.specs.Prelude.{◌≡◌, ◌<◌, ◌≤◌, length, []};
 ghost use Rattle.zp_model.specs.declared.request.Request.TheVariants as request;
 ghost use Rattle.zp_model.specs.declared.request.Reply.TheVariants as reply;
-ghost use Rattle.zp_zone.specs.NamedZone.{page_reply, block_reply};
+ghost use Rattle.zp_zone.specs.NamedZone.{page_reply, block_reply, isolate_reply, release_reply};
 ghost use Rattle.zp_share.specs.PlainShares.{back};
 ghost use Rattle.zp_share.specs.Sections.{MayAsk, done_reply, list_reply};
 ghost use Rattle.zp_share.specs.ZoneShares.{cached_of};
@@ -30,6 +30,8 @@ impl<J: Naming> Guarded<J> {
         requires may { MayAsk (workers_at J.zones self.old.place) share.old.batch request.now (share_at share.old self.old.place) }
         ensures { IsAskedUnderLock J.zones request.now result self.old self.new share.old share.new }
     {
+        // a clause of this call says that the zone is the run of its entries
+        self.zone.history();
         if self.journal.is_full() {
             return share.refuse(self.place, request);
         }
@@ -167,5 +169,39 @@ impl<J: Naming> Guarded<J> {
     {
         let request = Request::Drain(kind, share.back(self.place, kind, count));
         answered!(self.section(board, share, &request), Reply::Drained => ())
+    }
+
+    /// Isolates the pageblock of this number. The worker's lists and lent blocks stay, also those of the pageblock. Refused 13, 14
+    /// or 30.
+    pub fn isolate(
+        &mut self,
+        board: &Board,
+        share: &mut Share,
+        pageblock: u32,
+    ) -> Result<(), Refused>
+        requires fits { IsShareOf J.zones share.old }
+        requires place { self.old.place < length share.old.zones }
+        requires board { board.now ≡ board_at J.boards self.old.place }
+        ensures { IsAskedUnderLock J.zones (request.Isolate pageblock) (isolate_reply result) self.old self.new share.old share.new }
+    {
+        let request = Request::Isolate(pageblock);
+        answered!(self.section(board, share, &request), Reply::Isolated => ())
+    }
+
+    /// Gives an isolated pageblock a migrate type. Refused 13, 15 or 30.
+    pub fn release(
+        &mut self,
+        board: &Board,
+        share: &mut Share,
+        pageblock: u32,
+        kind: MigrateType,
+    ) -> Result<(), Refused>
+        requires fits { IsShareOf J.zones share.old }
+        requires place { self.old.place < length share.old.zones }
+        requires board { board.now ≡ board_at J.boards self.old.place }
+        ensures { IsAskedUnderLock J.zones (request.Release pageblock kind) (release_reply result) self.old self.new share.old share.new }
+    {
+        let request = Request::Release(pageblock, kind);
+        answered!(self.section(board, share, &request), Reply::Released => ())
     }
 }

@@ -21,6 +21,8 @@ pub(super) enum Told {
     Freed,
     Posted,
     Drained(u32),
+    Isolated,
+    Released,
     Free(u32, u32),
     Refused(u8),
 }
@@ -39,6 +41,8 @@ fn in_short(reply: &CommandReply) -> Told {
         CommandReply::Freed => Freed,
         CommandReply::Posted => Posted,
         CommandReply::Drained(pages) => Drained(*pages),
+        CommandReply::Isolated => Isolated,
+        CommandReply::Released => Released,
         CommandReply::Info(row) => match (row.as_slice().first(), row.as_slice().last()) {
             (Some(first), Some(last)) => Free(first.free, last.free),
             _ => Free(0, 0),

@@ -2,12 +2,11 @@
 
 use super::case::Told::*;
 use super::case::{Case, expect_case};
+use super::one_zone::{Ran, counts_at, run};
 use super::plan::{AT_ONCE, Plan};
-use super::rows::run_trace;
-use std::alloc::Global;
 use std::test::*;
 use zp_model::Counts;
-use zp_office::CommandReply;
+use zp_shared::Reading;
 
 /// A reader reads before and after a section of its worker; the other's first reading comes after that. The section is of one zone,
 /// whose board alone has new counts.
@@ -46,22 +45,9 @@ fn counts_are_read_while_another_has_the_lock(rt: HostRuntime) {
     expect_case(&rt, rt.alloc(), &case);
 }
 
-/// The text of a trace in which the first worker takes 100 pages and the second reads 1,000 times.
-fn takes_and_reads(alloc: Global) -> Option<String> {
-    let mut text = String::new(alloc);
-    text.push_str("zone DMA 0 4096 0\nworkers 2\nlists 0 0\n")
-        .ok()?;
-    for _ in 0..100 {
-        text.push_str("0 alloc a 0 M DMA low\n").ok()?;
-    }
-    for _ in 0..1000 {
-        text.push_str("1 info\n").ok()?;
-    }
-    Some(text)
-}
-
-/// The counts of the zone when so many pages of its highest 1,024 are free, which are taken from the lowest on, and all of the others.
-fn counts_with(rest: u32) -> Counts {
+/// The counts of the zone when so many pages of its highest 1,024 are taken, from the lowest on.
+fn counts_without(taken: u32) -> Counts {
+    let rest = 1024_u32.wrapping_sub(taken);
     let mut by_order = [0; 11];
     for (order, count) in by_order.iter_mut().enumerate() {
         *count = rest >> (order as u32 % 32) & 1;
@@ -73,40 +59,41 @@ fn counts_with(rest: u32) -> Counts {
     }
 }
 
-/// Whether each reading is of counts that the zone had, with no more free pages than the reading before it.
-fn are_in_order(readings: &[CommandReply]) -> bool {
-    let mut rest = 1024;
+/// Whether each reading is of the counts that the zone had at its place, which is none before that of the reading before it.
+fn are_in_order(readings: &[Reading]) -> bool {
+    let mut last = 0;
     for reading in readings {
-        let CommandReply::Info(row) = reading else {
+        let Ok(taken) = u32::try_from(reading.place) else {
             return false;
         };
-        let Some(counts) = row.as_slice().first() else {
-            return false;
-        };
-        let now = counts.free.wrapping_sub(3072);
-        if now > rest || *counts != counts_with(now) {
+        if taken < last || reading.counts != counts_without(taken) {
             return false;
         }
-        rest = now;
+        last = taken;
     }
     true
 }
 
-/// A worker takes 100 pages while the other reads 1,000 times.
+/// A worker takes 100 pages, which fills the journal, while another thread reads 1,000 times. The journal tells the same counts at a place
+/// as the zone had there, and none past its end.
 #[test]
 fn readings_never_go_back(rt: HostRuntime) {
-    let Some(text) = takes_and_reads(rt.alloc()) else {
-        assert!(rt; false, "the text can be made");
-        return;
-    };
-    let Some(ran) = run_trace(&rt, rt.alloc(), text.as_str(), AT_ONCE) else {
+    let Some(ran) = run(&rt, rt.alloc(), 100, 1000) else {
         assert!(rt; false, "the workers run");
         return;
     };
-    let Some(desk) = ran.desks.get(1) else {
-        assert!(rt; false, "there are two workers");
-        return;
-    };
-    assert_eq!(rt; desk.replies().len(), 1000);
-    assert!(rt; are_in_order(desk.replies()));
+    let Ran {
+        taken,
+        readings,
+        journal,
+    } = ran;
+    assert_eq!(rt; taken.pages, 100);
+    assert_eq!(rt; taken.last.place, 100);
+    assert_eq!(rt; readings.len(), 1000);
+    assert!(rt; are_in_order(readings.as_slice()));
+    for place in 0..101 {
+        let told = counts_at(rt.alloc(), &journal, u64::from(place));
+        assert!(rt; told == Some(counts_without(place)), "place {place}");
+    }
+    assert!(rt; counts_at(rt.alloc(), &journal, 101).is_none());
 }

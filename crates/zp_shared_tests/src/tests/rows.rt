@@ -5,7 +5,7 @@ ghost use Rattle.zp_journal.specs.declared.journal.TheConstants.{LONGEST_JOURNAL
 ghost use Rattle.zp_zone.specs.Seats.{ZoneState};
 ghost use Rattle.zp_share.specs.Shares.{key_of};
 ghost use Rattle.zp_office.specs.Desks.{IsReady};
-ghost use Rattle.zp_shared.specs.Rows.{IsRowOf, opened_board, opened_key};
+ghost use Rattle.zp_shared.specs.Rows.{AreKept, IsRowOf, opened_board, opened_key};
 ghost use Rattle.zp_office.specs.Runs.{IsLentTo};
 
 use super::plan::{Plan, Turns};
@@ -93,8 +93,9 @@ fn run_as<J: Naming + Send + Sync, R: Clock + Sync + Threads + Wait>(
     ) else {
         return Err(Refused::Memory);
     };
-    run_row::<J, R>(rt, alloc, &row, &mut readers, &mut desks, plan)?;
-    let closed = close_zones(row, zone_room, journal_room);
+    let lent = readers.as_mut_slice();
+    run_row::<J, R>(rt, alloc, &row, lent, &mut desks, plan)?;
+    let closed = close_zones(row, lent, zone_room, journal_room);
     Ok(Ran { desks, closed })
 }
 
@@ -110,6 +111,7 @@ fn run_row<J: Naming + Send + Sync, R: Clock + Sync + Threads + Wait>(
     requires row { IsRowOf J.zones row.now }
     requires readers { AllZip (IsLentTo J.zones J.boards) readers.old desks.old }
     requires ready { All (IsReady J.zones) desks.old }
+    ensures { AllZip (AreKept J.zones J.boards) readers.old readers.new }
 {
     let turns = Turns::new(rt, row, plan);
     run_workers(rt, alloc, row, readers, desks, &turns)?;

@@ -5,7 +5,7 @@ use super::case::{Case, FULL, NOT_LENT, expect_case};
 use super::plan::{AT_ONCE, Plan};
 use std::test::*;
 
-/// Ten sections with the zone `DMA` fill its journal: each of the seven is made, and one of them refused by the zone. What comes then is
+/// Twelve sections with the zone `DMA` fill its journal: each of the nine is made, and one of them refused by the zone. What comes then is
 /// refused, and the zone `Normal` has a journal of its own.
 #[test]
 fn each_section_is_made_until_the_journal_is_full(rt: HostRuntime) {
@@ -13,11 +13,12 @@ fn each_section_is_made_until_the_journal_is_full(rt: HostRuntime) {
         trace: "zone DMA 0 4096 0\nzone Normal 4096 4096 0\nworkers 1\nlists 4 6\n\
             0 alloc a 1 M DMA low\n0 info\n0 free a\n0 free a\n\
             0 alloc b 1 M DMA low\n0 post b 0\n0 free b\n0 collect c DMA\n0 collect d DMA\n0 free c\n\
-            0 alloc e 0 M DMA low\n0 info\n0 free e\n0 drain\n0 low f 10 DMA\n0 info\n\
-            0 alloc g 1 M DMA low\n0 low h 0 DMA\n0 collect i DMA\n0 alloc j 0 M DMA low\n0 free f\n0 post f 0\n0 info\n\
+            0 alloc e 0 M DMA low\n0 info\n0 free e\n0 drain\n0 isolate DMA 1\n0 release DMA 1 M\n0 low f 10 DMA\n0 info\n\
+            0 alloc g 1 M DMA low\n0 low h 0 DMA\n0 collect i DMA\n0 alloc j 0 M DMA low\n0 free f\n0 post f 0\n\
+            0 isolate DMA 1\n0 release DMA 1 M\n0 info\n\
             0 alloc k 1 M Normal low\n0 info\n",
         plan: Plan {
-            capacity: 10,
+            capacity: 12,
             ..AT_ONCE
         },
         replies: &[&[
@@ -35,8 +36,12 @@ fn each_section_is_made_until_the_journal_is_full(rt: HostRuntime) {
             Free(4092, 4096),
             Freed,
             Drained(4),
+            Isolated,
+            Released,
             Page(0),
             Free(3072, 4096),
+            FULL,
+            FULL,
             FULL,
             FULL,
             FULL,
@@ -47,7 +52,7 @@ fn each_section_is_made_until_the_journal_is_full(rt: HostRuntime) {
             Page(7168),
             Free(3072, 4094),
         ]],
-        zones: &[(10, 3072), (1, 4094)],
+        zones: &[(12, 3072), (1, 4094)],
     };
     expect_case(&rt, rt.alloc(), &case);
 }

@@ -34,7 +34,9 @@ impl UntiedZone {
         ensures fresh { IfOk result (IsFresh self.old.plain) }
         ensures kept { KeepsOut self.old.plain self.new.plain }
     {
-        if !is_above(self.min, self.buddy.free_pages(), order, mark) {
+        // a clause of this call says that what is noted as free is free
+        let _pages = self.buddy.pages();
+        if !is_above(self.min, self.buddy.available_pages(), order, mark) {
             return Err(Refused::BelowMark);
         }
         let Some(head) = self.buddy.take(order, kind) else {
@@ -61,7 +63,7 @@ impl UntiedZone {
         let Some(head) = self.buddy.take_low(order) else {
             return Err(Refused::NoBlock);
         };
-        let noted = self.buddy.type_of(head);
+        let noted = self.buddy.type_of(head).noted();
         self.buddy.hold(head, State::Out(order, noted, worker));
         Ok(Block {
             page: PageNo::new(self.base + head.number()),

@@ -3,7 +3,7 @@ ghost use Rattle.std.specs.Prelude.{◌≡◌, ◌<◌};
 ghost use Rattle.zp_model.specs.Zone.{workers_of};
 ghost use Rattle.zp_model.specs.Step.{step};
 ghost use Rattle.zp_zone.specs.Asking.{MaySeatAsk, IsGiven};
-ghost use Rattle.zp_zone.specs.NamedZone.{block_reply, page_reply, pages_reply};
+ghost use Rattle.zp_zone.specs.NamedZone.{block_reply, isolate_reply, page_reply, pages_reply, release_reply};
 ghost use Rattle.zp_zone.specs.Seats.{IsSeatOf, KeepsSeats, Agrees, asked, replied};
 
 use super::Zone;
@@ -50,6 +50,10 @@ impl Zone {
                 self.drain(seat, *kind, pages.as_slice());
                 Reply::Drained
             }
+            Request::Isolate(pageblock) => isolate_reply(self.isolate(seat, *pageblock)),
+            Request::Release(pageblock, kind) => {
+                release_reply(self.release(seat, *pageblock, *kind))
+            }
         }
     }
 }
@@ -71,6 +75,24 @@ fn block_reply(got: Result<Block, Refused>) -> Reply
 {
     match got {
         Ok(block) => Reply::Block(block),
+        Err(refused) => Reply::Refused(refused),
+    }
+}
+
+fn isolate_reply(got: Result<(), Refused>) -> Reply
+    ensures { result ≡ isolate_reply got }
+{
+    match got {
+        Ok(()) => Reply::Isolated,
+        Err(refused) => Reply::Refused(refused),
+    }
+}
+
+fn release_reply(got: Result<(), Refused>) -> Reply
+    ensures { result ≡ release_reply got }
+{
+    match got {
+        Ok(()) => Reply::Released,
         Err(refused) => Reply::Refused(refused),
     }
 }

@@ -18,6 +18,8 @@ pub(super) enum Ask<'a> {
     Collect,
     Refill(u8, Mark),
     Drain(MigrateType, &'a [u32]),
+    Isolate(u32),
+    Release(u32, MigrateType),
 }
 
 /// What is answered, in numbers.
@@ -29,6 +31,8 @@ pub(super) enum Said<'a> {
     Posted,
     Pages(&'a [u32]),
     Drained,
+    Isolated,
+    Released,
     Refused(Refused),
 }
 
@@ -76,6 +80,8 @@ fn request(ask: Ask<'_>) -> Option<Request> {
         Ask::Collect => Request::Collect,
         Ask::Refill(count, mark) => Request::Refill(MigrateType::Movable, mark, count),
         Ask::Drain(kind, pages) => Request::Drain(kind, list(pages)),
+        Ask::Isolate(pageblock) => Request::Isolate(pageblock),
+        Ask::Release(pageblock, kind) => Request::Release(pageblock, kind),
     };
     Some(request)
 }
@@ -92,6 +98,8 @@ fn reply(said: Said<'_>) -> Option<Reply> {
         Said::Posted => Reply::Posted,
         Said::Pages(pages) => Reply::Pages(list(pages)),
         Said::Drained => Reply::Drained,
+        Said::Isolated => Reply::Isolated,
+        Said::Released => Reply::Released,
         Said::Refused(refused) => Reply::Refused(refused),
     };
     Some(reply)

@@ -1,20 +1,19 @@
-use Rattle.std.proofs.Common.{◌^◌, ◌≡◌, ◌/◌, min, slice_index, arith}
+use Rattle.std.proofs.Common.{ℕ, ◌+◌, ◌^◌, ◌≡◌, ◌/◌, min, refl, ◌∙◌, ap, cond, false, set, slice_index, arith}
 use Rattle.std.proofs.lemmas.Bool.{both_ways}
 use Rattle.std.proofs.Math.Pow.{pow_mono}
-use Rattle.zp_model.specs.Area.{kind_at}
-use Rattle.zp_area.specs.Blocks.{Blocks}
-use Rattle.zp_area.specs.Chains.{IsJoinable}
-use Rattle.zp_area.proofs.Keeping.{block_of_more, counted_there, kind_found, read_at}
+use Rattle.zp_model.specs.PageblockType.{is_isolate}
+use Rattle.zp_model.specs.Area.{available_blocks, is_isolated, pageblock_pages}
+use Rattle.zp_tree.specs.Blocks.{joined_set}
+use Rattle.zp_area.specs.OneSet.{IsKept}
+use Rattle.zp_area.proofs.AvailableBlocks.{available-length, available_apart, available_buddies, told_joined}
+use Rattle.zp_area.specs.Blocks.{Blocks, added, block_set}
+use Rattle.zp_area.specs.Chains.{IsJoinable, IsJoinedUp}
+use Rattle.zp_area.proofs.Keeping.{block_of_more, counted_there, read_at}
 use Rattle.zp_area.proofs.Adding.{IsComing, coming_apart, coming_loose, kept_added}
 use Rattle.zp_area.proofs.Splitting.{block_on}
 use Rattle.zp_area.proofs.Growing.{buddy_kind, buddy_starts, buddy_unique, grow_begins, grow_ends, grow_goes, grown_block, grown_coming, grown_kind}
-use Rattle.zp_area.proofs.joins.join_up.Goals.{After-index_mut, After-index-kind, After-at-head, else-joins-test, then-joins-test+then-not-is_free}
+use Rattle.zp_area.proofs.joins.join_up.Goals.{After-index_mut, After-at-head, After-put_in, else-joins-test, then-joins-test+then-not-is_free}
 use Rattle.zp_area.proofs.joins.join_up.Goals as goal
-
-kind : (c : After-index-kind) → c.index-kind.result.now ≡ kind_at c.args.largest c.args.kinds.now.items c.args.at
-kind c =
-    let a : Blocks = record { largest = c.args.largest; rows = c.args.lists.now; kinds = c.args.kinds.now.items } in
-    kind_found c.args.largest a c.args.at c.args.order _ _ c.requires.kept.one c.requires.block c.requires.here c.index-kind.ensures
 
 coming : (c : After-index_mut) → IsComing c.args.largest (record { largest = c.args.largest; rows = c.args.lists.now; kinds = c.args.kinds.now.items }) c.args.at c.args.order
 coming c = record { one = c.requires.kept.one; block = c.requires.block; clear = c.requires.clear }
@@ -25,12 +24,12 @@ read c = read_at c.args.largest _ _ c.args.at c.args.order _ _ c.requires.kept.e
 pub overflow_add-index_mut : goal.overflow_add-index_mut
 overflow_add-index_mut c =
     let now = (goal.at.overflow_add-index_mut c).After-index_mut in
-    omega (arith, read now, c.pages.ensures.pages, (kept_added (coming now) _ _ c.requires.kept).fits, pow_mono {i = c.args.largest} {j = 10} (omega arith))
+    omega (arith, read now, c.pages.ensures.pages, (kept_added (coming now) _ c.requires.kept).fits, pow_mono {i = c.args.largest} {j = 10} (omega arith))
 
 pub joins-init : goal.joins-init
 joins-init c =
     let a : Blocks = record { largest = c.args.largest; rows = c.args.lists.now; kinds = c.args.kinds.now.items } in
-    grow_begins c.args.largest a _ _ c.args.at c.args.order c.requires.kept c.requires.block c.requires.clear
+    grow_begins c.args.largest a _ c.args.at c.args.order c.requires.kept c.requires.block c.requires.clear
 
 -- the buddy is free, and the smaller of the two heads is the double's
 joinable : (c : After-at-head) → IsJoinable c.args.largest (record { largest = c.args.largest; rows = c.joins.lists; kinds = c.args.kinds.now.items }) c.joins.head c.joins.joined c.buddy-buddy.result c.at-head.result
@@ -42,36 +41,67 @@ pub take_out-requires-clause-on : goal.take_out-requires-clause-on
 take_out-requires-clause-on c =
     let b : Blocks = record { largest = c.args.largest; rows = c.joins.lists; kinds = c.args.kinds.now.items } in
     let y : IsJoinable c.args.largest b c.joins.head c.joins.joined c.buddy-buddy.result (min c.joins.head c.buddy-buddy.result) = record { order = omega arith; buddy = c.buddy-buddy.ensures; free = c.is_free.ensures.0 c.if-not-is_free.false } in
-    rw (buddy_kind c.joins.invariant y c.index-kind.result.now (kind (goal.at.take_out-requires-clause-on c).After-index-kind)) (block_on c.args.largest b c.buddy-buddy.result c.joins.joined c.joins.invariant.kept.one (buddy_starts c.joins.invariant y))
+    rw (buddy_kind c.joins.invariant y c.args.kind c.requires.typed) (block_on c.args.largest b c.buddy-buddy.result c.joins.joined c.joins.invariant.kept.one (buddy_starts c.joins.invariant y))
 
 pub joins-preserved : goal.joins-preserved
 joins-preserved c =
     let y = joinable (goal.at.joins-preserved c).After-at-head in
-    let before = (goal.at.joins-preserved c).After-index-kind in
-    rw (c.take_out.ensures, c.higher-joined.ensures, buddy_kind c.joins.invariant y c.index-kind.result.now (kind before))
+    rw (c.take_out.ensures, c.higher-joined.ensures, buddy_kind c.joins.invariant y c.args.kind c.requires.typed)
     (grow_goes c.joins.invariant y (counted_there c.args.largest _ _ c.args.at c.args.order c.requires.kept.each c.requires.block))
 
-pub join-requires-clause-block : goal.join-requires-clause-block
-join-requires-clause-block c = rw c.requires.kept.same (block_of_more (omega arith) (grown_block c.joins.invariant))
+-- the block's pageblock is not isolated, where its type is not
+shown : (c : After-index_mut) → is_isolate c.args.kind ≡ false → is_isolated c.args.largest c.args.kinds.now.items c.args.at ≡ false
+shown c e = rw (← c.requires.typed) e
 
-pub join-requires-clause-apart : goal.join-requires-clause-apart
-join-requires-clause-apart c = rw c.requires.kept.same (coming_apart (coming (goal.at.join-requires-clause-apart c).After-index_mut))
+pub tell_joined-requires-clause-block : goal.tell_joined-requires-clause-block
+tell_joined-requires-clause-block c = λ e.
+    let a : Blocks = record { largest = c.args.largest; rows = c.args.lists.now; kinds = c.args.kinds.now.items } in
+    rw (c.requires.told, available-length c.args.largest a.kinds (block_set a)) (block_of_more (omega arith) (grown_block c.joins.invariant))
+
+pub tell_joined-requires-clause-apart : goal.tell_joined-requires-clause-apart
+tell_joined-requires-clause-apart c = λ e.
+    let a : Blocks = record { largest = c.args.largest; rows = c.args.lists.now; kinds = c.args.kinds.now.items } in
+    rw c.requires.told (available_apart c.args.largest a.kinds (block_set a) c.args.at c.args.order (coming_apart (coming (goal.at.tell_joined-requires-clause-apart c).After-index_mut)))
+
+pub tell_joined-requires-clause-buddies : goal.tell_joined-requires-clause-buddies
+tell_joined-requires-clause-buddies c = λ e.
+    let a : Blocks = record { largest = c.args.largest; rows = c.args.lists.now; kinds = c.args.kinds.now.items } in
+    let now = (goal.at.tell_joined-requires-clause-buddies c).After-index_mut in
+    rw c.requires.told (available_buddies c.args.largest a.kinds (block_set a) c.args.at c.args.order c.joins.joined (grown_block c.joins.invariant).order (shown now e) c.joins.invariant.buddies)
 
 pub put_in-requires-clause-loose : goal.put_in-requires-clause-loose
 put_in-requires-clause-loose c = coming_loose (grown_coming c.joins.invariant)
 
-pub returns : goal.returns
-returns c =
-    let before = (goal.at.returns c).After-index-kind in
-    let y = grow_ends c.joins.invariant
+-- the loop has ended, as there is no free buddy more
+ended : (c : After-put_in) → IsKept c.args.largest (added c.args.largest (record { largest = c.args.largest; rows = c.joins.lists; kinds = c.args.kinds.now.items }) c.joins.head c.joins.joined) (set c.args.free_in.now.items (c.args.at / pageblock_pages c.args.largest) (slice_index c.args.free_in.now.items (c.args.at / pageblock_pages c.args.largest) + 2 ^ c.args.order)) ×
+    (joined_set (block_set (record { largest = c.args.largest; rows = c.args.lists.now; kinds = c.args.kinds.now.items })) c.args.at c.args.order c.joins.joined ≡ block_set (added c.args.largest (record { largest = c.args.largest; rows = c.joins.lists; kinds = c.args.kinds.now.items }) c.joins.head c.joins.joined)) ×
+    ((e : ℕ) × IsJoinedUp e c.args.largest (record { largest = c.args.largest; rows = c.args.lists.now; kinds = c.args.kinds.now.items }) c.args.at c.args.order (added c.args.largest (record { largest = c.args.largest; rows = c.joins.lists; kinds = c.args.kinds.now.items }) c.joins.head c.joins.joined))
+ended c =
+    grow_ends c.joins.invariant
     (elim c.joins-test.branch [
       | else-joins-test w ↦ λ e d z. omega (arith, z.order)
       | then-joins-test+then-not-is_free w ↦ λ e d z.
           both_ways w.is_free.result w.if-not-is_free.true (w.is_free.ensures.1 (rw (buddy_unique _ _ _ _ _ _ w.buddy-buddy.ensures z.buddy) z.free))
     ])
-    (counted_there c.args.largest _ _ c.args.at c.args.order c.requires.kept.each c.requires.block) in
-    let k = grown_kind c.joins.invariant c.index-kind.result.now (kind before) in
-    record {
-      kept = rw (c.put_in.ensures, k, c.join.ensures, c.requires.kept.same, c.requires.here, read (goal.at.returns c).After-index_mut, c.pages.ensures.pages) y.0;
-      after = rw (c.put_in.ensures, k) y.1;
-    }
+    (counted_there c.args.largest _ _ c.args.at c.args.order c.requires.kept.each c.requires.block)
+
+pub returns-clause-kept : goal.returns-clause-kept
+returns-clause-kept c =
+    let k = grown_kind c.joins.invariant c.args.kind c.requires.typed in
+    rw (c.put_in.ensures, k, c.requires.here, read (goal.at.returns-clause-kept c).After-index_mut, c.pages.ensures.pages) (ended (goal.at.returns-clause-kept c).After-put_in).0
+
+pub returns-clause-told : goal.returns-clause-told
+returns-clause-told c =
+    let a : Blocks = record { largest = c.args.largest; rows = c.args.lists.now; kinds = c.args.kinds.now.items } in
+    rw c.put_in.ensures
+    (c.tell_joined.ensures ∙ ap (λ s. cond (is_isolate c.args.kind) s (joined_set s c.args.at c.args.order c.joins.joined)) c.requires.told
+    ∙ told_joined c.args.largest a.kinds (block_set a) c.args.at c.args.order c.joins.joined c.args.kind c.requires.typed (grown_block c.joins.invariant).order c.joins.invariant.up c.joins.invariant.buddies
+    ∙ ap (available_blocks c.args.largest a.kinds) (ended (goal.at.returns-clause-told c).After-put_in).1)
+
+pub returns-clause-numbers : goal.returns-clause-numbers
+returns-clause-numbers c = rw (c.requires.here, read (goal.at.returns-clause-numbers c).After-index_mut, c.pages.ensures.pages) refl
+
+pub returns-clause-after : goal.returns-clause-after
+returns-clause-after c =
+    let k = grown_kind c.joins.invariant c.args.kind c.requires.typed in
+    rw (c.put_in.ensures, k) (ended (goal.at.returns-clause-after c).After-put_in).2

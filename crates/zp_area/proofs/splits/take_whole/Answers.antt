@@ -1,8 +1,11 @@
-use Rattle.std.proofs.Common.{◌^◌, ◌≡◌, ◌/◌, length, refl, slice_index, arith}
+use Rattle.std.proofs.Common.{◌^◌, ◌≡◌, ◌/◌, length, refl, sym, ◌∙◌, ap, slice_index, arith}
 use Rattle.zp_model.specs.Block.{IsBlock}
-use Rattle.zp_area.specs.Blocks.{Blocks}
+use Rattle.zp_area.specs.Blocks.{Blocks, block_set}
 use Rattle.zp_area.proofs.Keeping.{blocks_length, counted_there, read_at}
-use Rattle.zp_area.proofs.Removing.{kept_removed}
+use Rattle.zp_area.proofs.Removing.{kept_removed, removed_set}
+use Rattle.zp_area.proofs.AvailableBlocks.{available-from, available-without}
+use Rattle.zp_model.specs.Area.{available_blocks}
+use Rattle.zp_tree.specs.Blocks.{without_block}
 use Rattle.zp_area.proofs.Splitting.{block_on}
 use Rattle.zp_area.proofs.splits.take_whole.Goals.{After-index_mut, Start}
 use Rattle.zp_area.proofs.splits.take_whole.Goals as goal
@@ -29,11 +32,28 @@ pub overflow_sub-index_mut : goal.overflow_sub-index_mut
 overflow_sub-index_mut c =
     let now = (goal.at.overflow_sub-index_mut c).After-index_mut in
     let before = (goal.at.overflow_sub-index_mut c).Start in
-    omega (arith, read now (block before), c.pages.ensures.pages, (kept_removed c.args.largest _ c.args.at c.args.order c.requires.kept.one c.requires.block _ _ c.requires.kept).most)
+    omega (arith, read now (block before), c.pages.ensures.pages, (kept_removed c.args.largest _ c.args.at c.args.order c.requires.kept.one c.requires.block _ c.requires.kept).most)
 
 pub returns-clause-kept : goal.returns-clause-kept
 returns-clause-kept c =
     let now = (goal.at.returns-clause-kept c).After-index_mut in
     let before = (goal.at.returns-clause-kept c).Start in
-    rw (c.take_out.ensures, c.requires.typed, c.clear.ensures.after, c.requires.here, read now (block before), c.pages.ensures.pages)
-    (kept_removed c.args.largest _ c.args.at c.args.order c.requires.kept.one c.requires.block _ _ c.requires.kept).kept
+    rw (c.take_out.ensures, c.requires.typed, c.requires.here, read now (block before), c.pages.ensures.pages)
+    (kept_removed c.args.largest _ c.args.at c.args.order c.requires.kept.one c.requires.block _ c.requires.kept).kept
+
+pub clear-requires : goal.clear-requires
+clear-requires c =
+    let a : Blocks = record { largest = c.args.largest; rows = c.args.lists.now; kinds = c.args.kinds.now.items } in
+    rw c.requires.told (available-from c.args.largest a.kinds (block_set a) c.args.at c.args.order c.requires.block (rw c.requires.typed at c.requires.open))
+
+pub returns-clause-told : goal.returns-clause-told
+returns-clause-told c =
+    let a : Blocks = record { largest = c.args.largest; rows = c.args.lists.now; kinds = c.args.kinds.now.items } in
+    rw c.take_out.ensures
+    (c.clear.ensures.after ∙ ap (λ s. without_block s c.args.at) c.requires.told ∙ sym (available-without c.args.largest a.kinds (block_set a) c.args.at)
+    ∙ ap (available_blocks c.args.largest a.kinds) (sym (removed_set c.args.largest a c.args.at c.args.order c.requires.kept.one c.requires.block)))
+
+pub returns-clause-numbers : goal.returns-clause-numbers
+returns-clause-numbers c =
+    let now = (goal.at.returns-clause-numbers c).After-index_mut in
+    rw (c.requires.here, read now (block (goal.at.returns-clause-numbers c).Start), c.pages.ensures.pages) refl

@@ -13,22 +13,22 @@ use Rattle.zp_buddy.proofs.choice.half_free_on.Goals as goal
 pub returns-then-free_in-claim_pages-clause-found : goal.returns-then-free_in-claim_pages-clause-found
 returns-then-free_in-claim_pages-clause-found c =
     let i = c.heads.invariant in
-    let xs : List ℕ = free_list_of c.args.area.now.largest c.args.area.now c.args.order c.args.kind in
+    let xs : List ℕ = free_list_of c.args.area.now.largest c.args.area.now c.args.order c.pageblock_type-list.result in
     let t : is_half_free c.args.area.now.largest c.args.area.now c.in-Some.head ≡ true = le-leb _ _ (rw (c.free_in.ensures, c.pageblock_of.ensures, c.claim_pages.ensures, c.largest-largest.ensures) at c.if-free_in-claim_pages.true) in
-    rw (i.rest, c.in-Some.is, from_after c.in-Some.head xs (taken_distinct c.args.area.now.largest c.args.area.now c.args.order c.args.kind c.pages-pages.ensures.row.distinct) (rw c.in-Some.is at i.next), t)
+    rw (← c.pageblock_type-list.ensures, i.rest, c.in-Some.is, from_after c.in-Some.head xs (taken_distinct c.args.area.now.largest c.args.area.now c.args.order c.pageblock_type-list.result c.pages-pages.ensures.row.distinct) (rw c.in-Some.is at i.next), t)
 
 pub heads-smaller : goal.heads-smaller
 heads-smaller c =
-    let xs : List ℕ = free_list_of c.args.area.now.largest c.args.area.now c.args.order c.args.kind in
-    rw (c.after-next.ensures.answer, c.in-Some.is, from_after c.in-Some.head xs (taken_distinct c.args.area.now.largest c.args.area.now c.args.order c.args.kind c.pages-pages.ensures.row.distinct) (rw c.in-Some.is at c.heads.invariant.next))
+    let xs : List ℕ = free_list_of c.args.area.now.largest c.args.area.now c.args.order c.pageblock_type-list.result in
+    rw (c.after-next.ensures.answer, c.in-Some.is, from_after c.in-Some.head xs (taken_distinct c.args.area.now.largest c.args.area.now c.args.order c.pageblock_type-list.result c.pages-pages.ensures.row.distinct) (rw c.in-Some.is at c.heads.invariant.next))
     (omega arith)
 
 pub heads-preserved : goal.heads-preserved
 heads-preserved c =
     let i = c.heads.invariant in
-    let xs : List ℕ = free_list_of c.args.area.now.largest c.args.area.now c.args.order c.args.kind in
+    let xs : List ℕ = free_list_of c.args.area.now.largest c.args.area.now c.args.order c.pageblock_type-list.result in
     let t : is_half_free c.args.area.now.largest c.args.area.now c.in-Some.head ≡ false = lt-leb _ _ (rw (c.free_in.ensures, c.pageblock_of.ensures, c.claim_pages.ensures, c.largest-largest.ensures) at c.if-free_in-claim_pages.false) in
-    let here = from_after c.in-Some.head xs (taken_distinct c.args.area.now.largest c.args.area.now c.args.order c.args.kind c.pages-pages.ensures.row.distinct) (rw c.in-Some.is at i.next) in
+    let here = from_after c.in-Some.head xs (taken_distinct c.args.area.now.largest c.args.area.now c.args.order c.pageblock_type-list.result c.pages-pages.ensures.row.distinct) (rw c.in-Some.is at i.next) in
     record {
       rest = i.rest ∙ rw (c.after-next.ensures.answer, c.in-Some.is, here, t);
       next = rw c.after-next.ensures.answer (next_after c.in-Some.head xs);
@@ -36,7 +36,7 @@ heads-preserved c =
 
 -- a block starts at the page that is looked at
 starts : (c : In-Some) → Starts (block_set c.args.area.now) c.in-Some.head c.args.order
-starts c = on_starts c.args.area.now.largest c.args.area.now c.in-Some.head c.args.order c.args.kind c.pages-pages.ensures.one (rw c.in-Some.is at c.heads.invariant.next)
+starts c = on_starts c.args.area.now.largest c.args.area.now c.in-Some.head c.args.order c.pageblock_type-list.result c.pages-pages.ensures.one (rw c.in-Some.is at c.heads.invariant.next)
 
 pub free_in-requires : goal.free_in-requires
 free_in-requires c =
@@ -49,4 +49,4 @@ pub returns-then-free_in-claim_pages-clause-starts : goal.returns-then-free_in-c
 returns-then-free_in-claim_pages-clause-starts c = starts (goal.at.returns-then-free_in-claim_pages-clause-starts c).In-Some
 
 pub returns-then-free_in-claim_pages-clause-typed : goal.returns-then-free_in-claim_pages-clause-typed
-returns-then-free_in-claim_pages-clause-typed c = on_typed c.args.area.now.largest c.args.area.now c.in-Some.head c.args.order c.args.kind c.pages-pages.ensures.one (rw c.in-Some.is at c.heads.invariant.next)
+returns-then-free_in-claim_pages-clause-typed c = rw (← c.pageblock_type-list.ensures) (on_typed c.args.area.now.largest c.args.area.now c.in-Some.head c.args.order c.pageblock_type-list.result c.pages-pages.ensures.one (rw c.in-Some.is at c.heads.invariant.next))

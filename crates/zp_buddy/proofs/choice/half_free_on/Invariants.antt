@@ -9,10 +9,10 @@ use Rattle.zp_buddy.proofs.choice.half_free_on.Given as goal
 abbrev pub invariant-heads : goal.invariant-heads
 invariant-heads l = record {
   rest :
-      find (is_half_free l.area.largest l.area) (free_list_of l.area.largest l.area l.order l.kind)
-      ≡ find (is_half_free l.area.largest l.area) (list_from l.next (free_list_of l.area.largest l.area l.order l.kind));
-  next : IsNext l.next (free_list_of l.area.largest l.area l.order l.kind);
+      find (is_half_free l.area.largest l.area) (free_list_of l.area.largest l.area l.order l.list)
+      ≡ find (is_half_free l.area.largest l.area) (list_from l.next (free_list_of l.area.largest l.area l.order l.list));
+  next : IsNext l.next (free_list_of l.area.largest l.area l.order l.list);
 }
 
 abbrev pub decreases-heads : goal.decreases-heads
-decreases-heads l = length (list_from l.next (free_list_of l.area.largest l.area l.order l.kind))
+decreases-heads l = length (list_from l.next (free_list_of l.area.largest l.area l.order l.list))

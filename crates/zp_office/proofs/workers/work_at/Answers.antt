@@ -1,5 +1,5 @@
 use Rattle.std.proofs.Common.{subst}
-use Rattle.zp_office.specs.Runs.{AreKept}
+use Rattle.zp_shared.specs.Rows.{AreKept}
 use Rattle.zp_office.proofs.workers.work_at.Goals as goal
 
 pub returns-clause-readers : goal.returns-clause-readers

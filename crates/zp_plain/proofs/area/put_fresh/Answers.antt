@@ -1,12 +1,12 @@
 use Rattle.std.proofs.Common.{◌≡◌, ◌&&◌, ℕ, not, length, List, Bool, arith, sym, ◌∙◌}
 use Rattle.std.proofs.lemmas.List.{append-nil}
-use Rattle.zp_model.specs.declared.migrate_type.MigrateType.{MigrateType}
+use Rattle.zp_model.specs.declared.pageblock_type.PageblockType.{PageblockType}
 use Rattle.zp_model.specs.Rows.{stands_in}
 use Rattle.zp_model.specs.Area.{belongs}
 use Rattle.zp_plain.proofs.Settled.{put, skip, room, falling_begins, length-falling-le}
 use Rattle.zp_plain.proofs.area.put_fresh.Goals as goal
 
-abbrev fresh_on : ℕ → List Bool → List MigrateType → ℕ → List ℕ → ℕ → Bool
+abbrev fresh_on : ℕ → List Bool → List PageblockType → ℕ → List ℕ → ℕ → Bool
 fresh_on m free kinds list old h = belongs m free kinds list h && not (stands_in h old)
 
 pub push-requires : goal.push-requires

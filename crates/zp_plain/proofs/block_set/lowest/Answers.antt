@@ -1,20 +1,19 @@
-use Rattle.std.proofs.Common.{ℕ, ◌≡◌, length, arith, refl, sym, ◌∙◌, ap}
+use Rattle.std.proofs.Common.{ℕ, ◌≡◌, length, arith, refl, sym, ◌∙◌, ap, Option}
 use Rattle.std.specs.Prelude.{leb}
-use Rattle.std.specs.List.{find}
-use Rattle.zp_model.specs.Block.{is_max}
-use Rattle.zp_model.specs.BlockSet.{block_if, orders_from}
-use Rattle.zp_plain.proofs.Looking.{look, look_at, lowest_all, range_here, range_none}
+use Rattle.zp_model.specs.BlockSet.{block_if}
+use Rattle.zp_plain.proofs.Looking.{blocks_open, length-blocks_open, look, lowest_all, range_here, range_none}
 use Rattle.zp_plain.proofs.block_set.lowest.Goals.{After-block_if}
 use Rattle.zp_plain.proofs.block_set.lowest.Goals as goal
 
 pub pages-init : goal.pages-init
-pages-init c = lowest_all c.args.largest c.args.free.now c.args.order
+pages-init c = lowest_all (blocks_open c.args.largest c.args.free.now c.args.kinds.now) c.args.order (length c.args.free.now) (length-blocks_open c.args.largest c.args.free.now c.args.kinds.now)
 
 -- the look at the page
-seen : (c : After-block_if) → look c.args.largest c.args.free.now c.args.order c.pages.i ≡ c.block_if.result
+seen : (c : After-block_if) → look (blocks_open c.args.largest c.args.free.now c.args.kinds.now) c.args.order c.pages.i ≡ c.block_if.result
 seen c =
-    look_at c.args.largest c.args.free.now c.args.order c.pages.i (omega arith)
-    ∙ ap (λ (h : ℕ). block_if (λ g j. leb c.args.order j) h (find (is_max c.args.largest c.args.free.now h) (orders_from c.args.largest 0))) (sym c.at.ensures) ∙ sym c.block_if.ensures
+    let s = blocks_open c.args.largest c.args.free.now c.args.kinds.now in
+    ap (λ (h : ℕ). look s c.args.order h) (sym c.at-head.ensures)
+    ∙ ap (λ (o : Option ℕ). block_if (λ g j. leb c.args.order j) c.at-head.result o) (sym c.available_block_at-block.ensures) ∙ sym c.block_if.ensures
 
 pub returns-in-Some : goal.returns-in-Some
 returns-in-Some c =

@@ -7,7 +7,7 @@ use Rattle.zp_model.specs.Block.{is_max}
 use Rattle.zp_model.specs.BlockSet.{max_blocks, orders_from}
 use Rattle.zp_model.specs.Rows.{state_at}
 use Rattle.zp_model.specs.Frames.{restate, restated}
-use Rattle.zp_plain.proofs.Looking.{max_block}
+use Rattle.zp_model.proofs.MaximalBlocks.{max_block}
 use Rattle.zp_plain.proofs.frames.restate_all.Goals as goal
 
 pub pages-preserved : goal.pages-preserved

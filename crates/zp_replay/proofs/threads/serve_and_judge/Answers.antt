@@ -8,4 +8,4 @@ judge-requires-clause-many g c =
 pub returns-clause-judged : goal.returns-clause-judged
 returns-clause-judged g c =
     judged_office c.args.trace.now c.in_ok-office.office c.in_ok-office.journals.items c.in_ok-journals.journals.items
-    c.in_ok-office.ensures.served c.in_ok-office.ensures.journals c.in_ok-journals.ensures.judged c.in_ok-journals.ensures.entries
+    c.in_ok-office.ensures.served c.in_ok-office.ensures.journals c.in_ok-office.ensures.sections c.in_ok-journals.ensures.judged c.in_ok-journals.ensures.entries

@@ -1,5 +1,8 @@
-use Rattle.std.proofs.Common.{ℕ, suc, zero, ◌≤◌, arith, List}
-use Rattle.zp_tree.specs.Marks.{IsRankOf, IsRankBound}
+use Rattle.std.proofs.Common.{ℕ, suc, zero, ◌/◌, ◌≡◌, ◌≤◌, ◌<◌, arith, sym, slice_index, List}
+use Rattle.std.proofs.lemmas.List.{set-get_or}
+use Rattle.zp_tree.specs.declared.constants.TheConstants.{GROUP_PAGES}
+use Rattle.zp_tree.specs.Marks.{HasMark, IsRankOf, IsRankBound}
+use Rattle.zp_tree.proofs.GroupBlocks.{mark_low}
 use Rattle.zp_tree.proofs.tree.rerank.Goals as goal
 
 -- the rank of a group is within its bound
@@ -8,7 +11,20 @@ within ls hs g q zero x b = omega arith
 within ls hs g q (suc k) x b = let w = x.some k (omega arith) in omega (arith, b w.0 k w.1 w.2)
 
 pub lower-requires-clause-down : goal.lower-requires-clause-down
-lower-requires-clause-down c = within _ _ _ _ _ c.rank_of.ensures c.requires.down
+lower-requires-clause-down c = rw c.group_of-group.ensures (within _ _ _ _ _ (rw c.group_of-group.ensures at c.rank_of.ensures) c.requires.down)
+
+-- a block of the order is left in the page's low word
+pub returns-then-has_in_word : goal.returns-then-has_in_word
+returns-then-has_in_word c =
+    let w = c.has_in_word.ensures c.if-has_in_word.true in
+    let mark : HasMark c.args.low.now c.args.high.now w.0 c.args.order = mark_low c.args.low.now c.args.high.now w.0 c.args.order c.requires.words w.1 in
+    let group : w.0 / GROUP_PAGES ≡ c.args.at / GROUP_PAGES = omega (arith, w.2) in
+    let there : c.args.order < slice_index c.args.ranks.now (c.args.at / GROUP_PAGES) = c.requires.down w.0 c.args.order mark group in
+    record {
+      rank = slice_index c.args.ranks.now (c.args.at / GROUP_PAGES);
+      after = sym (set-get_or c.args.ranks.now (c.args.at / GROUP_PAGES) 0);
+      is = record { most = c.requires.down; some = λ k same. let e : c.args.order ≡ k = omega (arith, c.requires.largest) in (w.0, rw (← e) mark, group) };
+    }
 
 pub returns : goal.returns
-returns c = record { rank = c.rank_of.result; after = c.lower.ensures; is = c.rank_of.ensures }
+returns c = rw (← c.group_of-group.ensures) (record { rank = c.rank_of.result; after = c.lower.ensures; is = c.rank_of.ensures })

@@ -7,7 +7,7 @@ pub invariant_of-self : goal.invariant_of-self
 invariant_of-self c =
     let a : Blocks = record { largest = c.self.inside.largest; rows = c.self.inside.lists; kinds = c.self.inside.kinds.items } in
     let x : IsHolding c.self.inside.largest a c.args.at c.args.state = record { one = c.self.invariant.kept.one; used = rw (← c.self.view_is) at c.requires.used; note = c.requires.note } in
-    rw c.set_state.ensures (indexed_noted a _ _ _ _ _ _ c.self.invariant x)
+    rw c.set_state.ensures (indexed_noted a _ _ _ _ _ _ _ c.self.invariant x)
 
 pub returns-clause-still_clear : goal.returns-clause-still_clear
 returns-clause-still_clear c =

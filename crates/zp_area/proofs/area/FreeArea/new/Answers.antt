@@ -1,5 +1,5 @@
 use Rattle.std.proofs.Common.{rules, ◌+◌, ◌∙◌, ap, replicate}
-use Rattle.zp_model.specs.declared.migrate_type.MigrateType.TheVariants.{Movable}
+use Rattle.zp_model.specs.declared.pageblock_type.PageblockType.TheVariants.{Movable}
 use Rattle.zp_area.proofs.Indexing.{indexed_empty}
 use Rattle.zp_area.proofs.NoBlocks.{blank_area}
 use Rattle.zp_area.proofs.area.FreeArea.new.Goals as goal

@@ -1,6 +1,12 @@
-use Rattle.std.proofs.Common.{◌<◌, length, sym, arith}
+use Rattle.std.proofs.Common.{◌<◌, ◌≡◌, ◌∙◌, ap, false, slice_index_or, length, sym, arith}
 use Rattle.zp_model.specs.BlockSet.{Starts}
 use Rattle.zp_area.specs.Blocks.{Blocks, block_set}
+use Rattle.zp_model.specs.declared.pageblock_type.PageblockType.TheVariants.{Movable}
+use Rattle.zp_model.specs.PageblockType.{is_isolate, pageblock_type}
+use Rattle.zp_model.specs.Area.{kind_at}
+use Rattle.zp_area.specs.Available.{isolated_sum}
+use Rattle.zp_area.proofs.IsolatedPages.{sum_open}
+use Rattle.zp_area.proofs.Claimable.{migrate_open}
 use Rattle.zp_area.proofs.Indexing.{indexed_anew, others_stand, pageblock_kept, started_there}
 use Rattle.zp_area.proofs.OnePageblock.{changed_split}
 use Rattle.zp_area.proofs.area.FreeArea.split_down.Goals.{After-pageblock_of-pageblock}
@@ -13,7 +19,7 @@ there : (c : After-pageblock_of-pageblock) → c.pageblock_of-pageblock.result <
 there c = rw c.pageblock_of-pageblock.ensures (started_there c.self.inside.largest (record { largest = c.self.inside.largest; rows = c.self.inside.lists; kinds = c.self.inside.kinds.items }) c.args.at c.args.from c.self.invariant.kept.one (starts c))
 
 pub changed-requires-clause-pageblocks : goal.changed-requires-clause-pageblocks
-changed-requires-clause-pageblocks c = λ b lt. pageblock_kept c.self.inside.largest b _ _ _ c.split_off.ensures.kept lt
+changed-requires-clause-pageblocks c = λ b lt. pageblock_kept c.self.inside.largest b _ _ _ c.split_off.ensures.kept c.split_off.ensures.told lt
 
 pub changed-requires-clause-inside : goal.changed-requires-clause-inside
 changed-requires-clause-inside c = there (goal.at.changed-requires-clause-inside c).After-pageblock_of-pageblock
@@ -21,8 +27,23 @@ changed-requires-clause-inside c = there (goal.at.changed-requires-clause-inside
 pub changed-requires-clause-others : goal.changed-requires-clause-others
 changed-requires-clause-others c =
     let a : Blocks = record { largest = c.self.inside.largest; rows = c.self.inside.lists; kinds = c.self.inside.kinds.items } in
-    others_stand c.self.inside.largest c.pageblock_of-pageblock.result _ _ _ _ _ _ _ _ _ _ c.self.invariant c.split_off.ensures.kept
+    others_stand c.self.inside.largest c.pageblock_of-pageblock.result _ _ _ _ _ _ _ _ _ _ _ c.self.invariant c.split_off.ensures.kept c.split_off.ensures.told
     (rw c.split_off.ensures.after (changed_split c.self.inside.largest c.pageblock_of-pageblock.result a c.args.at c.args.from c.args.to c.self.invariant.kept.one (starts (goal.at.changed-requires-clause-others c).After-pageblock_of-pageblock) (omega arith) (sym c.pageblock_of-pageblock.ensures)))
 
+-- the pageblock is not isolated, as it has a migrate type
+kind : (c : After-pageblock_of-pageblock) → pageblock_type c.args.kind ≡ kind_at c.self.inside.largest c.self.inside.kinds.items c.args.at
+kind c = rw (← c.self.view_is) at c.requires.typed
+
+pub split_off-requires-clause-typed : goal.split_off-requires-clause-typed
+split_off-requires-clause-typed c = c.pageblock_type.ensures ∙ kind (goal.at.split_off-requires-clause-typed c).After-pageblock_of-pageblock
+
+pub split_off-requires-clause-open : goal.split_off-requires-clause-open
+split_off-requires-clause-open c = ap is_isolate c.pageblock_type.ensures ∙ migrate_open c.args.kind
+
 pub invariant_of-self : goal.invariant_of-self
-invariant_of-self c = indexed_anew c.self.inside.largest _ _ _ _ _ _ c.split_off.ensures.kept c.changed.ensures
+invariant_of-self c =
+    let before = (goal.at.invariant_of-self c).After-pageblock_of-pageblock in
+    let shown : is_isolate (kind_at c.self.inside.largest c.self.inside.kinds.items c.args.at) ≡ false = ap is_isolate (sym (kind before)) ∙ migrate_open c.args.kind in
+    let same = ap (λ q. is_isolate (slice_index_or c.self.inside.kinds.items q Movable)) c.pageblock_of-pageblock.ensures ∙ shown in
+    indexed_anew c.self.inside.largest _ _ _ _ _ _ _ c.split_off.ensures.kept c.split_off.ensures.told
+    (c.self.invariant.apart ∙ sym (ap (isolated_sum c.self.inside.kinds.items) c.split_off.ensures.numbers ∙ sum_open c.self.inside.kinds.items c.self.inside.free_in.items c.pageblock_of-pageblock.result _ same)) c.changed.ensures

@@ -1,4 +1,4 @@
-use Rattle.std.proofs.Common.{◌≡◌, ◌<◌, length, true, sym, ap, ◌∙◌, arith, rules}
+use Rattle.std.proofs.Common.{◌≡◌, length, true, sym, ap, ◌∙◌, arith, rules}
 use Rattle.zp_board.proofs.Steps.{opens}
 use Rattle.zp_board.proofs.board.WordPublisher.publish.Goals as goal
 

@@ -1,4 +1,4 @@
-use Rattle.std.proofs.Common.{ap, sym, ◌∙◌, ◌<◌, arith}
+use Rattle.std.proofs.Common.{ap, sym, ◌∙◌, arith}
 use Rattle.zp_board.proofs.Steps.{comes}
 use Rattle.zp_board.proofs.board.WordPublisher.reader.Goals as goal
 

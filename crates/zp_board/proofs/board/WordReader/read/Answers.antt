@@ -1,4 +1,4 @@
-use Rattle.std.proofs.Common.{◌<◌, sym, ap, ◌∙◌, arith}
+use Rattle.std.proofs.Common.{sym, ap, ◌∙◌, arith}
 use Rattle.zp_board.proofs.Steps.{looks}
 use Rattle.zp_board.proofs.board.WordReader.read.Goals as goal
 

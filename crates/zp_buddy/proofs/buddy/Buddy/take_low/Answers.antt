@@ -1,7 +1,7 @@
 use Rattle.std.proofs.Common.{length, arith, ap, sym, ◌∙◌}
 use Rattle.zp_model.specs.Area.{pageblocks_of}
 use Rattle.zp_model.specs.Take.{take_low_after, take_low_answer}
-use Rattle.zp_buddy.proofs.Taking.{clear_head, fewer, frames_stay, lowest_at, may_return, run_left, still_may}
+use Rattle.zp_buddy.proofs.Taking.{clear_head, fewer, frames_stay, lowest_at, may_return, noted_back, run_left, still_may}
 use Rattle.zp_buddy.proofs.buddy.Buddy.take_low.Goals as goal
 
 pub returns-in_err-head-clause-answer : goal.returns-in_err-head-clause-answer
@@ -49,3 +49,7 @@ returns-clause-kept c =
 
 pub returns-clause-head : goal.returns-clause-head
 returns-clause-head c = clear_head c.take_block.new.area.largest c.take_block.new.area c.in_ok-head.head c.args.order (returns-clause-clear c)
+
+pub take_block-requires-clause-typed : goal.take_block-requires-clause-typed
+take_block-requires-clause-typed c =
+    rw (c.noted-kind.ensures, c.type_of.ensures, ← c.self.view_is) (noted_back _ c.in_ok-head.ensures.open)

@@ -1,5 +1,5 @@
 use Rattle.std.proofs.Common.{rules, ◌≡◌, true, [], replicate, ap, sym, subst, ◌∙◌}
-use Rattle.zp_model.specs.declared.migrate_type.MigrateType.TheVariants.{Movable}
+use Rattle.zp_model.specs.declared.pageblock_type.PageblockType.TheVariants.{Movable}
 use Rattle.zp_model.specs.Area.{Area, lists_count, opening, pageblocks_of}
 use Rattle.zp_plain.specs.Sound.{IsSoundArea}
 use Rattle.zp_plain.proofs.SoundAreas.{settled_as, table_none, sound_opening}

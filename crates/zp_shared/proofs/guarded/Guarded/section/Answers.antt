@@ -62,6 +62,7 @@ made g c =
       asked = c.section-reply.ensures.section;
       is_section = sym c.is_section.ensures ∙ c.if-not-is_section.false;
       noted = c.note.ensures.entry;
+      history = c.history.ensures;
       tie = c.note.ensures.tie;
       published = c.note.ensures.published;
     })

@@ -3,6 +3,7 @@ use Rattle.std.proofs.Common.{subst, true, sym, ℕ, Option, ◌+◌, ◌≡◌,
 use Rattle.zp_model.specs.declared.block.Block.{Block}
 use Rattle.zp_model.specs.declared.request.Request.TheVariants as request
 use Rattle.zp_model.specs.Area.{kind_at}
+use Rattle.zp_model.specs.PageblockType.{noted_type}
 use Rattle.zp_model.specs.Frames.{Frames}
 use Rattle.zp_model.specs.Step.{alloc_low_at}
 use Rattle.zp_model.specs.Zone.{workers_of}
@@ -34,8 +35,10 @@ returns-in_default-clause-kept c =
     subst (KeepsOut c.args.self.now.plain) (sym (ap (λ (n : NamedZone). n.plain) (returns-in_default-clause-after c))) (alloc_low-kept c.args.self.now.plain c.args.worker c.args.order (lawful_in _ _ _ c.self.view_is c.self.invariant.lawful))
 
 -- the type that is noted, and the frames that hold the block
-noted_kind : (c : goal.After-new) → c.type_of-noted.result ≡ kind_at (c.self.inside.buddy).area.largest (c.self.inside.buddy).area.kinds c.in-Some.head
-noted_kind c = kind_stays _ c.take_low.new.self _ _ _ c.in-Some.ensures.after c.in-Some.ensures.answer c.type_of-noted.ensures
+noted_kind : (c : goal.After-new) → c.noted-noted.result ≡ noted_type (kind_at (c.self.inside.buddy).area.largest (c.self.inside.buddy).area.kinds c.in-Some.head)
+noted_kind c =
+    c.noted-noted.ensures
+    ∙ ap noted_type (kind_stays _ c.take_low.new.self _ _ c.type_of.result c.in-Some.ensures.after c.in-Some.ensures.answer c.type_of.ensures)
 
 held : (c : goal.After-new) → c.hold.new.self ≡ low_out c.self.inside.buddy c.args.worker c.in-Some.head c.args.order
 held c =
@@ -53,7 +56,7 @@ returns-clause-reply c =
     let f : Frames = c.self.inside.buddy in
     let page : c.new.result ≡ c.self.inside.base + c.in-Some.head = c.new.ensures ∙ ap (λ n. c.self.inside.base + n) c.number.ensures.same in
     reply_in c.args.self.now _ (plain_of f c.self.inside.base c.self.inside.min) c.args.worker (request.AllocLow c.args.order) _ c.self.view_is
-    (low_reply f c.self.inside.base c.self.inside.min c.args.worker c.in-Some.head c.args.order c.new.result c.type_of-noted.result c.in-Some.ensures.answer page (noted_kind c))
+    (low_reply f c.self.inside.base c.self.inside.min c.args.worker c.in-Some.head c.args.order c.new.result c.noted-noted.result c.in-Some.ensures.answer page (noted_kind c))
 
 pub returns-clause-after : goal.returns-clause-after
 returns-clause-after c =
@@ -68,7 +71,7 @@ returns-clause-kept c =
 
 -- the block that is answered
 abbrev answered : goal.After-new → Block
-answered c = record { page = c.new.result; order = c.args.order; kind = c.type_of-noted.result }
+answered c = record { page = c.new.result; order = c.args.order; kind = c.noted-noted.result }
 
 pub returns-clause-out : goal.returns-clause-out
 returns-clause-out c =

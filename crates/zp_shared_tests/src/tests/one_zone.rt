@@ -1,0 +1,200 @@
+//! A zone of 4,096 pages from page 0 on that one worker asks, without lists, while another thread reads its board.
+ghost use Rattle.std.specs.Prelude.{◌≡◌, ◌<◌, ◌∷◌, [], IfSome, length};
+ghost use Rattle.zp_share.specs.Shares.{IsShareOf, key_of};
+ghost use Rattle.zp_shared.specs.Rows.{AreReadersOf, opened_board, opened_key};
+ghost use Rattle.zp_zone.specs.Seats.{IsSeatOf, IsUnused};
+
+use std::alloc::Global;
+use std::marker::Brand;
+use std::sync::Wait;
+use std::thread::{Threads, join};
+use zp_journal::{Journal, LONGEST_JOURNAL, counts_after};
+use zp_model::{Counts, Largest, Mark, MigrateType, Order, Refused};
+use zp_share::{Lent, ListConfig, Share, alloc};
+use zp_shared::{BoardReader, LockedZones, Naming, OpenedZone, Reading, close_zones, share_zones};
+use zp_zone::{Seat, Zone, ZoneConfig};
+
+/// More pages than the worker takes.
+const MOST_PAGES: u32 = 1024;
+
+fn config() -> ZoneConfig<'static> {
+    ZoneConfig {
+        name: "DMA",
+        base: 0,
+        pages: 4096,
+        min: 0,
+        largest: Largest::usual(),
+    }
+}
+
+/// The zone, opened with room for so many entries, and its worker's share.
+pub(super) fn opened_zone(alloc: Global, capacity: u32) -> Option<(OpenedZone, Share)>
+    ensures fits { IfSome result (λ o. IsShareOf (opened_key o.0 ∷ []) o.1) }
+    ensures one { IfSome result (λ o. length o.1.zones ≡ 1) }
+{
+    if capacity > LONGEST_JOURNAL {
+        return None;
+    }
+    let (zone, mut seats) = Zone::new(alloc, config(), 1).ok()?;
+    let share = share_of(alloc, &zone, seats.pop()?)?;
+    let opened = OpenedZone::new(alloc, zone, capacity).ok()?;
+    Some((opened, share))
+}
+
+/// The share of the worker of this seat.
+fn share_of(alloc: Global, zone: &Zone, seat: Seat) -> Option<Share>
+    requires seat { IsSeatOf zone.now seat }
+    requires unused { IsUnused seat }
+    ensures fits { IfSome result (IsShareOf (key_of zone.now ∷ [])) }
+    ensures one { IfSome result (λ s. length s.zones ≡ 1) }
+{
+    let lists = ListConfig::new(0, 0)?;
+    let mut seats = Vec::with_capacity(alloc, 1).ok()?;
+    seats.push_reserved(seat);
+    Share::new(alloc, seats, lists).ok()
+}
+
+/// The counts of the zone after so many entries of the journal. None where it has not so many, or one of them is not legal.
+pub(super) fn counts_at(alloc: Global, journal: &Journal, place: u64) -> Option<Counts> {
+    counts_after(alloc, config(), 1, journal, place).ok()?
+}
+
+/// What its worker is answered: how many pages it has got, the number of the refusal that ended that, whether the zone strayed, and what
+/// its view reads then.
+#[derive(Clone, Copy, PartialEq, Eq, Debug, Drop)]
+pub(super) struct Taken {
+    pub(super) pages: u32,
+    pub(super) refused: u8,
+    pub(super) strayed: bool,
+    pub(super) last: Reading,
+}
+
+/// What the worker was answered, what the other read meanwhile, and the zone's journal.
+#[derive(Drop)]
+pub(super) struct Ran {
+    pub(super) taken: Taken,
+    pub(super) readings: Vec<Reading>,
+    pub(super) journal: Journal,
+}
+
+/// The worker takes single pages until it is refused, and another thread reads so often meanwhile. None where something could not be made.
+pub(super) fn run<R: Sync + Threads + Wait>(
+    rt: &R,
+    alloc: Global,
+    capacity: u32,
+    reads: u32,
+) -> Option<Ran> {
+    let (opened, share) = opened_zone(alloc, capacity)?;
+    run_as::<Brand, R>(rt, alloc, opened, share, reads)
+}
+
+/// As `run`, under the name of the opened zone.
+fn run_as<J: Naming + Send + Sync, R: Sync + Threads + Wait>(
+    rt: &R,
+    alloc: Global,
+    mut opened: OpenedZone,
+    share: Share,
+    reads: u32,
+) -> Option<Ran>
+    requires zones { J.zones ≡ opened_key opened ∷ [] }
+    requires boards { J.boards ≡ opened_board opened ∷ [] }
+    requires fits { IsShareOf J.zones share }
+    requires one { length share.zones ≡ 1 }
+{
+    let mine = alone(alloc, opened.reader())?;
+    let other = alone(alloc, opened.reader())?;
+    let zone_room = Vec::with_capacity(alloc, 1).ok()?;
+    let journal_room = Vec::with_capacity(alloc, 1).ok()?;
+    let row = share_zones::<J>(alloc, alone(alloc, opened)?).ok()?;
+    let view = LockedZones::<J, (), R>::new(rt, row.as_slice(), mine);
+    let reading = LockedZones::<J, (), R>::new(rt, row.as_slice(), other);
+    let worker = OnlyWorker { share, view };
+    let ((taken, mine), (readings, other)) = join(
+        rt,
+        move || worker.take_pages(),
+        move || read_often(alloc, reading, reads),
+    );
+    let mut readers = [mine, other];
+    let (_zones, mut journals) = close_zones(row, &mut readers, zone_room, journal_room)?;
+    Some(Ran {
+        taken,
+        readings,
+        journal: journals.pop()?,
+    })
+}
+
+/// A vector of one.
+fn alone<T: Drop>(alloc: Global, one: T) -> Option<Vec<T>>
+    ensures { IfSome result (λ all. all.items ≡ one ∷ []) }
+{
+    let mut all = Vec::with_capacity(alloc, 1).ok()?;
+    all.push_reserved(one);
+    Some(all)
+}
+
+/// The one worker of a row of one zone, with its view of the row.
+#[derive(Drop)]
+struct OnlyWorker<'a, J: Naming, R> {
+    share: Share,
+    view: LockedZones<'a, J, (), R>,
+    ghost fits: { IsShareOf J.zones share },
+    ghost one: { length share.zones ≡ 1 },
+    ghost row: { length J.zones ≡ 1 },
+}
+
+impl<'a, J: Naming, R: Wait> OnlyWorker<'a, J, R> {
+    /// Takes a single page.
+    fn take(&mut self) -> Result<Lent, Refused> {
+        let OnlyWorker { share, view } = self;
+        alloc(
+            share,
+            view,
+            Order::zero(),
+            MigrateType::Movable,
+            0,
+            Mark::Any,
+        )
+    }
+
+    /// Takes single pages until it is refused: what it is answered, and its readers.
+    fn take_pages(self) -> (Taken, Vec<BoardReader>)
+        ensures { AreReadersOf J.zones J.boards result.1.items }
+    {
+        let mut worker = self;
+        let mut pages = MOST_PAGES;
+        let mut refused = 0;
+        for taken in 0..MOST_PAGES {
+            if let Err(why) = worker.take() {
+                pages = taken;
+                refused = why.number();
+                break;
+            }
+        }
+        let OnlyWorker { mut view, .. } = worker;
+        let taken = Taken {
+            pages,
+            refused,
+            strayed: view.strayed(),
+            last: view.read(0),
+        };
+        (taken, view.into_readers())
+    }
+}
+
+/// So many readings of the first zone, and the readers of the view. Where there is no memory they are fewer.
+fn read_often<'a, J: Naming, R>(
+    alloc: Global,
+    mut view: LockedZones<'a, J, (), R>,
+    reads: u32,
+) -> (Vec<Reading>, Vec<BoardReader>)
+    requires { 0 < length J.zones }
+    ensures { AreReadersOf J.zones J.boards result.1.items }
+{
+    let mut readings = Vec::new(alloc);
+    for _ in 0..reads {
+        if readings.push(view.read(0)).is_err() {
+            break;
+        }
+    }
+    (readings, view.into_readers())
+}

@@ -1,0 +1,23 @@
+use Rattle.std.proofs.Common.{rules, refl}
+use Rattle.zp_model.specs.declared.request.Request.TheVariants as request
+use Rattle.zp_zone.specs.NamedZone.{isolate_reply}
+use Rattle.zp_zone.proofs.Tied.{entering, tied_after, seat_replied, moment, blocks_stay}
+use Rattle.zp_zone.proofs.zone.Zone.isolate.Goals as goal
+
+pub enter-requires : goal.enter-requires
+enter-requires c =
+    let e = entering c.self.inside.untied c.self.inside.keeper.whole _ c.args.seat.now (request.Isolate c.args.pageblock) c.self.invariant.0 c.self.invariant.1 c.lawful.ensures (λ agree. refl) in
+    record { tie = search rules; others = e.0; places = e.1 }
+
+pub invariant_of-self : goal.invariant_of-self
+invariant_of-self c =
+    tied_after c.self.inside.keeper c.enter.new.keeper c.self.inside.untied c.isolate.new.self c.args.seat.now.worker c.worker-worker.result (request.Isolate c.args.pageblock)
+    c.self.invariant.0 c.self.invariant.1 c.self.invariant.2 c.enter.ensures.agreed.0 refl c.worker-worker.ensures c.enter.ensures.keeper c.isolate.ensures.after
+
+pub returns-clause-seat : goal.returns-clause-seat
+returns-clause-seat c =
+    seat_replied c.args.seat.now c.enter.new.self c.self.inside.keeper.whole c.self.inside.untied c.worker-worker.result (request.Isolate c.args.pageblock) (isolate_reply c.isolate.result)
+    c.self.invariant.0 c.enter.ensures.agreed.1 refl c.worker-worker.ensures c.isolate.ensures.reply c.enter.ensures.seat
+
+pub returns-clause-kept : goal.returns-clause-kept
+returns-clause-kept c = blocks_stay _ _ _ _ _ _ (moment c.args.seat.now c.enter.new.self c.self.inside.keeper.whole c.self.inside.untied c.isolate.new.self c.worker-worker.result (request.Isolate c.args.pageblock) c.self.invariant.0 c.enter.ensures.agreed.1 c.worker-worker.ensures c.enter.ensures.seat c.isolate.ensures.after) c.isolate.ensures.kept
