@@ -1,4 +1,4 @@
-//! Small traces in threads, with devices that give and take small pieces or fail, and with gates.
+//! Small traces, serially and in threads, with devices that give and take small pieces or fail, and with gates.
 ghost use Rattle.std.specs.Prelude.{◌≡◌, ◌<◌};
 
 use super::memory::{Schedule, SliceReader, VecWriter};
@@ -13,7 +13,7 @@ use std::thread::Threads;
 use std::time::{Clock, Duration};
 use zp_model::Worker;
 use zp_office::{Gate, OpenGate};
-use zp_replay::{Ending, Failures, ReplayFault, replay_threads};
+use zp_replay::{Ending, Failures, ReplayFault, replay_serial, replay_threads};
 use zp_text::{Reader, Writer};
 
 /// How the devices of a replay behave.
@@ -24,6 +24,12 @@ struct Devices {
     reads: Schedule,
     writes: Schedule,
     ghost some: { 0 < piece },
+}
+
+#[derive(Clone, Copy, Drop)]
+enum Replay {
+    Serial,
+    Threads,
 }
 
 /// What came of a replay.
@@ -62,11 +68,24 @@ fn mute_after(calls: usize) -> Devices {
 
 const TRACE: &str = "zone DMA 0 4096 0\nworkers 1\nlists 0 0\n0 info\n";
 
-const OUTPUT: &str = "\
+/// What each of the two replays writes.
+const OUTPUTS: [(Replay, &str); 2] = [
+    (
+        Replay::Serial,
+        "\
+Node 0, zone      DMA      0      0      0      0      0      0      0      0      0      0      4 \n\
+total DMA pages 4096 free 4096 posted 0 cached 0 lent 0 level high\n\
+Node 0, zone      DMA      0      0      0      0      0      0      0      0      0      0      4 \n",
+    ),
+    (
+        Replay::Threads,
+        "\
 Node 0, zone      DMA      0      0      0      0      0      0      0      0      0      0      4 \n\
 total DMA pages 4096 free 4096 posted 0 cached 0 lent 0 level high\n\
 Node 0, zone      DMA      0      0      0      0      0      0      0      0      0      0      4 \n\
-journal DMA 0 legal\n";
+journal DMA 0 legal\n",
+    ),
+];
 
 fn expect(rt: &impl Abort, outcome: &Outcome, ending: Result<Ending, ReplayFault>, written: &[u8]) {
     assert!(rt; outcome.ending == ending);
@@ -76,26 +95,32 @@ fn expect(rt: &impl Abort, outcome: &Outcome, ending: Result<Ending, ReplayFault
 /// The replay, with none of its clauses: what is expected of it is compared when it runs.
 fn ended<T: AllocGlobal + Threads + Wait + Sync, R: Reader, W: Writer, G: Gate + Sync>(
     rt: &T,
+    replay: Replay,
     reader: &mut R,
     writer: &mut W,
     gate: &G,
 ) -> Result<Ending, ReplayFault> {
-    replay_threads(rt, rt.alloc(), reader, writer, false, gate)
+    match replay {
+        Replay::Serial => replay_serial(rt.alloc(), reader, writer),
+        Replay::Threads => replay_threads(rt, rt.alloc(), reader, writer, false, gate),
+    }
 }
 
-/// What comes of a replay in threads, with this gate.
+/// What comes of a replay, with this gate where it is in threads.
 fn replayed<T: AllocGlobal + Threads + Wait + Sync, G: Gate + Sync>(
     rt: &T,
+    replay: Replay,
     text: &[u8],
     devices: Devices,
     gate: &G,
 ) -> Outcome {
     let (reads, writes) = (Blank::new(1), Blank::new(1));
-    replayed_on::<Brand, Brand, T, G>(rt, text, devices, gate, reads, writes)
+    replayed_on::<Brand, Brand, T, G>(rt, replay, text, devices, gate, reads, writes)
 }
 
 fn replayed_on<K: Ledger, L: Ledger, T: AllocGlobal + Threads + Wait + Sync, G: Gate + Sync>(
     rt: &T,
+    replay: Replay,
     text: &[u8],
     devices: Devices,
     gate: &G,
@@ -111,7 +136,7 @@ fn replayed_on<K: Ledger, L: Ledger, T: AllocGlobal + Threads + Wait + Sync, G: 
     let writes = Failures::<L>::new(writes);
     let mut reader = SliceReader::new(text, devices.piece, devices.reads, reads);
     let mut writer = VecWriter::new(rt.alloc(), devices.piece, devices.writes, writes);
-    let ending = ended(rt, &mut reader, &mut writer, gate);
+    let ending = ended(rt, replay, &mut reader, &mut writer, gate);
     Outcome {
         ending,
         written: writer.into_bytes(),
@@ -121,51 +146,64 @@ fn replayed_on<K: Ledger, L: Ledger, T: AllocGlobal + Threads + Wait + Sync, G: 
 #[test]
 fn a_bad_line_is_told(rt: HostRuntime) {
     let text = b"zone DMA 0 4096 0\nworkers 33\n";
-    let outcome = replayed(&rt, text, sound(7), &OpenGate);
-    expect(&rt, &outcome, Ok(Ending::BadLine(2)), b"bad line 2\n");
+    for replay in [Replay::Serial, Replay::Threads] {
+        let outcome = replayed(&rt, replay, text, sound(7), &OpenGate);
+        expect(&rt, &outcome, Ok(Ending::BadLine(2)), b"bad line 2\n");
+    }
 }
 
 #[test]
 fn pieces_of_each_size_make_one_text(rt: HostRuntime) {
-    for piece in [1, 7, 1000] {
-        let outcome = replayed(&rt, TRACE.as_bytes(), sound(piece), &OpenGate);
-        expect(&rt, &outcome, Ok(Ending::Good), OUTPUT.as_bytes());
+    for (replay, output) in OUTPUTS {
+        for piece in 1..=TRACE.len() {
+            let outcome = replayed(&rt, replay, TRACE.as_bytes(), sound(piece), &OpenGate);
+            expect(&rt, &outcome, Ok(Ending::Good), output.as_bytes());
+        }
     }
 }
 
 #[test]
 fn failing_reads_write_nothing(rt: HostRuntime) {
-    for calls in 0..=TRACE.len() {
-        let outcome = replayed(&rt, TRACE.as_bytes(), deaf_after(calls), &OpenGate);
-        expect(&rt, &outcome, Err(ReplayFault::Read), &[]);
+    for replay in [Replay::Serial, Replay::Threads] {
+        for calls in 0..=TRACE.len() {
+            let outcome = replayed(&rt, replay, TRACE.as_bytes(), deaf_after(calls), &OpenGate);
+            expect(&rt, &outcome, Err(ReplayFault::Read), &[]);
+        }
     }
 }
 
 #[test]
 fn failing_writes_leave_a_beginning(rt: HostRuntime) {
-    for calls in 0..OUTPUT.len() {
-        let outcome = replayed(&rt, TRACE.as_bytes(), mute_after(calls), &OpenGate);
-        let begun = &OUTPUT.as_bytes()[..calls];
-        expect(&rt, &outcome, Err(ReplayFault::Write), begun);
+    for (replay, output) in OUTPUTS {
+        for calls in 0..output.len() {
+            let outcome = replayed(&rt, replay, TRACE.as_bytes(), mute_after(calls), &OpenGate);
+            let begun = &output.as_bytes()[..calls];
+            expect(&rt, &outcome, Err(ReplayFault::Write), begun);
+        }
     }
 }
 
 /// The call that would fail comes after the last write.
 #[test]
 fn a_failure_that_is_not_met_changes_nothing(rt: HostRuntime) {
-    let outcome = replayed(&rt, TRACE.as_bytes(), mute_after(OUTPUT.len()), &OpenGate);
-    expect(&rt, &outcome, Ok(Ending::Good), OUTPUT.as_bytes());
+    for (replay, output) in OUTPUTS {
+        let devices = mute_after(output.len());
+        let outcome = replayed(&rt, replay, TRACE.as_bytes(), devices, &OpenGate);
+        expect(&rt, &outcome, Ok(Ending::Good), output.as_bytes());
+    }
 }
 
 /// A replay writes all, or says what it has not got and writes nothing; the writer may have no room for what is written: tried
 /// with each allocation failing in turn (`rt try --test --fail-alloc N`).
 #[test]
 fn a_replay_is_whole_or_ends_for_memory(rt: HostRuntime) {
-    let outcome = replayed(&rt, TRACE.as_bytes(), sound(1000), &OpenGate);
-    match outcome.ending {
-        Ok(_) => expect(&rt, &outcome, Ok(Ending::Good), OUTPUT.as_bytes()),
-        Err(ReplayFault::Memory | ReplayFault::NoThread) => assert!(rt; outcome.written.is_empty()),
-        Err(fault) => assert!(rt; fault == ReplayFault::Write),
+    for (replay, output) in OUTPUTS {
+        let outcome = replayed(&rt, replay, TRACE.as_bytes(), sound(1000), &OpenGate);
+        match outcome.ending {
+            Ok(_) => expect(&rt, &outcome, Ok(Ending::Good), output.as_bytes()),
+            Err(ReplayFault::Memory | ReplayFault::NoThread) => assert!(rt; outcome.written.is_empty()),
+            Err(fault) => assert!(rt; fault == ReplayFault::Write),
+        }
     }
 }
 
@@ -214,7 +252,7 @@ fn expect_in_turn<R: Abort + AllocGlobal + Clock + Sync + Threads + Wait>(
         gave_up: AtomicCell::new(0),
     };
     let text = b"zone DMA 0 4096 0\nworkers 2\nlists 0 0\n0 info\n1 info\n";
-    let outcome = replayed(rt, text, sound(1000), &gate);
+    let outcome = replayed(rt, Replay::Threads, text, sound(1000), &gate);
     assert_eq!(rt; gate.gave_up.load(), 0);
     assert!(rt; outcome.ending == Ok(Ending::Good));
     let infos = "\

@@ -75,6 +75,39 @@ fn a_full_list_stays_where_the_journal_is_full(rt: HostRuntime) {
     expect_case(&rt, rt.alloc(), &case);
 }
 
+/// A page put on a list goes on being handed out from it, and makes room on it; a block that lies on no list is refused.
+#[test]
+fn a_list_lends_its_pages_where_the_journal_is_full(rt: HostRuntime) {
+    let case = Case {
+        trace: "zone DMA 0 4096 0\nworkers 1\nlists 4 6\n\
+            0 alloc a 0 M DMA low\n0 alloc b 0 M DMA low\n0 alloc c 0 M DMA low\n0 alloc d 0 M DMA low\n\
+            0 alloc e 0 M DMA low\n0 free a\n0 free b\n0 free c\n0 free d\n0 alloc f 0 M DMA low\n0 free d\n\
+            0 alloc g 1 M DMA low\n0 drain\n0 info\n",
+        plan: Plan {
+            capacity: 2,
+            ..AT_ONCE
+        },
+        replies: &[&[
+            Page(3072),
+            Page(3073),
+            Page(3074),
+            Page(3075),
+            Page(3076),
+            Freed,
+            Freed,
+            Freed,
+            FULL,
+            Page(3074),
+            Freed,
+            FULL,
+            FULL,
+            Free(4088, 4088),
+        ]],
+        zones: &[(2, 4088)],
+    };
+    expect_case(&rt, rt.alloc(), &case);
+}
+
 /// What was drained before the refusal stays drained: the list of `DMA` is empty, and that of `Normal` has its pages.
 #[test]
 fn what_was_drained_before_a_full_journal_stays_drained(rt: HostRuntime) {
