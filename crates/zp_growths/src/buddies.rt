@@ -1,0 +1,61 @@
+//! The parts below a zone.
+
+use crate::unmade::{Unmade, expect};
+use std::alloc::Global;
+use zp_area::FreeArea;
+use zp_buddy::Buddy;
+use zp_links::Lists;
+use zp_model::{Largest, MigrateType, Order};
+use zp_table::PageTable;
+use zp_tree::OrderTree;
+
+/// How many pages each has.
+const PAGES: u32 = 4096;
+
+/// How many further lists there are.
+const SIDE: usize = 2;
+
+pub fn table(alloc: Global) -> Result<(), Unmade> {
+    let _table = PageTable::new(alloc, PAGES)?;
+    Ok(())
+}
+
+pub fn lists(alloc: Global) -> Result<(), Unmade> {
+    let table = PageTable::new(alloc, PAGES)?;
+    let _lists = Lists::new(alloc, table, SIDE)?;
+    Ok(())
+}
+
+pub fn tree(alloc: Global) -> Result<(), Unmade> {
+    let _tree = OrderTree::new(alloc, PAGES)?;
+    Ok(())
+}
+
+pub fn area(alloc: Global) -> Result<(), Unmade> {
+    let _area = FreeArea::new(alloc, PAGES, Largest::usual(), SIDE)?;
+    Ok(())
+}
+
+pub fn buddy(alloc: Global, calls: u32) -> Result<(), Unmade> {
+    let mut buddy = Buddy::new(alloc, PAGES, Largest::usual(), SIDE)?;
+    for _ in 0..calls {
+        take_and_give(&mut buddy)?;
+    }
+    Ok(())
+}
+
+/// A page is taken and given back, and then the lowest one.
+fn take_and_give(buddy: &mut Buddy) -> Result<(), Unmade> {
+    let order = Order::zero();
+    for kind in [MigrateType::Movable, MigrateType::Unmovable] {
+        let Some(page) = buddy.take(order, kind) else {
+            return Err(Unmade::Other);
+        };
+        buddy.give(page, order);
+    }
+    let Some(lowest) = buddy.take_low(order) else {
+        return Err(Unmade::Other);
+    };
+    buddy.give(lowest, order);
+    expect(lowest.number() == 0 && buddy.free_pages() == PAGES)
+}

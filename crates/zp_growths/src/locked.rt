@@ -1,0 +1,188 @@
+//! Zones behind locks.
+ghost use Rattle.std.specs.Prelude.{◌≡◌, ◌∷◌, [], IfOk, length};
+ghost use Rattle.zp_share.specs.Shares.{IsShareOf, key_of};
+ghost use Rattle.zp_shared.specs.Rows.{board_at, opened_board, opened_key};
+ghost use Rattle.zp_zone.specs.Seats.{IsSeatOf, IsUnused};
+
+use crate::hand::{Hand, lists};
+use crate::unmade::{Unmade, expect};
+use crate::zones::{FRONT, config};
+use std::alloc::Global;
+use std::marker::Brand;
+use std::sync::Wait;
+use zp_model::{Mark, MigrateType, Order};
+use zp_share::Share;
+use zp_shared::{
+    BoardReader, LockedZones, Naming, OpenedZone, SharedZone, open_zones, reader_rows, readers_of,
+    share_zones,
+};
+use zp_zone::{Seat, Zone};
+
+/// How many requests a journal has room for.
+const ENTRIES: u32 = 1024;
+
+pub fn opened(alloc: Global) -> Result<(), Unmade> {
+    let (zone, _seats) = Zone::new(alloc, config(), 1)?;
+    let _opened = OpenedZone::new(alloc, zone, ENTRIES)?;
+    Ok(())
+}
+
+/// Readers of a row of one zone, for one worker and for two.
+pub fn readers(alloc: Global) -> Result<(), Unmade> {
+    let mut zones = Vec::with_capacity(alloc, 1)?;
+    let (zone, _seats) = Zone::new(alloc, config(), 1)?;
+    zones.push_reserved(zone);
+    let mut opened = open_zones(alloc, zones, ENTRIES)?;
+    let _readers = readers_of(alloc, &mut opened)?;
+    let _rows = reader_rows(alloc, &mut opened, 2)?;
+    Ok(())
+}
+
+/// An opened zone, and its worker's share.
+fn opened_zone(alloc: Global) -> Result<(OpenedZone, Share), Unmade>
+    ensures fits { IfOk result (λ o. IsShareOf (opened_key o.0 ∷ []) o.1) }
+    ensures one { IfOk result (λ o. length o.1.zones ≡ 1) }
+{
+    let (zone, mut seats) = Zone::new(alloc, config(), 1)?;
+    let Some(seat) = seats.pop() else {
+        return Err(Unmade::Other);
+    };
+    let share = share_of(alloc, &zone, seat)?;
+    let opened = OpenedZone::new(alloc, zone, ENTRIES)?;
+    Ok((opened, share))
+}
+
+/// The share of the worker of this seat.
+fn share_of(alloc: Global, zone: &Zone, seat: Seat) -> Result<Share, Unmade>
+    requires seat { IsSeatOf zone.now seat }
+    requires unused { IsUnused seat }
+    ensures fits { IfOk result (IsShareOf (key_of zone.now ∷ [])) }
+    ensures one { IfOk result (λ s. length s.zones ≡ 1) }
+{
+    let lists = lists()?;
+    let mut seats = Vec::with_capacity(alloc, 1)?;
+    seats.push_reserved(seat);
+    Ok(Share::new(alloc, seats, lists)?)
+}
+
+/// A zone behind its lock, and so many rounds of sections under the lock.
+pub fn shared<R: Wait>(rt: &R, alloc: Global, calls: u32) -> Result<(), Unmade> {
+    let (opened, share) = opened_zone(alloc)?;
+    shared_as::<Brand, R>(rt, opened, share, calls)
+}
+
+/// As `shared`, under the name of the opened zone.
+fn shared_as<J: Naming, R: Wait>(
+    rt: &R,
+    mut opened: OpenedZone,
+    share: Share,
+    calls: u32,
+) -> Result<(), Unmade>
+    requires zones { J.zones ≡ opened_key opened ∷ [] }
+    requires boards { J.boards ≡ opened_board opened ∷ [] }
+    requires fits { IsShareOf J.zones share }
+    requires one { length share.zones ≡ 1 }
+{
+    let reader = opened.reader();
+    let shared = SharedZone::<J>::new(0, opened);
+    let mut locked = Locked {
+        shared,
+        reader,
+        share,
+    };
+    for _ in 0..calls {
+        locked.round(rt)?;
+    }
+    Ok(())
+}
+
+/// A zone behind its lock at the first place, with a reader of its board and the share of its worker.
+#[derive(Drop)]
+struct Locked<J: Naming> {
+    shared: SharedZone<J>,
+    reader: BoardReader,
+    share: Share,
+    ghost place: { shared ≡ 0 },
+    ghost reads: { reader.tie ≡ (board_at J.boards 0).tie },
+    ghost fits: { IsShareOf J.zones share },
+    ghost one: { length share.zones ≡ 1 },
+}
+
+impl<J: Naming> Locked<J> {
+    /// A page is taken under the lock and given back, and the board is read before it, between the two and after them.
+    fn round<R: Wait>(&mut self, rt: &R) -> Result<(), Unmade> {
+        let Locked {
+            shared,
+            reader,
+            share,
+            ..
+        } = self;
+        take_and_give(rt, shared, reader, share)
+    }
+}
+
+/// As `Locked::round`.
+fn take_and_give<J: Naming, R: Wait>(
+    rt: &R,
+    shared: &SharedZone<J>,
+    reader: &mut BoardReader,
+    share: &mut Share,
+) -> Result<(), Unmade>
+    requires place { shared.now ≡ 0 }
+    requires reader { reader.old.tie ≡ (board_at J.boards 0).tie }
+    requires fits { IsShareOf J.zones share.old }
+    requires one { length share.old.zones ≡ 1 }
+    ensures reader { reader.new.tie ≡ reader.old.tie }
+    ensures fits { IsShareOf J.zones share.new }
+    ensures one { length share.new.zones ≡ 1 }
+{
+    let board = shared.board();
+    let before = reader.read(board);
+    let mut guarded = shared.state.lock(rt);
+    if guarded.place() != 0 {
+        return Err(Unmade::Other);
+    }
+    let order = Order::zero();
+    let page = guarded.alloc_block(board, share, order, MigrateType::Movable, Mark::Any)?;
+    let taken = guarded.read_board(board, reader);
+    guarded.free_block(board, share, page, order)?;
+    let after = guarded.read_board(board, reader);
+    expect(page.number() == FRONT)?;
+    expect(taken.counts.by_order == [1, 1, 1, 1, 1, 1, 1, 1, 1, 1, 3])?;
+    expect(before.counts.free == 4096 && taken.counts.free == 4095 && after.counts == before.counts)
+}
+
+/// A row of one zone, and so many rounds of commands of its worker over a view of it.
+pub fn row<R: Wait>(rt: &R, alloc: Global, calls: u32) -> Result<(), Unmade> {
+    let (opened, share) = opened_zone(alloc)?;
+    row_as::<Brand, R>(rt, alloc, opened, share, calls)
+}
+
+/// As `row`, under the name of the opened zone.
+fn row_as<J: Naming, R: Wait>(
+    rt: &R,
+    alloc: Global,
+    mut opened: OpenedZone,
+    share: Share,
+    calls: u32,
+) -> Result<(), Unmade>
+    requires zones { J.zones ≡ opened_key opened ∷ [] }
+    requires boards { J.boards ≡ opened_board opened ∷ [] }
+    requires fits { IsShareOf J.zones share }
+    requires one { length share.zones ≡ 1 }
+{
+    let readers = alone(alloc, opened.reader())?;
+    let row = share_zones::<J>(alloc, alone(alloc, opened)?)?;
+    let zones = LockedZones::<J, (), R>::new(rt, row.as_slice(), readers);
+    let mut hand = Hand { zones, share };
+    hand.rounds(calls)
+}
+
+/// A vector of one.
+fn alone<T: Drop>(alloc: Global, one: T) -> Result<Vec<T>, Unmade>
+    ensures { IfOk result (λ all. all.items ≡ one ∷ []) }
+{
+    let mut all = Vec::with_capacity(alloc, 1)?;
+    all.push_reserved(one);
+    Ok(all)
+}

@@ -1,0 +1,32 @@
+//! Workers' shares of a zone in one hand.
+ghost use Rattle.std.specs.Prelude.{◌≡◌, length, map};
+ghost use Rattle.zp_share.specs.Shares.{IsShareOf, key_of};
+
+use crate::hand::{Hand, lists};
+use crate::unmade::Unmade;
+use crate::zones::config;
+use std::alloc::Global;
+use zp_share::{PlainZones, Share, ZoneShare};
+use zp_zone::Zone;
+
+pub fn zone_share(alloc: Global) -> Result<(), Unmade> {
+    let (_zone, mut seats) = Zone::new(alloc, config(), 1)?;
+    let Some(seat) = seats.pop() else {
+        return Err(Unmade::Other);
+    };
+    let _share = ZoneShare::new(alloc, seat)?;
+    Ok(())
+}
+
+/// A share, and so many rounds of its commands.
+pub fn share(alloc: Global, calls: u32) -> Result<(), Unmade> {
+    let mut zones = Vec::with_capacity(alloc, 1)?;
+    let (zone, seats) = Zone::new(alloc, config(), 1)?;
+    zones.push_reserved(zone);
+    let share = Share::new(alloc, seats, lists()?)?;
+    let mut hand = Hand {
+        zones: PlainZones::new(zones),
+        share,
+    };
+    hand.rounds(calls)
+}

@@ -1,0 +1,214 @@
+//! The words, and what is made of each.
+
+use crate::unmade::Unmade;
+use crate::{boards, buddies, locked, offices, shares, zones};
+use std::alloc::Global;
+use std::sync::Wait;
+use std::thread::Threads;
+
+/// What can be made.
+#[derive(Clone, Copy, PartialEq, Eq, Debug, Drop)]
+pub enum Making {
+    Nothing,
+    PageTable,
+    Lists,
+    OrderTree,
+    FreeArea,
+    Buddy,
+    Zone,
+    ZoneShare,
+    Share,
+    Journal,
+    Board,
+    OpenedZone,
+    Readers,
+    SharedZone,
+    Row,
+    Trace,
+    Script,
+    Shares,
+    Desk,
+    Desks,
+    Office,
+    Run,
+    Replay,
+    CountsAfter,
+}
+
+/// A word of the command line.
+#[derive(Clone, Copy, Drop)]
+pub struct Word {
+    pub name: &'static str,
+    making: Making,
+    /// Whether there are calls on what is made.
+    pub has_calls: bool,
+}
+
+/// All words, the lower layers first.
+pub const WORDS: [Word; 24] = [
+    Word {
+        name: "nothing",
+        making: Making::Nothing,
+        has_calls: false,
+    },
+    Word {
+        name: "PageTable",
+        making: Making::PageTable,
+        has_calls: false,
+    },
+    Word {
+        name: "Lists",
+        making: Making::Lists,
+        has_calls: false,
+    },
+    Word {
+        name: "OrderTree",
+        making: Making::OrderTree,
+        has_calls: false,
+    },
+    Word {
+        name: "FreeArea",
+        making: Making::FreeArea,
+        has_calls: false,
+    },
+    Word {
+        name: "Buddy",
+        making: Making::Buddy,
+        has_calls: true,
+    },
+    Word {
+        name: "Zone",
+        making: Making::Zone,
+        has_calls: true,
+    },
+    Word {
+        name: "ZoneShare",
+        making: Making::ZoneShare,
+        has_calls: false,
+    },
+    Word {
+        name: "Share",
+        making: Making::Share,
+        has_calls: true,
+    },
+    Word {
+        name: "Journal",
+        making: Making::Journal,
+        has_calls: false,
+    },
+    Word {
+        name: "new_board",
+        making: Making::Board,
+        has_calls: true,
+    },
+    Word {
+        name: "OpenedZone",
+        making: Making::OpenedZone,
+        has_calls: false,
+    },
+    Word {
+        name: "reader_rows",
+        making: Making::Readers,
+        has_calls: false,
+    },
+    Word {
+        name: "SharedZone",
+        making: Making::SharedZone,
+        has_calls: true,
+    },
+    Word {
+        name: "share_zones",
+        making: Making::Row,
+        has_calls: true,
+    },
+    Word {
+        name: "parse_trace",
+        making: Making::Trace,
+        has_calls: false,
+    },
+    Word {
+        name: "script_of",
+        making: Making::Script,
+        has_calls: false,
+    },
+    Word {
+        name: "opened",
+        making: Making::Shares,
+        has_calls: false,
+    },
+    Word {
+        name: "Desk",
+        making: Making::Desk,
+        has_calls: false,
+    },
+    Word {
+        name: "opened_desks",
+        making: Making::Desks,
+        has_calls: false,
+    },
+    Word {
+        name: "Office",
+        making: Making::Office,
+        has_calls: true,
+    },
+    Word {
+        name: "run_zones",
+        making: Making::Run,
+        has_calls: false,
+    },
+    Word {
+        name: "replay_journal",
+        making: Making::Replay,
+        has_calls: false,
+    },
+    Word {
+        name: "counts_after",
+        making: Making::CountsAfter,
+        has_calls: false,
+    },
+];
+
+/// What a word names.
+pub fn making_of(name: &str) -> Option<Making> {
+    for word in &WORDS {
+        if word.name == name {
+            return Some(word.making);
+        }
+    }
+    None
+}
+
+/// Makes it, with so many rounds of calls on what was made.
+pub fn make<R: Threads + Wait + Sync>(
+    rt: &R,
+    alloc: Global,
+    making: Making,
+    calls: u32,
+) -> Result<(), Unmade> {
+    match making {
+        Making::Nothing => Ok(()),
+        Making::PageTable => buddies::table(alloc),
+        Making::Lists => buddies::lists(alloc),
+        Making::OrderTree => buddies::tree(alloc),
+        Making::FreeArea => buddies::area(alloc),
+        Making::Buddy => buddies::buddy(alloc, calls),
+        Making::Zone => zones::zone(alloc, calls),
+        Making::ZoneShare => shares::zone_share(alloc),
+        Making::Share => shares::share(alloc, calls),
+        Making::Journal => boards::journal(alloc),
+        Making::Board => boards::board(alloc, calls),
+        Making::OpenedZone => locked::opened(alloc),
+        Making::Readers => locked::readers(alloc),
+        Making::SharedZone => locked::shared(rt, alloc, calls),
+        Making::Row => locked::row(rt, alloc, calls),
+        Making::Trace => offices::trace(alloc),
+        Making::Script => offices::script(alloc),
+        Making::Shares => offices::shares(alloc),
+        Making::Desk => offices::desk(alloc),
+        Making::Desks => offices::desks(alloc),
+        Making::Office => offices::office(alloc, calls),
+        Making::Run => offices::run(rt, alloc),
+        Making::Replay => offices::replay(rt, alloc),
+        Making::CountsAfter => offices::counts(rt, alloc),
+    }
+}
