@@ -11,6 +11,7 @@ use zp_model::Counts;
 /// How many entries each has room for.
 const ROOM: u32 = 1024;
 
+/// A journal with no entry.
 pub fn journal(alloc: Global) -> Result<(), Unmade> {
     let _journal = Journal::new(alloc, ROOM)?;
     Ok(())

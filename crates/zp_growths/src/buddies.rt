@@ -15,27 +15,32 @@ const PAGES: u32 = 4096;
 /// How many further lists there are.
 const SIDE: usize = 2;
 
+/// A table of pages.
 pub fn table(alloc: Global) -> Result<(), Unmade> {
     let _table = PageTable::new(alloc, PAGES)?;
     Ok(())
 }
 
+/// Lists over a table.
 pub fn lists(alloc: Global) -> Result<(), Unmade> {
     let table = PageTable::new(alloc, PAGES)?;
     let _lists = Lists::new(alloc, table, SIDE)?;
     Ok(())
 }
 
+/// The status tree.
 pub fn tree(alloc: Global) -> Result<(), Unmade> {
     let _tree = OrderTree::new(alloc, PAGES)?;
     Ok(())
 }
 
+/// A free area with no block.
 pub fn area(alloc: Global) -> Result<(), Unmade> {
     let _area = FreeArea::new(alloc, PAGES, Largest::usual(), SIDE)?;
     Ok(())
 }
 
+/// A buddy allocator, and so many rounds of its takes and gives.
 pub fn buddy(alloc: Global, calls: u32) -> Result<(), Unmade> {
     let mut buddy = Buddy::new(alloc, PAGES, Largest::usual(), SIDE)?;
     for _ in 0..calls {

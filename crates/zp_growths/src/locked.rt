@@ -21,6 +21,7 @@ use zp_zone::{Seat, Zone};
 /// How many requests a journal has room for.
 const ENTRIES: u32 = 1024;
 
+/// A zone that is opened for threads.
 pub fn opened(alloc: Global) -> Result<(), Unmade> {
     let (zone, _seats) = Zone::new(alloc, config(), 1)?;
     let _opened = OpenedZone::new(alloc, zone, ENTRIES)?;

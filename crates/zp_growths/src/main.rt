@@ -2,7 +2,7 @@
 //! 0. Where there is no memory for it, it prints so, by which answer, and ends with 1; at any other answer, also of a call, with 2. With no
 //! word it prints the words, each with `calls` behind it where there are calls on what it makes.
 //!
-//! Nothing else takes memory, so a run in which the growths of memory are refused one after another shows what each making answers to that,
+//! But for its words nothing else takes memory, so a run in which the growths of memory are refused one after another shows what each making answers to that,
 //! and whether it leaves something; and two runs with few and with many calls, whether a call takes any (`tests/growths`).
 #![tactic(auto)]
 

@@ -24,17 +24,20 @@ const TRACE: &str = "zone DMA 0 4096 0\nworkers 2\nlists 4 6\n\
 /// How many requests a journal has room for.
 const ENTRIES: u32 = 64;
 
+/// The trace of a text.
 pub fn trace(alloc: Global) -> Result<(), Unmade> {
     let _trace = parse_trace(alloc, TRACE.as_bytes())?;
     Ok(())
 }
 
+/// The commands of one of its workers.
 pub fn script(alloc: Global) -> Result<(), Unmade> {
     let trace = parse_trace(alloc, TRACE.as_bytes())?;
     let script = script_of(alloc, &trace, Worker::first())?;
     expect(script.len() == 3)
 }
 
+/// The zones that it declares, and the shares of their workers.
 pub fn shares(alloc: Global) -> Result<(), Unmade> {
     let trace = parse_trace(alloc, TRACE.as_bytes())?;
     let (_zones, shares) = opened(alloc, &trace.header)?;
@@ -51,6 +54,7 @@ pub fn desk(alloc: Global) -> Result<(), Unmade> {
     Ok(())
 }
 
+/// The zones, and the desks of their workers.
 pub fn desks(alloc: Global) -> Result<(), Unmade> {
     let (_zones, desks) = opened_trace(alloc)?;
     expect(desks.len() == 2)
@@ -75,6 +79,7 @@ pub fn office(alloc: Global, calls: u32) -> Result<(), Unmade> {
     Ok(())
 }
 
+/// Two workers in threads, each with its script.
 pub fn run<R: Threads + Wait + Sync>(rt: &R, alloc: Global) -> Result<(), Unmade> {
     let _journal = journal(rt, alloc)?;
     Ok(())

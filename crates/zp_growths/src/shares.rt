@@ -9,6 +9,7 @@ use std::alloc::Global;
 use zp_share::{PlainZones, Share, ZoneShare};
 use zp_zone::Zone;
 
+/// The share of a seat.
 pub fn zone_share(alloc: Global) -> Result<(), Unmade> {
     let (_zone, mut seats) = Zone::new(alloc, config(), 1)?;
     let Some(seat) = seats.pop() else {

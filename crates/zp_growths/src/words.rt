@@ -9,6 +9,7 @@ use std::thread::Threads;
 /// What can be made.
 #[derive(Clone, Copy, PartialEq, Eq, Debug, Drop)]
 pub enum Making {
+    /// Nothing: the growths are those of the command line.
     Nothing,
     PageTable,
     Lists,
