@@ -14,14 +14,14 @@ pub fn lists() -> Result<ListConfig, Unmade> {
 
 /// A row of one zone, and the share of a worker whose lists are empty.
 #[derive(Drop)]
-pub struct Hand<Z: Zones + Drop> {
+pub struct RowHand<Z: Zones + Drop> {
     pub zones: Z,
     pub share: Share,
     ghost fits: { IsShareOf (Z.keys zones) share },
     ghost one: { length share.zones ≡ 1 },
 }
 
-impl<Z: Zones + Drop> Hand<Z> {
+impl<Z: Zones + Drop> RowHand<Z> {
     /// So many rounds.
     pub fn rounds(&mut self, rounds: u32) -> Result<(), Unmade> {
         for _ in 0..rounds {

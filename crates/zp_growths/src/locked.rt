@@ -4,7 +4,7 @@ ghost use Rattle.zp_share.specs.Shares.{IsShareOf, key_of};
 ghost use Rattle.zp_shared.specs.Rows.{board_at, opened_board, opened_key};
 ghost use Rattle.zp_zone.specs.Seats.{IsSeatOf, IsUnused};
 
-use crate::hand::{Hand, lists};
+use crate::hand::{RowHand, lists};
 use crate::unmade::{Unmade, expect};
 use crate::zones::{FRONT, config};
 use std::alloc::Global;
@@ -175,7 +175,7 @@ fn row_as<J: Naming, R: Wait>(
     let readers = alone(alloc, opened.reader())?;
     let row = share_zones::<J>(alloc, alone(alloc, opened)?)?;
     let zones = LockedZones::<J, (), R>::new(rt, row.as_slice(), readers);
-    let mut hand = Hand { zones, share };
+    let mut hand = RowHand { zones, share };
     hand.rounds(calls)
 }
 

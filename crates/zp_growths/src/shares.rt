@@ -2,7 +2,7 @@
 ghost use Rattle.std.specs.Prelude.{◌≡◌, length, map};
 ghost use Rattle.zp_share.specs.Shares.{IsShareOf, key_of};
 
-use crate::hand::{Hand, lists};
+use crate::hand::{RowHand, lists};
 use crate::unmade::Unmade;
 use crate::zones::config;
 use std::alloc::Global;
@@ -25,7 +25,7 @@ pub fn share(alloc: Global, calls: u32) -> Result<(), Unmade> {
     let (zone, seats) = Zone::new(alloc, config(), 1)?;
     zones.push_reserved(zone);
     let share = Share::new(alloc, seats, lists()?)?;
-    let mut hand = Hand {
+    let mut hand = RowHand {
         zones: PlainZones::new(zones),
         share,
     };

@@ -38,7 +38,7 @@ pub enum Making {
 
 /// A word of the command line.
 #[derive(Clone, Copy, Drop)]
-pub struct Word {
+pub struct MakingWord {
     pub name: &'static str,
     making: Making,
     /// Whether there are calls on what is made.
@@ -46,123 +46,123 @@ pub struct Word {
 }
 
 /// All words, the lower layers first.
-pub const WORDS: [Word; 24] = [
-    Word {
+pub const WORDS: [MakingWord; 24] = [
+    MakingWord {
         name: "nothing",
         making: Making::Nothing,
         has_calls: false,
     },
-    Word {
+    MakingWord {
         name: "PageTable",
         making: Making::PageTable,
         has_calls: false,
     },
-    Word {
+    MakingWord {
         name: "Lists",
         making: Making::Lists,
         has_calls: false,
     },
-    Word {
+    MakingWord {
         name: "OrderTree",
         making: Making::OrderTree,
         has_calls: false,
     },
-    Word {
+    MakingWord {
         name: "FreeArea",
         making: Making::FreeArea,
         has_calls: false,
     },
-    Word {
+    MakingWord {
         name: "Buddy",
         making: Making::Buddy,
         has_calls: true,
     },
-    Word {
+    MakingWord {
         name: "Zone",
         making: Making::Zone,
         has_calls: true,
     },
-    Word {
+    MakingWord {
         name: "ZoneShare",
         making: Making::ZoneShare,
         has_calls: false,
     },
-    Word {
+    MakingWord {
         name: "Share",
         making: Making::Share,
         has_calls: true,
     },
-    Word {
+    MakingWord {
         name: "Journal",
         making: Making::Journal,
         has_calls: false,
     },
-    Word {
+    MakingWord {
         name: "new_board",
         making: Making::Board,
         has_calls: true,
     },
-    Word {
+    MakingWord {
         name: "OpenedZone",
         making: Making::OpenedZone,
         has_calls: false,
     },
-    Word {
+    MakingWord {
         name: "reader_rows",
         making: Making::Readers,
         has_calls: false,
     },
-    Word {
+    MakingWord {
         name: "SharedZone",
         making: Making::SharedZone,
         has_calls: true,
     },
-    Word {
+    MakingWord {
         name: "share_zones",
         making: Making::Row,
         has_calls: true,
     },
-    Word {
+    MakingWord {
         name: "parse_trace",
         making: Making::Trace,
         has_calls: false,
     },
-    Word {
+    MakingWord {
         name: "script_of",
         making: Making::Script,
         has_calls: false,
     },
-    Word {
+    MakingWord {
         name: "opened",
         making: Making::Shares,
         has_calls: false,
     },
-    Word {
+    MakingWord {
         name: "Desk",
         making: Making::Desk,
         has_calls: false,
     },
-    Word {
+    MakingWord {
         name: "opened_desks",
         making: Making::Desks,
         has_calls: false,
     },
-    Word {
+    MakingWord {
         name: "Office",
         making: Making::Office,
         has_calls: true,
     },
-    Word {
+    MakingWord {
         name: "run_zones",
         making: Making::Run,
         has_calls: false,
     },
-    Word {
+    MakingWord {
         name: "replay_journal",
         making: Making::Replay,
         has_calls: false,
     },
-    Word {
+    MakingWord {
         name: "counts_after",
         making: Making::CountsAfter,
         has_calls: false,

@@ -201,7 +201,9 @@ fn a_replay_is_whole_or_ends_for_memory(rt: HostRuntime) {
         let outcome = replayed(&rt, replay, TRACE.as_bytes(), sound(1000), &OpenGate);
         match outcome.ending {
             Ok(_) => expect(&rt, &outcome, Ok(Ending::Good), output.as_bytes()),
-            Err(ReplayFault::Memory | ReplayFault::NoThread) => assert!(rt; outcome.written.is_empty()),
+            Err(ReplayFault::Memory | ReplayFault::NoThread) => assert!(rt;
+                outcome.written.is_empty()
+            ),
             Err(fault) => assert!(rt; fault == ReplayFault::Write),
         }
     }
