@@ -1,0 +1,113 @@
+-- What the seats of a turning board's row know, and the rule over them: one seat stores, what a seat has seen is a beginning of what is published, and what it fetched is of the entry that it looks for, as long as that one has not been turned over.
+use Rattle.std.specs.Prelude.{◌≡◌, ℕ, ◌+◌, ◌-◌, ◌*◌, ◌%◌, ◌<◌, ◌≤◌, true, false, List, [], ◌∷◌, ◌++◌, length, slice_index, slice_index_or}
+use mathlib.Core.Option.{some}
+use mathlib.Core.List.{IsPrefix}
+use lib.ListN.{get_elem?}
+use Rattle.atomic_table.specs.Table.{State, Me, Step}
+use Rattle.atomic_table.specs.Seated.{TableId}
+use Rattle.zp_ring.specs.declared.ring_row.RingView.{RingView}
+
+-- a board, to a contract
+pub record RingState : Type 0 where
+  pub tie : TableId
+
+-- the publisher: the entries that are published
+pub record RingPublisherState : Type 0 where
+  pub tie : TableId
+  pub published : List (List ℕ)
+
+-- a reader: the entries up to the one that it read last, and how many it knows to be published
+pub record RingReaderState : Type 0 where
+  pub tie : TableId
+  pub seen : List (List ℕ)
+  pub known : ℕ
+
+-- an entry of a list, counted from 0
+abbrev pub entry_at : List (List ℕ) → ℕ → List ℕ
+entry_at es n = slice_index_or es n []
+
+-- the last one
+abbrev pub last_of : List (List ℕ) → List ℕ
+last_of es = entry_at es (length es - 1)
+
+abbrev pub blank : RingView
+blank = record { stores = true; entries = []; next = []; reads = false; seen = []; from = 0; got = [] }
+
+abbrev pub emptied : RingView → RingView
+emptied v = record v { stores = false; reads = false }
+
+abbrev pub storing : RingView → RingView
+storing v = record v { reads = false }
+
+abbrev pub reading : RingView → RingView
+reading v = record v { stores = false }
+
+abbrev pub both_of : RingView → RingView → RingView
+both_of v w = record v { reads = w.reads; seen = w.seen; from = w.from; got = w.got }
+
+abbrev pub newcomer : RingView → RingView
+newcomer v = record v { stores = false; reads = true; seen = v.entries; from = length v.entries - 1; got = [] }
+
+-- the seat that stores, the entries that are published, and the next one, as far as it is written
+pub record Posts : Type 0 where
+  pub storer : ℕ
+  pub entries : List (List ℕ)
+  pub next : List ℕ
+
+-- the words stand at the head of the entry
+abbrev pub Heads : List ℕ → List ℕ → Type 0
+Heads words entry = (k : ℕ) → k < length words → slice_index words k ≡ slice_index entry k
+
+module _ (W S : ℕ) where
+  -- where word k of entry n stands
+  abbrev pub word_at : ℕ → ℕ → ℕ
+  word_at n k = W * (n % S) + 1 + k
+
+  -- each entry has W words
+  abbrev pub AreWide : List (List ℕ) → Type 0
+  AreWide es = (n : ℕ) → n < length es → length (entry_at es n) ≡ W
+
+  -- what the rule says of one seat. What it fetched is of the entry that it looks for, unless that many were published that the entry's words may have been turned over
+  pub record Sits (b : Posts) (by : ℕ) (v : RingView) : Type 0 where
+    pub stores : v.stores ≡ true → (by ≡ b.storer) × (v.entries ≡ b.entries) × (v.next ≡ b.next)
+    pub reads : v.reads ≡ true → IsPrefix v.seen b.entries × (v.from < length v.seen) × (length b.entries < v.from + S → Heads v.got (entry_at b.entries v.from))
+
+  -- what the rule says of the words. Of the entries the last ones lie in the row, S - 1 of them
+  pub record Lies (b : Posts) (words : List ℕ) : Type 0 where
+    pub size_is : length words ≡ W * S + 1
+    pub short : length b.next ≤ W
+    pub wide : AreWide b.entries
+    pub place : slice_index words 0 ≡ length b.entries - 1
+    pub entries : (n k : ℕ) → n < length b.entries → length b.entries < n + S → k < W → slice_index words (word_at n k) ≡ slice_index (entry_at b.entries n) k
+    pub next : (k : ℕ) → k < length b.next → slice_index words (word_at (length b.entries) k) ≡ slice_index b.next k
+
+  abbrev pub IsTurning : State (Unit {0}) RingView → Type 0
+  IsTurning s = (b : Posts) × Lies b s.words × ((by : ℕ) (v : RingView) → get_elem? s.views by ≡ some v → Sits b by v)
+
+  -- The entries up to the place are seen, and the last of them is looked for. They begin with what was seen. Where not too many were
+  -- published since the look before, what was fetched is of the entry that was looked for. A seat that stores too has seen all that is
+  -- published
+  abbrev pub Looks : Step (Unit {0}) → Me (Unit {0}) RingView → ℕ → Me (Unit {0}) RingView → Type 0
+  Looks step me found after =
+      (after ≡ (record me.0 { seen = after.0.seen; from = found; got = [] }, me.1))
+      × IsPrefix me.0.seen after.0.seen × (length after.0.seen ≡ found + 1) × AreWide after.0.seen
+      × (found + 1 < me.0.from + S → Heads me.0.got (entry_at after.0.seen me.0.from))
+      × (me.0.stores ≡ true → after.0.seen ≡ me.0.entries)
+
+  -- the seat that stores finds a word of an entry that still lies in the row
+  abbrev pub Finds : Step (Unit {0}) → Me (Unit {0}) RingView → ℕ → Me (Unit {0}) RingView → Type 0
+  Finds step me found after =
+      (after ≡ me)
+      × ((n k : ℕ) → step.word ≡ word_at n k → n < length me.0.entries → length me.0.entries < n + S → k < W → found ≡ slice_index (entry_at me.0.entries n) k)
+
+-- one word more is fetched
+abbrev pub Fetches : Step (Unit {0}) → Me (Unit {0}) RingView → ℕ → Me (Unit {0}) RingView → Type 0
+Fetches step me found after = after ≡ (record me.0 { got = me.0.got ++ found ∷ [] }, me.1)
+
+-- the word that is stored is one more word of the next entry
+abbrev pub Writes : Step (Unit {0}) → Me (Unit {0}) RingView → ℕ → Me (Unit {0}) RingView → Type 0
+Writes step me new after = after ≡ (record me.0 { next = me.0.next ++ new ∷ [] }, me.1)
+
+-- the next entry is published
+abbrev pub Opens : Step (Unit {0}) → Me (Unit {0}) RingView → ℕ → Me (Unit {0}) RingView → Type 0
+Opens step me new after = after ≡ (record me.0 { entries = me.0.entries ++ me.0.next ∷ []; next = [] }, me.1)
