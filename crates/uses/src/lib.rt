@@ -12,6 +12,7 @@ mod locked_page;
 mod low_block;
 mod page_pool;
 mod reading_in_history;
+mod replayed_pieces;
 mod shared_row;
 mod two_pages;
 
@@ -25,5 +26,6 @@ pub use locked_page::touch_a_page;
 pub use low_block::take_below;
 pub use page_pool::PagePool;
 pub use reading_in_history::read_before_the_lock;
+pub use replayed_pieces::replay_pieces;
 pub use shared_row::{SharedRun, share_a_zone};
 pub use two_pages::take_two;

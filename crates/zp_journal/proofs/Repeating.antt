@@ -28,9 +28,13 @@ seat_there z seats i w s a lt e =
     ∙ get_or-range_with_len 0 (workers_of z.plain) i s.worker (omega (arith, seats_count z seats a, lt))
     ∙ omega arith
 
+-- what may not be asked is not legal, and leaves the zone as it was
+undefined : (z y : ZoneState) (e : Entry) → (IsDefined z.plain e.worker e.request → ⊥) → y ≡ z → IsRepeated z e false y
+undefined z y e never same = (λ l. never l.0, record { made = λ d. absurd (never d); kept = λ _. same })
+
 -- an entry of a worker that the zone does not have is not legal
-pub no_worker : (z : ZoneState) (seats : List SeatState) (e : Entry) → AreSeatsOf z seats → length seats ≤ e.worker → IsLegalEntry z.plain e → ⊥
-no_worker z seats e a le l = let lt : e.worker < workers_of z.plain = (l.0).0 in omega (arith, seats_count z seats a)
+pub no_worker : (z : ZoneState) (seats : List SeatState) (e : Entry) → AreSeatsOf z seats → length seats ≤ e.worker → IsRepeated z e false z
+no_worker z seats e a le = undefined z z e (λ d. let lt : e.worker < workers_of z.plain = d.0 in omega (arith, seats_count z seats a)) refl
 
 -- asking keeps a zone's tie, and how many workers it has
 answered_same : (z y : ZoneState) (w : ℕ) (r : Request) (o : Option Reply) → IsAnswered z w r o y → (y.tie ≡ z.tie) × (workers_of y.plain ≡ workers_of z.plain)
@@ -52,8 +56,8 @@ seats_after z y seats i s t r o a lt answered still =
     }
 
 -- what nobody answers is not legal
-pub not_answered : (z y : ZoneState) (w : ℕ) (e : Entry) → w ≡ e.worker → IsAnswered z w e.request None y → IsLegalEntry z.plain e → ⊥
-not_answered z y w e f a l = let may : may_ask z.plain w e.request ≡ true = ap (λ v. may_ask z.plain v e.request) f ∙ (l.0).1 in let no : may_ask z.plain w e.request ≡ false = a.0 in cc
+pub not_answered : (z y : ZoneState) (w : ℕ) (e : Entry) → w ≡ e.worker → IsAnswered z w e.request None y → IsRepeated z e false y
+not_answered z y w e f a = undefined z y e (λ d. let may : may_ask z.plain w e.request ≡ true = ap (λ v. may_ask z.plain v e.request) f ∙ d.1 in let no : may_ask z.plain w e.request ≡ false = a.0 in cc) a.1
 
 -- the seats of a zone as it was made
 pub seats_made : (z : ZoneState) (seats : List SeatState) (n : ℕ) → All (IsSeatOf z) seats → seats ≡ seats_of z.tie (books z) n → workers_of z.plain ≡ n → AreSeatsOf z seats
@@ -70,10 +74,13 @@ answered_alike z y w e q true f a same =
       (subst (λ v. IsDefined z.plain v e.request) f a.0, sym step_is ∙ same.0 refl),
       a.2 ∙ ap (λ v. asked v e.request z) f,
     )
-answered_alike z y w e q false f a same = λ l.
-    let yes : IsTrue false = same.1 (a.1 ∙ ap (λ v. (step z.plain v e.request).reply) f ∙ l.1) in cc
+answered_alike z y w e q false f a same =
+    let after : y ≡ asked e.worker e.request z = a.2 ∙ ap (λ v. asked v e.request z) f in (
+      λ l. let yes : IsTrue false = same.1 (a.1 ∙ ap (λ v. (step z.plain v e.request).reply) f ∙ l.1) in cc,
+      record { made = λ _. after; kept = λ never. absurd (never (subst (λ v. IsDefined z.plain v e.request) f a.0)) },
+    )
 
--- the seats of a zone of n workers, when it was opened so and they are lent
-pub seats_opened : (z : ZoneState) (made seats : List SeatState) (o : PlainZone) (n : ℕ) → All (IsSeatOf z) made → made ≡ seats_of z.tie (books z) n → z.plain ≡ o →
-    workers_of o ≡ n → seats ≡ made → AreSeatsOf z seats
-seats_opened z made seats o n fits are opened workers same = subst (AreSeatsOf z) (sym same) (seats_made z made n fits are (ap workers_of opened ∙ workers))
+-- the seats of a zone of n workers, when it was opened so
+pub seats_opened : (z : ZoneState) (made : List SeatState) (o : PlainZone) (n : ℕ) → All (IsSeatOf z) made → made ≡ seats_of z.tie (books z) n → z.plain ≡ o →
+    workers_of o ≡ n → AreSeatsOf z made
+seats_opened z made o n fits are opened workers = seats_made z made n fits are (ap workers_of opened ∙ workers)

@@ -25,7 +25,13 @@ abbrev pub IsAnswered : ZoneState → ℕ → Request → Option Reply → ZoneS
 IsAnswered z w r None y = (may_ask z.plain w r ≡ false) × (y ≡ z)
 IsAnswered z w r (Some q) y = IsDefined z.plain w r × (q ≡ (step z.plain w r).reply) × (y ≡ asked w r z)
 
+-- the zone after it was asked once more for what an entry says, where the entry's worker is one of its own and may ask for it; else
+-- the zone as it was
+pub record IsTried (z : ZoneState) (e : Entry) (y : ZoneState) : Type 0 where
+  pub made : IsDefined z.plain e.worker e.request → y ≡ asked e.worker e.request z
+  pub kept : (IsDefined z.plain e.worker e.request → ⊥) → y ≡ z
+
 -- what is found where an entry is repeated, and the zone that it leaves
 abbrev pub IsRepeated : ZoneState → Entry → Bool → ZoneState → Type 0
 IsRepeated z e true y = IsLegalEntry z.plain e × (y ≡ asked e.worker e.request z)
-IsRepeated z e false y = IsLegalEntry z.plain e → ⊥
+IsRepeated z e false y = (IsLegalEntry z.plain e → ⊥) × IsTried z e y

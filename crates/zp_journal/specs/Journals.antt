@@ -1,11 +1,12 @@
 -- A zone's journal, and what a replay finds of it (this profile).
-use Rattle.std.specs.Prelude.{ℕ, ◌≡◌, ◌≤◌, ◌-◌, List, length, take, slice_get, Option, None, Some}
+use Rattle.std.specs.Prelude.{ℕ, ◌≡◌, ◌≤◌, ◌-◌, ◌++◌, List, length, take, slice_get, Option, None, Some}
 use Rattle.zp_model.specs.declared.counts.Counts.{Counts}
 use Rattle.zp_model.specs.Entries.{Entry}
 use Rattle.zp_model.specs.Info.{counts_of}
 use Rattle.zp_model.specs.Zone.{PlainZone}
 use Rattle.zp_model.specs.Run.{run, IsLegal, IsLegalEntry, IsHistory}
 use Rattle.zp_zone.specs.Seats.{ZoneState}
+use Rattle.zp_journal.specs.Asking.{IsTried}
 use Rattle.zp_journal.specs.declared.replay.JournalCheck.{JournalCheck}
 use Rattle.zp_journal.specs.declared.replay.JournalCheck.TheVariants.{Legal, Differs}
 
@@ -47,8 +48,21 @@ abbrev pub IsCountedAfter : PlainZone → List Entry → ℕ → Option Counts �
 IsCountedAfter z es n None = IsLegalUpTo z es n → ⊥
 IsCountedAfter z es n (Some c) = IsLegalUpTo z es n × (c ≡ counts_after z es n)
 
--- what is found where the first n entries are repeated in a zone of which nothing was asked, and the zone that it leaves: that they
--- are legal, with the zone of their run; or the first of them that is not
+-- the zone after these entries: each was asked of it, one after another
+abbrev pub gone_on : List Entry → ZoneState → ZoneState
+gone_on es z = record { tie = z.tie; name = z.name; plain = run z.plain es; entries = z.entries ++ es }
+
+-- the zone is left where entry n, counted from 1, was tried after those before it
+abbrev pub IsLeftAt : ZoneState → List Entry → ℕ → ZoneState → Type 0
+IsLeftAt z es n y = (e : Entry) → slice_get es (n - 1) ≡ Some e → IsTried (gone_on (take (n - 1) es) z) e y
+
+-- what is found where a zone goes on as these entries say, and the zone that it leaves: that all of them are legal, with the zone after
+-- them; or the first that is not, with the zone where it was tried
+abbrev pub IsReplayedFurther : ZoneState → List Entry → Option ℕ → ZoneState → Type 0
+IsReplayedFurther z es None y = IsLegal z.plain es × (y ≡ gone_on es z)
+IsReplayedFurther z es (Some n) y = IsFirstIllegal z.plain es n × IsLeftAt z es n y
+
+-- the same of the first m entries
 abbrev pub IsRepeatedUpTo : ZoneState → List Entry → ℕ → Option ℕ → ZoneState → Type 0
-IsRepeatedUpTo z es n None y = IsChecked z.name z.plain (take n es) (Legal y)
-IsRepeatedUpTo z es n (Some first) y = (first ≤ n) × IsFirstIllegal z.plain es first
+IsRepeatedUpTo z es m None y = IsReplayedFurther z (take m es) None y
+IsRepeatedUpTo z es m (Some n) y = (n ≤ m) × IsReplayedFurther z es (Some n) y

@@ -1,5 +1,5 @@
 //! The journal of a zone: all that was asked of it since its opening, with the replies; and the replay that tells whether a zone
-//! could have made it, and what its counts were.
+//! could have made it, and what its counts were. A zone can go on by a further journal.
 #![tactic(auto)]
 
 mod asking;
@@ -7,4 +7,4 @@ mod journal;
 mod replay;
 
 pub use journal::{Journal, LONGEST_JOURNAL};
-pub use replay::{JournalCheck, counts_after, replay_journal};
+pub use replay::{JournalCheck, counts_after, replay_further, replay_journal, replay_opening};

@@ -1,8 +1,9 @@
-//! A journal's replay: a zone is made anew, and asked all that the journal says.
+//! A journal's replay: a zone is asked all that the journal says, one entry after another. It is made anew for that, or goes on from
+//! where it is.
 ghost use Rattle.std.specs.Prelude.{◌≡◌, ◌↔◌, ◌≤◌, [], length, IsTrue, OnOk, IfOk, IfErr};
 ghost use Rattle.zp_model.specs.Zone.{zone_opening};
 ghost use Rattle.zp_zone.specs.Making.{wanted, IsGood, IsWhy};
-ghost use Rattle.zp_journal.specs.Journals.{IsChecked, IsCountedAfter, IsRepeatedUpTo};
+ghost use Rattle.zp_journal.specs.Journals.{IsChecked, IsCountedAfter, IsRepeatedUpTo, IsReplayedFurther};
 ghost use Rattle.zp_journal.specs.Asking.{AreSeatsOf, IsRepeated};
 
 use crate::asking::ask;
@@ -20,6 +21,33 @@ pub enum JournalCheck {
     Differs(u32),
 }
 
+/// A zone of this config of which nothing was asked, with the seats of all its workers, as `replay_further` wants them. Refused 1 to 6
+/// as the zone's making is.
+pub fn replay_opening(
+    alloc: Global,
+    config: ZoneConfig<'_>,
+    workers: u32,
+) -> Result<(Zone, Vec<Seat>), Refused>
+    ensures good { OnOk result (IsGood (wanted config.entry.name.now config.entry.base config.entry.pages config.entry.min workers)) }
+    ensures why { IfErr result (IsWhy (wanted config.entry.name.now config.entry.base config.entry.pages config.entry.min workers)) }
+    ensures zone { IfOk result (λ z. z.0 ≡ record { tie = z.0.tie; name = config.entry.name.now; plain = zone_opening config.entry.largest config.entry.base config.entry.pages config.entry.min workers; entries = [] }) }
+    ensures seats { IfOk result (λ z. AreSeatsOf z.0 z.1.items) }
+{
+    let (zone, seats) = Zone::new(alloc, ZoneConfig { ..config }, workers)?;
+    Ok((zone, seats))
+}
+
+/// A zone goes on as a journal says: it is asked for what the entries say, one after another, from where it is. None where each of
+/// them is what the zone would have made. Else the number of the first whose request cannot be made, or is answered otherwise,
+/// counted from 1: the zone was asked for those before it, and for that one where its worker may ask for it.
+pub fn replay_further(zone: &mut Zone, seats: &mut [Seat], journal: &Journal) -> Option<u32>
+    requires seats { AreSeatsOf zone.old seats.old }
+    ensures replayed { IsReplayedFurther zone.old journal.now.entries result zone.new }
+    ensures seats { AreSeatsOf zone.new seats.new }
+{
+    repeat_first(zone, seats, journal, journal.len())
+}
+
 /// Whether a zone of this config and so many workers could have made the journal. Refused 1 to 6 as the zone's making is.
 pub fn replay_journal(
     alloc: Global,
@@ -31,8 +59,8 @@ pub fn replay_journal(
     ensures why { IfErr result (IsWhy (wanted config.entry.name.now config.entry.base config.entry.pages config.entry.min workers)) }
     ensures check { IfOk result (IsChecked config.entry.name.now (zone_opening config.entry.largest config.entry.base config.entry.pages config.entry.min workers) journal.now.entries) }
 {
-    let (mut zone, mut seats) = Zone::new(alloc, ZoneConfig { ..config }, workers)?;
-    match repeat_first(&mut zone, &mut seats, journal, journal.len()) {
+    let (mut zone, mut seats) = replay_opening(alloc, ZoneConfig { ..config }, workers)?;
+    match replay_further(&mut zone, &mut seats, journal) {
         None => Ok(JournalCheck::Legal(zone)),
         Some(number) => Ok(JournalCheck::Differs(number)),
     }
@@ -51,7 +79,7 @@ pub fn counts_after(
     ensures why { IfErr result (IsWhy (wanted config.entry.name.now config.entry.base config.entry.pages config.entry.min workers)) }
     ensures counts { IfOk result (IsCountedAfter (zone_opening config.entry.largest config.entry.base config.entry.pages config.entry.min workers) journal.now.entries place) }
 {
-    let (mut zone, mut seats) = Zone::new(alloc, ZoneConfig { ..config }, workers)?;
+    let (mut zone, mut seats) = replay_opening(alloc, ZoneConfig { ..config }, workers)?;
     if place > u64::from(journal.len()) {
         return Ok(None);
     }
@@ -62,12 +90,12 @@ pub fn counts_after(
 }
 
 /// The zone is asked for what the first `count` entries say, one after another: the number of the first that is not legal, where
-/// one of them is not. Nothing was asked of the zone before.
+/// one of them is not.
 fn repeat_first(zone: &mut Zone, seats: &mut [Seat], journal: &Journal, count: u32) -> Option<u32>
     requires seats { AreSeatsOf zone.old seats.old }
-    requires unasked { zone.old.entries ≡ [] }
     requires within { count ≤ length journal.now.entries }
-    ensures { IsRepeatedUpTo zone.old journal.now.entries count result zone.new }
+    ensures repeated { IsRepeatedUpTo zone.old journal.now.entries count result zone.new }
+    ensures seats { AreSeatsOf zone.new seats.new }
 {
     for number in 0..count {
         if !repeat(zone, seats, journal.entry(number + 1)) {

@@ -4,6 +4,7 @@ ghost use Rattle.zp_zone.specs.Seats.{IsSeatOf};
 mod choosing;
 mod histories;
 mod isolating;
+mod pieces;
 mod requests;
 
 use arrayvec::ArrayVec;

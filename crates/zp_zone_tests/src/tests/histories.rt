@@ -111,7 +111,7 @@ fn entry(asked: &Asked<'_>) -> Option<Entry> {
 }
 
 /// The history as a journal.
-fn journal_of(rt: &impl AllocGlobal, asked: &[Asked<'_>]) -> Result<Journal, Fail> {
+pub(super) fn journal_of(rt: &impl AllocGlobal, asked: &[Asked<'_>]) -> Result<Journal, Fail> {
     let mut journal = Journal::new(rt.alloc(), 2048)?;
     for it in asked {
         let entry = entry(it).ok_or("there is such a request")?;
@@ -141,7 +141,7 @@ fn told_of(zone: &Zone, page: u32) -> Option<Told> {
 }
 
 /// Compares what a zone tells with what it has to tell.
-fn compare(rt: &impl Abort, zone: &Zone, history: &History<'_>) {
+pub(super) fn compare(rt: &impl Abort, zone: &Zone, history: &History<'_>) {
     assert_eq!(rt; zone.name(), history.config.name);
     assert_eq!(rt; zone.pages(), history.config.pages);
     assert_eq!(rt; zone.counts().free, history.free);
