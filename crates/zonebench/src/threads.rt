@@ -3,7 +3,7 @@
 ghost use Rattle.std.specs.Prelude.{◌≡◌, ◌∷◌, [], All, length, map};
 ghost use Rattle.zp_share.specs.Shares.{IsShareOf, ZoneKey};
 ghost use Rattle.zp_shared.specs.Rows.{AreReaders, IsRowOf, opened_board, opened_key};
-ghost use Rattle.zp_board.specs.Boards.{BoardState};
+ghost use Rattle.zp_counts.specs.CountBoards.{BoardState};
 ghost use Rattle.zp_zone.specs.Seats.{IsSeatOf, IsUnused};
 
 use crate::bench::NoMemory;
@@ -39,7 +39,7 @@ impl<J: Naming> Row<J> {
         let mut zones = Vec::with_capacity(alloc, 1)?;
         zones.push_reserved(opened);
         Ok(Row {
-            zones: share_zones::<J>(alloc, zones)?,
+            zones: share_zones::<J, _>(alloc, zones)?,
         })
     }
 }

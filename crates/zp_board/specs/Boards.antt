@@ -8,17 +8,17 @@ use Rattle.atomic_table.specs.Seated.{TableId}
 use Rattle.zp_board.specs.declared.word_row.BoardView.{BoardView}
 
 -- a board, to a contract: it has room for the opening entry and for as many more as its capacity
-pub record BoardState : Type 0 where
+pub record WordBoardState : Type 0 where
   pub tie : TableId
   pub capacity : ℕ
 
 -- the publisher: the entries that are published
-pub record PublisherState : Type 0 where
+pub record WordPublisherState : Type 0 where
   pub tie : TableId
   pub published : List (List ℕ)
 
 -- a reader: the entries that it has seen
-pub record ReaderState : Type 0 where
+pub record WordReaderState : Type 0 where
   pub tie : TableId
   pub seen : List (List ℕ)
 

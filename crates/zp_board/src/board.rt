@@ -17,16 +17,16 @@ pub struct WordReading<const W: usize> {
 /// The words that all threads share: those of the opening entry, and of as many more entries as its capacity. Contracts see the
 /// identity of its tie, and the capacity.
 #[derive(Drop)]
-pub struct Board<const W: usize> {
+pub struct WordBoard<const W: usize> {
     row: Row<W>,
     capacity: u32,
 }
 
-impl<const W: usize> Model for Board<W> {
+impl<const W: usize> Model for WordBoard<W> {
     ghost use Rattle.std.specs.Prelude.{◌≡◌, ◌+◌, ◌*◌, ◌<◌, ◌^◌};
-    ghost use Rattle.zp_board.specs.Boards.{BoardState};
+    ghost use Rattle.zp_board.specs.Boards.{WordBoardState};
 
-    ghost Value = { BoardState };
+    ghost Value = { WordBoardState };
 
     ghost view = { λ b. record { tie = b.row.shared.table_id; capacity = b.capacity } };
 
@@ -42,9 +42,9 @@ pub struct WordPublisher<const W: usize> {
 
 impl<const W: usize> Model for WordPublisher<W> {
     ghost use Rattle.std.specs.Prelude.{◌≡◌, true, false, [], length};
-    ghost use Rattle.zp_board.specs.Boards.{PublisherState};
+    ghost use Rattle.zp_board.specs.Boards.{WordPublisherState};
 
-    ghost Value = { PublisherState };
+    ghost Value = { WordPublisherState };
 
     ghost view = { λ p. record { tie = p.pin.table_id; published = p.pin.me.0.entries } };
 
@@ -59,18 +59,18 @@ pub struct WordReader<const W: usize> {
 
 impl<const W: usize> Model for WordReader<W> {
     ghost use Rattle.std.specs.Prelude.{◌≡◌, ◌<◌, true, false, [], length};
-    ghost use Rattle.zp_board.specs.Boards.{ReaderState};
+    ghost use Rattle.zp_board.specs.Boards.{WordReaderState};
 
-    ghost Value = { ReaderState };
+    ghost Value = { WordReaderState };
 
     ghost view = { λ r. record { tie = r.pin.table_id; seen = r.pin.me.0.seen } };
 
     ghost invariant = { λ r. (r.pin.me.1 ≡ []) × (r.pin.me.0.stores ≡ false) × (r.pin.me.0.reads ≡ true) × (0 < length r.pin.me.0.seen) × (r.pin.me.0.size ≡ r.pin.table_id.words) };
 }
 
-impl<const W: usize> Board<W> {
+impl<const W: usize> WordBoard<W> {
     /// A board with no entry, and its publisher. No later call takes memory.
-    pub fn new(alloc: Global, capacity: u32) -> Result<(Board<W>, WordPublisher<W>), AllocError>
+    pub fn new(alloc: Global, capacity: u32) -> Result<(WordBoard<W>, WordPublisher<W>), AllocError>
         requires { W * (capacity + 1) + 1 < 2 ^ 32 }
         ensures tie { IfOk result (λ r. r.1.tie ≡ r.0.tie) }
         ensures capacity { IfOk result (λ r. r.0.capacity ≡ capacity) }
@@ -79,7 +79,17 @@ impl<const W: usize> Board<W> {
         let words = vec![in alloc; 0; W * (capacity as usize + 1) + 1]?;
         let size = words.len() as u64;
         let (row, pin) = Row::<W>::of_words(alloc, &words, &size)?;
-        Ok((Board { row, capacity }, WordPublisher { published: 0, pin }))
+        Ok((
+            WordBoard { row, capacity },
+            WordPublisher { published: 0, pin },
+        ))
+    }
+
+    /// For how many entries it has room besides the opening one.
+    pub fn capacity(&self) -> u32
+        ensures { result ≡ self.now.capacity }
+    {
+        self.capacity
     }
 
     /// Writes the words of the next entry, one after another.
@@ -122,15 +132,22 @@ impl<const W: usize> Board<W> {
 }
 
 impl<const W: usize> WordPublisher<W> {
+    /// How many entries are published.
+    pub fn count(&self) -> u64
+        ensures { result ≡ length self.now.published }
+    {
+        self.published
+    }
+
     /// Whether the board has no room for an entry more.
-    pub fn is_full(&self, board: &Board<W>) -> bool
+    pub fn is_full(&self, board: &WordBoard<W>) -> bool
         ensures { IsTrue result ↔ (board.now.capacity < length self.now.published) }
     {
         self.published > u64::from(board.capacity)
     }
 
     /// Publishes an entry: its words are written, and then it is opened.
-    pub fn publish(&mut self, board: &Board<W>, entry: &[u64; W])
+    pub fn publish(&mut self, board: &WordBoard<W>, entry: &[u64; W])
         requires tie { self.old.tie ≡ board.now.tie }
         requires room { length self.old.published ≤ board.now.capacity }
         ensures tie { self.new.tie ≡ self.old.tie }
@@ -145,7 +162,7 @@ impl<const W: usize> WordPublisher<W> {
     }
 
     /// A reader that has seen all that is published.
-    pub fn reader(&mut self, board: &Board<W>) -> WordReader<W>
+    pub fn reader(&mut self, board: &WordBoard<W>) -> WordReader<W>
         requires tie { self.old.tie ≡ board.now.tie }
         requires some { 0 < length self.old.published }
         ensures same { self.new ≡ self.old }
@@ -157,7 +174,7 @@ impl<const W: usize> WordPublisher<W> {
     }
 
     /// The last entry that is published, which the reader has then seen with all before it.
-    pub fn read_board(&mut self, board: &Board<W>, reader: &mut WordReader<W>) -> WordReading<W>
+    pub fn read_board(&mut self, board: &WordBoard<W>, reader: &mut WordReader<W>) -> WordReading<W>
         requires tie { self.old.tie ≡ board.now.tie }
         requires reader { reader.old.tie ≡ board.now.tie }
         ensures same { self.new ≡ self.old }
@@ -178,7 +195,7 @@ impl<const W: usize> WordPublisher<W> {
 
 impl<const W: usize> WordReader<W> {
     /// The last entry of those that are then seen. They begin with all that was seen before.
-    pub fn read(&mut self, board: &Board<W>) -> WordReading<W>
+    pub fn read(&mut self, board: &WordBoard<W>) -> WordReading<W>
         requires { self.old.tie ≡ board.now.tie }
         ensures tie { self.new.tie ≡ self.old.tie }
         ensures seen { IsPrefix self.old.seen self.new.seen }

@@ -6,5 +6,5 @@
 mod board;
 mod word_row;
 
-pub use board::{Board, WordPublisher, WordReader, WordReading};
+pub use board::{WordBoard, WordPublisher, WordReader, WordReading};
 pub use word_row::BoardView;

@@ -10,17 +10,23 @@ use Rattle.zp_board.specs.Boards.{entry_at, last_of}
 use Rattle.zp_counts.specs.declared.reading.Reading.{Reading}
 use Rattle.zp_counts.specs.CountBoards.{IsReadingOf, count_in, counts_in}
 
--- a beginning of a list is mapped to a beginning of what the list is mapped to
-pub prefix_map : {X Y : Type 0} (f : X → Y) (xs ys : List X) → IsPrefix xs ys → IsPrefix (map f xs) (map f ys)
-prefix_map f xs ys p = (map f p.0, sym (map-append f xs p.0) ∙ ap (map f) p.1)
+-- where entries begin with others, so do the counts that they stand for
+pub prefix_counts : (f : List ℕ → Counts) (old new : List (List ℕ)) {before after : List Counts} → before ≡ map f old → after ≡ map f new → IsPrefix old new → IsPrefix before after
+prefix_counts f old new is_before is_after p = rw (is_before, is_after) (map f p.0, sym (map-append f old p.0) ∙ ap (map f) p.1)
+
+-- one entry more stands for its counts
+pub counts_more : (f : List ℕ → Counts) (es all : List (List ℕ)) (e : List ℕ) {before after : List Counts} {c : Counts} → before ≡ map f es → after ≡ map f all → all ≡ es ++ e ∷ [] → f e ≡ c
+    → after ≡ before ++ c ∷ []
+counts_more f es all e is_before is_after is same = is_after ∙ ap (map f) is ∙ map-append f es (e ∷ []) ∙ (λ j. sym is_before j ++ same j ∷ [])
 
 -- the last of some entries, read as counts, is a reading of theirs
-pub reading_last : (es : List (List ℕ)) (ws : List ℕ) (r : Reading) → r.place + 1 ≡ length es → ws ≡ last_of es → r.counts ≡ counts_in ws → IsReadingOf (map counts_in es) r
-reading_last es ws r place words counts =
+pub reading_last : (f : List ℕ → Counts) (es : List (List ℕ)) {cs : List Counts} (ws : List ℕ) (r : Reading) → cs ≡ map f es → r.place + 1 ≡ length es → ws ≡ last_of es → r.counts ≡ f ws
+    → IsReadingOf cs r
+reading_last f es ws r is place words counts =
     let at : r.place ≡ length es - 1 = omega arith in
-    slice_get-map counts_in es r.place
-    ∙ ap (option_map counts_in) (slice_get-get_or es r.place [] (omega arith) ∙ ap (λ n. Some (entry_at es n)) at ∙ ap Some (sym words))
-    ∙ ap Some (sym counts)
+    rw is (slice_get-map f es r.place
+    ∙ ap (option_map f) (slice_get-get_or es r.place [] (omega arith) ∙ ap (λ n. Some (entry_at es n)) at ∙ ap Some (sym words))
+    ∙ ap Some (sym counts))
 
 -- a reading of some counts is one of those that begin with them
 pub reading_kept : (xs ys : List Counts) (r : Reading) → IsPrefix xs ys → IsReadingOf xs r → IsReadingOf ys r

@@ -1,1 +1,3 @@
 pub mod CountLists
+pub mod Digits
+pub mod FewBlocks

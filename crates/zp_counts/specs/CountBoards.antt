@@ -1,10 +1,10 @@
 -- The counts of a zone on a board (this profile).
-use Rattle.std.specs.Prelude.{ℕ, ◌≡◌, ◌-◌, Some, slice_get, List, [], ◌∷◌, ◌++◌, length, map, min, take, slice_index_or}
+use Rattle.std.specs.Prelude.{ℕ, ◌≡◌, ◌-◌, ◌<◌, ◌≤◌, Bool, Some, slice_get, List, [], ◌∷◌, ◌++◌, length, map, min, take, slice_index, slice_index_or}
 use Rattle.atomic_table.specs.Seated.{TableId}
 use Rattle.zp_model.specs.declared.constants.TheConstants.{ORDERS}
 use Rattle.zp_model.specs.declared.counts.Counts.{Counts}
+use Rattle.zp_counts.specs.declared.packed.TheConstants.{WIDE, MIDDLE, NARROW}
 use Rattle.zp_counts.specs.declared.reading.Reading.{Reading}
-use Rattle.zp_board.specs.Boards.{PublisherState, ReaderState}
 
 -- the words of counts: those of each order, the least order first, and the free pages
 abbrev pub words_of : Counts → List ℕ
@@ -18,21 +18,33 @@ count_in w = min w 4294967295
 abbrev pub counts_in : List ℕ → Counts
 counts_in ws = record { by_order = map count_in (take ORDERS ws); free = count_in (slice_index_or ws ORDERS 0) }
 
+-- the counts of these orders are below a limit
+abbrev pub StayBelow : Counts → ℕ → ℕ → ℕ → Type 0
+StayBelow c from to limit = (k : ℕ) → from ≤ k → k < to → slice_index c.by_order k < limit
+
+-- the counts fit into packed words
+abbrev pub ArePackable : Counts → Type 0
+ArePackable c = (c.free < WIDE) × StayBelow c 0 2 WIDE × StayBelow c 2 6 MIDDLE × StayBelow c 6 ORDERS NARROW
+
+-- what ties a board to its publisher and its readers: its row of words, and whether the board turns
+pub record CountTie : Type 0 where
+  pub table : TableId
+  pub turns : Bool
+
+-- a board, to a contract: it has room for the opening counts and for as many more as its capacity
+pub record BoardState : Type 0 where
+  pub tie : CountTie
+  pub capacity : ℕ
+
 -- the publisher: the counts that are published, the opening ones first
 pub record CountsPublished : Type 0 where
-  pub tie : TableId
+  pub tie : CountTie
   pub published : List Counts
 
 -- a reader: the counts that it has seen
 pub record CountsSeen : Type 0 where
-  pub tie : TableId
+  pub tie : CountTie
   pub seen : List Counts
-
-abbrev pub published_counts : PublisherState → CountsPublished
-published_counts p = record { tie = p.tie; published = map counts_in p.published }
-
-abbrev pub seen_counts : ReaderState → CountsSeen
-seen_counts r = record { tie = r.tie; seen = map counts_in r.seen }
 
 -- the last of some counts
 abbrev pub last_counts : List Counts → Counts

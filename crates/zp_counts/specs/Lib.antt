@@ -1,1 +1,3 @@
 pub mod CountBoards
+pub mod Packing
+pub mod Kinds

@@ -1,53 +1,77 @@
 //! A board on which counts are published, its publisher and its readers.
-ghost use Rattle.std.specs.Prelude.{◌≡◌, ◌+◌, ◌*◌, ◌^◌, ◌<◌, ◌≤◌, ◌↔◌, [], ◌∷◌, ◌++◌, length, IfOk, IsTrue};
+ghost use Rattle.std.specs.Prelude.{◌≡◌, ◌+◌, ◌*◌, ◌^◌, ◌<◌, ◌≤◌, ◌↔◌, true, false, [], ◌∷◌, ◌++◌, length, IfOk, IsTrue};
 ghost use mathlib.Core.List.{IsPrefix};
-ghost use Rattle.zp_counts.specs.CountBoards.{IsReadingOf, counts_in, last_reading};
+ghost use Rattle.zp_counts.specs.CountBoards.{ArePackable, IsReadingOf, counts_in, last_reading};
+ghost use Rattle.zp_counts.specs.Kinds.{fixed_tie, turning_tie};
+ghost use Rattle.zp_counts.specs.Packing.{packed_in};
 ghost use Rattle.zp_counts.specs.declared.reading.Reading.{Reading};
 ghost use Rattle.zp_counts.specs.declared.words.TheConstants.{COUNT_WORDS};
 
+use crate::kinds::{BoardKind, PublisherKind, ReaderKind, SLOTS};
+use crate::packed::{PACKED_WORDS, packed_in, packed_words};
 use crate::reading::Reading;
 use crate::words::{COUNT_WORDS, counts_in, words_of};
 use std::alloc::{AllocError, Global};
 use std::marker::Model;
-use zp_board::WordReading;
+use zp_board::{WordBoard, WordReading};
 use zp_model::Counts;
+use zp_ring::{Ring, RingReading};
 
-/// The words that all threads share. Contracts see the identity of its tie, and for how many counts it has room besides the opening
-/// ones.
-pub type Board = zp_board::Board<COUNT_WORDS>;
+/// The words that all threads share. Contracts see its tie, and how many counts can be published on it besides the opening ones.
+#[derive(Drop)]
+pub struct Board {
+    kind: BoardKind,
+}
 
-/// The right to publish. It cannot be copied. Contracts see the identity of its tie, and the counts that are published.
+impl Model for Board {
+    ghost use Rattle.std.specs.Prelude.{◌<◌, ◌^◌};
+    ghost use Rattle.zp_counts.specs.CountBoards.{BoardState};
+
+    ghost Value = { BoardState };
+
+    ghost use Rattle.zp_counts.specs.Kinds.{board_state};
+
+    ghost view = { λ b. board_state b.kind };
+
+    ghost invariant = { λ b. (board_state b.kind).capacity < 2 ^ 64 };
+}
+
+/// The right to publish. It cannot be copied. Contracts see its tie, and the counts that are published.
 #[derive(Drop)]
 pub struct Publisher {
-    entries: zp_board::WordPublisher<COUNT_WORDS>,
+    kind: PublisherKind,
 }
 
 impl Model for Publisher {
     ghost use Rattle.std.specs.Prelude.{◌<◌, length};
-    ghost use Rattle.zp_counts.specs.CountBoards.{CountsPublished, published_counts};
+    ghost use Rattle.zp_counts.specs.CountBoards.{CountsPublished};
 
     ghost Value = { CountsPublished };
 
-    ghost view = { λ p. published_counts p.entries };
+    ghost use Rattle.zp_counts.specs.Kinds.{published_counts};
 
-    ghost invariant = { λ p. 0 < length p.entries.published };
+    ghost view = { λ p. published_counts p.kind };
+
+    ghost invariant = { λ p. 0 < length (published_counts p.kind).published };
 }
 
-/// The right to read. It cannot be copied. Contracts see the identity of its tie, and the counts that it has seen.
+/// The right to read. It cannot be copied. Contracts see its tie, and the counts that it has seen.
 #[derive(Drop)]
 pub struct BoardReader {
-    entries: zp_board::WordReader<COUNT_WORDS>,
+    kind: ReaderKind,
 }
 
 impl Model for BoardReader {
-    ghost use Rattle.zp_counts.specs.CountBoards.{CountsSeen, seen_counts};
+    ghost use Rattle.zp_counts.specs.CountBoards.{CountsSeen};
 
     ghost Value = { CountsSeen };
 
-    ghost view = { λ r. seen_counts r.entries };
+    ghost use Rattle.zp_counts.specs.Kinds.{seen_counts};
+
+    ghost view = { λ r. seen_counts r.kind };
 }
 
-/// A board with the opening counts, and its publisher. No later call takes memory.
+/// A board with the opening counts, and its publisher. It has room for each of its counts. No later call takes memory.
 pub fn new_board(
     alloc: Global,
     capacity: u32,
@@ -55,30 +79,113 @@ pub fn new_board(
 ) -> Result<(Board, Publisher), AllocError>
     requires { COUNT_WORDS * (capacity + 1) + 1 < 2 ^ 32 }
     ensures tie { IfOk result (λ r. r.1.tie ≡ r.0.tie) }
+    ensures turns { IfOk result (λ r. r.0.tie.turns ≡ false) }
     ensures capacity { IfOk result (λ r. r.0.capacity ≡ capacity) }
     ensures published { IfOk result (λ r. r.1.published ≡ opening.now ∷ []) }
 {
-    let (board, mut entries) = Board::new(alloc, capacity)?;
-    entries.publish(&board, &words_of(opening));
-    Ok((board, Publisher { entries }))
+    let (words, mut entries) = WordBoard::new(alloc, capacity)?;
+    entries.publish(&words, &words_of(opening));
+    let board = Board {
+        kind: BoardKind::Fixed(words),
+    };
+    let publisher = Publisher {
+        kind: PublisherKind::Fixed(entries),
+    };
+    Ok((board, publisher))
+}
+
+/// A board with the opening counts, and its publisher. It turns: it has room for some counts, and the oldest give way to the newest. So it
+/// takes the same memory whatever the capacity is, and no later call takes any.
+pub fn new_turning_board(
+    alloc: Global,
+    capacity: u64,
+    opening: &Counts,
+) -> Result<(Board, Publisher), AllocError>
+    requires packable { ArePackable opening.now }
+    ensures tie { IfOk result (λ r. r.1.tie ≡ r.0.tie) }
+    ensures turns { IfOk result (λ r. r.0.tie.turns ≡ true) }
+    ensures capacity { IfOk result (λ r. r.0.capacity ≡ capacity) }
+    ensures published { IfOk result (λ r. r.1.published ≡ opening.now ∷ []) }
+{
+    let (ring, entries) = Ring::new(alloc, &packed_words(opening))?;
+    let board = Board {
+        kind: BoardKind::Turning(ring, capacity),
+    };
+    let publisher = Publisher {
+        kind: PublisherKind::Turning(entries),
+    };
+    Ok((board, publisher))
+}
+
+impl Board {
+    /// The words of a board that does not turn.
+    fn fixed(&self) -> &WordBoard<COUNT_WORDS>
+        requires { self.now.tie.turns ≡ false }
+        ensures tie { self.now.tie ≡ fixed_tie result.now.tie }
+        ensures capacity { self.now.capacity ≡ result.now.capacity }
+    {
+        match &self.kind {
+            BoardKind::Fixed(words) => words,
+            BoardKind::Turning(..) => unreachable!(),
+        }
+    }
+
+    /// The words of one that turns.
+    fn turning(&self) -> &Ring<PACKED_WORDS, SLOTS>
+        requires { self.now.tie.turns ≡ true }
+        ensures tie { self.now.tie ≡ turning_tie result.now.tie }
+        ensures capacity { self.now.capacity < 2 ^ 64 }
+    {
+        match &self.kind {
+            BoardKind::Fixed(_) => unreachable!(),
+            BoardKind::Turning(ring, _) => ring,
+        }
+    }
+
+    /// How many counts can be published on it besides the opening ones.
+    fn capacity(&self) -> u64
+        ensures { result ≡ self.now.capacity }
+    {
+        match &self.kind {
+            BoardKind::Fixed(words) => u64::from(words.capacity()),
+            BoardKind::Turning(_, capacity) => *capacity,
+        }
+    }
 }
 
 impl Publisher {
-    /// Whether the board has no room for more.
+    /// Whether the board has no room for more. None has room for more than can be numbered.
     pub fn is_full(&self, board: &Board) -> bool
-        ensures { IsTrue result ↔ (board.now.capacity < length self.now.published) }
+        ensures full { IsTrue result ↔ (board.now.capacity < length self.now.published) }
+        ensures within { board.now.capacity < 2 ^ 64 }
     {
-        self.entries.is_full(board)
+        self.place() >= board.capacity()
+    }
+
+    /// The place of the last counts that are published.
+    pub fn place(&self) -> u64
+        ensures { result + 1 ≡ length self.now.published }
+    {
+        match &self.kind {
+            PublisherKind::Fixed(entries) => entries.count() - 1,
+            PublisherKind::Turning(entries) => entries.place(),
+        }
     }
 
     /// Publishes counts: their words are written, and then they are opened.
     pub fn publish(&mut self, board: &Board, counts: &Counts)
         requires tie { self.old.tie ≡ board.now.tie }
         requires room { length self.old.published ≤ board.now.capacity }
+        requires packable { self.old.tie.turns ≡ true → ArePackable counts.now }
         ensures tie { self.new.tie ≡ self.old.tie }
         ensures published { self.new.published ≡ self.old.published ++ counts.now ∷ [] }
     {
-        self.entries.publish(board, &words_of(counts));
+        match &mut self.kind {
+            PublisherKind::Fixed(entries) => entries.publish(board.fixed(), &words_of(counts)),
+            PublisherKind::Turning(entries) => {
+                entries.publish(board.turning(), &packed_words(counts))
+            }
+        }
     }
 
     /// A reader that has seen all that is published.
@@ -87,9 +194,13 @@ impl Publisher {
         ensures same { self.new ≡ self.old }
         ensures reader { result ≡ record { tie = self.old.tie; seen = self.old.published } }
     {
-        BoardReader {
-            entries: self.entries.reader(board),
-        }
+        let kind = match &mut self.kind {
+            PublisherKind::Fixed(entries) => ReaderKind::Fixed(entries.reader(board.fixed())),
+            PublisherKind::Turning(entries) => {
+                ReaderKind::Turning(entries.reader(board.turning()))
+            }
+        };
+        BoardReader { kind }
     }
 
     /// The last counts that are published, with their place. The reader has then seen them, and all before them.
@@ -105,13 +216,21 @@ impl Publisher {
         ensures taken { IsReadingOf self.old.published result }
         ensures kept { (r : Reading) → IsReadingOf reader.old.seen r → IsReadingOf self.old.published r }
     {
-        reading_of(&self.entries.read_board(board, &mut reader.entries))
+        match (&mut self.kind, &mut reader.kind) {
+            (PublisherKind::Fixed(entries), ReaderKind::Fixed(seen)) => {
+                reading_of(&entries.read_board(board.fixed(), seen))
+            }
+            (PublisherKind::Turning(entries), ReaderKind::Turning(seen)) => {
+                turned_reading_of(&entries.read_board(board.turning(), seen))
+            }
+            _ => unreachable!(),
+        }
     }
 }
 
 impl BoardReader {
-    /// The last counts of those that are then seen, with their place: one load of the place, and one of each word. They begin with all
-    /// that was seen before. Takes no lock and never waits.
+    /// The last counts of those that are then seen, with their place. They begin with all that was seen before. Takes no lock and never
+    /// waits.
     pub fn read(&mut self, board: &Board) -> Reading
         requires { self.old.tie ≡ board.now.tie }
         ensures tie { self.new.tie ≡ self.old.tie }
@@ -123,7 +242,10 @@ impl BoardReader {
         ensures taken { IsReadingOf self.new.seen result }
         ensures kept { (r : Reading) → IsReadingOf self.old.seen r → IsReadingOf self.new.seen r }
     {
-        reading_of(&self.entries.read(board))
+        match &mut self.kind {
+            ReaderKind::Fixed(entries) => reading_of(&entries.read(board.fixed())),
+            ReaderKind::Turning(entries) => turned_reading_of(&entries.read(board.turning())),
+        }
     }
 }
 
@@ -134,6 +256,17 @@ fn reading_of(found: &WordReading<COUNT_WORDS>) -> Reading
 {
     Reading {
         counts: counts_in(&found.words),
+        place: found.place,
+    }
+}
+
+/// The same, where the words are packed.
+fn turned_reading_of(found: &RingReading<PACKED_WORDS>) -> Reading
+    ensures counts { result.counts ≡ packed_in found.now.words }
+    ensures place { result.place ≡ found.now.place }
+{
+    Reading {
+        counts: packed_in(&found.words),
         place: found.place,
     }
 }

@@ -5,10 +5,14 @@
 #![tactic(auto)]
 
 mod board;
+mod kinds;
+mod packed;
 mod reading;
 mod words;
 
-pub use board::{Board, BoardReader, Publisher, new_board};
+pub use board::{Board, BoardReader, Publisher, new_board, new_turning_board};
+pub use kinds::SLOTS;
+pub use packed::{PACKED_WORDS, are_packable};
 pub use reading::Reading;
 pub use words::COUNT_WORDS;
 

@@ -3,6 +3,14 @@ use super::*;
 use std::test::*;
 use zp_model::Counts;
 
+/// The largest counts that fit into packed words.
+const LARGEST: Counts = Counts {
+    by_order: [
+        2_097_151, 2_097_151, 65_535, 65_535, 65_535, 65_535, 4095, 4095, 4095, 4095, 4095,
+    ],
+    free: 2_097_151,
+};
+
 /// Such counts at a place.
 fn single_pages_at(place: u64, free: u32) -> Reading {
     Reading {
@@ -38,6 +46,67 @@ fn readers_see_the_last_counts(rt: HostRuntime) -> Result<(), Fail> {
     assert_eq!(rt; second.read(&board), all);
     assert_eq!(rt; publisher.read_board(&board, &mut first), all);
     Ok(())
+}
+
+#[test]
+fn readers_see_the_last_counts_of_a_board_that_turns(rt: HostRuntime) -> Result<(), Fail> {
+    let opening = single_pages(7);
+    assert!(rt; are_packable(&opening));
+    let (board, mut publisher) = new_turning_board(rt.alloc(), 2, &opening)?;
+    let mut first = publisher.reader(&board);
+    let mut second = publisher.reader(&board);
+    assert_eq!(rt; first.read(&board), single_pages_at(0, 7));
+    let counts = single_pages(65_536);
+    assert!(rt; are_packable(&counts));
+    publisher.publish(&board, &counts);
+    assert!(rt; !publisher.is_full(&board));
+    assert_eq!(rt; first.read(&board), single_pages_at(1, 65_536));
+    assert!(rt; are_packable(&LARGEST));
+    publisher.publish(&board, &LARGEST);
+    assert!(rt; publisher.is_full(&board));
+    let all = Reading {
+        counts: LARGEST,
+        place: 2,
+    };
+    // what was published before its first read, it sees
+    assert_eq!(rt; second.read(&board), all);
+    assert_eq!(rt; publisher.read_board(&board, &mut first), all);
+    Ok(())
+}
+
+#[test]
+fn a_board_that_turns_goes_on_after_its_slots(rt: HostRuntime) -> Result<(), Fail> {
+    let opening = single_pages(0);
+    assert!(rt; are_packable(&opening));
+    let (board, mut publisher) = new_turning_board(rt.alloc(), u64::MAX, &opening)?;
+    let mut early = publisher.reader(&board);
+    let mut often = publisher.reader(&board);
+    for free in 1..40 {
+        let counts = single_pages(free);
+        assert!(rt; are_packable(&counts));
+        assert!(rt; !publisher.is_full(&board));
+        publisher.publish(&board, &counts);
+        assert_eq!(rt; often.read(&board), single_pages_at(u64::from(free), free));
+    }
+    // it was passed by more than there are slots
+    assert_eq!(rt; early.read(&board), single_pages_at(39, 39));
+    assert_eq!(rt;
+        publisher.read_board(&board, &mut often),
+        single_pages_at(39, 39)
+    );
+    Ok(())
+}
+
+#[test]
+fn counts_with_one_too_many_do_not_fit(rt: HostRuntime) {
+    assert!(rt; are_packable(&LARGEST));
+    for order in 0..zp_model::ORDERS {
+        let mut counts = LARGEST;
+        counts.by_order[order] += 1;
+        assert!(rt; !are_packable(&counts));
+    }
+    let free = LARGEST.free + 1;
+    assert!(rt; !are_packable(&Counts { free, ..LARGEST }));
 }
 
 #[test]

@@ -173,7 +173,7 @@ fn row_as<J: Naming, R: Wait>(
     requires one { length share.zones ≡ 1 }
 {
     let readers = alone(alloc, opened.reader())?;
-    let row = share_zones::<J>(alloc, alone(alloc, opened)?)?;
+    let row = share_zones::<J, _>(alloc, alone(alloc, opened)?)?;
     let zones = LockedZones::<J, (), R>::new(rt, row.as_slice(), readers);
     let mut hand = RowHand { zones, share };
     hand.rounds(calls)

@@ -3,7 +3,7 @@ use Rattle.std.proofs.Common.{ℕ, ◌≡◌, ◌∙◌, List, [], ◌∷◌, Al
 use Rattle.std.specs.Prelude.{replicate}
 use Rattle.std.specs.List.{AllZip}
 use Rattle.std.proofs.lemmas.List.Elements.{All-head, All-tail}
-use Rattle.zp_board.specs.Boards.{BoardState}
+use Rattle.zp_counts.specs.CountBoards.{BoardState}
 use Rattle.zp_share.specs.Shares.{ZoneKey, IsShareOf}
 use Rattle.zp_shared.specs.Rows.{OpenedState, opened_board}
 use Rattle.zp_shared.proofs.Places.{zip_all}

@@ -2,7 +2,7 @@
 use Rattle.std.proofs.Common.{◌≡◌, zero, suc, List, [], ◌∷◌, length, map, refl, sym, subst, All, arith}
 use Rattle.std.specs.Global.{Vec}
 use Rattle.std.specs.List.{AllZip}
-use Rattle.zp_board.specs.Boards.{BoardState}
+use Rattle.zp_counts.specs.CountBoards.{BoardState}
 use Rattle.zp_counts.specs.CountBoards.{CountsSeen}
 use Rattle.zp_share.specs.Shares.{ZoneKey}
 use Rattle.zp_shared.specs.Rows.{AreKept, AreReaders, OpenedState, opened_board, opened_key}

@@ -5,7 +5,7 @@ ghost use Rattle.std.specs.Vec.{vec_capacity};
 ghost use Rattle.zp_model.specs.declared.refused.Refused.TheVariants.{Memory, NoThread};
 ghost use Rattle.zp_zone.specs.Seats.{ZoneState};
 ghost use Rattle.zp_journal.specs.declared.journal.TheConstants.{LONGEST_JOURNAL};
-ghost use Rattle.zp_board.specs.Boards.{BoardState};
+ghost use Rattle.zp_counts.specs.CountBoards.{BoardState};
 ghost use Rattle.zp_journal.specs.Journals.{IsJournalOf, JournalState};
 ghost use Rattle.zp_share.specs.Shares.{IsShareOf, key_of};
 ghost use Rattle.zp_office.specs.Desks.{DeskState, IsReady, IsWorked};
@@ -111,7 +111,7 @@ fn run_as<J: Naming + Send + Sync, R: Threads + Wait + Sync, G: Gate + Sync>(
     ensures memory { result ≡ Err Memory → desks.new ≡ desks.old }
     ensures why { IfErr result (λ e. (e ≡ Memory) ⊎ (e ≡ NoThread)) }
 {
-    let row = share_zones::<J>(alloc, opened)?;
+    let row = share_zones::<J, _>(alloc, opened)?;
     run_workers(rt, alloc, &row, readers, desks, gate)?;
     let (zones, journals) = room;
     close_zones(row, readers, zones, journals).ok_or(Refused::NoThread)

@@ -18,15 +18,20 @@ use std::thread::Threads;
 use zp_beside::join_or_neither_on;
 use zp_counts::BoardReader;
 use zp_model::Refused;
-use zp_shared::{Earlier, LockedZones, Naming, SharedZone};
+use zp_shared::{Earlier, Keeps, LockedZones, Naming, SharedZone};
 
 /// Each worker carries out its script, in a thread of its own and all at the same time, with its row of readers, one of each zone.
 /// Where a thread cannot be started, refused 31, that desk and those after it are left as they were, and the workers before it go on
-/// to their end. Takes no memory.
-pub fn run_workers<J: Naming + Send + Sync, R: Threads + Wait + Sync, G: Gate + Sync>(
+/// to their end. Takes no memory but what a thread takes to be started.
+pub fn run_workers<
+    J: Naming + Send + Sync,
+    K: Keeps + Send,
+    R: Threads + Wait + Sync,
+    G: Gate + Sync,
+>(
     rt: &R,
     alloc: Global,
-    zones: &[SharedZone<J>],
+    zones: &[SharedZone<J, K>],
     readers: &mut [Vec<BoardReader>],
     desks: &mut [Desk],
     gate: &G,
@@ -44,11 +49,16 @@ pub fn run_workers<J: Naming + Send + Sync, R: Threads + Wait + Sync, G: Gate + 
 
 // As `run_workers`, with threads that have stacks of so many bytes, where a size is named.
 #[cycle(row)]
-pub(crate) fn run_row<J: Naming + Send + Sync, R: Threads + Wait + Sync, G: Gate + Sync>(
+pub(crate) fn run_row<
+    J: Naming + Send + Sync,
+    K: Keeps + Send,
+    R: Threads + Wait + Sync,
+    G: Gate + Sync,
+>(
     rt: &R,
     alloc: Global,
     stack_size: Option<usize>,
-    zones: &[SharedZone<J>],
+    zones: &[SharedZone<J, K>],
     gate: &G,
     readers: &mut [Vec<BoardReader>],
     desks: &mut [Desk],
@@ -72,11 +82,11 @@ pub(crate) fn run_row<J: Naming + Send + Sync, R: Threads + Wait + Sync, G: Gate
 
 // The first worker works beside the rest.
 #[cycle(row)]
-fn run_beside<J: Naming + Send + Sync, R: Threads + Wait + Sync, G: Gate + Sync>(
+fn run_beside<J: Naming + Send + Sync, K: Keeps + Send, R: Threads + Wait + Sync, G: Gate + Sync>(
     rt: &R,
     alloc: Global,
     stack_size: Option<usize>,
-    zones: &[SharedZone<J>],
+    zones: &[SharedZone<J, K>],
     gate: &G,
     mine: &mut Vec<BoardReader>,
     first: &mut Desk,
@@ -93,11 +103,11 @@ fn run_beside<J: Naming + Send + Sync, R: Threads + Wait + Sync, G: Gate + Sync>
     ensures others { AllZip (AreKept J.zones J.boards) others.old others.new }
 {
     let mut front = ||
-        requires { IsSync R.row × IsSync G.row × IsSend J.row × IsSync J.row × IsRowOf J.zones zones.now × AreReaders J.zones J.boards mine.now × IsReady J.zones first.now }
+        requires { IsSync R.row × IsSync G.row × IsSend J.row × IsSync J.row × IsSend K.row × IsRowOf J.zones zones.now × AreReaders J.zones J.boards mine.now × IsReady J.zones first.now }
         ensures { IsWorked first.entry.now first.exit.now × AreKept J.zones J.boards mine.entry.now mine.exit.now }
     { work_at(rt, alloc, zones, gate, mine, first) };
     let mut back = || -> Result<(), Refused>
-        requires { IsSync R.row × IsSync G.row × IsSend J.row × IsSync J.row × IsRowOf J.zones zones.now × AllZip (IsLentTo J.zones J.boards) others.now rest.now × All (IsReady J.zones) rest.now }
+        requires { IsSync R.row × IsSync G.row × IsSend J.row × IsSync J.row × IsSend K.row × IsRowOf J.zones zones.now × AllZip (IsLentTo J.zones J.boards) others.now rest.now × All (IsReady J.zones) rest.now }
         ensures { IsRun result rest.entry.now rest.exit.now × AllZip (AreKept J.zones J.boards) others.entry.now others.exit.now }
     { run_row(rt, alloc, stack_size, zones, gate, others, rest) };
     match join_or_neither_on(rt, stack_size, &mut front, &mut back) {
@@ -107,10 +117,10 @@ fn run_beside<J: Naming + Send + Sync, R: Threads + Wait + Sync, G: Gate + Sync>
 }
 
 // One worker works, over a view of its own.
-fn work_at<J: Naming, R: Wait, G: Gate>(
+fn work_at<J: Naming, K: Keeps, R: Wait, G: Gate>(
     rt: &R,
     alloc: Global,
-    zones: &[SharedZone<J>],
+    zones: &[SharedZone<J, K>],
     gate: &G,
     readers: &mut Vec<BoardReader>,
     desk: &mut Desk,
@@ -122,13 +132,13 @@ fn work_at<J: Naming, R: Wait, G: Gate>(
     ensures readers { AreKept J.zones J.boards readers.old readers.new }
 {
     let lent = mem::replace(readers, Vec::new(alloc));
-    *readers = work_since::<J, Brand, R, G>(rt, zones, gate, lent, desk);
+    *readers = work_since::<J, K, Brand, R, G>(rt, zones, gate, lent, desk);
 }
 
 // As `work_at`, under the name of what the readers have seen.
-fn work_since<J: Naming, E: Earlier, R: Wait, G: Gate>(
+fn work_since<J: Naming, K: Keeps, E: Earlier, R: Wait, G: Gate>(
     rt: &R,
-    zones: &[SharedZone<J>],
+    zones: &[SharedZone<J, K>],
     gate: &G,
     readers: Vec<BoardReader>,
     desk: &mut Desk,
@@ -140,7 +150,7 @@ fn work_since<J: Naming, E: Earlier, R: Wait, G: Gate>(
     ensures worked { IsWorked desk.old desk.new }
     ensures readers { AreKept J.zones J.boards readers result }
 {
-    let mut view = LockedZones::<J, E, R>::new(rt, zones, readers);
+    let mut view = LockedZones::<J, E, R, K>::new(rt, zones, readers);
     work(desk, &mut view, gate);
     view.into_readers()
 }

@@ -1,6 +1,7 @@
 -- A request of a share to the guarded zone at its place: what the zone, its journal, its board and the share are after it.
 use Rattle.std.proofs.Common.{ℕ, ◌≡◌, ◌≢◌, ◌<◌, ◌≤◌, ◌==◌, ◌+◌, ◌++◌, ◌-◌, ◌⊎◌, inl, inr, Bool, true, false, leb, refl, sym, ◌∙◌, ap, ap₂, subst, arith, cond, List, [], ◌∷◌, get_or, length, length-append, None, Some, ◌↔◌}
-use Rattle.std.proofs.lemmas.Bool.{eqb-true, leb-false}
+use Rattle.std.proofs.lemmas.Bool.{eqb-true, leb-false, leb-true}
+use Rattle.std.specs.Prelude.{IsTrue}
 use Rattle.std.proofs.Math.ListN.{get_or-map}
 use Rattle.std.proofs.Math.Seq.{map-set_same}
 use Rattle.std.proofs.lemmas.List.{set-get_or, take_all}
@@ -18,10 +19,9 @@ use Rattle.zp_model.specs.Run.{IsHistory, opening_of, run}
 use Rattle.zp_laws.proofs.Histories.{opening-step, run_more}
 use Rattle.zp_laws.proofs.Sameness.{step-same}
 use Rattle.zp_zone.specs.Seats.{ZoneState, IsSeatOf}
-use Rattle.zp_board.specs.Boards.{BoardState}
+use Rattle.zp_counts.specs.CountBoards.{BoardState}
 use Rattle.zp_counts.specs.CountBoards.{CountsPublished}
-use Rattle.zp_journal.specs.declared.journal.TheConstants.{LONGEST_JOURNAL}
-use Rattle.zp_journal.specs.Journals.{JournalState, counts_after}
+use Rattle.zp_journal.specs.Journals.{counts_after}
 use Rattle.zp_share.specs.declared.sections.TheConstants.{LAST_SECTION}
 use Rattle.zp_share.specs.PlainShares.{lends, lends_for, refusal, refused_full}
 use Rattle.zp_share.specs.Sections.{ComesOf, IsAsked, IsReplyTo}
@@ -61,18 +61,6 @@ share_noted r q z y s t i others made =
     ∙ ap (λ v. with_zone_share i v s) made.share
     ∙ sym (ap (λ v. cond v (with_zone_share i (answered r q (share_at s i)) s) s) (ap is_section made.reply ∙ step-section z.plain (share_at s i).seat.worker r))
 
--- a section is one entry of the zone, the share's last one
-one_entry : (r : Request) (q : Reply) (z y : ZoneState) (a b : ZoneShareState) (j k : JournalState) → IsSection r q z y a b → j.entries ≡ z.entries →
-    ((e : Entry) → b.sections.last ≡ Some e → k ≡ record { capacity = j.capacity; entries = j.entries ++ e ∷ [] }) → (k.entries ≡ y.entries) × (k.capacity ≡ j.capacity)
-one_entry r q z y a b j k made was noted =
-    let e : Entry = entry_of z.plain a.seat.worker r in
-    let said : Entry = record { worker = a.seat.worker; request = r; reply = q } in
-    let same : said ≡ e = ap (λ x. let d : Entry = record { worker = a.seat.worker; request = r; reply = x } in d) made.reply in
-    let more = noted said (ap (λ v. v.sections.last) made.share) in (
-      ap (λ (v : JournalState). v.entries) more ∙ ap₂ (λ es (d : Entry). es ++ d ∷ []) was same ∙ sym (ap (λ (v : ZoneState). v.entries) made.zone),
-      ap (λ (v : JournalState). v.capacity) more,
-    )
-
 pub filter_few : {X : Type 0} (p : X → Bool) (xs : List X) → length (filter p xs) ≤ length xs
 filter_few p [] = omega arith
 filter_few p (x ∷ xs) = go (p x) refl (filter_few p xs)
@@ -81,30 +69,18 @@ filter_few p (x ∷ xs) = go (p x) refl (filter_few p xs)
     go true e ih = rw e (omega (arith, ih))
     go false e ih = rw e (omega (arith, ih))
 
--- a share of a zone whose journal has room can count a section more
-pub few_sections : (z : ZoneState) (s : ZoneShareState) (capacity : ℕ) → SharesIn z s → length z.entries < capacity → capacity ≤ LONGEST_JOURNAL → s.sections.made ≢ LAST_SECTION
+-- a share of a zone that has room for an entry more can count a section more
+pub few_sections : (z : ZoneState) (s : ZoneShareState) (capacity : ℕ) → SharesIn z s → length z.entries < capacity → capacity ≤ LAST_SECTION → s.sections.made ≢ LAST_SECTION
 few_sections z s capacity in_zone room long last =
     let few : length (made_by s.seat.worker z.entries) ≤ length z.entries = filter_few (λ (e : Entry). Rattle.std.specs.Prelude.nat_eq e.worker s.seat.worker) z.entries in
     omega (arith, few, in_zone.sections, room, long, last)
 
--- what lies under a lock: a place, a zone, its journal, and the right to publish
-pub record Parts : Type 0 where
+-- what lies under a lock: a place, a zone, what is kept of it, and the right to publish
+pub record Parts (X : Type 0) : Type 0 where
   pub place : ℕ
   pub zone : ZoneState
-  pub journal : JournalState
+  pub journal : X
   pub publisher : CountsPublished
-
-abbrev pub guarded_of : Parts → GuardedZone
-guarded_of p = record { place = p.place; capacity = p.journal.capacity; zone = p.zone; published = p.publisher.published }
-
--- they belong together, and to their place of the row
-abbrev pub AreGuarded : List ZoneKey → List BoardState → Parts → Type 0
-AreGuarded keys boards p =
-    (key_of p.zone ≡ key_at keys p.place)
-    × (p.journal.entries ≡ p.zone.entries)
-    × (p.publisher.tie ≡ (board_at boards p.place).tie)
-    × (p.journal.capacity ≡ (board_at boards p.place).capacity)
-    × IsPublished p.zone p.publisher.published
 
 -- a list with one more at its end is another list
 longer : {X : Type 0} (xs ys : List X) (x : X) → ys ≡ xs ++ x ∷ [] → ys ≡ xs → ⊥
@@ -139,65 +115,12 @@ still_published r q z y a b cs ds was history made published =
           (subst (AreCountsAfter o (z.entries ++ e ∷ [])) (sym published) (counts_more o z.entries e cs (zone_counts y) was.many was.each own)));
     }
 
--- a share turned to the guarded zone at its place, with which the zone, its journal, and what the share has of it alone became others:
--- one section was made, and noted; then the zone's counts were published
-pub record IsCall (keys : List ZoneKey) (boards : List BoardState) (r : Request) (q : Reply) (p : Parts) (y : ZoneState) (k : JournalState) (u : CountsPublished) (s t : ShareState) : Type 0 where
-  pub guarded : AreGuarded keys boards p
-  pub fits : IsShareOf keys s
-  pub others : t ≡ with_zone_share p.place (share_at t p.place) s
-  pub asked : IsAsked r q p.zone y (share_at s p.place) (share_at t p.place)
-  pub is_section : is_section q ≡ true
-  pub noted : (e : Entry) → (share_at t p.place).sections.last ≡ Some e → k ≡ record { capacity = p.journal.capacity; entries = p.journal.entries ++ e ∷ [] }
-  pub history : IsHistory p.zone.plain p.zone.entries
-  pub tie : u.tie ≡ p.publisher.tie
-  pub published : u.published ≡ p.publisher.published ++ zone_counts y ∷ []
-
--- what is left: the zone, its journal and its board belong to their place still
-pub record IsAfter (keys : List ZoneKey) (boards : List BoardState) (r : Request) (q : Reply) (g : GuardedZone) (n : Parts) (s t : ShareState) : Type 0 where
-  pub guarded : AreGuarded keys boards n
-  pub asked : IsAskedUnderLock keys r q g (guarded_of n) s t
-
 -- a request that was a section was made, of a block that is lent
 was_made : (lent last full : Bool) (r : Request) (q : Reply) (z y : ZoneState) (a b : ZoneShareState) → ComesOf (refusal lent last) r q z y a b → is_section q ≡ true → full ≡ false →
     IsSection r q z y a b × ComesOf (refusal lent full) r q z y a b
 was_made false last full r q z y a b x e f = absurd (let same : false ≡ true = sym (ap is_section x.0) ∙ e in cc)
 was_made true true full r q z y a b x e f = absurd (let same : false ≡ true = sym (ap is_section x.0) ∙ e in cc)
 was_made true false full r q z y a b x e f = (x, subst (λ v. ComesOf (refusal true v) r q z y a b) (sym f) x)
-
-pub after : (keys : List ZoneKey) (boards : List BoardState) (r : Request) (q : Reply) (g : GuardedZone) (p : Parts) (y : ZoneState) (k : JournalState) (u : CountsPublished) (s t : ShareState) →
-    IsCall keys boards r q p y k u s t → guarded_of p ≡ g → leb p.journal.capacity (length p.journal.entries) ≡ false →
-    IsAfter keys boards r q g (record { place = p.place; zone = y; journal = k; publisher = u }) s t
-after keys boards r q g p y k u s t c view room =
-    let i = p.place in
-    let n : Parts = record { place = i; zone = y; journal = k; publisher = u } in
-    let own = plain_share (share_at s i) in
-    let free : is_journal_full (guarded_of p) ≡ false = ap (λ es. leb p.journal.capacity (length es)) (sym c.guarded.1) ∙ room in
-    let made = was_made (lends_for r own) (own.sections.made == LAST_SECTION) (is_journal_full (guarded_of p)) r q p.zone y (share_at s i) (share_at t i) c.asked.made c.is_section free in
-    let key : key_of y ≡ key_at keys i = key_kept r q p.zone y (share_at s i) (share_at t i) made.0 ∙ c.guarded.0 in
-    let entry = one_entry r q p.zone y (share_at s i) (share_at t i) p.journal k made.0 c.guarded.1 c.noted in
-    let e : Entry = entry_of p.zone.plain (share_at s i).seat.worker r in
-    let more : y.entries ≡ p.zone.entries ++ e ∷ [] = ap (λ (v : ZoneState). v.entries) made.0.zone in
-    subst (λ v. IsAfter keys boards r q v n s t) view
-    (record {
-      guarded = (key, entry.0, c.tie ∙ c.guarded.2, entry.1 ∙ c.guarded.3, still_published r q p.zone y (share_at s i) (share_at t i) p.publisher.published u.published c.guarded.4 c.history made.0 c.published);
-      asked =
-          record {
-            made = made.1;
-            published = counts_published (guarded_of p) (guarded_of n) e more c.published;
-            kept =
-                record {
-                  place = refl;
-                  capacity = entry.1;
-                  key = key;
-                  seats = c.asked.seats;
-                  seat = c.asked.same;
-                  others = c.others;
-                  fits = share_kept keys r q p.zone y s t i c.fits c.others made.0;
-                };
-            share = share_noted r q p.zone y s t i c.others made.0;
-            reply = c.asked.reply;
-          };
-    })
 
 -- nothing was asked, and all is as it was
 unasked : (keys : List ZoneKey) (r : Request) (q : Reply) (g : GuardedZone) (s : ShareState) → key_of g.zone ≡ key_at keys g.place → IsShareOf keys s → is_section q ≡ false →
@@ -210,6 +133,7 @@ unasked keys r q g s key fits none reply made = record {
       record {
         place = refl;
         capacity = refl;
+        handed = refl;
         key = key;
         seats = λ x a. a;
         seat = record { tie = refl; worker = refl };
@@ -245,15 +169,6 @@ pub full_section : (lent : Bool) → is_section (Reply.Refused (cond lent Journa
 full_section true = refl
 full_section false = refl
 
--- a full journal
-pub full_left : (keys : List ZoneKey) (boards : List BoardState) (r : Request) (g : GuardedZone) (p : Parts) (s : ShareState) → AreGuarded keys boards p → IsShareOf keys s → guarded_of p ≡ g →
-    leb p.journal.capacity (length p.journal.entries) ≡ true → IsAskedUnderLock keys r (refused_full r (plain_share (share_at s p.place))) g g s s
-full_left keys boards r g p s guarded fits view full =
-    let own = plain_share (share_at s p.place) in
-    subst (λ v. IsAskedUnderLock keys r (refused_full r own) v v s s) view
-    (unasked keys r (refused_full r own) (guarded_of p) s guarded.0 fits (full_section (lends_for r own)) (full_reply r (share_at s p.place) (share_at s p.place))
-    (full_made (lends_for r own) (is_journal_full (guarded_of p)) r p.zone (share_at s p.place) (ap (λ es. leb p.journal.capacity (length es)) (sym guarded.1) ∙ full)))
-
 -- a request that was no section, of a share whose sections can be counted, is refused 20
 was_left : (lent last : Bool) (r : Request) (q : Reply) (z y : ZoneState) (a b : ZoneShareState) → ComesOf (refusal lent last) r q z y a b → is_section q ≡ false → (last ≡ true → IsLeft z y a b → ⊥) →
     (lent ≡ false) × ((q ≡ Reply.Refused NotLent) × IsLeft z y a b)
@@ -261,28 +176,168 @@ was_left false last r q z y a b x e f = (refl, x)
 was_left true true r q z y a b x e f = absurd (f refl x.1)
 was_left true false r q z y a b x e f = absurd (let same : false ≡ true = sym e ∙ ap is_section x.reply ∙ step-section z.plain a.seat.worker r in cc)
 
-pub not_lent_left : (keys : List ZoneKey) (boards : List BoardState) (r : Request) (q : Reply) (g : GuardedZone) (p : Parts) (y : ZoneState) (s t : ShareState) → AreGuarded keys boards p → IsShareOf keys s →
-    guarded_of p ≡ g → leb p.journal.capacity (length p.journal.entries) ≡ false → p.journal.capacity ≤ LONGEST_JOURNAL → t ≡ with_zone_share p.place (share_at t p.place) s →
-    IsAsked r q p.zone y (share_at s p.place) (share_at t p.place) → is_section q ≡ false → SharesIn y (share_at t p.place) →
-    IsAfter keys boards r q g (record p { zone = y }) s t
-not_lent_left keys boards r q g p y s t guarded fits view room long others x none agree =
-    let i = p.place in
-    let own = plain_share (share_at s i) in
-    let few : length p.journal.entries < p.journal.capacity = leb-false p.journal.capacity (length p.journal.entries) room in
-    let countable : (own.sections.made == LAST_SECTION) ≡ true → IsLeft p.zone y (share_at s i) (share_at t i) → ⊥ = λ e l.
-    few_sections p.zone (share_at s i) p.journal.capacity (subst (λ v. SharesIn v (share_at s i)) l.zone (subst (SharesIn y) l.share agree))
-    (omega (arith, few, ap length guarded.1)) long (eqb-true own.sections.made LAST_SECTION e) in
-    let was = was_left (lends_for r own) (own.sections.made == LAST_SECTION) r q p.zone y (share_at s i) (share_at t i) x.made none countable in
-    let same : t ≡ s = others ∙ ap (λ v. with_zone_share i v s) was.1.1.share ∙ ap (λ l. let u : ShareState = record s { zones = l } in u) (set-get_or s.zones i (opening_share no_seat 0)) in
-    subst (λ v. IsAfter keys boards r q v (record p { zone = y }) s t) view
-    (subst (λ v. IsAfter keys boards r q (guarded_of p) (record p { zone = v }) s t) (sym was.1.1.zone)
-    (subst (λ u. IsAfter keys boards r q (guarded_of p) p s u) (sym same)
-    (record {
-      guarded = guarded;
-      asked =
-          unasked keys r q (guarded_of p) s guarded.0 fits none (subst (λ v. IsReplyTo r q (share_at s i) v) was.1.1.share x.reply)
-          (subst (λ b. ComesOf (refusal b (is_journal_full (guarded_of p))) r q p.zone p.zone (share_at s i) (share_at s i)) (sym was.0) (was.1.0, record { zone = refl; share = refl }));
-    })))
+-- a board of these counts is full where a zone with one entry fewer has as many as the board has room for
+pub board_full : (b : Bool) (n m many : ℕ) → IsTrue b ↔ (n < many) → many ≡ m + 1 → b ≡ leb n m
+board_full b n m many same one = go b (leb n m) refl refl
+  where
+    go : (x y : Bool) → b ≡ x → leb n m ≡ y → b ≡ leb n m
+    go true true e f = e ∙ sym f
+    go false false e f = e ∙ sym f
+    go true false e f = let lt : n < many = same.0 e in let ge : m < n = leb-false n m f in absurd (omega (arith, lt, ge, one))
+    go false true e f = let le : n ≤ m = leb-true n m f in let yes : b ≡ true = same.1 (omega (arith, le, one)) in absurd (let bad : false ≡ true = sym e ∙ yes in cc)
+
+-- how what is kept of a zone is told: for how many entries it has room, where the board has room for so many, what that room may be, how many
+-- entries were handed over, and that it is kept of this zone
+module _ {X : Type 0} (capacity : X → ℕ → ℕ) (bounds : ℕ → ℕ → Type 0) (handed : X → ℕ) (keeps : ZoneState → X → Type 0) where
+  abbrev pub room_of : List BoardState → Parts X → ℕ
+  room_of boards p = capacity p.journal (board_at boards p.place).capacity
+
+  abbrev pub guarded_of : List BoardState → Parts X → GuardedZone
+  guarded_of boards p = record { place = p.place; capacity = room_of boards p; handed = handed p.journal; zone = p.zone; published = p.publisher.published }
+
+  -- they belong together, and to their place of the row
+  abbrev pub AreGuarded : List ZoneKey → List BoardState → Parts X → Type 0
+  AreGuarded keys boards p =
+      (key_of p.zone ≡ key_at keys p.place)
+      × keeps p.zone p.journal
+      × (p.publisher.tie ≡ (board_at boards p.place).tie)
+      × bounds (board_at boards p.place).capacity (room_of boards p)
+      × (length p.zone.entries ≤ room_of boards p)
+      × IsPublished p.zone p.publisher.published
+
+  -- whether there is room, as the board and what is kept tell it
+  pub record IsRoomTold (boards : List BoardState) (p : Parts X) (board : BoardState) (board_is_full is_full : Bool) : Type 0 where
+    pub board_at_place : board ≡ board_at boards p.place
+    pub by_board : IsTrue board_is_full ↔ (board.capacity < length p.publisher.published)
+    pub by_kept : (n : ℕ) (z : ZoneState) → keeps z p.journal → board_is_full ≡ leb n (length z.entries) → is_full ≡ leb (capacity p.journal n) (length z.entries)
+    pub within : (n : ℕ) → bounds n (capacity p.journal n) → capacity p.journal n ≤ n
+
+  pub told : (boards : List BoardState) (g : GuardedZone) (p : Parts X) (board : BoardState) (b f : Bool) → guarded_of boards p ≡ g → board ≡ board_at boards g.place →
+      IsTrue b ↔ (board.capacity < length p.publisher.published) → ((n : ℕ) (z : ZoneState) → keeps z p.journal → b ≡ leb n (length z.entries) → f ≡ leb (capacity p.journal n) (length z.entries)) →
+      ((n : ℕ) → bounds n (capacity p.journal n) → capacity p.journal n ≤ n) → IsRoomTold boards p board b f
+  told boards g p board b f view at by_board by_kept within = record {
+    board_at_place = at ∙ ap (λ (v : GuardedZone). board_at boards v.place) (sym view);
+    by_board = by_board;
+    by_kept = by_kept;
+    within = within;
+  }
+
+  pub told_full : (keys : List ZoneKey) (boards : List BoardState) (p : Parts X) (board : BoardState) (b f : Bool) → AreGuarded keys boards p → IsRoomTold boards p board b f →
+      f ≡ leb (room_of boards p) (length p.zone.entries)
+  told_full keys boards p board b f guarded t =
+      let n = (board_at boards p.place).capacity in
+      let same = subst (λ (v : BoardState). IsTrue b ↔ (v.capacity < length p.publisher.published)) t.board_at_place t.by_board in
+      t.by_kept n p.zone guarded.1 (board_full b n (length p.zone.entries) (length p.publisher.published) same guarded.5.many)
+
+  -- where there is, the zone has fewer entries than its board has room for
+  pub has_room : (keys : List ZoneKey) (boards : List BoardState) (p : Parts X) (board : BoardState) (b f : Bool) → AreGuarded keys boards p → IsRoomTold boards p board b f → f ≡ false →
+      (length p.zone.entries < room_of boards p) × (room_of boards p ≤ board.capacity)
+  has_room keys boards p board b f guarded t free =
+      let n = (board_at boards p.place).capacity in
+      let room = t.within n guarded.3 in
+      let at = ap (λ (v : BoardState). v.capacity) t.board_at_place in (
+        leb-false (room_of boards p) (length p.zone.entries) (sym (told_full keys boards p board b f guarded t) ∙ free),
+        omega (arith, room, at),
+      )
+
+  -- a share turned to the guarded zone at its place, with which the zone, what is kept of it, and what the share has of it alone became
+  -- others: one section was made, and kept; then the zone's counts were published
+  pub record IsCall (keys : List ZoneKey) (boards : List BoardState) (r : Request) (q : Reply) (p : Parts X) (y : ZoneState) (k : X) (u : CountsPublished) (s t : ShareState) : Type 0 where
+    pub guarded : AreGuarded keys boards p
+    pub fits : IsShareOf keys s
+    pub others : t ≡ with_zone_share p.place (share_at t p.place) s
+    pub asked : IsAsked r q p.zone y (share_at s p.place) (share_at t p.place)
+    pub is_section : is_section q ≡ true
+    pub kept : (z : ZoneState) (e : Entry) → keeps z p.journal → (share_at t p.place).sections.last ≡ Some e → y.entries ≡ z.entries ++ e ∷ [] → keeps y k
+    pub room : (e : Entry) → (share_at t p.place).sections.last ≡ Some e → (n : ℕ) → capacity k n ≡ capacity p.journal n
+    pub handed_over : (e : Entry) → (share_at t p.place).sections.last ≡ Some e → handed k ≡ handed p.journal
+    pub history : IsHistory p.zone.plain p.zone.entries
+    pub tie : u.tie ≡ p.publisher.tie
+    pub published : u.published ≡ p.publisher.published ++ zone_counts y ∷ []
+
+  -- what is left: the zone, what is kept of it and its board belong to their place still
+  pub record IsAfter (keys : List ZoneKey) (boards : List BoardState) (r : Request) (q : Reply) (g : GuardedZone) (n : Parts X) (s t : ShareState) : Type 0 where
+    pub guarded : AreGuarded keys boards n
+    pub asked : IsAskedUnderLock keys r q g (guarded_of boards n) s t
+
+  pub after : (keys : List ZoneKey) (boards : List BoardState) (r : Request) (q : Reply) (g : GuardedZone) (p : Parts X) (y : ZoneState) (k : X) (u : CountsPublished) (s t : ShareState) →
+      IsCall keys boards r q p y k u s t → guarded_of boards p ≡ g → leb (room_of boards p) (length p.zone.entries) ≡ false →
+      IsAfter keys boards r q g (record { place = p.place; zone = y; journal = k; publisher = u }) s t
+  after keys boards r q g p y k u s t c view free =
+      let i = p.place in
+      let n : Parts X = record { place = i; zone = y; journal = k; publisher = u } in
+      let own = plain_share (share_at s i) in
+      let made = was_made (lends_for r own) (own.sections.made == LAST_SECTION) (is_journal_full (guarded_of boards p)) r q p.zone y (share_at s i) (share_at t i) c.asked.made c.is_section free in
+      let key : key_of y ≡ key_at keys i = key_kept r q p.zone y (share_at s i) (share_at t i) made.0 ∙ c.guarded.0 in
+      let e : Entry = entry_of p.zone.plain (share_at s i).seat.worker r in
+      let said : Entry = record { worker = (share_at s i).seat.worker; request = r; reply = q } in
+      let same : said ≡ e = ap (λ x. let d : Entry = record { worker = (share_at s i).seat.worker; request = r; reply = x } in d) made.0.reply in
+      let last : (share_at t i).sections.last ≡ Some said = ap (λ (v : ZoneShareState). v.sections.last) made.0.share in
+      let more : y.entries ≡ p.zone.entries ++ e ∷ [] = ap (λ (v : ZoneState). v.entries) made.0.zone in
+      let b = (board_at boards i).capacity in
+      let room : capacity k b ≡ capacity p.journal b = c.room said last b in
+      let lt : length p.zone.entries < capacity p.journal b = leb-false (capacity p.journal b) (length p.zone.entries) free in
+      subst (λ v. IsAfter keys boards r q v n s t) view
+      (record {
+        guarded = (
+          key,
+          c.kept p.zone said c.guarded.1 last (more ∙ ap (λ (d : Entry). p.zone.entries ++ d ∷ []) (sym same)),
+          c.tie ∙ c.guarded.2,
+          subst (bounds b) (sym room) c.guarded.3,
+          omega (arith, lt, room, ap length more, length-append p.zone.entries (e ∷ [])),
+          still_published r q p.zone y (share_at s i) (share_at t i) p.publisher.published u.published c.guarded.5 c.history made.0 c.published,
+        );
+        asked =
+            record {
+              made = made.1;
+              published = counts_published (guarded_of boards p) (guarded_of boards n) e more c.published;
+              kept =
+                  record {
+                    place = refl;
+                    capacity = room;
+                    handed = c.handed_over said last;
+                    key = key;
+                    seats = c.asked.seats;
+                    seat = c.asked.same;
+                    others = c.others;
+                    fits = share_kept keys r q p.zone y s t i c.fits c.others made.0;
+                  };
+              share = share_noted r q p.zone y s t i c.others made.0;
+              reply = c.asked.reply;
+            };
+      })
+
+  -- where there is no room
+  pub full_left : (keys : List ZoneKey) (boards : List BoardState) (r : Request) (g : GuardedZone) (p : Parts X) (s : ShareState) → AreGuarded keys boards p → IsShareOf keys s → guarded_of boards p ≡ g →
+      leb (room_of boards p) (length p.zone.entries) ≡ true → IsAskedUnderLock keys r (refused_full r (plain_share (share_at s p.place))) g g s s
+  full_left keys boards r g p s guarded fits view full =
+      let own = plain_share (share_at s p.place) in
+      subst (λ v. IsAskedUnderLock keys r (refused_full r own) v v s s) view
+      (unasked keys r (refused_full r own) (guarded_of boards p) s guarded.0 fits (full_section (lends_for r own)) (full_reply r (share_at s p.place) (share_at s p.place))
+      (full_made (lends_for r own) (is_journal_full (guarded_of boards p)) r p.zone (share_at s p.place) full))
+
+  pub not_lent_left : (keys : List ZoneKey) (boards : List BoardState) (r : Request) (q : Reply) (g : GuardedZone) (p : Parts X) (y : ZoneState) (s t : ShareState) → AreGuarded keys boards p → IsShareOf keys s →
+      guarded_of boards p ≡ g → leb (room_of boards p) (length p.zone.entries) ≡ false → room_of boards p ≤ LAST_SECTION → t ≡ with_zone_share p.place (share_at t p.place) s →
+      IsAsked r q p.zone y (share_at s p.place) (share_at t p.place) → is_section q ≡ false → SharesIn y (share_at t p.place) →
+      IsAfter keys boards r q g (record p { zone = y }) s t
+  not_lent_left keys boards r q g p y s t guarded fits view room long others x none agree =
+      let i = p.place in
+      let own = plain_share (share_at s i) in
+      let few : length p.zone.entries < room_of boards p = leb-false (room_of boards p) (length p.zone.entries) room in
+      let countable : (own.sections.made == LAST_SECTION) ≡ true → IsLeft p.zone y (share_at s i) (share_at t i) → ⊥ = λ e l.
+      few_sections p.zone (share_at s i) (room_of boards p) (subst (λ v. SharesIn v (share_at s i)) l.zone (subst (SharesIn y) l.share agree))
+      few long (eqb-true own.sections.made LAST_SECTION e) in
+      let was = was_left (lends_for r own) (own.sections.made == LAST_SECTION) r q p.zone y (share_at s i) (share_at t i) x.made none countable in
+      let same : t ≡ s = others ∙ ap (λ v. with_zone_share i v s) was.1.1.share ∙ ap (λ l. let u : ShareState = record s { zones = l } in u) (set-get_or s.zones i (opening_share no_seat 0)) in
+      subst (λ v. IsAfter keys boards r q v (record p { zone = y }) s t) view
+      (subst (λ v. IsAfter keys boards r q (guarded_of boards p) (record p { zone = v }) s t) (sym was.1.1.zone)
+      (subst (λ u. IsAfter keys boards r q (guarded_of boards p) p s u) (sym same)
+      (record {
+        guarded = guarded;
+        asked =
+            unasked keys r q (guarded_of boards p) s guarded.0 fits none (subst (λ v. IsReplyTo r q (share_at s i) v) was.1.1.share x.reply)
+            (subst (λ b. ComesOf (refusal b (is_journal_full (guarded_of boards p))) r q p.zone p.zone (share_at s i) (share_at s i)) (sym was.0) (was.1.0, record { zone = refl; share = refl }));
+      })))
 
 -- at another place's zone: what a worker's view says of the request
 pub strayed : (keys : List ZoneKey) (i : ℕ) (r : Request) (s : ShareState) → IsShareOf keys s → IsAskedAt i r (refused_full r (plain_share (share_at s i))) keys keys None None s s

@@ -4,3 +4,4 @@ pub mod Opening
 pub mod Places
 pub mod Readers
 pub mod Viewing
+pub mod Cutting

@@ -1,6 +1,8 @@
 -- Zones that are opened for threads, and the readers of their boards.
-use Rattle.std.proofs.Common.{ℕ, ◌≡◌, List, [], ◌∷◌, ◌++◌, All, length, map, take, drop, refl, sym, ap, subst, ◌∙◌, arith, append_assoc, length-append}
+use Rattle.std.proofs.Common.{ℕ, ◌≡◌, List, [], ◌∷◌, ◌++◌, All, length, map, take, drop, refl, sym, ap, subst, ◌∙◌, arith, append_assoc, length-append, slice_index_or}
 use Rattle.std.specs.List.{AllZip}
+use Rattle.std.proofs.Math.Seq.{get_or-append_seam}
+use Rattle.std.proofs.lemmas.List.{length-map, map-append}
 use Rattle.std.proofs.lemmas.Simd.{map-map}
 use Rattle.std.proofs.lemmas.List.Elements.{All-push, All-head, All-tail}
 use Rattle.zp_model.proofs.RowLists.{written_back}
@@ -11,6 +13,14 @@ use Rattle.zp_shared.specs.Rows.{OpenedState, AreReadersOf, opened_board, opened
 -- one more goes over to those before it
 pub one_over : {X : Type 0} (before rest all after : List X) (x : X) → before ++ rest ≡ all → rest ≡ x ∷ after → (before ++ x ∷ []) ++ after ≡ all
 one_over before rest all after x whole next = append_assoc before (x ∷ []) after ∙ ap (λ l. before ++ l) (sym next) ∙ whole
+
+-- what stands at the place of the next one in another list, where that is made of these in turn
+pub at_next : {X Y : Type 0} (f : X → Y) (all before rest after : List X) (x : X) (ys : List Y) (n : ℕ) (d : Y) → map f all ≡ ys → before ++ rest ≡ all → rest ≡ x ∷ after → n ≡ length before →
+    f x ≡ slice_index_or ys n d
+at_next f all before rest after x ys n d made whole next at =
+    let same : map f before ++ f x ∷ map f after ≡ ys = sym (map-append f before (x ∷ after)) ∙ ap (map f) (ap (λ l. before ++ l) (sym next) ∙ whole) ∙ made in
+    let place : length (map f before) ≡ n = length-map before f ∙ sym at in
+    sym (get_or-append_seam (map f before) (f x) (map f after) d) ∙ ap (λ l. slice_index_or l (length (map f before)) d) same ∙ ap (λ k. slice_index_or ys k d) place
 
 -- two lists that are as long, each with one more
 pub many_more : {A B : Type 0} (xs new : List A) (x : A) (ys : List B) (y : B) → length xs ≡ length ys → new ≡ xs ++ x ∷ [] → length new ≡ length (ys ++ y ∷ [])

@@ -7,7 +7,7 @@ use Rattle.std.proofs.Math.Seq.{get_or-append_seam}
 use Rattle.zp_model.proofs.FirstFound.{range-snoc}
 use Rattle.zp_model.specs.Run.{IsLegal, opening_of}
 use Rattle.zp_zone.specs.Seats.{ZoneState}
-use Rattle.zp_board.specs.Boards.{BoardState}
+use Rattle.zp_counts.specs.CountBoards.{BoardState}
 use Rattle.zp_journal.specs.Journals.{IsJournalOf, JournalState}
 use Rattle.zp_share.specs.Shares.{ZoneKey, key_of, no_key}
 use Rattle.zp_shared.specs.Rows.{board_at, key_at, no_board, IsLegalBy, IsRowOf}

@@ -9,7 +9,7 @@ use Rattle.std.proofs.lemmas.List.{get_or-map, get_or_append_left, length-map}
 use Rattle.std.proofs.lemmas.List.FromFn.{get_or-range_with_len}
 use mathlib.Core.List.{IsPrefix}
 use Rattle.zp_model.specs.declared.counts.Counts.{Counts}
-use Rattle.zp_board.specs.Boards.{BoardState}
+use Rattle.zp_counts.specs.CountBoards.{BoardState}
 use Rattle.zp_counts.specs.declared.reading.Reading.{Reading}
 use Rattle.zp_counts.specs.CountBoards.{CountsSeen, IsReadingOf}
 use Rattle.zp_shared.proofs.Publishing.{taken_published}

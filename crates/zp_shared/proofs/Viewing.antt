@@ -41,24 +41,24 @@ own_seen g h r q a b made e p =
     let few : length (made_by b.seat.worker h.zone.entries) ≤ length h.zone.entries = filter_few (λ (x : Entry). Rattle.std.specs.Prelude.nat_eq x.worker b.seat.worker) h.zone.entries in
     omega (arith, few, s.after.sections, p.many)
 
--- where the journal has no room, all that the board has room for is published
-full_seen : (g h : GuardedZone) (r : Request) (q : Reply) (a b : ZoneShareState) (capacity : ℕ) → ComesOf (refusal (lends_for r (plain_share a)) (is_journal_full g)) r q g.zone h.zone a b → q ≡ Reply.Refused JournalFull →
-    IsPublished h.zone h.published → h.capacity ≡ g.capacity → h.capacity ≡ capacity → length h.zone.entries ≤ h.capacity → length h.published ≡ capacity + 1
-full_seen g h r q a b capacity made e p kept room within =
+-- where there is no room, as much as there is room for is published
+full_seen : (g h : GuardedZone) (r : Request) (q : Reply) (a b : ZoneShareState) → ComesOf (refusal (lends_for r (plain_share a)) (is_journal_full g)) r q g.zone h.zone a b → q ≡ Reply.Refused JournalFull →
+    IsPublished h.zone h.published → h.capacity ≡ g.capacity → length h.zone.entries ≤ h.capacity → length h.published ≡ h.capacity + 1
+full_seen g h r q a b made e p kept within =
     let f = full_of (lends_for r (plain_share a)) (is_journal_full g) r q g.zone h.zone a b made e in
     let reached : g.capacity ≤ length g.zone.entries = leb-true g.capacity (length g.zone.entries) f.0 in
-    omega (arith, reached, ap (λ (z : ZoneState). length z.entries) f.1.zone, p.many, kept, room, within)
+    omega (arith, reached, ap (λ (z : ZoneState). length z.entries) f.1.zone, p.many, kept, within)
 
-read_after : (keys : List ZoneKey) (i capacity : ℕ) (r : Request) (q : Reply) (g h : GuardedZone) (s t : ShareState) (rs : List CountsSeen) (k : CountsSeen) (b : Bool) → g.place ≡ i → i < length rs →
-    IsAskedUnderLock keys r q g h s t → is_not_lent q ≡ false → IsPrefix (slice_index_or rs i k).seen k.seen → IsReadWhole capacity h k.seen →
-    IsReadAfter capacity i q t (record { readers = rs; strayed = b }) (record { readers = slice_set rs i k; strayed = b })
-read_after keys i capacity r q g h s t rs k b at lt x lent before read =
+read_after : (keys : List ZoneKey) (bounds : ℕ → Type 0) (i : ℕ) (r : Request) (q : Reply) (g h : GuardedZone) (s t : ShareState) (rs : List CountsSeen) (k : CountsSeen) (b : Bool) → g.place ≡ i → i < length rs →
+    IsAskedUnderLock keys r q g h s t → is_not_lent q ≡ false → IsPrefix (slice_index_or rs i k).seen k.seen → IsReadWhole bounds h k.seen →
+    IsReadAfter bounds i q t (record { readers = rs; strayed = b }) (record { readers = slice_set rs i k; strayed = b })
+read_after keys bounds i r q g h s t rs k b at lt x lent before read =
     let made : ComesOf (refusal (lends_for r (plain_share (share_at s i))) (is_journal_full g)) r q g.zone h.zone (share_at s i) (share_at t i) =
     subst (λ p. ComesOf (refusal (lends_for r (plain_share (share_at s p))) (is_journal_full g)) r q g.zone h.zone (share_at s p) (share_at t p)) at x.made in
     let now : seen_at (seen_by (slice_set rs i k)) i ≡ h.published = seen_here rs i k lt ∙ read.seen in
     record {
       own = λ e. let all = ap length now in omega (arith, all, own_seen g h r q (share_at s i) (share_at t i) made e read.published);
-      full = λ e. inr (ap length now ∙ full_seen g h r q (share_at s i) (share_at t i) capacity made e read.published x.kept.capacity read.room.1 read.room.0);
+      full = λ e. inr (h.capacity, read.room.1, ap length now ∙ full_seen g h r q (share_at s i) (share_at t i) made e read.published x.kept.capacity read.room.0);
       not_lent = λ e. absurd (let same : false ≡ true = sym lent ∙ ap is_not_lent e in cc);
       seen = seen_put rs i k k before;
       others = λ j other. seen_beside rs i j k other;
@@ -67,8 +67,8 @@ read_after keys i capacity r q g h s t rs k b at lt x lent before read =
     }
 
 -- no section was made and nothing was read
-pub unread_after : (capacity i : ℕ) (q : Reply) (t : ShareState) (v : ViewState) → is_not_lent q ≡ true → IsReadAfter capacity i q t v v
-unread_after capacity i q t v lent = record {
+pub unread_after : (bounds : ℕ → Type 0) (i : ℕ) (q : Reply) (t : ShareState) (v : ViewState) → is_not_lent q ≡ true → IsReadAfter bounds i q t v v
+unread_after bounds i q t v lent = record {
   own = λ e. absurd (not_both q lent e);
   full = λ e. absurd (let same : true ≡ false = sym lent ∙ ap is_not_lent e in cc);
   not_lent = λ e. refl;
@@ -82,17 +82,30 @@ unread_after capacity i q t v lent = record {
     not_both (Reply.Refused NotLent) l e = let same : false ≡ true = e in cc
     not_both p l e = let same : false ≡ true = l in cc
 
+-- the zone of another place was found, and nothing was read
+pub strayed_after : (bounds : ℕ → Type 0) (i : ℕ) (q : Reply) (t : ShareState) (rs : List CountsSeen) (b : Bool) → is_section q ≡ false →
+    IsReadAfter bounds i q t (record { readers = rs; strayed = b }) (record { readers = rs; strayed = true })
+strayed_after bounds i q t rs b none = record {
+  own = λ e. absurd (let same : false ≡ true = sym none ∙ e in cc);
+  full = λ e. inl refl;
+  not_lent = λ e. refl;
+  seen = seen_same (seen_by rs);
+  others = λ j other. refl;
+  strayed = λ e. refl;
+  stays = λ e. absurd (let same : false ≡ true = sym none ∙ e in cc);
+}
+
 -- the view after a request under the lock of a place, with the reader of that place as it was left
-pub asked_after : (keys : List ZoneKey) (i capacity : ℕ) (r : Request) (q : Reply) (g h : GuardedZone) (s t : ShareState) (rs : List CountsSeen) (j k : CountsSeen) (b : Bool) → g.place ≡ i → i < length rs →
-    IsAskedUnderLock keys r q g h s t → j ≡ slice_index_or rs i j → HasReadAfter capacity q h j k →
-    IsReadAfter capacity i q t (record { readers = rs; strayed = b }) (record { readers = slice_set rs i k; strayed = b })
-asked_after keys i capacity r q g h s t rs j k b at lt x is read = go (is_not_lent q) refl
+pub asked_after : (keys : List ZoneKey) (bounds : ℕ → Type 0) (i : ℕ) (r : Request) (q : Reply) (g h : GuardedZone) (s t : ShareState) (rs : List CountsSeen) (j k : CountsSeen) (b : Bool) → g.place ≡ i → i < length rs →
+    IsAskedUnderLock keys r q g h s t → j ≡ slice_index_or rs i j → HasReadAfter bounds q h j k →
+    IsReadAfter bounds i q t (record { readers = rs; strayed = b }) (record { readers = slice_set rs i k; strayed = b })
+asked_after keys bounds i r q g h s t rs j k b at lt x is read = go (is_not_lent q) refl
   where
-    go : (l : Bool) → is_not_lent q ≡ l → IsReadAfter capacity i q t (record { readers = rs; strayed = b }) (record { readers = slice_set rs i k; strayed = b })
+    go : (l : Bool) → is_not_lent q ≡ l → IsReadAfter bounds i q t (record { readers = rs; strayed = b }) (record { readers = slice_set rs i k; strayed = b })
     go true e =
         let same : slice_set rs i k ≡ rs = ap (slice_set rs i) (read.left e ∙ is) ∙ set-get_or rs i j in
-        subst (λ (l : List CountsSeen). IsReadAfter capacity i q t (record { readers = rs; strayed = b }) (record { readers = l; strayed = b })) (sym same)
-        (unread_after capacity i q t (record { readers = rs; strayed = b }) e)
+        subst (λ (l : List CountsSeen). IsReadAfter bounds i q t (record { readers = rs; strayed = b }) (record { readers = l; strayed = b })) (sym same)
+        (unread_after bounds i q t (record { readers = rs; strayed = b }) e)
     go false e =
         let here : slice_index_or rs i k ≡ slice_index_or rs i j = get_or_default rs i k j lt in
-        read_after keys i capacity r q g h s t rs k b at lt x e (subst (λ (v : CountsSeen). IsPrefix v.seen k.seen) (is ∙ sym here) read.before) (read.read e)
+        read_after keys bounds i r q g h s t rs k b at lt x e (subst (λ (v : CountsSeen). IsPrefix v.seen k.seen) (is ∙ sym here) read.before) (read.read e)

@@ -7,9 +7,8 @@ use Rattle.zp_model.specs.Info.{counts_of}
 use Rattle.zp_model.specs.declared.refused.Refused.TheVariants.{NotLent, JournalFull}
 use Rattle.zp_model.specs.Zone.{PlainZone}
 use Rattle.zp_model.specs.Run.{IsLegal, opening_of}
-use Rattle.zp_board.specs.Boards.{BoardState}
 use Rattle.zp_counts.specs.declared.reading.Reading.{Reading}
-use Rattle.zp_counts.specs.CountBoards.{CountsSeen, last_counts}
+use Rattle.zp_counts.specs.CountBoards.{BoardState, CountsSeen, last_counts}
 use Rattle.zp_journal.specs.Journals.{JournalState, counts_after}
 use Rattle.std.specs.Global.{Vec}
 use Rattle.std.specs.List.{range_with_len}
@@ -43,6 +42,9 @@ pub record OpenedState : Type 0 where
   pub zone : ZoneState
   pub board : BoardState
   pub published : List Counts
+  -- for how many entries there is room in all, and how many were handed over
+  pub capacity : ℕ
+  pub handed : ℕ
 
 -- its key
 abbrev pub opened_key : OpenedState → ZoneKey
@@ -55,16 +57,17 @@ opened_board o = o.board
 abbrev pub opened_reader : OpenedState → CountsSeen
 opened_reader o = record { tie = o.board.tie; seen = o.published }
 
--- a zone that says its place in the row; the entries of its journal are the zone's
+-- a zone that says its place in the row
 pub record GuardedZone : Type 0 where
   pub place : ℕ
-  -- how many entries its journal has room for
+  -- for how many entries of the zone there is room in all, and how many were handed over
   pub capacity : ℕ
+  pub handed : ℕ
   pub zone : ZoneState
   -- the counts on its board
   pub published : List Counts
 
--- whether its journal has no room for an entry more
+-- whether there is no room for an entry more
 abbrev pub is_journal_full : GuardedZone → Bool
 is_journal_full g = leb g.capacity (length g.zone.entries)
 
@@ -73,7 +76,7 @@ abbrev pub key_at : List ZoneKey → ℕ → ZoneKey
 key_at keys place = slice_index_or keys place no_key
 
 abbrev pub no_board : BoardState
-no_board = record { tie = no_tie; capacity = 0 }
+no_board = record { tie = record { table = no_tie; turns = false }; capacity = 0 }
 
 -- the board at a place of the row
 abbrev pub board_at : List BoardState → ℕ → BoardState
@@ -149,6 +152,7 @@ pub record IsPublishedOnce (g h : GuardedZone) : Type 0 where
 pub record IsKeptAt (keys : List ZoneKey) (g h : GuardedZone) (s t : ShareState) : Type 0 where
   pub place : h.place ≡ g.place
   pub capacity : h.capacity ≡ g.capacity
+  pub handed : h.handed ≡ g.handed
   pub key : key_of h.zone ≡ key_at keys h.place
   pub seats : KeepsSeats g.zone h.zone
   pub seat : IsSameSeat (share_at s g.place) (share_at t g.place)
@@ -169,26 +173,26 @@ abbrev pub is_not_lent : Reply → Bool
 is_not_lent (Reply.Refused NotLent) = true
 is_not_lent q = false
 
--- all that is published of the guarded zone was seen; its journal has as many entries at most as its board has room for
-pub record IsReadWhole (capacity : ℕ) (h : GuardedZone) (cs : List Counts) : Type 0 where
+-- all that is published of the guarded zone was seen; it has as many entries at most as there is room for, which is as its board has it
+pub record IsReadWhole (bounds : ℕ → Type 0) (h : GuardedZone) (cs : List Counts) : Type 0 where
   pub seen : cs ≡ h.published
   pub published : IsPublished h.zone h.published
-  pub room : (length h.zone.entries ≤ h.capacity) × (h.capacity ≡ capacity)
+  pub room : (length h.zone.entries ≤ h.capacity) × bounds h.capacity
 
 -- what a reader has seen when a request was answered so and left the guarded zone like this: all that is published, or as before where no
 -- such block was lent
-pub record HasReadAfter (capacity : ℕ) (q : Reply) (h : GuardedZone) (r s : CountsSeen) : Type 0 where
+pub record HasReadAfter (bounds : ℕ → Type 0) (q : Reply) (h : GuardedZone) (r s : CountsSeen) : Type 0 where
   pub tie : s.tie ≡ r.tie
   pub before : IsPrefix r.seen s.seen
   pub left : is_not_lent q ≡ true → s ≡ r
-  pub read : is_not_lent q ≡ false → IsReadWhole capacity h s.seen
+  pub read : is_not_lent q ≡ false → IsReadWhole bounds h s.seen
 
--- what a worker's view has read when a request to the zone of place i was answered so, over a board with room for so many entries
-pub record IsReadAfter (capacity i : ℕ) (q : Reply) (t : ShareState) (before after : ViewState) : Type 0 where
+-- what a worker's view has read when a request to the zone of place i was answered so, where the room for its entries is one of these
+pub record IsReadAfter (bounds : ℕ → Type 0) (i : ℕ) (q : Reply) (t : ShareState) (before after : ViewState) : Type 0 where
   -- where it was a section, more than the share has made sections there: no later reading is older than they are
   pub own : is_section q ≡ true → sections_at t i < length (seen_at (seen_by after.readers) i)
-  -- where there was no room, all that the board has room for, unless the zone lay under another's lock
-  pub full : q ≡ Reply.Refused JournalFull → (after.strayed ≡ true) ⊎ (length (seen_at (seen_by after.readers) i) ≡ capacity + 1)
+  -- where there was no room, as much as there is room for, unless the zone lay under another's lock
+  pub full : q ≡ Reply.Refused JournalFull → (after.strayed ≡ true) ⊎ ((capacity : ℕ) × bounds capacity × (length (seen_at (seen_by after.readers) i) ≡ capacity + 1))
   -- where no such block was lent, nothing
   pub not_lent : q ≡ Reply.Refused NotLent → after.readers ≡ before.readers
   pub seen : HaveSeen (seen_by before.readers) (seen_by after.readers)

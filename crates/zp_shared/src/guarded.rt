@@ -1,12 +1,14 @@
-//! What lies under a lock: a zone, its journal and the right to publish its counts, with the place in the row that the zone says is
-//! its own.
-ghost use Rattle.std.specs.Prelude.{◌≡◌, ◌<◌, ◌≤◌, ◌++◌, ◌∷◌, ◌↔◌, [], length, IfSome, IsSome, Some};
+//! What lies under a lock: a zone, what is kept of the requests made of it, and the right to publish its counts, with the place in the
+//! row that the zone says is its own.
+ghost use Rattle.std.specs.Prelude.{ℕ, ◌≡◌, ◌<◌, ◌≤◌, ◌++◌, ◌∷◌, ◌↔◌, [], length, IfSome, IsSome, Some};
 ghost use Rattle.zp_model.specs.Entries.{Entry};
 ghost use Rattle.zp_model.specs.Info.{counts_of};
 ghost use Rattle.zp_model.specs.Lawful.{IsLawful};
 ghost use Rattle.zp_model.specs.Area.{pageblocks_of};
 ghost use Rattle.zp_model.specs.Zone.{pages_of, workers_of};
 ghost use Rattle.zp_zone.specs.NamedZone.{IsPageblockOf};
+ghost use Rattle.zp_model.specs.Run.{IsHistory};
+ghost use Rattle.zp_zone.specs.Seats.{ZoneState};
 ghost use Rattle.zp_journal.specs.Journals.{IsJournalOf};
 ghost use Rattle.zp_share.specs.Shares.{IsShareOf, key_of, share_at};
 ghost use Rattle.zp_share.specs.ZoneShares.{IsShare, SharesIn};
@@ -20,44 +22,46 @@ use crate::opened::OpenedZone;
 use std::marker::{Model, PhantomData};
 use zp_counts::{Board, BoardReader, Publisher, Reading};
 use zp_journal::Journal;
+use zp_kept::{Keeps, WholeJournal};
 use zp_model::Counts;
 use zp_share::Share;
 use zp_zone::{Pageblock, Zone};
 
+mod cutting;
 mod sections;
 
-/// A zone that says its place in the row, the journal of all that was asked of it since its opening, and the right to publish its
+/// A zone that says its place in the row, what is kept of all that was asked of it since its opening, and the right to publish its
 /// counts. A lock forgets what it holds but for the type, so the type says it: what never changes of the zone, and its board, are what
-/// the row's name has at that place; the journal's entries are those that the zone and its seats agree on; and what is published are the
+/// the row's name has at that place; what is kept is of the entries that the zone and its seats agree on; and what is published are the
 /// zone's counts at its opening and after each of these entries.
 #[derive(Drop)]
-pub struct Guarded<J: Naming> {
+pub struct Guarded<J: Naming, K: Keeps = WholeJournal> {
     place: usize,
     zone: Zone,
-    journal: Journal,
+    journal: K,
     publisher: Publisher,
     of: PhantomData<J>,
 }
 
-impl<J: Naming> Model for Guarded<J> {
-    ghost use Rattle.std.specs.Prelude.{◌≡◌};
+impl<J: Naming, K: Keeps> Model for Guarded<J, K> {
+    ghost use Rattle.std.specs.Prelude.{◌≡◌, ◌≤◌, length};
     ghost use Rattle.zp_share.specs.Shares.{key_of};
-    ghost use Rattle.zp_board.specs.Boards.{BoardState};
+    ghost use Rattle.zp_counts.specs.CountBoards.{BoardState};
     ghost use Rattle.zp_shared.specs.Rows.{GuardedZone, IsPublished, key_at, board_at};
 
     ghost Value = { GuardedZone };
 
-    ghost view = { λ g. record { place = g.place; capacity = g.journal.capacity; zone = g.zone; published = g.publisher.published } };
+    ghost view = { λ g. record { place = g.place; capacity = K.capacity g.journal (board_at J.boards g.place).capacity; handed = K.handed g.journal; zone = g.zone; published = g.publisher.published } };
 
-    ghost invariant = { λ g. (key_of g.zone ≡ key_at J.zones g.place) × (g.journal.entries ≡ g.zone.entries) × (g.publisher.tie ≡ (board_at J.boards g.place).tie) × (g.journal.capacity ≡ (board_at J.boards g.place).capacity) × IsPublished g.zone g.publisher.published };
+    ghost invariant = { λ g. (key_of g.zone ≡ key_at J.zones g.place) × K.keeps g.zone g.journal × (g.publisher.tie ≡ (board_at J.boards g.place).tie) × K.bounds (board_at J.boards g.place).capacity (K.capacity g.journal (board_at J.boards g.place).capacity) × (length g.zone.entries ≤ K.capacity g.journal (board_at J.boards g.place).capacity) × IsPublished g.zone g.publisher.published };
 }
 
-impl<J: Naming> Guarded<J> {
+impl<J: Naming, K: Keeps> Guarded<J, K> {
     /// The opened zone, which belongs to this place of the row, and its board.
-    pub(crate) fn opened(place: usize, opened: OpenedZone) -> (Guarded<J>, Board)
+    pub(crate) fn opened(place: usize, opened: OpenedZone<K>) -> (Guarded<J, K>, Board)
         requires key { opened_key opened ≡ key_at J.zones place }
         requires board { opened.board ≡ board_at J.boards place }
-        ensures guarded { result.0 ≡ record { place = place; capacity = opened.board.capacity; zone = opened.zone; published = opened.published } }
+        ensures guarded { result.0 ≡ record { place = place; capacity = opened.capacity; handed = opened.handed; zone = opened.zone; published = opened.published } }
         ensures board { result.1 ≡ opened.board }
     {
         let (zone, journal, board, publisher) = opened.into_parts();
@@ -79,17 +83,6 @@ impl<J: Naming> Guarded<J> {
         self.place
     }
 
-    /// All that was asked of the zone since its opening, in order: one entry for each section of a worker. A zone that is made and
-    /// asked the same has the same replies, and becomes this zone.
-    pub fn journal(&self) -> &Journal
-        ensures capacity { result.now.capacity ≡ self.now.capacity }
-        ensures room { result.now.capacity ≡ (board_at J.boards self.now.place).capacity }
-        ensures history { IsJournalOf self.now.zone result.now }
-    {
-        self.zone.history();
-        &self.journal
-    }
-
     /// How many free blocks of each order there are, and how many free pages.
     pub fn counts(&self) -> Counts
         ensures counts { result ≡ counts_of self.now.zone.plain.area.largest self.now.zone.plain.area.free }
@@ -107,8 +100,8 @@ impl<J: Naming> Guarded<J> {
         self.zone.pageblock(pageblock)
     }
 
-    /// The zone's counts, read off its board, and how many entries the journal has. The reader has then seen all that is published: each
-    /// reading that it took, this one too, is the zone's counts after as many entries of the journal as the reading's place says.
+    /// The zone's counts, read off its board, and how many entries it has made. The reader has then seen all that is published: each
+    /// reading that it took, this one too, is the zone's counts after as many of its entries as the reading's place says.
     pub fn read_board(&mut self, board: &Board, reader: &mut BoardReader) -> Reading
         requires board { board.now ≡ board_at J.boards self.old.place }
         requires reader { reader.old.tie ≡ board.now.tie }
@@ -118,11 +111,10 @@ impl<J: Naming> Guarded<J> {
         ensures reader { reader.new ≡ record { tie = reader.old.tie; seen = self.old.published } }
         ensures published { IsPublished self.old.zone self.old.published }
         ensures taken { (r : Reading) → IsReadingOf reader.old.seen r → IsCountsOf self.old.zone r }
-        ensures room { (length self.old.zone.entries ≤ self.old.capacity) × (self.old.capacity ≡ (board_at J.boards self.old.place).capacity) }
+        ensures room { (length self.old.zone.entries ≤ self.old.capacity) × K.bounds (board_at J.boards self.old.place).capacity self.old.capacity }
     {
-        // clauses of these calls say that the zone is the run of its entries, and that the journal has room for them
+        // a clause of this call says that the zone is the run of its entries
         self.zone.history();
-        let _entries = self.journal.len();
         self.publisher.read_board(board, reader)
     }
 
@@ -140,12 +132,13 @@ impl<J: Naming> Guarded<J> {
         share.check(&mut self.zone, self.place);
     }
 
-    /// The zone and its journal, with their place forgotten.
-    pub fn into_parts(self) -> (Zone, Journal)
+    /// The zone and what is kept of it, with their place forgotten.
+    pub fn into_parts(self) -> (Zone, K)
         ensures zone { result.0 ≡ self.zone }
         ensures key { key_of result.0 ≡ key_at J.zones self.place }
-        ensures journal { IsJournalOf result.0 result.1 }
-        ensures room { result.1.capacity ≡ (board_at J.boards self.place).capacity }
+        ensures journal { K.keeps result.0 result.1 }
+        ensures room { K.bounds (board_at J.boards self.place).capacity (K.capacity result.1 (board_at J.boards self.place).capacity) }
+        ensures history { IsHistory result.0.plain result.0.entries }
     {
         let Guarded { zone, journal, .. } = self;
         zone.history();
@@ -153,10 +146,22 @@ impl<J: Naming> Guarded<J> {
     }
 }
 
-// The share's last section with the zone of a place goes into the journal, and then the zone's counts on the board.
+impl<J: Naming> Guarded<J, WholeJournal> {
+    /// All that was asked of the zone since its opening, in order: one entry for each section of a worker. A zone that is made and
+    /// asked the same has the same replies, and becomes this zone.
+    pub fn journal(&self) -> &Journal
+        ensures capacity { result.now.capacity ≡ self.now.capacity }
+        ensures room { result.now.capacity ≡ (board_at J.boards self.now.place).capacity }
+        ensures history { IsJournalOf self.now.zone result.now }
+    {
+        &self.journal
+    }
+}
+
+// The share's last section with the zone of a place is kept, and then the zone's counts go on the board.
 #[inline(always)]
-fn note(
-    journal: &mut Journal,
+fn note<K: Keeps>(
+    journal: &mut K,
     publisher: &mut Publisher,
     board: &Board,
     zone: &Zone,
@@ -164,15 +169,20 @@ fn note(
     place: usize,
 )
     requires place { place < length share.now.zones }
-    requires room { length journal.old.entries < journal.old.capacity }
+    requires room { (n : ℕ) × (z : ZoneState) × K.keeps z journal.old × (length z.entries < K.capacity journal.old n) }
     requires board { publisher.old.tie ≡ board.now.tie }
     requires board_room { length publisher.old.published ≤ board.now.capacity }
-    ensures entry { (e : Entry) → (share_at share.now place).sections.last ≡ Some e → journal.new ≡ record { capacity = journal.old.capacity; entries = journal.old.entries ++ e ∷ [] } }
+    ensures kept { (z : ZoneState) (e : Entry) → K.keeps z journal.old → (share_at share.now place).sections.last ≡ Some e → zone.now.entries ≡ z.entries ++ e ∷ [] → K.keeps zone.now journal.new }
+    ensures capacity { (e : Entry) → (share_at share.now place).sections.last ≡ Some e → (n : ℕ) → K.capacity journal.new n ≡ K.capacity journal.old n }
+    ensures handed { (e : Entry) → (share_at share.now place).sections.last ≡ Some e → K.handed journal.new ≡ K.handed journal.old }
     ensures tie { publisher.new.tie ≡ publisher.old.tie }
     ensures published { publisher.new.published ≡ publisher.old.published ++ zone_counts zone.now ∷ [] }
 {
+    // clauses of these calls say that the zone is the run of its entries, and that its counts are small
+    zone.history();
+    let _pages = zone.pages();
     if let Some(entry) = share.last(place) {
-        journal.append(entry);
+        journal.keep(entry);
     }
     publisher.publish(board, &zone.counts());
 }

@@ -16,3 +16,4 @@ pub use opened::OpenedZone;
 pub use row::{close_zones, open_zones, reader_rows, readers_of, share_zones};
 pub use shared_zone::{Closed, SharedZone};
 pub use zp_counts::{Board, BoardReader, Reading};
+pub use zp_kept::{CutJournal, Keeps, NoJournal, WholeJournal};

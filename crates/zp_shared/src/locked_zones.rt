@@ -13,6 +13,7 @@ use crate::shared_zone::SharedZone;
 use std::marker::{Model, PhantomData};
 use std::sync::{MutexGuard, Wait};
 use zp_counts::{Board, BoardReader, Reading};
+use zp_kept::{Keeps, WholeJournal};
 use zp_model::{Counts, Refused, Reply, Request};
 use zp_share::{Share, Zones};
 
@@ -22,15 +23,15 @@ use zp_share::{Share, Zones};
 /// the view has strayed. It does not tell what its zones are. Contracts see its readers, which have seen all that `E` names, and whether it
 /// has strayed.
 #[derive(Drop)]
-pub struct LockedZones<'a, J: Naming, E: Earlier, R> {
+pub struct LockedZones<'a, J: Naming, E: Earlier, R, K: Keeps = WholeJournal> {
     rt: &'a R,
-    zones: &'a [SharedZone<J>],
+    zones: &'a [SharedZone<J, K>],
     readers: Vec<BoardReader>,
     strayed: bool,
     since: PhantomData<E>,
 }
 
-impl<'a, J: Naming, E: Earlier, R> Model for LockedZones<'a, J, E, R> {
+impl<'a, J: Naming, E: Earlier, R, K: Keeps> Model for LockedZones<'a, J, E, R, K> {
     ghost use Rattle.zp_shared.specs.Rows.{IsRowOf, AreReadersOf, HaveSeen, ViewState, seen_by};
 
     ghost Value = { ViewState };
@@ -40,13 +41,13 @@ impl<'a, J: Naming, E: Earlier, R> Model for LockedZones<'a, J, E, R> {
     ghost invariant = { λ z. IsRowOf J.zones z.zones.now × AreReadersOf J.zones J.boards z.readers.items × HaveSeen E.seen (seen_by z.readers.items) };
 }
 
-impl<'a, J: Naming, E: Earlier, R> LockedZones<'a, J, E, R> {
+impl<'a, J: Naming, E: Earlier, R, K: Keeps> LockedZones<'a, J, E, R, K> {
     /// A view of the whole row, with a reader of each zone.
     pub fn new(
         rt: &'a R,
-        zones: &'a [SharedZone<J>],
+        zones: &'a [SharedZone<J, K>],
         readers: Vec<BoardReader>,
-    ) -> LockedZones<'a, J, E, R>
+    ) -> LockedZones<'a, J, E, R, K>
         requires row { IsRowOf J.zones zones.now }
         requires readers { AreReadersOf J.zones J.boards readers.items }
         requires seen { HaveSeen E.seen (seen_by readers.items) }
@@ -91,7 +92,7 @@ impl<'a, J: Naming, E: Earlier, R> LockedZones<'a, J, E, R> {
     }
 
     // The lock at a place of the row, with the board beside it.
-    fn shared_at(&self, zone: usize) -> &'a SharedZone<J>
+    fn shared_at(&self, zone: usize) -> &'a SharedZone<J, K>
         requires { zone < length J.zones }
         ensures { result.now ≡ zone }
     {
@@ -100,10 +101,10 @@ impl<'a, J: Naming, E: Earlier, R> LockedZones<'a, J, E, R> {
     }
 }
 
-impl<'a, J: Naming, E: Earlier, R: Wait> LockedZones<'a, J, E, R> {
+impl<'a, J: Naming, E: Earlier, R: Wait, K: Keeps> LockedZones<'a, J, E, R, K> {
     // The zone at a place, locked, where the one of that place lies there; and the board of that place.
     #[inline(always)]
-    fn locked(&self, zone: usize) -> Option<(MutexGuard<'a, Guarded<J>>, &'a Board)>
+    fn locked(&self, zone: usize) -> Option<(MutexGuard<'a, Guarded<J, K>>, &'a Board)>
         requires { zone < length J.zones }
         ensures place { IfSome result (λ g. (mutex_guard_value g.0).place ≡ zone) }
         ensures board { IfSome result (λ g. g.1.now ≡ board_at J.boards zone) }
@@ -118,7 +119,7 @@ impl<'a, J: Naming, E: Earlier, R: Wait> LockedZones<'a, J, E, R> {
     }
 }
 
-impl<'a, J: Naming, E: Earlier, R: Wait> Zones for LockedZones<'a, J, E, R> {
+impl<'a, J: Naming, E: Earlier, R: Wait, K: Keeps> Zones for LockedZones<'a, J, E, R, K> {
     ghost use Rattle.std.specs.Prelude.{None};
     ghost use Rattle.zp_shared.specs.Rows.{shown_at};
 
@@ -135,7 +136,7 @@ impl<'a, J: Naming, E: Earlier, R: Wait> Zones for LockedZones<'a, J, E, R> {
         requires zone { zone < length share.old.zones }
         requires may { MayAsk (workers_at J.zones zone) share.old.batch request.now (share_at share.old zone) }
         ensures asked { IsAskedAt zone request.now result J.zones J.zones None None share.old share.new }
-        ensures read { IsReadAfter (board_at J.boards zone).capacity zone result share.new self.old self.new }
+        ensures read { IsReadAfter (K.bounds (board_at J.boards zone).capacity) zone result share.new self.old self.new }
     {
         let Some((mut guarded, board)) = self.locked(zone) else {
             self.strayed = true;
@@ -152,8 +153,8 @@ impl<'a, J: Naming, E: Earlier, R: Wait> Zones for LockedZones<'a, J, E, R> {
 
 /// One request to the guarded zone, and then a reading of its board, unless it was refused as the block that it names is not lent.
 #[inline(always)]
-fn section_and_reading<J: Naming>(
-    guarded: &mut Guarded<J>,
+fn section_and_reading<J: Naming, K: Keeps>(
+    guarded: &mut Guarded<J, K>,
     board: &Board,
     reader: &mut BoardReader,
     share: &mut Share,
@@ -165,7 +166,7 @@ fn section_and_reading<J: Naming>(
     requires reader { reader.old.tie ≡ board.now.tie }
     requires may { MayAsk (workers_at J.zones guarded.old.place) share.old.batch request.now (share_at share.old guarded.old.place) }
     ensures asked { IsAskedUnderLock J.zones request.now result guarded.old guarded.new share.old share.new }
-    ensures read { HasReadAfter board.now.capacity result guarded.new reader.old reader.new }
+    ensures read { HasReadAfter (K.bounds board.now.capacity) result guarded.new reader.old reader.new }
 {
     let reply = guarded.section(board, share, request);
     if is_not_lent(&reply) {

@@ -6,7 +6,7 @@ use std::marker::Brand;
 /// are opened.
 pub trait Naming {
     ghost use Rattle.std.specs.Prelude.{List};
-    ghost use Rattle.zp_board.specs.Boards.{BoardState};
+    ghost use Rattle.zp_counts.specs.CountBoards.{BoardState};
     ghost use Rattle.zp_share.specs.Shares.{ZoneKey};
 
     ghost zones: { List ZoneKey };

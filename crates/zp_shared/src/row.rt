@@ -5,7 +5,7 @@ ghost use Rattle.std.specs.Vec.{vec_capacity};
 ghost use Rattle.zp_model.specs.declared.refused.Refused.TheVariants.{Memory};
 ghost use Rattle.zp_zone.specs.Seats.{ZoneState};
 ghost use Rattle.zp_journal.specs.declared.journal.TheConstants.{LONGEST_JOURNAL};
-ghost use Rattle.zp_board.specs.Boards.{BoardState};
+ghost use Rattle.zp_counts.specs.CountBoards.{BoardState};
 ghost use Rattle.zp_journal.specs.Journals.{IsJournalOf, JournalState};
 ghost use Rattle.zp_share.specs.Shares.{key_of};
 ghost use Rattle.zp_shared.specs.Rows.{OpenedState, AreKept, AreReaders, AreReadersOf, HaveReadAt, HaveReadZones, IsLegalBy, IsRowOf, board_at, key_at, opened_board, opened_key, opened_reader, zone_counts};
@@ -17,6 +17,7 @@ use crate::shared_zone::SharedZone;
 use std::alloc::Global;
 use zp_counts::{Board, BoardReader};
 use zp_journal::Journal;
+use zp_kept::Keeps;
 use zp_model::Refused;
 use zp_zone::Zone;
 
@@ -43,7 +44,10 @@ pub fn open_zones(
 }
 
 /// A reader of each zone's board, in their order. Refused 6.
-pub fn readers_of(alloc: Global, opened: &mut [OpenedZone]) -> Result<Vec<BoardReader>, Refused>
+pub fn readers_of<K: Keeps>(
+    alloc: Global,
+    opened: &mut [OpenedZone<K>],
+) -> Result<Vec<BoardReader>, Refused>
     ensures same { opened.new ≡ opened.old }
     ensures readers { IfOk result (λ rs. rs.items ≡ map opened_reader opened.old) }
     ensures fit { IfOk result (λ rs. AreReadersOf (map opened_key opened.old) (map opened_board opened.old) rs.items) }
@@ -59,9 +63,9 @@ pub fn readers_of(alloc: Global, opened: &mut [OpenedZone]) -> Result<Vec<BoardR
 }
 
 /// A row of readers for each of so many workers. Refused 6.
-pub fn reader_rows(
+pub fn reader_rows<K: Keeps>(
     alloc: Global,
-    opened: &mut [OpenedZone],
+    opened: &mut [OpenedZone<K>],
     workers: usize,
 ) -> Result<Vec<Vec<BoardReader>>, Refused>
     ensures same { opened.new ≡ opened.old }
@@ -79,10 +83,10 @@ pub fn reader_rows(
 }
 
 /// The opened zones, each behind a lock of its own, in their order. Refused 6.
-pub fn share_zones<J: Naming>(
+pub fn share_zones<J: Naming, K: Keeps>(
     alloc: Global,
-    opened: Vec<OpenedZone>,
-) -> Result<Vec<SharedZone<J>>, Refused>
+    opened: Vec<OpenedZone<K>>,
+) -> Result<Vec<SharedZone<J, K>>, Refused>
     requires keys { map opened_key opened.items ≡ J.zones }
     requires boards { map opened_board opened.items ≡ J.boards }
     ensures row { IfOk result (λ row. IsRowOf J.zones row.items) }

@@ -1,6 +1,6 @@
-//! One section of a share with a guarded zone: a request on the zone, the same change in the share, one entry of the journal, and then
-//! the zone's counts published once, also where the zone refuses the request. Where the journal is full the zone is not asked, and
-//! nothing is published. Each of the nine typed calls is the section of its request.
+//! One section of a share with a guarded zone: a request on the zone, the same change in the share, one entry to be kept, and then
+//! the zone's counts published once, also where the zone refuses the request. Where there is no room for an entry the zone is not asked,
+//! and nothing is published. Each of the nine typed calls is the section of its request.
 ghost use Rattle.std.specs.Prelude.{◌≡◌, ◌<◌, ◌≤◌, length, []};
 ghost use Rattle.zp_model.specs.declared.request.Request.TheVariants as request;
 ghost use Rattle.zp_model.specs.declared.request.Reply.TheVariants as reply;
@@ -14,14 +14,15 @@ ghost use Rattle.zp_shared.specs.Rows.{IsAskedUnderLock, board_at};
 use super::{Guarded, note};
 use crate::naming::Naming;
 use zp_counts::Board;
+use zp_kept::Keeps;
 use zp_model::{
     Block, Mark, MigrateType, Order, PageList, PageNo, Refused, Reply, Request, Worker,
 };
 use zp_share::{Share, answered, is_section};
 
-impl<J: Naming> Guarded<J> {
-    /// One request to the zone. Refused 20 where the block that it names is not lent, else 30 where the journal is full, and as the
-    /// zone refuses it.
+impl<J: Naming, K: Keeps> Guarded<J, K> {
+    /// One request to the zone. Refused 20 where the block that it names is not lent, else 30 where there is no room for an entry, and
+    /// as the zone refuses it.
     #[inline(always)]
     pub fn section(&mut self, board: &Board, share: &mut Share, request: &Request) -> Reply
         requires fits { IsShareOf J.zones share.old }
@@ -32,7 +33,8 @@ impl<J: Naming> Guarded<J> {
     {
         // a clause of this call says that the zone is the run of its entries
         self.zone.history();
-        if self.journal.is_full() {
+        let board_is_full = self.publisher.is_full(board);
+        if self.journal.is_full(board_is_full) {
             return share.refuse(self.place, request);
         }
         let reply = share.section(&mut self.zone, self.place, request);

@@ -105,7 +105,7 @@ fn run_as<J: Naming + Send + Sync, R: Sync + Threads + Wait>(
     let other = alone(alloc, opened.reader())?;
     let zone_room = Vec::with_capacity(alloc, 1).ok()?;
     let journal_room = Vec::with_capacity(alloc, 1).ok()?;
-    let row = share_zones::<J>(alloc, alone(alloc, opened)?).ok()?;
+    let row = share_zones::<J, _>(alloc, alone(alloc, opened)?).ok()?;
     let view = LockedZones::<J, (), R>::new(rt, row.as_slice(), mine);
     let reading = LockedZones::<J, (), R>::new(rt, row.as_slice(), other);
     let worker = OnlyWorker { share, view };

@@ -86,7 +86,7 @@ fn run_as<J: Naming + Send + Sync, R: Clock + Sync + Threads + Wait>(
     requires ready { All (IsReady J.zones) desks.items }
 {
     let (mut readers, mut desks) = (readers, desks);
-    let row = share_zones::<J>(alloc, opened)?;
+    let row = share_zones::<J, _>(alloc, opened)?;
     let (Ok(zone_room), Ok(journal_room)) = (
         Vec::with_capacity(alloc, row.len()),
         Vec::with_capacity(alloc, row.len()),

@@ -2,7 +2,7 @@ use Rattle.std.proofs.Common.{◌≡◌, ◌∙◌, ◌++◌, All, List, ap, sym
 use Rattle.std.specs.Prelude.{replicate}
 use Rattle.std.specs.List.{AllZip}
 use Rattle.std.proofs.lemmas.List.{length-map}
-use Rattle.zp_board.specs.Boards.{BoardState}
+use Rattle.zp_counts.specs.CountBoards.{BoardState}
 use Rattle.zp_journal.specs.Journals.{IsJournalOf}
 use Rattle.zp_share.specs.Shares.{IsShareOf, key_of}
 use Rattle.zp_shared.specs.Rows.{HaveReadZones, IsLegalBy, OpenedState, opened_board}

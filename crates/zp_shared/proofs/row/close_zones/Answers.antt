@@ -2,7 +2,7 @@ use Rattle.std.proofs.Common.{ℕ, ◌≡◌, ◌<◌, ◌+◌, ◌++◌, [], �
 use Rattle.std.specs.List.{AllZip}
 use Rattle.std.proofs.lemmas.Grind.{common_steps}
 use Rattle.std.proofs.lemmas.List.{map-append}
-use Rattle.zp_board.specs.Boards.{BoardState}
+use Rattle.zp_counts.specs.CountBoards.{BoardState}
 use Rattle.zp_journal.specs.Journals.{IsJournalOf, JournalState}
 use Rattle.zp_share.specs.Shares.{key_of}
 use Rattle.zp_shared.specs.Rows.{AreKept, HaveReadZones, IsLegalBy, board_at, key_at}

@@ -1,7 +1,7 @@
 use Rattle.std.proofs.Common.{◌≡◌, ◌≤◌, ◌++◌, All, length, map}
 use Rattle.std.specs.List.{AllZip}
 use Rattle.std.specs.Vec.{vec_capacity}
-use Rattle.zp_board.specs.Boards.{BoardState}
+use Rattle.zp_counts.specs.CountBoards.{BoardState}
 use Rattle.zp_journal.specs.Journals.{IsJournalOf, JournalState}
 use Rattle.zp_share.specs.Shares.{key_of}
 use Rattle.zp_shared.specs.Rows.{AreKept, HaveReadZones, board_at, key_at}

@@ -1,7 +1,7 @@
 use Rattle.std.proofs.Common.{◌≡◌, ◌≢◌, ◌∙◌, ◌<◌, ap, arith, length, subst, sym}
 use Rattle.std.specs.Prelude.{slice_set}
 use mathlib.Core.List.{IsPrefix}
-use Rattle.zp_board.specs.Boards.{BoardState}
+use Rattle.zp_counts.specs.CountBoards.{BoardState}
 use Rattle.zp_counts.specs.CountBoards.{CountsSeen}
 use Rattle.zp_shared.specs.Rows.{HaveReadAt, IsPublished}
 use Rattle.zp_shared.proofs.Readers.{reader_tie, readers_length, readers_set, seen_beside, seen_here, seen_put}

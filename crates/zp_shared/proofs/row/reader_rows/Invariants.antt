@@ -5,7 +5,7 @@ use Rattle.zp_shared.proofs.row.reader_rows.Given as goal
 
 -- a row of readers for each worker so far, the zones as they were, and room for the other rows
 abbrev pub invariant-loop : goal.invariant-loop
-invariant-loop l =
+invariant-loop g l =
     record {
       same : l.opened ≡ l.initial.opened;
       many : length l.rows.items ≡ l.counter;

@@ -8,7 +8,7 @@ use Rattle.zp_shared.proofs.shared_zone.+read_all.Goals as goal
 pub read_all-requires : goal.read_all-requires
 read_all-requires g t c κs within =
     let same = c.read_board.ensures.same in
-    (search rules, (search rules, (c.requires.board ∙ ap (λ (v : GuardedZone). board_at g.J.Naming.boards v.place) (sym same), All-rest (λ (r : CountsSeen). r.tie ≡ c.args.board.now.tie) c.in-Some.first.now c.in-Some.rest.now c.args.readers.now c.in-Some.ensures.cases.0 c.requires.readers)))
+    (search rules, (search rules, (search rules, (c.requires.board ∙ ap (λ (v : GuardedZone). board_at g.J.Naming.boards v.place) (sym same), All-rest (λ (r : CountsSeen). r.tie ≡ c.args.board.now.tie) c.in-Some.first.now c.in-Some.rest.now c.args.readers.now c.in-Some.ensures.cases.0 c.requires.readers))))
 
 pub returns-clause-read : goal.returns-clause-read
 returns-clause-read g t c =

@@ -1,15 +1,33 @@
-use Rattle.std.proofs.Common.{◌+◌, ap, ◌∙◌}
+use Rattle.std.proofs.Common.{◌+◌, sym, ap, ◌∙◌}
 use Rattle.zp_counts.specs.CountBoards.{counts_in}
-use Rattle.zp_counts.proofs.CountLists.{prefix_map, reading_kept, reading_last}
+use Rattle.zp_counts.specs.Kinds.{published_counts, seen_counts}
+use Rattle.zp_counts.specs.Packing.{packed_in}
+use Rattle.zp_counts.proofs.CountLists.{prefix_counts, reading_kept, reading_last}
+use Rattle.zp_counts.proofs.board.Publisher.read_board.Goals.{in-Fixed-Fixed, in-Turning-Turning}
 use Rattle.zp_counts.proofs.board.Publisher.read_board.Goals as goal
 
 pub returns-clause-before : goal.returns-clause-before
-returns-clause-before c = rw (← c.self.view_is, ← c.reader.view_is) (prefix_map counts_in _ _ c.read_board.ensures.before)
+returns-clause-before c =
+    let before = ap (λ r. r.seen) (sym c.reader.view_is) in
+    let after = ap (λ p. p.published) (sym c.self.view_is) in
+    elim c.match-self.branch [
+      | in-Fixed-Fixed w ↦ let i = w.in-Fixed-Fixed in
+          prefix_counts counts_in _ _ (before ∙ ap (λ k. (seen_counts k).seen) i.is-1) (after ∙ ap (λ k. (published_counts k).published) i.is-0) w.read_board.ensures.before
+      | in-Turning-Turning w ↦ let i = w.in-Turning-Turning in
+          prefix_counts packed_in _ _ (before ∙ ap (λ k. (seen_counts k).seen) i.is-1) (after ∙ ap (λ k. (published_counts k).published) i.is-0) w.read_board-in-Turning-Turning.ensures.before
+    ]
 
 pub returns-clause-taken : goal.returns-clause-taken
 returns-clause-taken c =
-    rw (← c.self.view_is)
-    (reading_last c.self.inside.entries.published c.read_board.result.words c.reading_of.result (ap (λ n. n + 1) c.reading_of.ensures.place ∙ c.read_board.ensures.place) c.read_board.ensures.last c.reading_of.ensures.counts)
+    let after = ap (λ p. p.published) (sym c.self.view_is) in
+    elim c.match-self.branch [
+      | in-Fixed-Fixed w ↦ let found = w.read_board in
+          reading_last counts_in _ found.result.words _ (after ∙ ap (λ k. (published_counts k).published) w.in-Fixed-Fixed.is-0)
+          (ap (λ r. r.place + 1) w.result-is ∙ ap (λ n. n + 1) w.reading_of.ensures.place ∙ found.ensures.place) found.ensures.last (ap (λ r. r.counts) w.result-is ∙ w.reading_of.ensures.counts)
+      | in-Turning-Turning w ↦ let found = w.read_board-in-Turning-Turning in
+          reading_last packed_in _ found.result.words _ (after ∙ ap (λ k. (published_counts k).published) w.in-Turning-Turning.is-0)
+          (ap (λ r. r.place + 1) w.result-is ∙ ap (λ n. n + 1) w.turned_reading_of.ensures.place ∙ found.ensures.place) found.ensures.last (ap (λ r. r.counts) w.result-is ∙ w.turned_reading_of.ensures.counts)
+    ]
 
 pub returns-clause-kept : goal.returns-clause-kept
-returns-clause-kept c = λ r taken. reading_kept _ _ r (rw (← c.self.view_is, ← c.reader.view_is) (prefix_map counts_in _ _ c.read_board.ensures.before)) taken
+returns-clause-kept c = λ r taken. reading_kept _ _ r (returns-clause-before c) taken

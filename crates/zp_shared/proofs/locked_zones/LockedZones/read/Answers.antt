@@ -1,6 +1,6 @@
 use Rattle.std.proofs.Common.{◌∙◌, ap, arith, slice_set, subst, sym}
 use mathlib.Core.List.{IsPrefix}
-use Rattle.zp_board.specs.Boards.{BoardState}
+use Rattle.zp_counts.specs.CountBoards.{BoardState}
 use Rattle.zp_counts.specs.CountBoards.{CountsSeen, last_reading}
 use Rattle.zp_shared.specs.Rows.{ViewState, board_at, seen_at, seen_by}
 use Rattle.zp_shared.proofs.Readers.{reader_tie, readers_length, readers_set, seen_beside, seen_here, seen_put, seen_set}

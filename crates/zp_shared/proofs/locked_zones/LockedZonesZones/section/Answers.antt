@@ -1,19 +1,39 @@
-use Rattle.std.proofs.Common.{◌≡◌, ◌<◌, ◌∙◌, List, ap, arith, length, subst, sym}
+use Rattle.std.proofs.Common.{◌≡◌, ◌<◌, ◌∙◌, List, false, true, ap, arith, length, subst, sym}
 use Rattle.std.specs.Prelude.{slice_set}
 use Rattle.std.proofs.lemmas.List.{length-map}
 use mathlib.Core.List.{IsPrefix}
-use Rattle.zp_board.specs.Boards.{BoardState}
+use Rattle.zp_counts.specs.CountBoards.{BoardState}
 use Rattle.zp_counts.specs.CountBoards.{CountsSeen}
-use Rattle.zp_share.specs.Shares.{IsShareOf, ShareState, ZoneKey}
-use Rattle.zp_share.specs.ZoneShares.{ZoneShareState}
+use Rattle.zp_share.specs.PlainShares.{lends_for}
+use Rattle.zp_share.specs.Shares.{IsShareOf, ShareState, ZoneKey, is_section, share_at}
+use Rattle.zp_share.specs.ZoneShares.{ZoneShareState, plain_share}
 use Rattle.zp_shared.specs.Rows.{GuardedZone, HasReadAfter, IsReadAfter, ViewState, board_at}
 use Rattle.zp_shared.proofs.Readers.{reader_tie, readers_length, readers_set, seen_set}
-use Rattle.zp_shared.proofs.Viewing.{asked_after}
+use Rattle.zp_shared.proofs.Guarding.{full_section, viewed}
+use Rattle.zp_shared.proofs.Viewing.{asked_after, strayed_after}
 use Rattle.zp_shared.proofs.locked_zones.LockedZonesZones.section.Goals as goal
 
 -- the row has as many zones as the share
 as_many : (keys : List ZoneKey) (s : ShareState) → IsShareOf keys s → length s.zones ≡ length keys
 as_many keys s fits = sym (length-map s.zones (λ (v : ZoneShareState). v.seat.tie)) ∙ ap length fits ∙ length-map keys (λ (k : ZoneKey). k.tie)
+
+pub returns-in_default-clause-read : goal.returns-in_default-clause-read
+returns-in_default-clause-read g c =
+    let bounds = g.K.Keeps.bounds (board_at g.J.Naming.boards c.args.zone).capacity in
+    let none : is_section c.refuse.result ≡ false = ap is_section c.refuse.ensures ∙ full_section (lends_for c.args.request.now (plain_share (share_at c.args.share.now c.args.zone))) in
+    let after : ViewState = record { readers = c.self.inside.readers.items; strayed = true } in
+    subst (λ v. IsReadAfter bounds c.args.zone c.refuse.result c.args.share.now v after) c.self.view_is
+    (strayed_after bounds c.args.zone c.refuse.result c.args.share.now c.self.inside.readers.items c.self.inside.strayed none)
+
+pub index_mut-reader-requires : goal.index_mut-reader-requires
+index_mut-reader-requires g c =
+    let many = as_many g.J.Naming.zones c.args.share.now c.requires.fits in
+    omega (arith, many, readers_length g.J.Naming.zones g.J.Naming.boards c.self.inside.readers.items c.self.invariant.1, c.requires.zone)
+
+pub returns-clause-asked : goal.returns-clause-asked
+returns-clause-asked g c =
+    viewed g.J.Naming.zones c.args.zone c.args.request.now c.section_and_reading.result c.deref_mut.result.now c.section_and_reading.new.guarded c.args.share.now c.section_and_reading.new.share
+    (ap (λ (v : GuardedZone). v.place) c.deref_mut.ensures.value ∙ c.in-Some.ensures.place) c.section_and_reading.ensures.asked
 
 pub section_and_reading-requires-clause-reader : goal.section_and_reading-requires-clause-reader
 section_and_reading-requires-clause-reader g c =
@@ -41,9 +61,10 @@ returns-clause-read g c =
     let many = as_many g.J.Naming.zones c.args.share.now c.requires.fits in
     let lt : c.args.zone < length rs = omega (arith, many, readers_length g.J.Naming.zones g.J.Naming.boards rs c.self.invariant.1, c.requires.zone) in
     let at = ap (λ (v : GuardedZone). v.place) c.deref_mut.ensures.value ∙ c.in-Some.ensures.place in
-    let read : HasReadAfter (board_at g.J.Naming.boards c.args.zone).capacity c.section_and_reading.result c.section_and_reading.new.guarded j k =
-    subst (λ (b : BoardState). HasReadAfter b.capacity c.section_and_reading.result c.section_and_reading.new.guarded j k) c.in-Some.ensures.board c.section_and_reading.ensures.read in
+    let bounds = g.K.Keeps.bounds (board_at g.J.Naming.boards c.args.zone).capacity in
+    let read : HasReadAfter bounds c.section_and_reading.result c.section_and_reading.new.guarded j k =
+    subst (λ (b : BoardState). HasReadAfter (g.K.Keeps.bounds b.capacity) c.section_and_reading.result c.section_and_reading.new.guarded j k) c.in-Some.ensures.board c.section_and_reading.ensures.read in
     let after : ViewState = record { readers = slice_set rs c.args.zone k; strayed = c.self.inside.strayed } in
-    subst (λ v. IsReadAfter (board_at g.J.Naming.boards c.args.zone).capacity c.args.zone c.section_and_reading.result c.section_and_reading.new.share v after) c.self.view_is
-    (asked_after g.J.Naming.zones c.args.zone (board_at g.J.Naming.boards c.args.zone).capacity c.args.request.now c.section_and_reading.result c.deref_mut.result.now c.section_and_reading.new.guarded
+    subst (λ v. IsReadAfter bounds c.args.zone c.section_and_reading.result c.section_and_reading.new.share v after) c.self.view_is
+    (asked_after g.J.Naming.zones bounds c.args.zone c.args.request.now c.section_and_reading.result c.deref_mut.result.now c.section_and_reading.new.guarded
     c.args.share.now c.section_and_reading.new.share rs j k c.self.inside.strayed at lt c.section_and_reading.ensures.asked c.index_mut-reader.ensures.value read)

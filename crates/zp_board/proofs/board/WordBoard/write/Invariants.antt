@@ -1,5 +1,5 @@
 use Rattle.std.proofs.Common.{◌≡◌, ◌≤◌, take}
-use Rattle.zp_board.proofs.board.Board.write.Given as goal
+use Rattle.zp_board.proofs.board.WordBoard.write.Given as goal
 
 -- the words so far stand in the next entry
 abbrev pub invariant-loop-k : goal.invariant-loop-k

@@ -1,6 +1,6 @@
 use Rattle.std.proofs.Common.{◌≡◌, ◌<◌, ◌≤◌, ℕ, length, get_or}
 use Rattle.zp_board.specs.Boards.{entry_at}
-use Rattle.zp_board.proofs.board.Board.fetch.Given as goal
+use Rattle.zp_board.proofs.board.WordBoard.fetch.Given as goal
 
 -- the words so far are those of the entry
 abbrev pub invariant-loop-k : goal.invariant-loop-k

@@ -2,7 +2,7 @@ use Rattle.std.proofs.Common.{◌≡◌, ◌+◌, ◌<◌, ◌≤◌, length, tr
 use Rattle.std.proofs.lemmas.List.{length-take-le}
 use Rattle.zp_board.proofs.Words.{inside_row, next_at}
 use Rattle.zp_board.proofs.Steps.{writes}
-use Rattle.zp_board.proofs.board.Board.write.Goals as goal
+use Rattle.zp_board.proofs.board.WordBoard.write.Goals as goal
 
 pub overflow_add-at : goal.overflow_add-at
 overflow_add-at g c =

@@ -2,7 +2,7 @@ use Rattle.std.proofs.Common.{◌≡◌, ◌+◌, ◌*◌, ◌≤◌, length, tr
 use Rattle.std.proofs.lemmas.List.{ext_get_or}
 use Rattle.zp_board.proofs.Words.{inside_seen}
 use Rattle.zp_board.proofs.Steps.{fetches}
-use Rattle.zp_board.proofs.board.Board.fetch.Goals as goal
+use Rattle.zp_board.proofs.board.WordBoard.fetch.Goals as goal
 
 pub load-requires : goal.load-requires
 load-requires g c =
