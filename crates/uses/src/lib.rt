@@ -3,7 +3,9 @@
 #![tactic(auto)]
 
 mod buddyinfo;
+mod cut_zone;
 mod emptied_pageblock;
+mod endless_zone;
 mod first_page;
 mod handing_over;
 mod huge_page;
@@ -13,11 +15,14 @@ mod low_block;
 mod page_pool;
 mod reading_in_history;
 mod replayed_pieces;
+mod row_worker;
 mod shared_row;
 mod two_pages;
 
 pub use buddyinfo::{Memory, show};
+pub use cut_zone::{CutRun, PIECE, work_in_pieces};
 pub use emptied_pageblock::{Emptying, empty_a_pageblock};
+pub use endless_zone::{EndlessRun, work_without_end};
 pub use first_page::one_page;
 pub use handing_over::{receive, relay, send};
 pub use huge_page::{Run, give_run, take_huge_page};
@@ -27,5 +32,6 @@ pub use low_block::take_below;
 pub use page_pool::PagePool;
 pub use reading_in_history::read_before_the_lock;
 pub use replayed_pieces::replay_pieces;
+pub use row_worker::{RowOfOne, RowWorker, WorkerAt};
 pub use shared_row::{SharedRun, share_a_zone};
 pub use two_pages::take_two;

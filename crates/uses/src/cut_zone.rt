@@ -1,0 +1,139 @@
+//! Workers in threads over one zone whose journal is cut when it is nearly full; the pieces are replayed at the end.
+
+use crate::replayed_pieces::replay_pieces;
+use crate::row_worker::{RowOfOne, RowWorker};
+use std::alloc::Global;
+use std::sync::{Mutex, Wait};
+use std::thread::{Threads, map_vec};
+use zp_journal::Journal;
+use zp_model::Refused;
+use zp_shared::{CutJournal, Naming, SharedZone};
+use zp_zone::{Zone, ZoneConfig};
+
+/// For how many entries each journal has room.
+pub const PIECE: u32 = 200;
+
+/// With so many it is cut: nine tenths.
+const NEARLY_FULL: u32 = PIECE / 10 * 9;
+
+/// The journals that were handed over, in order.
+type Pieces = Mutex<Vec<Journal>>;
+
+/// What is left of a run.
+#[derive(Clone, Copy, PartialEq, Eq, Debug, Drop)]
+pub struct CutRun {
+    /// How many journals there are, the last one too.
+    pub pieces: usize,
+    /// How many pages are free when all have ended.
+    pub free_pages: u32,
+    /// Whether a new zone that is asked the same, piece after piece, answers the same and has the same free blocks.
+    pub is_legal: bool,
+}
+
+/// Where the zone's journal is nearly full, it goes to the pieces, and an empty one takes its place. The zone's lock is held meanwhile, so
+/// the pieces stand in their order.
+fn cut_where_nearly_full<J: Naming, R: Wait>(
+    rt: &R,
+    alloc: Global,
+    shared: &SharedZone<J, CutJournal>,
+    pieces: &Pieces,
+) -> Result<(), Refused> {
+    let mut guarded = shared.state.lock(rt);
+    if guarded.journal().len() < NEARLY_FULL {
+        return Ok(());
+    }
+    let piece = guarded.cut(Journal::new(alloc, PIECE)?);
+    let mut handed_over = pieces.lock(rt);
+    match handed_over.push(piece) {
+        Ok(()) => Ok(()),
+        Err(_) => Err(Refused::Memory),
+    }
+}
+
+/// One worker takes a page and gives it back, so many times, and looks after each round whether the journal is to be cut. Whether all of
+/// it was done.
+fn rounds<J: Naming, R: Wait>(
+    rt: &R,
+    alloc: Global,
+    worker: RowWorker<J>,
+    row: &RowOfOne<J, CutJournal>,
+    pieces: &Pieces,
+    rounds: u32,
+) -> bool {
+    let mut worker = worker.at(rt, row);
+    for _ in 0..rounds {
+        let done = worker.round();
+        let cut = match row.zones.first() {
+            Some(shared) => cut_where_nearly_full(rt, alloc, shared, pieces),
+            None => Ok(()),
+        };
+        if done.is_err() || cut.is_err() {
+            return false;
+        }
+    }
+    true
+}
+
+/// The workers take a page and give it back, so many times, all at the same time. Whether all of it was done; not where there is no memory.
+fn work<J: Naming + Send + Sync, R: Threads + Wait + Sync>(
+    rt: &R,
+    alloc: Global,
+    row: &RowOfOne<J, CutJournal>,
+    workers: Vec<RowWorker<J>>,
+    pieces: &Pieces,
+    many: u32,
+) -> bool {
+    let work = |worker| rounds(rt, alloc, worker, row, pieces, many);
+    match map_vec(rt, workers, &work) {
+        Ok(done) => done.iter().all(|done| *done),
+        Err(_) => false,
+    }
+}
+
+/// What is told of the zone and its journals. None where there is no memory for the replay.
+fn outcome(
+    alloc: Global,
+    config: ZoneConfig<'_>,
+    workers: u32,
+    zone: &Zone,
+    pieces: &[Journal],
+) -> Option<CutRun> {
+    let counts = zone.counts();
+    let replayed = replay_pieces(alloc, ZoneConfig { ..config }, workers, pieces).ok()?;
+    let is_legal = match replayed {
+        Some(replayed) => replayed.counts() == counts,
+        None => false,
+    };
+    Some(CutRun {
+        pieces: pieces.len(),
+        free_pages: counts.free,
+        is_legal,
+    })
+}
+
+/// So many workers of a zone of this config take a page and give it back, so many times, all at the same time; then all that was asked
+/// of the zone is replayed, piece by piece. None where there is no memory, or a worker was refused.
+pub fn work_in_pieces<J: Naming + Send + Sync, R: Threads + Wait + Sync>(
+    rt: &R,
+    alloc: Global,
+    config: ZoneConfig<'_>,
+    crew: u32,
+    row: RowOfOne<J, CutJournal>,
+    workers: Vec<RowWorker<J>>,
+    many: u32,
+) -> Option<CutRun> {
+    let pieces = Mutex::new(Vec::new(alloc));
+    if !work(rt, alloc, &row, workers, &pieces, many) {
+        return None;
+    }
+    let closed = row.into_zone()?.close(&mut []);
+    let mut pieces = pieces.into_inner();
+    pieces.push(closed.journal.into_journal()).ok()?;
+    outcome(
+        alloc,
+        ZoneConfig { ..config },
+        crew,
+        &closed.zone,
+        pieces.as_slice(),
+    )
+}
