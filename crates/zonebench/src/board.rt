@@ -1,6 +1,6 @@
 //! A board of counts under load.
 
-ghost use Rattle.std.specs.Prelude.{◌≡◌, ◌≤◌};
+ghost use Rattle.std.specs.Prelude.{false, ◌≡◌, ◌≤◌};
 
 use crate::bench::NoMemory;
 use std::alloc::Global;
@@ -20,6 +20,7 @@ pub struct BoardBench {
     reader: BoardReader,
     ghost publishes: { publisher.tie ≡ board.tie },
     ghost reads: { reader.tie ≡ board.tie },
+    ghost fixed: { publisher.tie.turns ≡ false },
 }
 
 impl BoardBench {

@@ -1,6 +1,6 @@
 //! Journals and boards.
 
-ghost use Rattle.std.specs.Prelude.{◌≡◌};
+ghost use Rattle.std.specs.Prelude.{false, ◌≡◌};
 
 use crate::unmade::{Unmade, expect};
 use std::alloc::Global;
@@ -40,6 +40,7 @@ struct ReadBoard {
     reader: BoardReader,
     ghost publishes: { publisher.tie ≡ board.tie },
     ghost reads: { reader.tie ≡ board.tie },
+    ghost fixed: { publisher.tie.turns ≡ false },
 }
 
 impl ReadBoard {
