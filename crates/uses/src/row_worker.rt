@@ -1,5 +1,5 @@
 //! Workers of a row of one zone that threads share, whatever the zone keeps: with no lists, no desk and no script.
-ghost use Rattle.std.specs.Prelude.{◌≡◌, ◌∷◌, [], length, map};
+ghost use Rattle.std.specs.Prelude.{◌≡◌, ◌∷◌, [], IfOk, length, map};
 ghost use Rattle.zp_counts.specs.CountBoards.{BoardState};
 ghost use Rattle.zp_share.specs.Shares.{IsShareOf, ZoneKey};
 ghost use Rattle.zp_shared.specs.Rows.{AreReaders, IsRowOf};
@@ -9,9 +9,9 @@ use crate::locked_page::touch_a_page;
 use std::alloc::Global;
 use std::marker::PhantomData;
 use std::sync::Wait;
-use zp_model::Refused;
-use zp_share::{ListConfig, Share};
-use zp_shared::{BoardReader, Keeps, LockedZones, Naming, SharedZone};
+use zp_model::{Mark, MigrateType, Order, Refused};
+use zp_share::{Lent, ListConfig, Share, alloc, free};
+use zp_shared::{BoardReader, Keeps, LockedZones, Naming, Reading, SharedZone};
 use zp_zone::Seat;
 
 /// A row of one zone.
@@ -93,8 +93,74 @@ impl<'a, J: Naming, R: Wait, K: Keeps> WorkerAt<'a, J, R, K> {
         touch_a_page(view, share, 0)
     }
 
+    /// Takes a block of this order: one section.
+    pub fn take(&mut self, order: Order) -> Result<Lent, Refused>
+        ensures { IfOk result (λ l. l.order ≡ order) }
+    {
+        let WorkerAt { share, view, .. } = self;
+        alloc(share, view, order, MigrateType::Movable, 0, Mark::Low)
+    }
+
+    /// Gives a block back that it took: one section.
+    pub fn give(&mut self, lent: &Lent) -> Result<(), Refused> {
+        let WorkerAt { share, view, .. } = self;
+        free(share, view, 0, lent.page, lent.order)
+    }
+
+    /// Its number among the zone's workers.
+    pub fn number(&self) -> u8 {
+        self.share.worker().number()
+    }
+
     /// How many sections it has made.
     pub fn sections(&self) -> u64 {
         self.share.sections(0)
+    }
+}
+
+/// A reader of the zone's board. It has no seat.
+#[derive(Drop)]
+pub struct RowReader<J: Naming> {
+    readers: Vec<BoardReader>,
+    of: PhantomData<J>,
+    ghost one: { length J.zones ≡ 1 },
+    ghost read: { AreReaders J.zones J.boards readers },
+}
+
+impl<J: Naming> RowReader<J> {
+    /// None where there is no memory.
+    pub fn new(alloc: Global, reader: BoardReader) -> Option<RowReader<J>>
+        requires one { length J.zones ≡ 1 }
+        requires board { map (λ (b : BoardState). b.tie) J.boards ≡ reader.tie ∷ [] }
+        requires each { length J.boards ≡ length J.zones }
+    {
+        let mut readers = Vec::with_capacity(alloc, 1).ok()?;
+        readers.push_reserved(reader);
+        Some(RowReader {
+            readers,
+            of: PhantomData,
+        })
+    }
+
+    /// The reader turns to the row.
+    pub fn at<'a, R, K: Keeps>(self, rt: &'a R, row: &'a RowOfOne<J, K>) -> ReaderAt<'a, J, R, K> {
+        let RowReader { readers, .. } = self;
+        ReaderAt {
+            view: LockedZones::<J, (), R, K>::new(rt, row.zones.as_slice(), readers),
+        }
+    }
+}
+
+/// A reader's view of the row.
+#[derive(Drop)]
+pub struct ReaderAt<'a, J: Naming, R, K: Keeps> {
+    view: LockedZones<'a, J, (), R, K>,
+    ghost one: { length J.zones ≡ 1 },
+}
+
+impl<'a, J: Naming, R, K: Keeps> ReaderAt<'a, J, R, K> {
+    /// The zone's counts with their place, with no lock.
+    pub fn read(&mut self) -> Reading {
+        self.view.read(0)
     }
 }

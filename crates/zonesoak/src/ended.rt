@@ -1,0 +1,69 @@
+//! A zone whose sections come to an end: where all their numbers are used up, each further request is refused. With 2^64 numbers that is
+//! after some hundred years at best; here there are few.
+
+ghost use Rattle.std.specs.Prelude.{◌≡◌, ◌∷◌, [], All};
+ghost use Rattle.zp_shared.specs.Rows.{opened_board, opened_key};
+ghost use Rattle.zp_zone.specs.Seats.{IsSeatOf, IsUnused};
+
+use crate::crew::{NoMemory, WORKERS, config, crew, row_of};
+use std::alloc::Global;
+use std::marker::Brand;
+use std::sync::Wait;
+use std::thread::Threads;
+use uses::{EndlessRun, work_without_end};
+use zp_shared::{Naming, NoJournal, OpenedZone};
+use zp_zone::{Seat, Zone};
+
+/// How many sections the zone has numbers for.
+const SECTIONS: u64 = 1001;
+
+/// The pages of the zone.
+const PAGES: u32 = 1024;
+
+/// The workers of these seats take a page and give it back, until they are refused.
+fn run_as<J: Naming + Send + Sync, R: Threads + Wait + Sync>(
+    rt: &R,
+    alloc: Global,
+    mut opened: OpenedZone<NoJournal>,
+    seats: Vec<Seat>,
+) -> anyhow::Result<EndlessRun>
+    requires named { J.zones ≡ opened_key opened ∷ [] }
+    requires boards { J.boards ≡ opened_board opened ∷ [] }
+    requires fits { All (IsSeatOf opened.zone) seats.items }
+    requires unused { All IsUnused seats.items }
+{
+    let workers = crew::<J, NoJournal>(alloc, &mut opened, seats)?;
+    let row = row_of::<J, NoJournal>(alloc, opened)?;
+    match work_without_end(rt, row, workers, u32::MAX) {
+        Some(run) => Ok(run),
+        None => Err(NoMemory.into()),
+    }
+}
+
+/// Makes the zone, and has its numbers used up.
+fn run<R: Threads + Wait + Sync>(rt: &R, alloc: Global) -> anyhow::Result<EndlessRun> {
+    match Zone::new(alloc, config(PAGES), WORKERS) {
+        Ok((zone, seats)) => {
+            let opened = OpenedZone::without_journal(alloc, zone, SECTIONS).map_err(
+                NoMemory::from,
+            )?;
+            run_as::<Brand, R>(rt, alloc, opened, seats)
+        }
+        Err(refused) => Err(NoMemory::from(refused).into()),
+    }
+}
+
+/// Says how many sections were made. At the end each worker may have a page that it could not give back.
+pub fn print<R: Print + Threads + Wait + Sync>(rt: &R, alloc: Global) -> anyhow::Result<()> {
+    let run = run(rt, alloc)?;
+    println!(rt;
+        "{WORKERS} workers, numbers for {SECTIONS} sections: {} sections, pages out {}",
+        run.sections,
+        if PAGES - WORKERS <= run.free_pages && run.free_pages < PAGES {
+            "1 to 4"
+        } else {
+            "BAD"
+        }
+    )?;
+    Ok(())
+}

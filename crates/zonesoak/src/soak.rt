@@ -1,0 +1,106 @@
+//! Ten million requests of four workers over one zone of 65,536 pages that keeps nothing of them, and a reader beside them.
+
+ghost use Rattle.std.specs.Prelude.{◌≡◌, ◌∷◌, [], All};
+ghost use Rattle.zp_shared.specs.Rows.{opened_board, opened_key};
+ghost use Rattle.zp_zone.specs.Seats.{IsSeatOf, IsUnused};
+
+use crate::crew::{NoMemory, WORKERS, config, crew, row_of};
+use crate::stint::{Stint, work};
+use crate::watch::{Watch, read_all_the_while};
+use std::alloc::Global;
+use std::marker::Brand;
+use std::sync::Wait;
+use std::thread::{Threads, join, map_vec};
+use uses::RowReader;
+use zp_model::MAX_PAGES;
+use zp_shared::{Naming, NoJournal, OpenedZone};
+use zp_zone::{Seat, Zone};
+
+/// How many requests each worker makes.
+const REQUESTS: u32 = 2_500_000;
+
+/// What was seen at the end.
+#[derive(Clone, Copy, PartialEq, Eq, Debug, Drop)]
+struct Soak {
+    sections: u64,
+    lent_pages: u64,
+    free_pages: u64,
+    watch: Watch,
+}
+
+/// All that the workers leave.
+fn all_of(stints: &[Stint]) -> Stint {
+    let mut all = Stint {
+        sections: 0,
+        lent_pages: 0,
+    };
+    for stint in stints {
+        all.sections = all.sections.saturating_add(stint.sections);
+        all.lent_pages = all.lent_pages.saturating_add(stint.lent_pages);
+    }
+    all
+}
+
+/// The workers of these seats make their requests, all at the same time, and a reader reads all the while.
+fn load_as<J: Naming + Send + Sync, R: Threads + Wait + Sync>(
+    rt: &R,
+    alloc: Global,
+    mut opened: OpenedZone<NoJournal>,
+    seats: Vec<Seat>,
+) -> anyhow::Result<Soak>
+    requires named { J.zones ≡ opened_key opened ∷ [] }
+    requires boards { J.boards ≡ opened_board opened ∷ [] }
+    requires fits { All (IsSeatOf opened.zone) seats.items }
+    requires unused { All IsUnused seats.items }
+{
+    let workers = crew::<J, NoJournal>(alloc, &mut opened, seats)?;
+    let Some(reader) = RowReader::<J>::new(alloc, opened.reader()) else {
+        return Err(NoMemory.into());
+    };
+    let row = row_of::<J, NoJournal>(alloc, opened)?;
+    let requests = u64::from(REQUESTS) * u64::from(WORKERS);
+    let (stints, watch) = join(
+        rt,
+        || map_vec(rt, workers, &|worker| work(rt, worker, &row, REQUESTS)),
+        || read_all_the_while(rt, reader, &row, requests),
+    );
+    let Some(zone) = row.into_zone() else {
+        return Err(NoMemory.into());
+    };
+    let Stint {
+        sections,
+        lent_pages,
+    } = all_of(stints?.as_slice());
+    Ok(Soak {
+        sections,
+        lent_pages,
+        free_pages: u64::from(zone.close(&mut []).zone.counts().free),
+        watch,
+    })
+}
+
+/// Makes the zone, and all the requests of it.
+fn load<R: Threads + Wait + Sync>(rt: &R, alloc: Global) -> anyhow::Result<Soak> {
+    match Zone::new(alloc, config(MAX_PAGES), WORKERS) {
+        Ok((zone, seats)) => {
+            let opened = OpenedZone::without_journal(alloc, zone, u64::MAX).map_err(
+                NoMemory::from,
+            )?;
+            load_as::<Brand, R>(rt, alloc, opened, seats)
+        }
+        Err(refused) => Err(NoMemory::from(refused).into()),
+    }
+}
+
+/// Says how many requests were made, and whether the pages add up and the readings were good.
+pub fn print<R: Print + Threads + Wait + Sync>(rt: &R, alloc: Global) -> anyhow::Result<()> {
+    let soak = load(rt, alloc)?;
+    println!(rt;
+        "{WORKERS} workers, no journal: {} sections, free and lent pages {}, last place read {}, readings {}",
+        soak.sections,
+        soak.free_pages.saturating_add(soak.lent_pages),
+        soak.watch.place,
+        if soak.watch.are_good { "good" } else { "BAD" }
+    )?;
+    Ok(())
+}
