@@ -1,10 +1,10 @@
 //! Journals and boards.
 
-ghost use Rattle.std.specs.Prelude.{false, ◌≡◌};
+ghost use Rattle.std.specs.Prelude.{◌≡◌};
 
 use crate::unmade::{Unmade, expect};
 use std::alloc::Global;
-use zp_counts::{Board, BoardReader, Publisher, new_board};
+use zp_counts::{Board, BoardReader, Publisher, are_packable, new_board, new_turning_board};
 use zp_journal::Journal;
 use zp_model::Counts;
 
@@ -19,7 +19,24 @@ pub fn journal(alloc: Global) -> Result<(), Unmade> {
 
 /// A board, and so many counts that are published and read.
 pub fn board(alloc: Global, calls: u32) -> Result<(), Unmade> {
-    let (board, mut publisher) = new_board(alloc, ROOM, &Counts::default())?;
+    let (board, publisher) = new_board(alloc, ROOM, &Counts::default())?;
+    publish_and_read(board, publisher, calls)
+}
+
+/// A board that turns, with as many.
+pub fn turning_board(alloc: Global, calls: u32) -> Result<(), Unmade> {
+    let opening = Counts::default();
+    if !are_packable(&opening) {
+        return Err(Unmade::Other);
+    }
+    let (board, publisher) = new_turning_board(alloc, u64::MAX, &opening)?;
+    publish_and_read(board, publisher, calls)
+}
+
+/// So many counts are published on a board and read.
+fn publish_and_read(board: Board, mut publisher: Publisher, calls: u32) -> Result<(), Unmade>
+    requires { publisher.tie ≡ board.tie }
+{
     let reader = publisher.reader(&board);
     let mut board = ReadBoard {
         board,
@@ -40,20 +57,19 @@ struct ReadBoard {
     reader: BoardReader,
     ghost publishes: { publisher.tie ≡ board.tie },
     ghost reads: { reader.tie ≡ board.tie },
-    ghost fixed: { publisher.tie.turns ≡ false },
 }
 
 impl ReadBoard {
     /// Publishes counts with so many free pages and reads them, with the publisher and without it.
     fn publish_and_read(&mut self, free: u32) -> Result<(), Unmade> {
         let board = &self.board;
-        if self.publisher.is_full(board) {
-            return Err(Unmade::Other);
-        }
         let counts = Counts {
             by_order: [0; 11],
             free,
         };
+        if self.publisher.is_full(board) || !are_packable(&counts) {
+            return Err(Unmade::Other);
+        }
         self.publisher.publish(board, &counts);
         let read = self.reader.read(board);
         let last = self.publisher.read_board(board, &mut self.reader);

@@ -10,11 +10,12 @@ use crate::zones::{FRONT, config};
 use std::alloc::Global;
 use std::marker::Brand;
 use std::sync::Wait;
+use zp_journal::Journal;
 use zp_model::{Mark, MigrateType, Order};
 use zp_share::Share;
 use zp_shared::{
-    BoardReader, LockedZones, Naming, OpenedZone, SharedZone, open_zones, reader_rows, readers_of,
-    share_zones,
+    BoardReader, CutJournal, Keeps, LockedZones, Naming, NoJournal, OpenedZone, SharedZone,
+    WholeJournal, open_zones, reader_rows, readers_of, share_zones,
 };
 use zp_zone::{Seat, Zone};
 
@@ -39,16 +40,26 @@ pub fn readers(alloc: Global) -> Result<(), Unmade> {
     Ok(())
 }
 
-/// An opened zone, and its worker's share.
-fn opened_zone(alloc: Global) -> Result<(OpenedZone, Share), Unmade>
-    ensures fits { IfOk result (λ o. IsShareOf (opened_key o.0 ∷ []) o.1) }
-    ensures one { IfOk result (λ o. length o.1.zones ≡ 1) }
+/// A zone, and its worker's share.
+fn zone_and_share(alloc: Global) -> Result<(Zone, Share), Unmade>
+    ensures new { IfOk result (λ z. z.0.entries ≡ []) }
+    ensures fits { IfOk result (λ z. IsShareOf (key_of z.0 ∷ []) z.1) }
+    ensures one { IfOk result (λ z. length z.1.zones ≡ 1) }
 {
     let (zone, mut seats) = Zone::new(alloc, config(), 1)?;
     let Some(seat) = seats.pop() else {
         return Err(Unmade::Other);
     };
     let share = share_of(alloc, &zone, seat)?;
+    Ok((zone, share))
+}
+
+/// An opened zone, and its worker's share.
+fn opened_zone(alloc: Global) -> Result<(OpenedZone, Share), Unmade>
+    ensures fits { IfOk result (λ o. IsShareOf (opened_key o.0 ∷ []) o.1) }
+    ensures one { IfOk result (λ o. length o.1.zones ≡ 1) }
+{
+    let (zone, share) = zone_and_share(alloc)?;
     let opened = OpenedZone::new(alloc, zone, ENTRIES)?;
     Ok((opened, share))
 }
@@ -69,13 +80,28 @@ fn share_of(alloc: Global, zone: &Zone, seat: Seat) -> Result<Share, Unmade>
 /// A zone behind its lock, and so many rounds of sections under the lock.
 pub fn shared<R: Wait>(rt: &R, alloc: Global, calls: u32) -> Result<(), Unmade> {
     let (opened, share) = opened_zone(alloc)?;
-    shared_as::<Brand, R>(rt, opened, share, calls)
+    shared_as::<Brand, WholeJournal, R>(rt, opened, share, calls)
+}
+
+/// The same of a zone that keeps nothing.
+pub fn without_journal<R: Wait>(rt: &R, alloc: Global, calls: u32) -> Result<(), Unmade> {
+    let (zone, share) = zone_and_share(alloc)?;
+    let opened = OpenedZone::without_journal(alloc, zone, u64::MAX)?;
+    shared_as::<Brand, NoJournal, R>(rt, opened, share, calls)
+}
+
+/// The same of a zone whose journal can be cut.
+pub fn with_pieces<R: Wait>(rt: &R, alloc: Global, calls: u32) -> Result<(), Unmade> {
+    let (zone, share) = zone_and_share(alloc)?;
+    let journal = Journal::new(alloc, ENTRIES)?;
+    let opened = OpenedZone::with_pieces(alloc, zone, journal, u64::MAX)?;
+    shared_as::<Brand, CutJournal, R>(rt, opened, share, calls)
 }
 
 /// As `shared`, under the name of the opened zone.
-fn shared_as<J: Naming, R: Wait>(
+fn shared_as<J: Naming, K: Keeps, R: Wait>(
     rt: &R,
-    mut opened: OpenedZone,
+    mut opened: OpenedZone<K>,
     share: Share,
     calls: u32,
 ) -> Result<(), Unmade>
@@ -85,7 +111,7 @@ fn shared_as<J: Naming, R: Wait>(
     requires one { length share.zones ≡ 1 }
 {
     let reader = opened.reader();
-    let shared = SharedZone::<J>::new(0, opened);
+    let shared = SharedZone::<J, K>::new(0, opened);
     let mut locked = Locked {
         shared,
         reader,
@@ -99,8 +125,8 @@ fn shared_as<J: Naming, R: Wait>(
 
 /// A zone behind its lock at the first place, with a reader of its board and the share of its worker.
 #[derive(Drop)]
-struct Locked<J: Naming> {
-    shared: SharedZone<J>,
+struct Locked<J: Naming, K: Keeps> {
+    shared: SharedZone<J, K>,
     reader: BoardReader,
     share: Share,
     ghost place: { shared ≡ 0 },
@@ -109,7 +135,7 @@ struct Locked<J: Naming> {
     ghost one: { length share.zones ≡ 1 },
 }
 
-impl<J: Naming> Locked<J> {
+impl<J: Naming, K: Keeps> Locked<J, K> {
     /// A page is taken under the lock and given back, and the board is read before it, between the two and after them.
     fn round<R: Wait>(&mut self, rt: &R) -> Result<(), Unmade> {
         let Locked {
@@ -123,9 +149,9 @@ impl<J: Naming> Locked<J> {
 }
 
 /// As `Locked::round`.
-fn take_and_give<J: Naming, R: Wait>(
+fn take_and_give<J: Naming, K: Keeps, R: Wait>(
     rt: &R,
-    shared: &SharedZone<J>,
+    shared: &SharedZone<J, K>,
     reader: &mut BoardReader,
     share: &mut Share,
 ) -> Result<(), Unmade>

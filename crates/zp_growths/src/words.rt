@@ -21,9 +21,12 @@ pub enum Making {
     Share,
     Journal,
     Board,
+    TurningBoard,
     OpenedZone,
     Readers,
     SharedZone,
+    WithoutJournal,
+    WithPieces,
     Row,
     Trace,
     Script,
@@ -46,7 +49,7 @@ pub struct MakingWord {
 }
 
 /// All words, the lower layers first.
-pub const WORDS: [MakingWord; 24] = [
+pub const WORDS: [MakingWord; 27] = [
     MakingWord {
         name: "nothing",
         making: Making::Nothing,
@@ -103,6 +106,11 @@ pub const WORDS: [MakingWord; 24] = [
         has_calls: true,
     },
     MakingWord {
+        name: "new_turning_board",
+        making: Making::TurningBoard,
+        has_calls: true,
+    },
+    MakingWord {
         name: "OpenedZone",
         making: Making::OpenedZone,
         has_calls: false,
@@ -115,6 +123,16 @@ pub const WORDS: [MakingWord; 24] = [
     MakingWord {
         name: "SharedZone",
         making: Making::SharedZone,
+        has_calls: true,
+    },
+    MakingWord {
+        name: "without_journal",
+        making: Making::WithoutJournal,
+        has_calls: true,
+    },
+    MakingWord {
+        name: "with_pieces",
+        making: Making::WithPieces,
         has_calls: true,
     },
     MakingWord {
@@ -198,9 +216,12 @@ pub fn make<R: Threads + Wait + Sync>(
         Making::Share => shares::share(alloc, calls),
         Making::Journal => boards::journal(alloc),
         Making::Board => boards::board(alloc, calls),
+        Making::TurningBoard => boards::turning_board(alloc, calls),
         Making::OpenedZone => locked::opened(alloc),
         Making::Readers => locked::readers(alloc),
         Making::SharedZone => locked::shared(rt, alloc, calls),
+        Making::WithoutJournal => locked::without_journal(rt, alloc, calls),
+        Making::WithPieces => locked::with_pieces(rt, alloc, calls),
         Making::Row => locked::row(rt, alloc, calls),
         Making::Trace => offices::trace(alloc),
         Making::Script => offices::script(alloc),
