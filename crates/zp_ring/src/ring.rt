@@ -4,7 +4,10 @@ ghost use mathlib.Core.List.{IsPrefix};
 ghost use Rattle.zp_ring.specs.Rings.{AreWide, Heads, entry_at, last_of, word_at};
 ghost use Rattle.zp_ring.specs.declared.ring.TheConstants.{TRIES};
 
-use crate::ring_row::{Fetch, Find, Look, Newcomer, Open, Pin, Row, Seen, Whole, Write};
+use crate::ring_row::{
+    FetchWord, FindWord, LookAtPlace, NewReader, OpenEntry, Pin, Row, SeenSide, WholeSide,
+    WriteWord,
+};
 use std::alloc::{AllocError, Global};
 use std::marker::Model;
 
@@ -112,9 +115,9 @@ impl<const W: usize, const S: usize> Ring<W, S> {
         let _words = self.row.word_count();
         let start = self.start_of(place);
         for k in 0..W {
-            row.store::<Write>(pin, start + k, entry[k]);
+            row.store::<WriteWord>(pin, start + k, entry[k]);
         }
-        row.store::<Open>(pin, 0, place);
+        row.store::<OpenEntry>(pin, 0, place);
     }
 
     /// Fetches words from where those of the entry stand that is looked for. What they are, the next look says.
@@ -131,7 +134,7 @@ impl<const W: usize, const S: usize> Ring<W, S> {
         let start = self.start_of(place);
         let mut words = [0; W];
         for k in 0..W {
-            words[k] = row.load::<Fetch>(pin, start + k);
+            words[k] = row.load::<FetchWord>(pin, start + k);
         }
         words
     }
@@ -151,7 +154,7 @@ impl<const W: usize, const S: usize> Ring<W, S> {
         let start = self.start_of(place);
         let mut words = [0; W];
         for k in 0..W {
-            words[k] = row.load::<Find<W, S>>(pin, start + k);
+            words[k] = row.load::<FindWord<W, S>>(pin, start + k);
         }
         words
     }
@@ -205,7 +208,7 @@ impl<const W: usize, const S: usize> RingPublisher<W, S> {
     {
         let last = self.newest(board);
         let row = &board.row.shared;
-        let pin = row.split_seat::<Newcomer>(&mut self.pin);
+        let pin = row.split_seat::<NewReader>(&mut self.pin);
         RingReader { last, pin }
     }
 
@@ -225,11 +228,11 @@ impl<const W: usize, const S: usize> RingPublisher<W, S> {
         ensures place { result.place + 1 ≡ length self.old.published }
     {
         let row = &board.row.shared;
-        let part = row.split_seat::<Whole>(&mut reader.pin);
-        row.join_seat::<Seen>(&mut self.pin, part);
-        let place = row.load::<Look<W, S>>(&mut self.pin, 0);
+        let part = row.split_seat::<WholeSide>(&mut reader.pin);
+        row.join_seat::<SeenSide>(&mut self.pin, part);
+        let place = row.load::<LookAtPlace<W, S>>(&mut self.pin, 0);
         let words = board.find(&mut self.pin, place);
-        reader.pin = row.split_seat::<Seen>(&mut self.pin);
+        reader.pin = row.split_seat::<SeenSide>(&mut self.pin);
         reader.last = RingReading { place, words };
         reader.last
     }
@@ -251,10 +254,10 @@ impl<const W: usize, const S: usize> RingReader<W, S> {
         ensures fresh { ((self.old.known ≤ length self.new.seen) × (self.new.known + 1 < length self.new.seen + S)) ⊎ ((self.new.seen ≡ self.old.seen) × (self.old.known + TRIES * (S - 1) ≤ self.new.known)) }
     {
         let row = &board.row.shared;
-        let mut place = row.load::<Look<W, S>>(&mut self.pin, 0);
+        let mut place = row.load::<LookAtPlace<W, S>>(&mut self.pin, 0);
         for _ in 0..TRIES {
             let words = board.fetch(&mut self.pin, place);
-            let again = row.load::<Look<W, S>>(&mut self.pin, 0);
+            let again = row.load::<LookAtPlace<W, S>>(&mut self.pin, 0);
             if again - place < S as u64 - 1 {
                 self.last = RingReading { place, words };
                 return self.last;

@@ -32,9 +32,9 @@ impl<const W: usize, const S: usize> TableRule<(), RingView, ()> for Turning<W, 
 }
 
 /// All that a seat knows is cut off.
-pub struct Whole;
+pub struct WholeSide;
 
-impl Split<RingView> for Whole {
+impl Split<RingView> for WholeSide {
     ghost use Rattle.zp_ring.specs.Rings.{emptied};
 
     ghost left = { emptied };
@@ -43,9 +43,9 @@ impl Split<RingView> for Whole {
 }
 
 /// What was seen is cut off, or taken in.
-pub struct Seen;
+pub struct SeenSide;
 
-impl Split<RingView> for Seen {
+impl Split<RingView> for SeenSide {
     ghost use Rattle.zp_ring.specs.Rings.{storing, reading};
 
     ghost left = { storing };
@@ -53,7 +53,7 @@ impl Split<RingView> for Seen {
     ghost right = { reading };
 }
 
-impl Join<RingView> for Seen {
+impl Join<RingView> for SeenSide {
     ghost use Rattle.zp_ring.specs.Rings.{both_of, blank, emptied};
 
     ghost both = { both_of };
@@ -62,9 +62,9 @@ impl Join<RingView> for Seen {
 }
 
 /// A reader is cut off, that has seen all that is published.
-pub struct Newcomer;
+pub struct NewReader;
 
-impl Split<RingView> for Newcomer {
+impl Split<RingView> for NewReader {
     ghost use Rattle.zp_ring.specs.Rings.{newcomer};
 
     ghost left = { λ v. v };
@@ -73,45 +73,45 @@ impl Split<RingView> for Newcomer {
 }
 
 /// A word of the next entry is written.
-pub struct Write;
+pub struct WriteWord;
 
-impl Play<(), RingView> for Write {
+impl Play<(), RingView> for WriteWord {
     ghost use Rattle.zp_ring.specs.Rings.{Writes};
 
     ghost then = { Writes };
 }
 
 /// The next entry is opened.
-pub struct Open;
+pub struct OpenEntry;
 
-impl Play<(), RingView> for Open {
+impl Play<(), RingView> for OpenEntry {
     ghost use Rattle.zp_ring.specs.Rings.{Opens};
 
     ghost then = { Opens };
 }
 
 /// The place is looked at.
-pub struct Look<const W: usize, const S: usize>;
+pub struct LookAtPlace<const W: usize, const S: usize>;
 
-impl<const W: usize, const S: usize> Play<(), RingView> for Look<W, S> {
+impl<const W: usize, const S: usize> Play<(), RingView> for LookAtPlace<W, S> {
     ghost use Rattle.zp_ring.specs.Rings.{Looks};
 
     ghost then = { Looks W S };
 }
 
 /// A word of the entry that is looked for is fetched.
-pub struct Fetch;
+pub struct FetchWord;
 
-impl Play<(), RingView> for Fetch {
+impl Play<(), RingView> for FetchWord {
     ghost use Rattle.zp_ring.specs.Rings.{Fetches};
 
     ghost then = { Fetches };
 }
 
 /// A word is found by the seat that stores.
-pub struct Find<const W: usize, const S: usize>;
+pub struct FindWord<const W: usize, const S: usize>;
 
-impl<const W: usize, const S: usize> Play<(), RingView> for Find<W, S> {
+impl<const W: usize, const S: usize> Play<(), RingView> for FindWord<W, S> {
     ghost use Rattle.zp_ring.specs.Rings.{Finds};
 
     ghost then = { Finds W S };
