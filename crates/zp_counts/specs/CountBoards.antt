@@ -1,8 +1,10 @@
 -- The counts of a zone on a board (this profile).
-use Rattle.std.specs.Prelude.{ℕ, ◌≡◌, ◌-◌, ◌<◌, ◌≤◌, Bool, Some, slice_get, List, [], ◌∷◌, ◌++◌, length, map, min, take, slice_index, slice_index_or}
+use Rattle.std.specs.Prelude.{ℕ, ◌≡◌, ◌+◌, ◌-◌, ◌*◌, ◌<◌, ◌≤◌, ◌⊎◌, Bool, Some, slice_get, List, [], ◌∷◌, ◌++◌, length, map, min, take, slice_index, slice_index_or}
 use Rattle.atomic_table.specs.Seated.{TableId}
 use Rattle.zp_model.specs.declared.constants.TheConstants.{ORDERS}
 use Rattle.zp_model.specs.declared.counts.Counts.{Counts}
+use Rattle.zp_ring.specs.declared.ring.TheConstants.{TRIES}
+use Rattle.zp_counts.specs.declared.kinds.TheConstants.{SLOTS}
 use Rattle.zp_counts.specs.declared.packed.TheConstants.{WIDE, MIDDLE, NARROW}
 use Rattle.zp_counts.specs.declared.reading.Reading.{Reading}
 
@@ -41,10 +43,18 @@ pub record CountsPublished : Type 0 where
   pub tie : CountTie
   pub published : List Counts
 
--- a reader: the counts that it has seen
+-- a reader: the counts that it has seen, and how many it knows to be published
 pub record CountsSeen : Type 0 where
   pub tie : CountTie
   pub seen : List Counts
+  pub known : ℕ
+
+-- what a reader saw by a reading is fresh: it misses nothing that was known before it, and at most SLOTS - 2 of what is known after it; or
+-- nothing new is seen, and so many counts were published meanwhile that each try was passed
+pub record IsFreshRead (before after : CountsSeen) : Type 0 where
+  pub grown : before.known ≤ after.known
+  pub within : length after.seen ≤ after.known
+  pub near : ((before.known ≤ length after.seen) × (after.known + 1 < length after.seen + SLOTS)) ⊎ ((after.seen ≡ before.seen) × (before.known + TRIES * (SLOTS - 1) ≤ after.known))
 
 -- the last of some counts
 abbrev pub last_counts : List Counts → Counts

@@ -1,7 +1,7 @@
 //! A board on which counts are published, its publisher and its readers.
 ghost use Rattle.std.specs.Prelude.{◌≡◌, ◌+◌, ◌*◌, ◌^◌, ◌<◌, ◌≤◌, ◌↔◌, true, false, [], ◌∷◌, ◌++◌, length, IfOk, IsTrue};
 ghost use mathlib.Core.List.{IsPrefix};
-ghost use Rattle.zp_counts.specs.CountBoards.{ArePackable, IsReadingOf, counts_in, last_reading};
+ghost use Rattle.zp_counts.specs.CountBoards.{ArePackable, IsFreshRead, IsReadingOf, counts_in, last_reading};
 ghost use Rattle.zp_counts.specs.Kinds.{fixed_tie, turning_tie};
 ghost use Rattle.zp_counts.specs.Packing.{packed_in};
 ghost use Rattle.zp_counts.specs.declared.reading.Reading.{Reading};
@@ -55,7 +55,7 @@ impl Model for Publisher {
     ghost invariant = { λ p. 0 < length (published_counts p.kind).published };
 }
 
-/// The right to read. It cannot be copied. Contracts see its tie, and the counts that it has seen.
+/// The right to read. It cannot be copied. Contracts see its tie, the counts that it has seen, and how many it knows to be published.
 #[derive(Drop)]
 pub struct BoardReader {
     kind: ReaderKind,
@@ -192,7 +192,7 @@ impl Publisher {
     pub fn reader(&mut self, board: &Board) -> BoardReader
         requires { self.old.tie ≡ board.now.tie }
         ensures same { self.new ≡ self.old }
-        ensures reader { result ≡ record { tie = self.old.tie; seen = self.old.published } }
+        ensures reader { result ≡ record { tie = self.old.tie; seen = self.old.published; known = length self.old.published } }
     {
         let kind = match &mut self.kind {
             PublisherKind::Fixed(entries) => ReaderKind::Fixed(entries.reader(board.fixed())),
@@ -209,7 +209,8 @@ impl Publisher {
         requires reader { reader.old.tie ≡ board.now.tie }
         ensures same { self.new ≡ self.old }
         ensures before { IsPrefix reader.old.seen self.old.published }
-        ensures reader { reader.new ≡ record { tie = reader.old.tie; seen = self.old.published } }
+        ensures known { reader.old.known ≤ length self.old.published }
+        ensures reader { reader.new ≡ record { tie = reader.old.tie; seen = self.old.published; known = length self.old.published } }
         ensures last { result ≡ last_reading self.old.published }
 
         // What was read before is of what is published, and so is this.
@@ -237,6 +238,7 @@ impl BoardReader {
         ensures seen { IsPrefix self.old.seen self.new.seen }
         ensures some { 0 < length self.new.seen }
         ensures last { result ≡ last_reading self.new.seen }
+        ensures fresh { IsFreshRead self.old self.new }
 
         // What was read before is of what is seen still, and so is this.
         ensures taken { IsReadingOf self.new.seen result }
