@@ -18,7 +18,7 @@ use Rattle.zp_shared.proofs.Places.{zip_all}
 use Rattle.zp_share.specs.Shares.{ZoneKey}
 use Rattle.std.specs.Global.{Vec}
 use Rattle.std.specs.List.{AllZip}
-use Rattle.zp_shared.specs.Rows.{GuardedZone, IsRowOf, AreKept, AreReaders, AreReadersOf, HaveReadAll, HaveReadAt, HaveReadZone, HaveReadZones, HaveSeen, IsCountsOf, IsPublished, board_at, no_board, seen_at, seen_by}
+use Rattle.zp_shared.specs.Rows.{GuardedZone, IsRowOf, AreKept, AreReaders, AreReadersOf, HaveReadAll, HaveReadAt, HaveReadZone, HaveReadZones, HaveSeen, IsCountsOf, IsPublished, board_at, no_board, no_reader, seen_at, seen_by}
 
 -- at each place of a row stands that place
 pub place_at : (keys : List ZoneKey) (places : List ℕ) (i d : ℕ) → IsRowOf keys places → i < length keys → slice_index_or places i d ≡ i
@@ -75,6 +75,15 @@ seen_put (r ∷ rs) zero s d h zero = h
 seen_put (r ∷ rs) zero s d h (suc i) = prefix_self (seen_at (seen_by rs) i)
 seen_put (r ∷ rs) (suc k) s d h zero = prefix_self r.seen
 seen_put (r ∷ rs) (suc k) s d h (suc i) = seen_put rs k s d h i
+
+-- and each reader knows of as many as it knew of, or more
+pub known_put : (rs : List CountsSeen) (k : ℕ) (s d : CountsSeen) → (slice_index_or rs k d).known ≤ s.known → (i : ℕ) →
+    (slice_index_or rs i no_reader).known ≤ (slice_index_or (slice_set rs k s) i no_reader).known
+known_put [] k s d h i = omega arith
+known_put (r ∷ rs) zero s d h zero = h
+known_put (r ∷ rs) zero s d h (suc i) = omega arith
+known_put (r ∷ rs) (suc k) s d h zero = omega arith
+known_put (r ∷ rs) (suc k) s d h (suc i) = known_put rs k s d h i
 
 -- all that was seen is seen still where a reader that has seen more is put at a place
 pub seen_set : (before : List (List Counts)) (rs : List CountsSeen) (k : ℕ) (s d : CountsSeen) → HaveSeen before (seen_by rs) → IsPrefix (slice_index_or rs k d).seen s.seen
@@ -159,9 +168,10 @@ pub none_read : (rows : List (Vec CountsSeen)) → All (HaveReadZones []) rows
 none_read rows = λ k d lt i v is. let bad : i < 0 = slice_get_within {A = ZoneState} [] i v is in absurd (omega arith)
 
 -- one reader more has read them
-pub read_all_more : (cs : List Counts) (r s : CountsSeen) (old new : List CountsSeen) → IsPrefix r.seen cs → s ≡ record r { seen = cs } → HaveReadAll cs old new → HaveReadAll cs (r ∷ old) (s ∷ new)
-read_all_more cs r s old new before after rest = record {
+pub read_all_more : (cs : List Counts) (r s : CountsSeen) (old new : List CountsSeen) → IsPrefix r.seen cs → r.known ≤ length cs → s ≡ record r { seen = cs; known = length cs } → HaveReadAll cs old new → HaveReadAll cs (r ∷ old) (s ∷ new)
+read_all_more cs r s old new before known after rest = record {
   before = All-cons (λ (x : CountsSeen). IsPrefix x.seen cs) r old before rest.before;
+  known = All-cons (λ (x : CountsSeen). x.known ≤ length cs) r old known rest.known;
   after = ap₂ (λ x l. x ∷ l) after rest.after;
 }
 

@@ -19,7 +19,7 @@ use Rattle.zp_share.specs.Shares.{ShareState, ZoneKey, is_section, share_at}
 use Rattle.zp_share.proofs.Tried.{step-section}
 use Rattle.zp_shared.specs.Rows.{GuardedZone, HasReadAfter, HaveSeen, IsAskedUnderLock, IsPublished, IsReadAfter, IsReadWhole, ViewState, is_journal_full, is_not_lent, seen_at, seen_by}
 use Rattle.zp_shared.proofs.Guarding.{filter_few}
-use Rattle.zp_shared.proofs.Readers.{seen_beside, seen_here, seen_put, seen_same}
+use Rattle.zp_shared.proofs.Readers.{known_put, seen_beside, seen_here, seen_put, seen_same}
 
 -- a request that was a section was made
 section_of : (lent full : Bool) (r : Request) (q : Reply) (z y : ZoneState) (a b : ZoneShareState) → ComesOf (refusal lent full) r q z y a b → is_section q ≡ true → IsSection r q z y a b
@@ -50,9 +50,9 @@ full_seen g h r q a b made e p kept within =
     omega (arith, reached, ap (λ (z : ZoneState). length z.entries) f.1.zone, p.many, kept, within)
 
 read_after : (keys : List ZoneKey) (bounds : ℕ → Type 0) (i : ℕ) (r : Request) (q : Reply) (g h : GuardedZone) (s t : ShareState) (rs : List CountsSeen) (k : CountsSeen) (b : Bool) → g.place ≡ i → i < length rs →
-    IsAskedUnderLock keys r q g h s t → is_not_lent q ≡ false → IsPrefix (slice_index_or rs i k).seen k.seen → IsReadWhole bounds h k.seen →
+    IsAskedUnderLock keys r q g h s t → is_not_lent q ≡ false → IsPrefix (slice_index_or rs i k).seen k.seen → (slice_index_or rs i k).known ≤ k.known → IsReadWhole bounds h k.seen →
     IsReadAfter bounds i q t (record { readers = rs; strayed = b }) (record { readers = slice_set rs i k; strayed = b })
-read_after keys bounds i r q g h s t rs k b at lt x lent before read =
+read_after keys bounds i r q g h s t rs k b at lt x lent before known read =
     let made : ComesOf (refusal (lends_for r (plain_share (share_at s i))) (is_journal_full g)) r q g.zone h.zone (share_at s i) (share_at t i) =
     subst (λ p. ComesOf (refusal (lends_for r (plain_share (share_at s p))) (is_journal_full g)) r q g.zone h.zone (share_at s p) (share_at t p)) at x.made in
     let now : seen_at (seen_by (slice_set rs i k)) i ≡ h.published = seen_here rs i k lt ∙ read.seen in
@@ -61,6 +61,7 @@ read_after keys bounds i r q g h s t rs k b at lt x lent before read =
       full = λ e. inr (h.capacity, read.room.1, ap length now ∙ full_seen g h r q (share_at s i) (share_at t i) made e read.published x.kept.capacity read.room.0);
       not_lent = λ e. absurd (let same : false ≡ true = sym lent ∙ ap is_not_lent e in cc);
       seen = seen_put rs i k k before;
+      known = known_put rs i k k known;
       others = λ j other. seen_beside rs i j k other;
       strayed = λ e. e;
       stays = λ e. refl;
@@ -73,6 +74,7 @@ unread_after bounds i q t v lent = record {
   full = λ e. absurd (let same : true ≡ false = sym lent ∙ ap is_not_lent e in cc);
   not_lent = λ e. refl;
   seen = seen_same (seen_by v.readers);
+  known = λ j. omega arith;
   others = λ j other. refl;
   strayed = λ e. e;
   stays = λ e. refl;
@@ -90,6 +92,7 @@ strayed_after bounds i q t rs b none = record {
   full = λ e. inl refl;
   not_lent = λ e. refl;
   seen = seen_same (seen_by rs);
+  known = λ j. omega arith;
   others = λ j other. refl;
   strayed = λ e. refl;
   stays = λ e. absurd (let same : false ≡ true = sym none ∙ e in cc);
@@ -108,4 +111,4 @@ asked_after keys bounds i r q g h s t rs j k b at lt x is read = go (is_not_lent
         (unread_after bounds i q t (record { readers = rs; strayed = b }) e)
     go false e =
         let here : slice_index_or rs i k ≡ slice_index_or rs i j = get_or_default rs i k j lt in
-        read_after keys bounds i r q g h s t rs k b at lt x e (subst (λ (v : CountsSeen). IsPrefix v.seen k.seen) (is ∙ sym here) read.before) (read.read e)
+        read_after keys bounds i r q g h s t rs k b at lt x e (subst (λ (v : CountsSeen). IsPrefix v.seen k.seen) (is ∙ sym here) read.before) (subst (λ (v : CountsSeen). v.known ≤ k.known) (is ∙ sym here) read.known) (read.read e)

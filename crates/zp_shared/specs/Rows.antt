@@ -55,7 +55,7 @@ opened_board o = o.board
 
 -- a new reader of its board has seen all that is published
 abbrev pub opened_reader : OpenedState → CountsSeen
-opened_reader o = record { tie = o.board.tie; seen = o.published }
+opened_reader o = record { tie = o.board.tie; seen = o.published; known = length o.published }
 
 -- a zone that says its place in the row
 pub record GuardedZone : Type 0 where
@@ -105,14 +105,23 @@ pub record ViewState : Type 0 where
   pub readers : List CountsSeen
   pub strayed : Bool
 
+-- a reader that has seen nothing
+abbrev pub no_reader : CountsSeen
+no_reader = record { tie = no_board.tie; seen = []; known = 0 }
+
+-- its reader of a place
+abbrev pub reader_at : ViewState → ℕ → CountsSeen
+reader_at v i = slice_index_or v.readers i no_reader
+
 -- the counts that its reader of a place saw last
 abbrev pub shown_at : ViewState → ℕ → Counts
 shown_at v i = last_counts (seen_at (seen_by v.readers) i)
 
--- the readers had seen a beginning of these counts, and have seen all of them
+-- the readers had seen a beginning of these counts, and knew of no more, and have seen all of them
 pub record HaveReadAll (cs : List Counts) (old new : List CountsSeen) : Type 0 where
   pub before : All (λ (r : CountsSeen). IsPrefix r.seen cs) old
-  pub after : new ≡ map (λ (r : CountsSeen). record r { seen = cs }) old
+  pub known : All (λ (r : CountsSeen). r.known ≤ length cs) old
+  pub after : new ≡ map (λ (r : CountsSeen). record r { seen = cs; known = length cs }) old
 
 -- they have seen all that was published of the zone
 abbrev pub HaveReadZone : ZoneState → List CountsSeen → List CountsSeen → Type 0
@@ -184,6 +193,7 @@ pub record IsReadWhole (bounds : ℕ → Type 0) (h : GuardedZone) (cs : List Co
 pub record HasReadAfter (bounds : ℕ → Type 0) (q : Reply) (h : GuardedZone) (r s : CountsSeen) : Type 0 where
   pub tie : s.tie ≡ r.tie
   pub before : IsPrefix r.seen s.seen
+  pub known : r.known ≤ s.known
   pub left : is_not_lent q ≡ true → s ≡ r
   pub read : is_not_lent q ≡ false → IsReadWhole bounds h s.seen
 
@@ -196,6 +206,7 @@ pub record IsReadAfter (bounds : ℕ → Type 0) (i : ℕ) (q : Reply) (t : Shar
   -- where no such block was lent, nothing
   pub not_lent : q ≡ Reply.Refused NotLent → after.readers ≡ before.readers
   pub seen : HaveSeen (seen_by before.readers) (seen_by after.readers)
+  pub known : (j : ℕ) → (reader_at before j).known ≤ (reader_at after j).known
   pub others : (j : ℕ) → j ≢ i → seen_at (seen_by after.readers) j ≡ seen_at (seen_by before.readers) j
   -- it has strayed for good, and does not where a section was made
   pub strayed : before.strayed ≡ true → after.strayed ≡ true

@@ -2,10 +2,10 @@
 ghost use Rattle.std.specs.Prelude.{ℕ, ◌≡◌, ◌≢◌, ◌<◌, false, length, IfSome, None};
 ghost use Rattle.std.specs.Sync.Mutex.{mutex_guard_value};
 ghost use mathlib.Core.List.{IsPrefix};
-ghost use Rattle.zp_counts.specs.CountBoards.{last_reading};
+ghost use Rattle.zp_counts.specs.CountBoards.{IsFreshRead, last_reading};
 ghost use Rattle.zp_share.specs.Sections.{MayAsk};
 ghost use Rattle.zp_share.specs.Shares.{IsAskedAt, IsShareOf, share_at, workers_at};
-ghost use Rattle.zp_shared.specs.Rows.{IsRowOf, AreReadersOf, HaveSeen, HasReadAfter, IsAskedUnderLock, IsReadAfter, board_at, is_not_lent, seen_at, seen_by};
+ghost use Rattle.zp_shared.specs.Rows.{IsRowOf, AreReadersOf, HaveSeen, HasReadAfter, IsAskedUnderLock, IsReadAfter, board_at, is_not_lent, reader_at, seen_at, seen_by};
 
 use crate::guarded::Guarded;
 use crate::naming::{Earlier, Naming};
@@ -84,7 +84,9 @@ impl<'a, J: Naming, E: Earlier, R, K: Keeps> LockedZones<'a, J, E, R, K> {
         requires { zone < length J.zones }
         ensures last { result ≡ last_reading (seen_at (seen_by self.new.readers) zone) }
         ensures seen { IsPrefix (seen_at (seen_by self.old.readers) zone) (seen_at (seen_by self.new.readers) zone) }
+        ensures fresh { IsFreshRead (reader_at self.old zone) (reader_at self.new zone) }
         ensures others { (i : ℕ) → i ≢ zone → seen_at (seen_by self.new.readers) i ≡ seen_at (seen_by self.old.readers) i }
+        ensures kept { (i : ℕ) → i ≢ zone → reader_at self.new i ≡ reader_at self.old i }
         ensures strayed { self.new.strayed ≡ self.old.strayed }
     {
         let board = self.shared_at(zone).board();

@@ -1,5 +1,5 @@
 //! A zone that is opened for threads, before the row that it is in has a name.
-ghost use Rattle.std.specs.Prelude.{◌≡◌, ◌≤◌, [], ◌∷◌, length, min, IfOk, IfErr};
+ghost use Rattle.std.specs.Prelude.{◌≡◌, ◌≤◌, true, false, [], ◌∷◌, length, min, IfOk, IfErr};
 ghost use Rattle.zp_model.specs.declared.refused.Refused.TheVariants.{Memory};
 ghost use Rattle.zp_journal.specs.declared.journal.TheConstants.{LONGEST_JOURNAL};
 ghost use Rattle.zp_shared.specs.Rows.{OpenedState, IsPublished, opened_reader, zone_counts};
@@ -39,6 +39,7 @@ impl OpenedZone<WholeJournal> {
         requires new { zone.entries ≡ [] }
         requires capacity { capacity ≤ LONGEST_JOURNAL }
         ensures zone { IfOk result (λ o. o.zone ≡ zone) }
+        ensures turns { IfOk result (λ o. o.board.tie.turns ≡ false) }
         ensures capacity { IfOk result (λ o. o.board.capacity ≡ capacity) }
         ensures published { IfOk result (λ o. o.published ≡ zone_counts zone ∷ []) }
         ensures why { IfErr result (λ e. e ≡ Memory) }
@@ -68,6 +69,7 @@ impl OpenedZone<NoJournal> {
     ) -> Result<OpenedZone<NoJournal>, Refused>
         requires new { zone.entries ≡ [] }
         ensures zone { IfOk result (λ o. o.zone ≡ zone) }
+        ensures turns { IfOk result (λ o. o.board.tie.turns ≡ true) }
         ensures capacity { IfOk result (λ o. (o.board.capacity ≡ sections) × (o.capacity ≡ sections)) }
         ensures published { IfOk result (λ o. o.published ≡ zone_counts zone ∷ []) }
         ensures why { IfErr result (λ e. e ≡ Memory) }
@@ -90,6 +92,7 @@ impl OpenedZone<CutJournal> {
         requires new { zone.entries ≡ [] }
         requires empty { journal.entries ≡ [] }
         ensures zone { IfOk result (λ o. o.zone ≡ zone) }
+        ensures turns { IfOk result (λ o. o.board.tie.turns ≡ true) }
         ensures capacity { IfOk result (λ o. (o.board.capacity ≡ sections) × (o.capacity ≡ min journal.capacity sections)) }
         ensures handed { IfOk result (λ o. o.handed ≡ 0) }
         ensures published { IfOk result (λ o. o.published ≡ zone_counts zone ∷ []) }
@@ -113,6 +116,7 @@ impl<K: Keeps> OpenedZone<K> {
         requires keeps { K.keeps zone journal }
         requires room { K.bounds sections (K.capacity journal sections) }
         ensures zone { IfOk result (λ o. o.zone ≡ zone) }
+        ensures turns { IfOk result (λ o. o.board.tie.turns ≡ true) }
         ensures board { IfOk result (λ o. o.board.capacity ≡ sections) }
         ensures kept { IfOk result (λ o. (o.capacity ≡ K.capacity journal sections) × (o.handed ≡ K.handed journal)) }
         ensures published { IfOk result (λ o. o.published ≡ zone_counts zone ∷ []) }

@@ -15,4 +15,4 @@ returns-clause-read g t c =
     let same = ap (λ (v : GuardedZone). v.published) c.read_board.ensures.same in
     let rest = subst (λ cs. HaveReadAll cs c.in-Some.rest.now c.read_all.new.readers) same c.read_all.ensures.read in
     subst (λ l. HaveReadAll c.args.guarded.now.published l (c.read_board.new.reader ∷ c.read_all.new.readers)) (sym c.in-Some.ensures.cases.0)
-    (read_all_more c.args.guarded.now.published c.in-Some.first.now c.read_board.new.reader c.in-Some.rest.now c.read_all.new.readers c.read_board.ensures.before c.read_board.ensures.reader rest)
+    (read_all_more c.args.guarded.now.published c.in-Some.first.now c.read_board.new.reader c.in-Some.rest.now c.read_all.new.readers c.read_board.ensures.before c.read_board.ensures.known c.read_board.ensures.reader rest)

@@ -1,8 +1,10 @@
-use Rattle.std.proofs.Common.{◌∙◌, ap, arith, slice_set, subst, sym}
+use Rattle.std.proofs.Common.{◌≡◌, ◌<◌, ◌∙◌, List, ap, arith, length, refl, slice_index_or, slice_set, subst, sym}
+use Rattle.std.proofs.lemmas.Grind.{get_or-set_at}
+use Rattle.std.proofs.lemmas.List.{get_or_default, get_or-set_other}
 use mathlib.Core.List.{IsPrefix}
 use Rattle.zp_counts.specs.CountBoards.{BoardState}
-use Rattle.zp_counts.specs.CountBoards.{CountsSeen, last_reading}
-use Rattle.zp_shared.specs.Rows.{ViewState, board_at, seen_at, seen_by}
+use Rattle.zp_counts.specs.CountBoards.{CountsSeen, IsFreshRead, last_reading}
+use Rattle.zp_shared.specs.Rows.{ViewState, board_at, no_reader, reader_at, seen_at, seen_by}
 use Rattle.zp_shared.proofs.Readers.{reader_tie, readers_length, readers_set, seen_beside, seen_here, seen_put, seen_set}
 use Rattle.zp_shared.proofs.locked_zones.LockedZones.read.Goals as goal
 
@@ -35,3 +37,18 @@ returns-clause-seen g c =
 pub returns-clause-others : goal.returns-clause-others
 returns-clause-others g c = λ i other.
     seen_beside c.self.inside.readers.items c.args.zone i c.read.new.self other ∙ ap (λ (v : ViewState). seen_at (seen_by v.readers) i) c.self.view_is
+
+pub returns-clause-fresh : goal.returns-clause-fresh
+returns-clause-fresh g c =
+    let rs : List CountsSeen = c.self.inside.readers.items in
+    let i = c.args.zone in
+    let many = readers_length g.J.Naming.zones g.J.Naming.boards rs c.self.invariant.1 in
+    let lt : i < length rs = omega (arith, many, c.requires) in
+    let before : c.index_mut.result.now ≡ slice_index_or rs i no_reader = c.index_mut.ensures.value ∙ get_or_default rs i c.index_mut.result.now no_reader lt in
+    let after : slice_index_or (slice_set rs i c.read.new.self) i no_reader ≡ c.read.new.self = get_or-set_at rs i i c.read.new.self no_reader refl lt in
+    subst (λ (v : ViewState). IsFreshRead (reader_at v i) (slice_index_or (slice_set rs i c.read.new.self) i no_reader)) c.self.view_is
+    (subst (λ (p : CountsSeen × CountsSeen). IsFreshRead p.0 p.1) (λ k. (before k, sym after k)) c.read.ensures.fresh)
+
+pub returns-clause-kept : goal.returns-clause-kept
+returns-clause-kept g c = λ i other.
+    get_or-set_other c.self.inside.readers.items c.args.zone i c.read.new.self no_reader other ∙ ap (λ (v : ViewState). reader_at v i) c.self.view_is
