@@ -5,12 +5,14 @@ ghost use Rattle.std.specs.Prelude.{◌≤◌, IfOk};
 use crate::bench::NoMemory;
 use crate::cached::{Cached, PastLists};
 use crate::check::{Sum, sum_of};
-use crate::locked::{self, SECTIONS};
+use crate::locked::{self, Kept, Plan};
 use crate::seated::{Largest1, Largest4, Largest9, Seated};
+use crate::threads::Pairs;
 use crate::workload::Workload;
 use std::alloc::Global;
 use std::rt::Clock;
 use std::sync::Wait;
+use std::thread::Threads;
 use zp_model::MAX_PAGES;
 
 /// How instructions are counted, where the processor's own counters are not to be had.
@@ -21,7 +23,8 @@ and divide the difference in instructions by that in calls";
 /// The names of workloads, as a message has them.
 const NAMES: &str =
     "pairs-0, pairs-4, pairs-9, pairs-10, runs, churn, press, burst, scattered and claims, and each with cached- or past-lists- before it, \
-or with largest-9-, largest-4- or largest-1- for a zone of that largest order, and pairs with locked- before them";
+or with largest-9-, largest-4- or largest-1- for a zone of that largest order, and pairs with locked- before them for a zone behind its \
+lock with a whole journal, locked-none- for one with no journal, or locked-pieces- for one with a journal that is cut";
 
 /// The way on which the blocks of a workload come and go.
 #[derive(Clone, Copy, PartialEq, Eq, Debug, Drop)]
@@ -90,10 +93,24 @@ fn wanted(name: &str, pages: &str, calls: &str) -> anyhow::Result<(Workload, u32
     Ok((workload, pages, calls))
 }
 
-/// Makes so many sections of pairs on a zone behind its lock.
-fn locked_sum(
-    rt: &(impl Wait + Clock),
+/// What a zone behind its lock keeps, and the name of the workload that is left, where a name begins so.
+fn split_locked(name: &str) -> Option<(Kept, &str)> {
+    if let Some(rest) = name.strip_prefix("locked-none-") {
+        Some((Kept::Nothing, rest))
+    } else if let Some(rest) = name.strip_prefix("locked-pieces-") {
+        Some((Kept::Pieces, rest))
+    } else if let Some(rest) = name.strip_prefix("locked-") {
+        Some((Kept::Whole, rest))
+    } else {
+        None
+    }
+}
+
+/// Makes so many sections of pairs on a zone behind its lock that keeps this.
+fn locked_sum<R: Clock + Threads + Wait + Sync>(
+    rt: &R,
     alloc: Global,
+    kept: Kept,
     workload: &Workload,
     pages: u32,
     calls: u32,
@@ -101,24 +118,37 @@ fn locked_sum(
     let Workload::Pairs(order) = workload else {
         anyhow::bail!("zonebench: of a zone behind its lock there are pairs alone")
     };
-    if calls > SECTIONS {
-        anyhow::bail!("zonebench: a zone behind its lock has room for {SECTIONS} calls")
+    if let Some(room) = kept.room()
+        && calls > room
+    {
+        anyhow::bail!(
+            "zonebench: a zone with a {} has room for {room} calls",
+            kept.name()
+        )
     }
-    Ok(locked::pairs(rt, alloc, pages, *order, calls / 2)?.sum)
+    let plan = Plan {
+        workers: 1,
+        pairs: Pairs::PastLists(*order),
+        each: calls / 2,
+    };
+    match locked::time(rt, alloc, pages, kept, plan)?.sums.pop() {
+        Some(sum) => Ok(sum),
+        None => Err(NoMemory.into()),
+    }
 }
 
 /// Makes about so many calls of the workload of this name in a zone of so many pages, and prints how many they were, and the
 /// checksum of the answers.
-pub fn print_count(
-    rt: &(impl Print + Wait + Clock),
+pub fn print_count<R: Print + Clock + Threads + Wait + Sync>(
+    rt: &R,
     alloc: Global,
     name: &str,
     pages: &str,
     calls: &str,
 ) -> anyhow::Result<()> {
-    let sum = if let Some(rest) = name.strip_prefix("locked-") {
+    let sum = if let Some((kept, rest)) = split_locked(name) {
         let (workload, pages, calls) = wanted(rest, pages, calls)?;
-        locked_sum(rt, alloc, &workload, pages, calls)?
+        locked_sum(rt, alloc, kept, &workload, pages, calls)?
     } else {
         let (way, rest) = Way::split(name);
         let (workload, pages, calls) = wanted(rest, pages, calls)?;

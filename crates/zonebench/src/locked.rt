@@ -1,73 +1,137 @@
-//! Sections on a zone behind its lock, where nobody else asks for it.
+//! Sections on a zone behind its lock, by what the zone keeps of them.
 
-ghost use Rattle.std.specs.Prelude.{◌≡◌, ◌∷◌, [], All};
-ghost use Rattle.zp_shared.specs.Rows.{opened_board, opened_key};
+ghost use Rattle.std.specs.Prelude.{◌≡◌, [], All};
 ghost use Rattle.zp_zone.specs.Seats.{IsSeatOf, IsUnused};
 
 use crate::bench::NoMemory;
-use crate::check::Sum;
 use crate::source::config;
-use crate::threads::{Row, crew};
+use crate::threads::{Pairs, TimedWork, time_as};
 use std::alloc::Global;
 use std::marker::Brand;
 use std::rt::Clock;
 use std::sync::Wait;
-use std::time::{Duration, Instant};
-use zp_model::{Largest, Order};
-use zp_shared::{Naming, OpenedZone};
+use std::thread::Threads;
+use zp_journal::Journal;
+use zp_model::Largest;
+use zp_shared::{CutJournal, NoJournal, OpenedZone, WholeJournal};
 use zp_zone::{Seat, Zone};
 
-/// The room of the zone's journal: the most sections.
+/// The room of a zone's journal, where it has one: the most sections.
 pub const SECTIONS: u32 = 65_536;
 
-/// The sections that were made by taking blocks of this order and giving them back, and their time.
-#[derive(Clone, Copy, Drop)]
-pub struct TimedSections {
-    pub sum: Sum,
-    pub time: Duration,
+/// What a zone keeps of its sections.
+#[derive(Clone, Copy, PartialEq, Eq, Debug, Drop)]
+pub enum Kept {
+    /// All of them.
+    Whole,
+    /// None of them.
+    Nothing,
+    /// Those since its journal was cut. Nobody cuts it here, so it is one piece.
+    Pieces,
 }
 
-/// So many pairs, each of two sections, by the worker of this seat of the opened zone.
-fn pairs_as<J: Naming, R: Wait + Clock>(
+impl Kept {
+    /// Each choice.
+    pub fn all() -> [Kept; 3] {
+        [Kept::Whole, Kept::Nothing, Kept::Pieces]
+    }
+
+    pub fn name(self) -> &'static str {
+        match self {
+            Kept::Whole => "whole journal",
+            Kept::Nothing => "no journal",
+            Kept::Pieces => "journal that is cut",
+        }
+    }
+
+    /// How many sections there is room for, where that is bounded.
+    pub fn room(self) -> Option<u32> {
+        match self {
+            Kept::Whole | Kept::Pieces => Some(SECTIONS),
+            Kept::Nothing => None,
+        }
+    }
+}
+
+/// What so many workers of a zone do, all at the same time: so many pairs each.
+#[derive(Clone, Copy, PartialEq, Eq, Debug, Drop)]
+pub struct Plan {
+    pub workers: u32,
+    pub pairs: Pairs,
+    pub each: u32,
+}
+
+/// Over a zone with a journal of all its sections.
+fn time_whole<R: Threads + Wait + Clock + Sync>(
     rt: &R,
     alloc: Global,
-    mut opened: OpenedZone,
+    zone: Zone,
     seats: Vec<Seat>,
-    order: Order,
-    pairs: u32,
-) -> anyhow::Result<TimedSections>
-    requires named { J.zones ≡ opened_key opened ∷ [] }
-    requires boards { J.boards ≡ opened_board opened ∷ [] }
-    requires fits { All (IsSeatOf opened.zone) seats.items }
+    plan: Plan,
+) -> anyhow::Result<TimedWork>
+    requires new { zone.entries ≡ [] }
+    requires fits { All (IsSeatOf zone) seats.items }
     requires unused { All IsUnused seats.items }
 {
-    let mut workers = crew::<J>(alloc, &mut opened, seats)?;
-    let row = Row::<J>::new(alloc, opened)?;
-    let Some(worker) = workers.pop() else {
+    let Ok(opened) = OpenedZone::new(alloc, zone, SECTIONS) else {
         return Err(NoMemory.into());
     };
-    let start = Instant::now(rt)?;
-    let hand = worker.pairs_past_lists(rt, &row, order, pairs);
-    let time = start.elapsed(rt)?;
-    Ok(TimedSections {
-        sum: hand.sum(),
-        time,
-    })
+    time_as::<Brand, R, WholeJournal>(rt, alloc, opened, seats, plan.pairs, plan.each)
 }
 
-/// So many pairs of this order over a zone of so many pages, each of two sections. Past the room of the journal a section is refused.
-pub fn pairs<R: Wait + Clock>(
+/// Over a zone with no journal.
+fn time_nothing<R: Threads + Wait + Clock + Sync>(
+    rt: &R,
+    alloc: Global,
+    zone: Zone,
+    seats: Vec<Seat>,
+    plan: Plan,
+) -> anyhow::Result<TimedWork>
+    requires new { zone.entries ≡ [] }
+    requires fits { All (IsSeatOf zone) seats.items }
+    requires unused { All IsUnused seats.items }
+{
+    let Ok(opened) = OpenedZone::without_journal(alloc, zone, u64::MAX) else {
+        return Err(NoMemory.into());
+    };
+    time_as::<Brand, R, NoJournal>(rt, alloc, opened, seats, plan.pairs, plan.each)
+}
+
+/// Over a zone with the first piece of its journal.
+fn time_pieces<R: Threads + Wait + Clock + Sync>(
+    rt: &R,
+    alloc: Global,
+    zone: Zone,
+    seats: Vec<Seat>,
+    plan: Plan,
+) -> anyhow::Result<TimedWork>
+    requires new { zone.entries ≡ [] }
+    requires fits { All (IsSeatOf zone) seats.items }
+    requires unused { All IsUnused seats.items }
+{
+    let Ok(journal) = Journal::new(alloc, SECTIONS) else {
+        return Err(NoMemory.into());
+    };
+    let Ok(opened) = OpenedZone::with_pieces(alloc, zone, journal, u64::MAX) else {
+        return Err(NoMemory.into());
+    };
+    time_as::<Brand, R, CutJournal>(rt, alloc, opened, seats, plan.pairs, plan.each)
+}
+
+/// The plan over a zone of so many pages that keeps this, marks 0. Past its room a section is refused.
+pub fn time<R: Threads + Wait + Clock + Sync>(
     rt: &R,
     alloc: Global,
     pages: u32,
-    order: Order,
-    pairs: u32,
-) -> anyhow::Result<TimedSections> {
-    match Zone::new(alloc, config(pages, Largest::usual()), 1) {
-        Ok((zone, seats)) => {
-            let opened = OpenedZone::new(alloc, zone, SECTIONS).map_err(NoMemory::from)?;
-            pairs_as::<Brand, R>(rt, alloc, opened, seats, order, pairs)
-        }
+    kept: Kept,
+    plan: Plan,
+) -> anyhow::Result<TimedWork> {
+    match Zone::new(alloc, config(pages, Largest::usual()), plan.workers) {
+        Ok((zone, seats)) => match kept {
+            Kept::Whole => time_whole(rt, alloc, zone, seats, plan),
+            Kept::Nothing => time_nothing(rt, alloc, zone, seats, plan),
+            Kept::Pieces => time_pieces(rt, alloc, zone, seats, plan),
+        },
         Err(refused) => Err(NoMemory::from(refused).into()),
     }
 }

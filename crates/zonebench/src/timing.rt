@@ -1,13 +1,15 @@
 //! The time of each workload.
 
+ghost use Rattle.std.specs.Prelude.{◌<◌};
+
 use crate::bench::Bench;
 use crate::board::BoardBench;
 use crate::cached::{Cached, PastLists};
 use crate::counting::HOW_TO_COUNT;
-use crate::locked::{self, SECTIONS};
+use crate::locked::{self, Kept, Plan, SECTIONS};
 use crate::seated::{Largest4, Largest9, Seated};
 use crate::source::BlockSource;
-use crate::threads;
+use crate::threads::Pairs;
 use crate::workload::{SIZES, Workload};
 use std::alloc::Global;
 use std::rt::Clock;
@@ -86,46 +88,101 @@ fn print_times<S: BlockSource>(
     Ok(())
 }
 
-/// Tenths of a nanosecond that a section on a locked zone of so many pages takes, where blocks of this order come and go past the
-/// lists: the least of several samples.
-fn tenths_a_section<R: Clock + Wait>(
+/// Tenths of a nanosecond that a section takes on a locked zone of so many pages that keeps this: the least of several samples.
+fn tenths_a_section<R: Clock + Threads + Wait + Sync>(
     rt: &R,
     alloc: Global,
     pages: u32,
-    order: Order,
+    kept: Kept,
+    plan: &Plan,
 ) -> anyhow::Result<u128> {
     let mut least = u128::MAX;
     for _ in 0..SAMPLES {
-        let sections = locked::pairs(rt, alloc, pages, order, SECTIONS / 2)?;
-        least = least.min(tenths_each(sections.time, sections.sum.calls));
+        let timed = locked::time(rt, alloc, pages, kept, *plan)?;
+        least = least.min(tenths_each(timed.time, timed.sections()));
     }
     Ok(least)
 }
 
-/// Prints a line of the table: the time of a section on a locked zone at each size.
-fn print_section_times<R: Print + Eprint + Clock + Wait>(
+/// As many pairs past the lists as there is room for in a journal, by so many workers together.
+fn pairs_of(workers: u32, order: Order) -> Plan
+    requires { 0 < workers }
+{
+    Plan {
+        workers,
+        pairs: Pairs::PastLists(order),
+        each: SECTIONS / 2 / workers,
+    }
+}
+
+/// Prints a line of the table: the time of a section on a locked zone that keeps this, at each size.
+fn print_section_times<R: Print + Eprint + Clock + Threads + Wait + Sync>(
     rt: &R,
     alloc: Global,
     name: &str,
+    kept: Kept,
     order: Order,
 ) -> anyhow::Result<()> {
     print_name(rt, name)?;
+    let plan = pairs_of(1, order);
     for pages in SIZES {
-        let tenths = tenths_a_section(rt, alloc, pages, order)?;
+        let tenths = tenths_a_section(rt, alloc, pages, kept, &plan)?;
         print_tenths(rt, tenths)?;
     }
     println!(rt;)?;
     Ok(())
 }
 
-/// Prints the table's lines of sections on a locked zone, for whose lock nobody else waits.
-fn print_locked_lines<R: Print + Eprint + Clock + Wait>(
+/// Prints the table's lines of sections on a locked zone, for whose lock nobody else waits, by what it keeps.
+fn print_locked_lines<R: Print + Eprint + Clock + Threads + Wait + Sync>(
     rt: &R,
     alloc: Global,
 ) -> anyhow::Result<()> {
-    println!(rt; "sections on a locked zone")?;
-    print_section_times(rt, alloc, "pairs of order 0", Order::zero())?;
-    print_section_times(rt, alloc, "pairs of order 10", Order::largest())
+    for kept in Kept::all() {
+        println!(rt; "sections on a locked zone, {}", kept.name())?;
+        print_section_times(rt, alloc, "pairs of order 0", kept, Order::zero())?;
+        print_section_times(rt, alloc, "pairs of order 10", kept, Order::largest())?;
+    }
+    Ok(())
+}
+
+/// Prints a line under the table, at the second size of a zone.
+fn print_shared_tenths(rt: &impl Print, tenths: u128) -> anyhow::Result<()> {
+    print!(rt; "{:>12}", "")?;
+    print_tenths(rt, tenths)?;
+    println!(rt;)?;
+    Ok(())
+}
+
+/// Prints a line under the table: the time of a section on a locked zone that keeps this, at the second size of a zone, where so many
+/// workers make as many together as one alone would.
+fn print_crew_time<R: Print + Eprint + Clock + Threads + Wait + Sync>(
+    rt: &R,
+    alloc: Global,
+    kept: Kept,
+    threads: &str,
+    workers: u32,
+) -> anyhow::Result<()>
+    requires { 0 < workers }
+{
+    let name = format!(in alloc; "{}, {threads}", kept.name())?;
+    print_name(rt, name.as_str())?;
+    let plan = pairs_of(workers, Order::zero());
+    let tenths = tenths_a_section(rt, alloc, SHARED_PAGES, kept, &plan)?;
+    print_shared_tenths(rt, tenths)
+}
+
+/// Prints the lines of sections that one thread makes on a locked zone, and four at the same time, by what it keeps.
+fn print_crew_lines<R: Print + Eprint + Clock + Threads + Wait + Sync>(
+    rt: &R,
+    alloc: Global,
+) -> anyhow::Result<()> {
+    println!(rt; "sections of pairs of order 0 on a locked zone")?;
+    for kept in Kept::all() {
+        print_crew_time(rt, alloc, kept, "one thread", 1)?;
+        print_crew_time(rt, alloc, kept, "four threads", 4)?;
+    }
+    Ok(())
 }
 
 /// Prints a line under the table: the time of pairs of cached pages of each of so many workers, all at the same time, at the second
@@ -137,11 +194,13 @@ fn print_shared_time<R: Print + Eprint + Clock + Threads + Wait + Sync>(
     workers: u32,
 ) -> anyhow::Result<()> {
     print_name(rt, name)?;
-    let time = threads::time(rt, alloc, SHARED_PAGES, workers, CALLS / 2)?;
-    print!(rt; "{:>12}", "")?;
-    print_tenths(rt, tenths_each(time, u64::from(CALLS)))?;
-    println!(rt;)?;
-    Ok(())
+    let plan = Plan {
+        workers,
+        pairs: Pairs::Cached,
+        each: CALLS / 2,
+    };
+    let timed = locked::time(rt, alloc, SHARED_PAGES, Kept::Whole, plan)?;
+    print_shared_tenths(rt, tenths_each(timed.time, u64::from(CALLS)))
 }
 
 /// Prints a line under the table: the time of each of so many steps.
@@ -176,6 +235,7 @@ pub fn print_all<R: Print + Eprint + Clock + Threads + Wait + Sync>(
 ) -> anyhow::Result<()> {
     print_table(rt, alloc)?;
     print_locked_lines(rt, alloc)?;
+    print_crew_lines(rt, alloc)?;
     print_shared_time(rt, alloc, "cached pairs, one thread", 1)?;
     print_shared_time(rt, alloc, "cached pairs, four threads", 4)?;
     print_board_times(rt, alloc)?;

@@ -1,6 +1,6 @@
 use Rattle.std.proofs.Common.{◌∷◌, []}
 use Rattle.zp_shared.specs.Rows.{opened_board, opened_key}
-use Rattle.zonebench.proofs.threads.time.Given as goal
+use Rattle.zonebench.proofs.locked.time_whole.Given as goal
 
 -- the name of the zone that was made
 abbrev pub ghosts-time_as : goal.ghosts-time_as
