@@ -1,45 +1,66 @@
-//! A board of counts under load.
+//! Boards of counts under load.
 
-ghost use Rattle.std.specs.Prelude.{false, ◌≡◌, ◌≤◌};
+ghost use Rattle.std.specs.Prelude.{◌≡◌, ◌<◌};
+ghost use Rattle.zp_counts.specs.CountBoards.{ArePackable};
+ghost use Rattle.zonebench.specs.declared.board.TheConstants.{ROOM};
 
 use crate::bench::NoMemory;
 use std::alloc::Global;
 use std::rt::Clock;
 use std::time::{Duration, Instant};
-use zp_counts::{Board, BoardReader, Publisher, new_board};
-use zp_model::Counts;
+use zp_counts::{Board, BoardReader, Publisher, are_packable, new_board, new_turning_board};
+use zp_model::{Counts, ORDERS};
 
-/// How many counts the board has room for.
+/// How many counts are published, and so many a board that does not turn has room for.
 const ROOM: u32 = 65_536;
 
-/// A board with its publisher and a reader.
+/// A board with its publisher and a reader, and the counts that are published next.
 #[derive(Drop)]
 pub struct BoardBench {
     board: Board,
     publisher: Publisher,
     reader: BoardReader,
+    counts: Counts,
     ghost publishes: { publisher.tie ≡ board.tie },
     ghost reads: { reader.tie ≡ board.tie },
-    ghost fixed: { publisher.tie.turns ≡ false },
+    ghost packable: { ArePackable counts },
 }
 
 impl BoardBench {
     /// A board with room for so many counts as a journal has entries at most.
-    pub fn new(alloc: Global) -> Result<BoardBench, NoMemory> {
-        let (board, mut publisher) = new_board(alloc, ROOM, &Counts::default())?;
+    pub fn fixed(alloc: Global) -> Result<BoardBench, NoMemory> {
+        let counts = no_free_pages();
+        let (board, mut publisher) = new_board(alloc, ROOM, &counts)?;
         let reader = publisher.reader(&board);
         Ok(BoardBench {
             board,
             publisher,
             reader,
+            counts,
         })
     }
 
-    /// Publishes counts, where there is room.
-    fn publish(&mut self, counts: &Counts) {
+    /// One that turns, and is never full.
+    pub fn turning(alloc: Global) -> Result<BoardBench, NoMemory> {
+        let counts = no_free_pages();
+        let (board, mut publisher) = new_turning_board(alloc, u64::MAX, &counts)?;
+        let reader = publisher.reader(&board);
+        Ok(BoardBench {
+            board,
+            publisher,
+            reader,
+            counts,
+        })
+    }
+
+    /// Publishes counts with so many free pages, where there is room.
+    fn publish(&mut self, free: u32)
+        requires { free < ROOM }
+    {
+        self.counts.free = free;
         let board = &self.board;
         if !self.publisher.is_full(board) {
-            self.publisher.publish(board, counts);
+            self.publisher.publish(board, &self.counts);
         }
     }
 
@@ -49,13 +70,11 @@ impl BoardBench {
         self.reader.read(board).counts.free
     }
 
-    /// The time of as many publishings as the board has room for, and their number.
+    /// The time of so many publishings, and their number.
     pub fn time_publishing(&mut self, rt: &impl Clock) -> anyhow::Result<(Duration, u64)> {
-        let mut counts = Counts::default();
         let start = Instant::now(rt)?;
         for free in 0..ROOM {
-            counts.free = free;
-            self.publish(&counts);
+            self.publish(free);
         }
         Ok((start.elapsed(rt)?, u64::from(ROOM)))
     }
@@ -77,5 +96,15 @@ impl BoardBench {
             anyhow::bail!("zonebench: a board that nobody writes on changed")
         }
         Ok((time, u64::from(reads)))
+    }
+}
+
+/// The counts of a zone with no free page.
+fn no_free_pages() -> Counts
+    ensures { ArePackable result }
+{
+    Counts {
+        by_order: [0; ORDERS],
+        free: 0,
     }
 }

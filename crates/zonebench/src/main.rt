@@ -1,10 +1,10 @@
 //! `zonebench [check | worst | count WORKLOAD PAGES CALLS]`: workloads over a zone, each with its seed, by a seat of the zone and by a
 //! worker with lists of its own, which threads run over a shared zone too.
 //!
-//! With no word it prints how long a call of each takes, with a line of progress for each on standard error. With `check` it
-//! prints the checksums of the pages answered, which do not depend on the machine, and starts no thread. With `worst` it prints how
-//! long the dearest requests that are known take. With `count` it makes so many calls of one workload, so that a tool can count
-//! their instructions.
+//! With no word it prints how long a call of each takes, and a section on a zone behind its lock by what the zone keeps, and what is
+//! published on a board and read off it, with a line of progress for each on standard error. With `check` it prints the checksums of
+//! the pages answered, which do not depend on the machine, and starts no thread. With `worst` it prints how long the dearest requests
+//! that are known take. With `count` it makes so many calls of one workload, so that a tool can count their instructions.
 #![tactic(auto)]
 
 mod bench;
@@ -15,6 +15,7 @@ mod counting;
 mod grounds;
 mod locked;
 mod random;
+mod reading;
 mod seated;
 mod shapes;
 mod source;

@@ -14,6 +14,7 @@ use std::alloc::Global;
 use std::marker::PhantomData;
 use std::rt::Clock;
 use std::sync::Wait;
+use std::sync::atomic::{AtomicBool, Ordering};
 use std::thread::{Threads, map_vec};
 use std::time::{Duration, Instant};
 use zp_model::Order;
@@ -152,6 +153,25 @@ impl<J: Naming> CrewMember<J> {
         let CrewMember { mut hand, readers } = self;
         let mut zones = row.view(rt, readers);
         for _ in 0..many {
+            hand.pair_past_lists(&mut zones, order);
+        }
+        hand.sum()
+    }
+
+    /// The same until another thread says that it is over.
+    pub fn pairs_until<'a, R: Wait, K: Keeps>(
+        self,
+        rt: &'a R,
+        row: &'a Row<J, K>,
+        order: Order,
+        is_over: &AtomicBool,
+    ) -> Sum {
+        let CrewMember { mut hand, readers } = self;
+        let mut zones = row.view(rt, readers);
+        for _ in 0..u32::MAX {
+            if is_over.load(Ordering::SeqCst) {
+                break;
+            }
             hand.pair_past_lists(&mut zones, order);
         }
         hand.sum()

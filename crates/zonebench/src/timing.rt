@@ -7,6 +7,7 @@ use crate::board::BoardBench;
 use crate::cached::{Cached, PastLists};
 use crate::counting::HOW_TO_COUNT;
 use crate::locked::{self, Kept, Plan, SECTIONS};
+use crate::reading;
 use crate::seated::{Largest4, Largest9, Seated};
 use crate::source::BlockSource;
 use crate::threads::Pairs;
@@ -61,7 +62,7 @@ fn tenths_each(time: Duration, calls: u64) -> u128 {
 /// Begins a line of the table, and tells so on standard error.
 fn print_name(rt: &(impl Print + Eprint), name: &str) -> anyhow::Result<()> {
     eprintln!(rt; "{name} ..")?;
-    print!(rt; "{name:<34}")?;
+    print!(rt; "{name:<40}")?;
     Ok(())
 }
 
@@ -215,20 +216,48 @@ fn print_time_of(
     Ok(())
 }
 
-/// Prints two lines under the table: the time of what a section publishes, and of a read.
+/// Prints the lines of what a section publishes, and of a read: on a board with room for each of its counts, and on one that turns.
 fn print_board_times(rt: &(impl Print + Eprint + Clock), alloc: Global) -> anyhow::Result<()> {
-    let mut bench = BoardBench::new(alloc)?;
+    let mut fixed = BoardBench::fixed(alloc)?;
     print_time_of(
         rt,
         "counts published on a board",
-        bench.time_publishing(rt)?,
+        fixed.time_publishing(rt)?,
     )?;
-    print_time_of(rt, "counts read off a board", bench.time_reads(rt, CALLS)?)?;
-    Ok(())
+    print_time_of(rt, "counts read off a board", fixed.time_reads(rt, CALLS)?)?;
+    let mut turning = BoardBench::turning(alloc)?;
+    print_time_of(
+        rt,
+        "counts published on a board that turns",
+        turning.time_publishing(rt)?,
+    )?;
+    print_time_of(
+        rt,
+        "counts read off a board that turns",
+        turning.time_reads(rt, CALLS)?,
+    )
 }
 
-/// Prints the table, under it the times of one worker and of four at the same time, and those of a board, and how to count
-/// instructions.
+/// Prints two lines under the table: the time of a read of the counts of a zone while another thread makes sections, and of such a
+/// section.
+fn print_reading_times<R: Print + Eprint + Clock + Threads + Wait + Sync>(
+    rt: &R,
+    alloc: Global,
+) -> anyhow::Result<()> {
+    let timed = reading::time(rt, alloc, SHARED_PAGES, Order::zero(), CALLS)?;
+    print_time_of(
+        rt,
+        "counts read while sections are made",
+        (timed.time, timed.reads),
+    )?;
+    print_time_of(
+        rt,
+        "sections made while counts are read",
+        (timed.time, timed.sections),
+    )
+}
+
+/// Prints the table, under it the times of one worker and of four at the same time, those of boards, and how to count instructions.
 pub fn print_all<R: Print + Eprint + Clock + Threads + Wait + Sync>(
     rt: &R,
     alloc: Global,
@@ -239,6 +268,7 @@ pub fn print_all<R: Print + Eprint + Clock + Threads + Wait + Sync>(
     print_shared_time(rt, alloc, "cached pairs, one thread", 1)?;
     print_shared_time(rt, alloc, "cached pairs, four threads", 4)?;
     print_board_times(rt, alloc)?;
+    print_reading_times(rt, alloc)?;
     println!(rt; "{HOW_TO_COUNT}")?;
     Ok(())
 }
@@ -276,7 +306,7 @@ fn print_mixed<S: BlockSource>(
 /// Prints the table: nanoseconds a call, by the pages of the zone; first by a seat, then by a worker's share.
 fn print_table(rt: &(impl Print + Eprint + Clock), alloc: Global) -> anyhow::Result<()> {
     println!(rt;
-        "{:<34}{:>12}{:>12}{:>12}",
+        "{:<40}{:>12}{:>12}{:>12}",
         "nanoseconds a call", "1024 pages", "4096", "65536"
     )?;
     print_pairs::<Seated>(
