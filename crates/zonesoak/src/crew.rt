@@ -6,25 +6,25 @@ ghost use Rattle.zp_zone.specs.Seats.{IsSeatOf, IsUnused};
 
 use std::alloc::{AllocError, Global};
 use thiserror::Error;
-use uses::{RowOfOne, RowWorker};
+use uses::{RowOfOne, RowReader, RowWorker};
 use zp_model::{Largest, Refused};
 use zp_shared::{Keeps, Naming, OpenedZone, share_zones};
 use zp_zone::{Seat, ZoneConfig};
 
 /// There was no memory for a zone or for its workers.
 #[derive(Clone, Copy, PartialEq, Eq, Debug, Drop, Error)]
-#[error("zonesoak: no memory")]
-pub struct NoMemory;
+#[error("zonesoak: out of memory")]
+pub struct OutOfMemory;
 
-impl From<AllocError> for NoMemory {
-    fn from(_e: AllocError) -> NoMemory {
-        NoMemory
+impl From<AllocError> for OutOfMemory {
+    fn from(_e: AllocError) -> OutOfMemory {
+        OutOfMemory
     }
 }
 
-impl From<Refused> for NoMemory {
-    fn from(_refused: Refused) -> NoMemory {
-        NoMemory
+impl From<Refused> for OutOfMemory {
+    fn from(_refused: Refused) -> OutOfMemory {
+        OutOfMemory
     }
 }
 
@@ -43,11 +43,11 @@ pub fn config(pages: u32) -> ZoneConfig<'static> {
 }
 
 /// A worker for each of these seats of the opened zone.
-pub fn crew<J: Naming, K: Keeps>(
+fn workers_of<J: Naming, K: Keeps>(
     alloc: Global,
     opened: &mut OpenedZone<K>,
     seats: Vec<Seat>,
-) -> Result<Vec<RowWorker<J>>, NoMemory>
+) -> Result<Vec<RowWorker<J>>, OutOfMemory>
     requires named { J.zones ≡ opened_key opened.old ∷ [] }
     requires boards { J.boards ≡ opened_board opened.old ∷ [] }
     requires fits { All (IsSeatOf opened.old.zone) seats.items }
@@ -57,24 +57,83 @@ pub fn crew<J: Naming, K: Keeps>(
     let mut workers = Vec::with_capacity(alloc, seats.len())?;
     for seat in seats {
         let Some(worker) = RowWorker::new(alloc, seat, opened.reader()) else {
-            return Err(NoMemory);
+            return Err(OutOfMemory);
         };
         if workers.push(worker).is_err() {
-            return Err(NoMemory);
+            return Err(OutOfMemory);
         }
     }
     Ok(workers)
 }
 
-/// The opened zone as a row of one.
-pub fn row_of<J: Naming, K: Keeps>(
+/// A row of one zone, with its workers and a reader of its board.
+#[derive(Drop)]
+pub struct RowCrew<J: Naming, K: Keeps> {
+    pub row: RowOfOne<J, K>,
+    pub workers: Vec<RowWorker<J>>,
+    pub reader: RowReader<J>,
+}
+
+/// The opened zone as a row of one, with a worker for each of these seats.
+pub fn crew_of<J: Naming, K: Keeps>(
+    alloc: Global,
+    mut opened: OpenedZone<K>,
+    seats: Vec<Seat>,
+) -> Result<RowCrew<J, K>, OutOfMemory>
+    requires named { J.zones ≡ opened_key opened ∷ [] }
+    requires boards { J.boards ≡ opened_board opened ∷ [] }
+    requires fits { All (IsSeatOf opened.zone) seats.items }
+    requires unused { All IsUnused seats.items }
+{
+    let reader = reader_of(alloc, &mut opened)?;
+    let workers = workers_of(alloc, &mut opened, seats)?;
+    with_row(alloc, opened, workers, reader)
+}
+
+/// A reader of the opened zone's board.
+fn reader_of<J: Naming, K: Keeps>(
+    alloc: Global,
+    opened: &mut OpenedZone<K>,
+) -> Result<RowReader<J>, OutOfMemory>
+    requires named { J.zones ≡ opened_key opened.old ∷ [] }
+    requires boards { J.boards ≡ opened_board opened.old ∷ [] }
+    ensures { opened.new ≡ opened.old }
+{
+    match RowReader::new(alloc, opened.reader()) {
+        Some(reader) => Ok(reader),
+        None => Err(OutOfMemory),
+    }
+}
+
+/// The workers and the reader with the opened zone as a row of one.
+fn with_row<J: Naming, K: Keeps>(
     alloc: Global,
     opened: OpenedZone<K>,
-) -> Result<RowOfOne<J, K>, NoMemory>
+    workers: Vec<RowWorker<J>>,
+    reader: RowReader<J>,
+) -> Result<RowCrew<J, K>, OutOfMemory>
+    requires named { J.zones ≡ opened_key opened ∷ [] }
+    requires boards { J.boards ≡ opened_board opened ∷ [] }
+{
+    match row_of(alloc, opened) {
+        Ok(row) => Ok(RowCrew {
+            row,
+            workers,
+            reader,
+        }),
+        Err(e) => Err(e),
+    }
+}
+
+/// The opened zone as a row of one.
+fn row_of<J: Naming, K: Keeps>(
+    alloc: Global,
+    opened: OpenedZone<K>,
+) -> Result<RowOfOne<J, K>, OutOfMemory>
     requires named { J.zones ≡ opened_key opened ∷ [] }
     requires boards { J.boards ≡ opened_board opened ∷ [] }
 {
     let mut zones = Vec::with_capacity(alloc, 1)?;
     zones.push_reserved(opened);
-    Ok(RowOfOne::new(share_zones::<J, _>(alloc, zones)?))
+    Ok(RowOfOne::new(share_zones::<J, K>(alloc, zones)?))
 }

@@ -4,7 +4,7 @@ ghost use Rattle.std.specs.Prelude.{◌≡◌, ◌∷◌, [], All};
 ghost use Rattle.zp_shared.specs.Rows.{opened_board, opened_key};
 ghost use Rattle.zp_zone.specs.Seats.{IsSeatOf, IsUnused};
 
-use crate::crew::{NoMemory, WORKERS, config, crew, row_of};
+use crate::crew::{OutOfMemory, RowCrew, WORKERS, config, crew_of};
 use std::alloc::Global;
 use std::marker::Brand;
 use std::sync::Wait;
@@ -27,7 +27,7 @@ const PAGES: u32 = 1024;
 fn run_as<J: Naming + Send + Sync, R: Threads + Wait + Sync>(
     rt: &R,
     alloc: Global,
-    mut opened: OpenedZone<CutJournal>,
+    opened: OpenedZone<CutJournal>,
     seats: Vec<Seat>,
 ) -> anyhow::Result<CutRun>
     requires named { J.zones ≡ opened_key opened ∷ [] }
@@ -35,25 +35,24 @@ fn run_as<J: Naming + Send + Sync, R: Threads + Wait + Sync>(
     requires fits { All (IsSeatOf opened.zone) seats.items }
     requires unused { All IsUnused seats.items }
 {
-    let workers = crew::<J, CutJournal>(alloc, &mut opened, seats)?;
-    let row = row_of::<J, CutJournal>(alloc, opened)?;
+    let RowCrew { row, workers, .. } = crew_of::<J, CutJournal>(alloc, opened, seats)?;
     match work_in_pieces(rt, alloc, config(PAGES), WORKERS, row, workers, ROUNDS) {
         Some(run) => Ok(run),
-        None => Err(NoMemory.into()),
+        None => Err(OutOfMemory.into()),
     }
 }
 
 /// Makes the zone, and has it work.
 fn run<R: Threads + Wait + Sync>(rt: &R, alloc: Global) -> anyhow::Result<CutRun> {
-    let journal = Journal::new(alloc, PIECE).map_err(NoMemory::from)?;
+    let journal = Journal::new(alloc, PIECE).map_err(OutOfMemory::from)?;
     match Zone::new(alloc, config(PAGES), WORKERS) {
         Ok((zone, seats)) => {
             let opened = OpenedZone::with_pieces(alloc, zone, journal, u64::MAX).map_err(
-                NoMemory::from,
+                OutOfMemory::from,
             )?;
             run_as::<Brand, R>(rt, alloc, opened, seats)
         }
-        Err(refused) => Err(NoMemory::from(refused).into()),
+        Err(refused) => Err(OutOfMemory::from(refused).into()),
     }
 }
 

@@ -5,7 +5,7 @@ ghost use Rattle.std.specs.Prelude.{◌≡◌, ◌∷◌, [], All};
 ghost use Rattle.zp_shared.specs.Rows.{opened_board, opened_key};
 ghost use Rattle.zp_zone.specs.Seats.{IsSeatOf, IsUnused};
 
-use crate::crew::{NoMemory, WORKERS, config, crew, row_of};
+use crate::crew::{OutOfMemory, RowCrew, WORKERS, config, crew_of};
 use std::alloc::Global;
 use std::marker::Brand;
 use std::sync::Wait;
@@ -24,7 +24,7 @@ const PAGES: u32 = 1024;
 fn run_as<J: Naming + Send + Sync, R: Threads + Wait + Sync>(
     rt: &R,
     alloc: Global,
-    mut opened: OpenedZone<NoJournal>,
+    opened: OpenedZone<NoJournal>,
     seats: Vec<Seat>,
 ) -> anyhow::Result<EndlessRun>
     requires named { J.zones ≡ opened_key opened ∷ [] }
@@ -32,11 +32,10 @@ fn run_as<J: Naming + Send + Sync, R: Threads + Wait + Sync>(
     requires fits { All (IsSeatOf opened.zone) seats.items }
     requires unused { All IsUnused seats.items }
 {
-    let workers = crew::<J, NoJournal>(alloc, &mut opened, seats)?;
-    let row = row_of::<J, NoJournal>(alloc, opened)?;
+    let RowCrew { row, workers, .. } = crew_of::<J, NoJournal>(alloc, opened, seats)?;
     match work_without_end(rt, row, workers, u32::MAX) {
         Some(run) => Ok(run),
-        None => Err(NoMemory.into()),
+        None => Err(OutOfMemory.into()),
     }
 }
 
@@ -45,11 +44,11 @@ fn run<R: Threads + Wait + Sync>(rt: &R, alloc: Global) -> anyhow::Result<Endles
     match Zone::new(alloc, config(PAGES), WORKERS) {
         Ok((zone, seats)) => {
             let opened = OpenedZone::without_journal(alloc, zone, SECTIONS).map_err(
-                NoMemory::from,
+                OutOfMemory::from,
             )?;
             run_as::<Brand, R>(rt, alloc, opened, seats)
         }
-        Err(refused) => Err(NoMemory::from(refused).into()),
+        Err(refused) => Err(OutOfMemory::from(refused).into()),
     }
 }
 

@@ -4,14 +4,14 @@ ghost use Rattle.std.specs.Prelude.{◌≡◌, ◌∷◌, [], All};
 ghost use Rattle.zp_shared.specs.Rows.{opened_board, opened_key};
 ghost use Rattle.zp_zone.specs.Seats.{IsSeatOf, IsUnused};
 
-use crate::crew::{NoMemory, WORKERS, config, crew, row_of};
+use crate::crew::{OutOfMemory, RowCrew, WORKERS, config, crew_of};
 use crate::stint::{Stint, work};
 use crate::watch::{Watch, read_all_the_while};
 use std::alloc::Global;
 use std::marker::Brand;
 use std::sync::Wait;
 use std::thread::{Threads, join, map_vec};
-use uses::RowReader;
+use uses::RowOfOne;
 use zp_model::MAX_PAGES;
 use zp_shared::{Naming, NoJournal, OpenedZone};
 use zp_zone::{Seat, Zone};
@@ -41,36 +41,19 @@ fn all_of(stints: &[Stint]) -> Stint {
     all
 }
 
-/// The workers of these seats make their requests, all at the same time, and a reader reads all the while.
-fn load_as<J: Naming + Send + Sync, R: Threads + Wait + Sync>(
-    rt: &R,
-    alloc: Global,
-    mut opened: OpenedZone<NoJournal>,
-    seats: Vec<Seat>,
-) -> anyhow::Result<Soak>
-    requires named { J.zones ≡ opened_key opened ∷ [] }
-    requires boards { J.boards ≡ opened_board opened ∷ [] }
-    requires fits { All (IsSeatOf opened.zone) seats.items }
-    requires unused { All IsUnused seats.items }
-{
-    let workers = crew::<J, NoJournal>(alloc, &mut opened, seats)?;
-    let Some(reader) = RowReader::<J>::new(alloc, opened.reader()) else {
-        return Err(NoMemory.into());
-    };
-    let row = row_of::<J, NoJournal>(alloc, opened)?;
-    let requests = u64::from(REQUESTS) * u64::from(WORKERS);
-    let (stints, watch) = join(
-        rt,
-        || map_vec(rt, workers, &|worker| work(rt, worker, &row, REQUESTS)),
-        || read_all_the_while(rt, reader, &row, requests),
-    );
+/// What is seen of the row when all its workers have ended.
+fn end_of<J: Naming>(
+    row: RowOfOne<J, NoJournal>,
+    stints: &[Stint],
+    watch: Watch,
+) -> anyhow::Result<Soak> {
     let Some(zone) = row.into_zone() else {
-        return Err(NoMemory.into());
+        return Err(OutOfMemory.into());
     };
     let Stint {
         sections,
         lent_pages,
-    } = all_of(stints?.as_slice());
+    } = all_of(stints);
     Ok(Soak {
         sections,
         lent_pages,
@@ -79,16 +62,56 @@ fn load_as<J: Naming + Send + Sync, R: Threads + Wait + Sync>(
     })
 }
 
+/// The workers make their requests, all at the same time, and the reader reads all the while.
+fn load_row<J: Naming + Send + Sync, R: Threads + Wait + Sync>(
+    rt: &R,
+    crew: RowCrew<J, NoJournal>,
+) -> anyhow::Result<Soak> {
+    let RowCrew {
+        row,
+        workers,
+        reader,
+    } = crew;
+    let requests = u64::from(REQUESTS) * u64::from(WORKERS);
+    let (stints, watch) = join(
+        rt,
+        || map_vec(rt, workers, &|worker| work(rt, worker, &row, REQUESTS)),
+        || read_all_the_while(rt, reader, &row, requests),
+    );
+    match stints {
+        Ok(stints) => end_of(row, stints.as_slice(), watch),
+        Err(e) => Err(OutOfMemory::from(e).into()),
+    }
+}
+
+/// As `load`, under the name of the opened zone.
+fn load_as<J: Naming + Send + Sync, R: Threads + Wait + Sync>(
+    rt: &R,
+    alloc: Global,
+    opened: OpenedZone<NoJournal>,
+    seats: Vec<Seat>,
+) -> anyhow::Result<Soak>
+    requires named { J.zones ≡ opened_key opened ∷ [] }
+    requires boards { J.boards ≡ opened_board opened ∷ [] }
+    requires fits { All (IsSeatOf opened.zone) seats.items }
+    requires unused { All IsUnused seats.items }
+{
+    match crew_of::<J, NoJournal>(alloc, opened, seats) {
+        Ok(crew) => load_row(rt, crew),
+        Err(e) => Err(e.into()),
+    }
+}
+
 /// Makes the zone, and all the requests of it.
 fn load<R: Threads + Wait + Sync>(rt: &R, alloc: Global) -> anyhow::Result<Soak> {
     match Zone::new(alloc, config(MAX_PAGES), WORKERS) {
         Ok((zone, seats)) => {
             let opened = OpenedZone::without_journal(alloc, zone, u64::MAX).map_err(
-                NoMemory::from,
+                OutOfMemory::from,
             )?;
             load_as::<Brand, R>(rt, alloc, opened, seats)
         }
-        Err(refused) => Err(NoMemory::from(refused).into()),
+        Err(refused) => Err(OutOfMemory::from(refused).into()),
     }
 }
 

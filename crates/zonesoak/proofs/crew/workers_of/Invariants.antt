@@ -1,5 +1,5 @@
 use Rattle.std.proofs.Common.{◌≡◌}
-use Rattle.zonesoak.proofs.crew.crew.Given as goal
+use Rattle.zonesoak.proofs.crew.workers_of.Given as goal
 
 -- making readers leaves the opened zone as it was
 abbrev pub invariant-loop-seat : goal.invariant-loop-seat
