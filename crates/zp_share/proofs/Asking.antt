@@ -13,10 +13,11 @@ use Rattle.zp_model.specs.declared.refused.Refused.TheVariants.{BelowMark, NoBlo
 use Rattle.zp_model.specs.declared.request.Request.{Request}
 use Rattle.zp_model.specs.declared.request.Reply.{Reply}
 use Rattle.zp_model.specs.Zone.{PlainZone, is_of}
+use Rattle.zp_model.specs.Run.{is_distinct}
 use Rattle.zp_model.specs.Step.{step}
 use Rattle.zp_zone.specs.Asking.{IsGiven, MaySeatAsk}
 use Rattle.zp_zone.specs.NamedZone.{page_reply}
-use Rattle.zp_zone.specs.Seats.{SeatState, IsNewTo, has, replied}
+use Rattle.zp_zone.specs.Seats.{SeatState, HasPages, IsNewTo, has, replied}
 use Rattle.zp_share.specs.PlainShares.{lends_for}
 use Rattle.zp_share.specs.ZoneShares.{ZoneShareState, HasAtMost, answered, IsNew, IsShare, RefillsAtMost, is_lent, plain_share, use_in}
 use Rattle.zp_share.specs.declared.page_use.PageUse.{PageUse}
@@ -89,6 +90,13 @@ pub given_page : (k : ℕ) (t : MigrateType) (m : Mark) (got : Result ℕ Refuse
     IsGiven (Request.Alloc k t m) (page_reply got) a b
 given_page k t m (Ok p) a b h f = record { has = h; fresh = f }
 given_page k t m (Err e) a b h f = tt
+
+-- the pages that a refill is answered are given to the seat
+pub given_pages : (t : MigrateType) (m : Mark) (n : ℕ) (ps qs : List ℕ) (a b : SeatState) → qs ≡ ps → 0 < length ps → length ps ≤ n → HasPages b ps → IsTrue (is_distinct ps) → All (IsNewTo a) ps →
+    IsGiven (Request.Refill t m n) (Reply.Pages qs) a b
+given_pages t m n ps qs a b e some most has distinct fresh =
+    subst (λ xs. IsGiven (Request.Refill t m n) (Reply.Pages xs) a b) (sym e)
+    (record { some = omega (arith, some); most = most; has = has; distinct = distinct; fresh = fresh })
 
 -- what is named fits the share
 pub fits : (n : ℕ) (r : Request) (q : Reply) (o : Inside) (seat : SeatState) → IsAsking n r o → seat ≡ replied r q o.seat → IsGiven r q o.seat seat → IsFit r q (share_of o)

@@ -11,7 +11,7 @@ ghost use Rattle.zp_share.specs.ZoneShares.{HasAtMost, IsShare, RefillsAtMost, p
 
 use super::ZoneShare;
 use crate::page_stack::PageStack;
-use zp_model::{Mark, MigrateType, Order, PageNo, Refused, Reply, Request, TYPES};
+use zp_model::{Mark, MigrateType, Order, PageList, PageNo, Refused, Reply, Request, TYPES};
 use zp_zone::{Zone, page_reply};
 
 impl ZoneShare {
@@ -42,6 +42,9 @@ impl ZoneShare {
         // the request that is made most has a way of its own, on which no room is cleared for a list of pages
         if let Request::Alloc(order, kind, mark) = request {
             return page_reply(self.alloc_block(zone, *order, *kind, *mark));
+        }
+        if let Request::Refill(kind, mark, count) = request {
+            return self.refill(zone, *kind, *mark, *count);
         }
         if !self.lends_for(request) {
             return Reply::Refused(Refused::NotLent);
@@ -80,6 +83,36 @@ impl ZoneShare {
         self.sections
             .add(worker, &Request::Alloc(order, kind, mark), &reply);
         got
+    }
+
+    /// Up to so many pages for this type, each held to this mark, which come to the front of its list. Refused 10, 11 or 30.
+    // (where little memory is left, most refills are refused, on each way down a row: that way has no list of pages in hand)
+    #[inline(always)]
+    fn refill(&mut self, zone: &mut Zone, kind: MigrateType, mark: Mark, count: u8) -> Reply
+        requires seat { IsSeatOf zone.old self.old.seat }
+        requires may { MayAsk (workers_of zone.old.plain) MAX_BATCH (request.Refill kind mark count) self.old }
+        ensures section { IsAsked (request.Refill kind mark count) result zone.old zone.new self.old self.new }
+        ensures lists { (n : ℕ) → RefillsAtMost n (request.Refill kind mark count) → HasAtMost n self.old → HasAtMost n self.new }
+    {
+        if self.sections.are_full() {
+            return Reply::Refused(Refused::JournalFull);
+        }
+        let worker = self.seat.worker();
+        let request = Request::Refill(kind, mark, count);
+        match zone.refill(&mut self.seat, kind, mark, count) {
+            Ok(pages) => {
+                let reply = Reply::Pages(PageList::of(pages.as_slice()));
+                self.uses.note(&request, &reply);
+                note_lists(&mut self.cached, &request, &reply);
+                self.sections.add(worker, &request, &reply);
+                reply
+            }
+            Err(refused) => {
+                self.sections
+                    .add(worker, &request, &Reply::Refused(refused));
+                Reply::Refused(refused)
+            }
+        }
     }
 }
 
