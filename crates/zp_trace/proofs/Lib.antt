@@ -4,3 +4,5 @@ pub mod HeaderLines
 pub mod CommandLines
 pub mod BadLines
 pub mod OneReading
+pub mod DistinctLabels
+pub mod BoundLabels

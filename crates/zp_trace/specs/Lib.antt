@@ -1,3 +1,4 @@
 pub mod Lines
 pub mod Spelling
 pub mod Grammar
+pub mod LabelKeys

@@ -8,6 +8,7 @@ mod bounds;
 mod calls;
 mod forms;
 mod grammar_law;
+mod keys;
 mod labels;
 mod line;
 mod number;
@@ -20,6 +21,7 @@ pub use bounds::MOST_LINES;
 pub use grammar_law::{
     a_good_text_has_no_bad_line, a_text_has_one_bad_line, a_text_writes_one_trace,
 };
+pub use keys::label_key;
 pub use line::{Call, CommandLine, ZoneLine};
 pub use parser::parse_trace;
 pub use trace::{Commands, Header, Trace, TraceFault, ZoneLines};

@@ -11,7 +11,7 @@ ghost use Rattle.zp_trace.specs.Grammar.{IsNextZone, IsHeader, IsCommandOf, IsNe
 use crate::bounds::MOST_LINES;
 use crate::calls::command_of;
 use crate::forms::{lists_of, may_follow, workers_of, zone_of};
-use crate::labels::has_label;
+use crate::labels::LabelledCommands;
 use crate::line::{CommandLine, ZoneLine};
 use crate::trace::{Commands, Header, Trace, TraceFault, ZoneLines};
 use crate::words::first_line;
@@ -94,7 +94,7 @@ fn parse_header(alloc: Global, text: &[u8]) -> Result<(Header, &[u8]), TraceFaul
 /// The worker line at the front of a text, which may stand after this header and these commands, and the text after it.
 fn command_line<'a>(
     header: &Header,
-    before: &[CommandLine],
+    before: &LabelledCommands,
     text: &'a [u8],
 ) -> Option<(CommandLine, &'a [u8])>
     requires { IsHeader header.now }
@@ -103,7 +103,7 @@ fn command_line<'a>(
 {
     let (words, rest) = first_line(text)?;
     let command = command_of(header, &words)?;
-    if has_label(before, &command) {
+    if before.has_label(&command) {
         Some((command, rest))
     } else {
         None
@@ -118,20 +118,20 @@ fn parse_commands(alloc: Global, header: &Header, text: &[u8]) -> Result<Command
         IsTraceText (text_of (header_of header.now) ++ text.now) (record { header = header.now; commands = commands })) }
     ensures bad { (n : ℕ) → result ≡ Err (fault.BadLine n) → IsBadLine (text_of (header_of header.now) ++ text.now) n }
 {
-    let mut commands = Commands::new(alloc);
+    let mut commands = LabelledCommands::new(alloc);
     let mut rest = text;
     while !rest.is_empty() {
         let lines = header.lines() + commands.len();
         if lines == MOST_LINES {
             return Err(TraceFault::BadLine(lines as u32 + 1));
         }
-        let Some((command, after)) = command_line(header, commands.as_slice(), rest) else {
+        let Some((command, after)) = command_line(header, &commands, rest) else {
             return Err(TraceFault::BadLine(lines as u32 + 1));
         };
         commands.push(command)?;
         rest = after;
     }
-    Ok(commands)
+    Ok(commands.into_commands())
 }
 
 /// The trace that a text writes, or the number of the text's bad line.

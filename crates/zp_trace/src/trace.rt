@@ -81,12 +81,10 @@ impl Model for Commands {
 }
 
 impl Commands {
-    pub(crate) fn new(alloc: Global) -> Commands
-        ensures { result ≡ [] }
+    pub(crate) fn of(commands: Vec<CommandLine>) -> Commands
+        ensures { result ≡ commands.items }
     {
-        Commands {
-            commands: Vec::new(alloc),
-        }
+        Commands { commands }
     }
 
     pub fn len(&self) -> usize
@@ -105,16 +103,6 @@ impl Commands {
         ensures { result.now ≡ self.now }
     {
         &self.commands
-    }
-
-    /// Puts a command at the end. Where memory is wanting, the list stays as it was.
-    pub(crate) fn push(&mut self, command: CommandLine) -> Result<(), AllocError>
-        ensures ok { OnOk result (self.new ≡ self.old ++ command ∷ []) }
-        ensures err { OnErr result (self.new ≡ self.old) }
-    {
-        let CommandLine { worker, call } = command;
-        self.commands.push(CommandLine { worker, call })?;
-        Ok(())
     }
 }
 
