@@ -1,6 +1,7 @@
 pub mod Scripts
 pub mod CarriedOut
 pub mod Placing
+pub mod FirstBinders
 pub mod Bound
 pub mod Declared
 pub mod Makings

@@ -1,13 +1,11 @@
--- The places of labels and of zones' names.
+-- The places of zones' names.
 use Rattle.std.proofs.Common.{ℕ, ◌≡◌, ◌<◌, ◌≤◌, Bool, true, false, List, [], None, sym, ap, ◌∙◌, arith, length, get_or}
 use Rattle.std.specs.List.{position_or_len}
 use Rattle.std.specs.Str.{bytes_eq}
 use Rattle.std.proofs.lemmas.List.{length-map, get_or-map}
 use Rattle.std.proofs.lemmas.List.Sums.{position_or_len_is}
 use Rattle.zp_trace.specs.declared.line.ZoneLine.{ZoneLine}
-use Rattle.zp_trace.specs.declared.line.Call.{Call}
-use Rattle.zp_trace.specs.declared.line.Call.TheVariants as call
-use Rattle.zp_office.specs.Scripts.{binds, slot_of, number_of, names_of}
+use Rattle.zp_office.specs.Scripts.{number_of, names_of}
 
 -- the first that passes, and the length where none does
 first_is : {X : Type 0} (p : X → Bool) (xs : List X) (i : ℕ) (d : X) → i < length xs → ((k : ℕ) → k < i → p (get_or xs k d) ≡ false) → p (get_or xs i d) ≡ true →
@@ -16,17 +14,6 @@ first_is p xs i d lt before here = sym (position_or_len_is p xs i d (omega arith
 
 none_is : {X : Type 0} (p : X → Bool) (xs : List X) (d : X) → ((k : ℕ) → k < length xs → p (get_or xs k d) ≡ false) → length xs ≡ position_or_len p xs
 none_is p xs d fails = sym (position_or_len_is p xs (length xs) d (omega arith) fails (λ lt. absurd (omega arith)))
-
--- the first call that binds a label
-pub slot_here : (calls : List Call) (label : List ℕ) (i : ℕ) (c : Call) (b : Bool) → i < length calls → c ≡ get_or calls i c →
-    ((k : ℕ) (d : Call) → k < i → binds label (get_or calls k d) ≡ false) → b ≡ binds label c → b ≡ true → i ≡ slot_of calls label
-slot_here calls label i c b lt is before e t =
-    first_is (binds label) calls i c lt (λ k below. before k c below) (ap (binds label) (sym is) ∙ sym e ∙ t)
-
-pub slot_nowhere : (calls : List Call) (label : List ℕ) (i : ℕ) → length calls ≤ i → ((k : ℕ) (d : Call) → k < i → binds label (get_or calls k d) ≡ false) →
-    length calls ≡ slot_of calls label
-slot_nowhere calls label i ge before =
-    none_is (binds label) calls call.Info (λ k below. before k call.Info (omega arith))
 
 -- the zone of a name
 name_at : (zones : List ZoneLine) (name : List ℕ) (k : ℕ) (d : ZoneLine) → k < length zones →

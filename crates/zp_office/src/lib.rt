@@ -7,6 +7,7 @@ mod command;
 mod counts_row;
 mod desk;
 mod gate;
+mod label_slots;
 mod making;
 mod office;
 mod opening;

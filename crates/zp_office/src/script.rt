@@ -6,7 +6,8 @@ ghost use Rattle.zp_office.specs.Desks.{HasSlotBelow};
 ghost use Rattle.zp_office.specs.Scripts.{NamesBelow, calls_of, names_of, script_of, scripted};
 
 use crate::command::Command;
-use crate::places::{number_of, slot_of};
+use crate::label_slots::LabelSlots;
+use crate::places::number_of;
 use std::alloc::{AllocError, Global};
 use zp_model::Worker;
 use zp_trace::{Call, Trace, ZoneLine};
@@ -23,9 +24,10 @@ pub fn script_of(alloc: Global, trace: &Trace, worker: Worker) -> Result<Vec<Com
 {
     let zones = trace.header.zones.as_slice();
     let calls = calls_of(alloc, trace.commands.as_slice(), worker)?;
+    let slots = LabelSlots::of(alloc, &calls)?;
     let mut script = Vec::with_capacity(alloc, calls.len())?;
     for call in &calls {
-        script.push_reserved(scripted(zones, &calls, call));
+        script.push_reserved(scripted(zones, &slots, call));
     }
     Ok(script)
 }
@@ -45,9 +47,9 @@ fn calls_of(
         .collect(alloc)
 }
 
-/// A call of a worker that makes these calls, as its desk carries it out.
-fn scripted(zones: &[ZoneLine], calls: &[Call], call: &Call) -> Command
-    ensures { result ≡ scripted (names_of zones.now) calls.now call.now }
+/// A call of a worker whose labels have these slots, as its desk carries it out.
+fn scripted(zones: &[ZoneLine], slots: &LabelSlots<'_>, call: &Call) -> Command
+    ensures { result ≡ scripted (names_of zones.now) slots.now call.now }
 {
     match *call {
         Call::Info => Command::Info,
@@ -58,26 +60,26 @@ fn scripted(zones: &[ZoneLine], calls: &[Call], call: &Call) -> Command
             zone,
             mark,
         } => Command::Alloc {
-            slot: slot_of(calls, label),
+            slot: slots.slot_of(label),
             order,
             kind,
             zone: number_of(zones, zone),
             mark,
         },
         Call::Low { label, order, zone } => Command::Low {
-            slot: slot_of(calls, label),
+            slot: slots.slot_of(label),
             order,
             zone: number_of(zones, zone),
         },
         Call::Free { label } => Command::Free {
-            slot: slot_of(calls, label),
+            slot: slots.slot_of(label),
         },
         Call::Post { label, to } => Command::Post {
-            slot: slot_of(calls, label),
+            slot: slots.slot_of(label),
             to,
         },
         Call::Collect { label, zone } => Command::Collect {
-            slot: slot_of(calls, label),
+            slot: slots.slot_of(label),
             zone: number_of(zones, zone),
         },
         Call::Drain => Command::Drain,

@@ -1,6 +1,7 @@
-use Rattle.std.proofs.Common.{◌≡◌, ◌==◌, All, length, take, sym, ap, subst, ◌∙◌, arith}
+use Rattle.std.proofs.Common.{◌≡◌, ◌==◌, All, List, length, take, sym, ap, subst, ◌∙◌, arith}
 use Rattle.std.proofs.lemmas.List.{length-map, length-take}
 use Rattle.std.proofs.lemmas.List.Sums.{count_by-le-length}
+use Rattle.zp_trace.specs.declared.line.Call.{Call}
 use Rattle.zp_trace.specs.declared.line.CommandLine.{CommandLine as Line}
 use Rattle.zp_trace.proofs.CommandLines.{each_command}
 use Rattle.zp_trace.proofs.HeaderLines.{header_is}
@@ -20,7 +21,7 @@ loop-call-preserved c =
     record {
       script =
           c.push_reserved.ensures.items
-          ∙ script_more (names_of c.as_slice-zones.result.now) c.deref-call-items.result.now c.deref.result.now c.loop-call.call-index c.call-item.result c.loop-call.script.items c.scripted.result c.loop-call-test.true (c.deref.ensures.value ∙ sym c.deref-call-items.ensures.value) c.call-item.is c.loop-call.invariant.script c.scripted.ensures;
+          ∙ script_more (names_of c.as_slice-zones.result.now) c.deref-call-items.result.now c.deref.result.now c.loop-call.call-index c.call-item.result c.loop-call.script.items c.scripted.result c.loop-call-test.true (c.deref.ensures.value ∙ sym c.deref-call-items.ensures.value) c.call-item.is c.loop-call.invariant.script (c.scripted.ensures ∙ ap (λ (cs : List Call). scripted (names_of c.as_slice-zones.result.now) cs c.call-item.result) c.in_ok-slots.ensures);
       room = omega (arith, c.loop-call.invariant.room, c.push_reserved.ensures.capacity);
     }
 
