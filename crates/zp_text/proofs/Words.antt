@@ -13,10 +13,10 @@ joined_spaced word (next ∷ words) = ap (λ q. word ++ space ∷ q) (joined_spa
 pub spaced-append : (xs ys : List (List ℕ)) → spaced (xs ++ ys) ≡ spaced xs ++ spaced ys
 spaced-append xs ys = flat_map-append (λ word. space ∷ word) xs ys
 
--- a line that was made part by part
-pub line_is : (name number worker : List ℕ) (request reply : List (List ℕ)) (a b c d e f : List ℕ) → a ≡ name → b ≡ a ++ space ∷ number → c ≡ b ++ space ∷ worker →
-    d ≡ c ++ spaced request → e ≡ d ++ spaced reply → f ≡ e ++ line_feed ∷ [] → f ≡ joined (name ∷ number ∷ worker ∷ request ++ reply) ++ line_feed ∷ []
-line_is name number worker request reply a b c d e f first second third fourth fifth sixth =
+-- a line that was appended part by part
+pub line_is : (start name number worker : List ℕ) (request reply : List (List ℕ)) (a b c d e f : List ℕ) → a ≡ start ++ name → b ≡ a ++ space ∷ number → c ≡ b ++ space ∷ worker →
+    d ≡ c ++ spaced request → e ≡ d ++ spaced reply → f ≡ e ++ line_feed ∷ [] → f ≡ start ++ (joined (name ∷ number ∷ worker ∷ request ++ reply) ++ line_feed ∷ [])
+line_is start name number worker request reply a b c d e f first second third fourth fifth sixth =
     let ends : e ≡ a ++ ((space ∷ number) ++ ((space ∷ worker) ++ (spaced request ++ spaced reply))) =
     fifth
     ∙ ap (λ q. q ++ spaced reply) (fourth ∙ ap (λ q. q ++ spaced request) (third ∙ ap (λ q. q ++ space ∷ worker) second))
@@ -25,7 +25,12 @@ line_is name number worker request reply a b c d e f first second third fourth f
     ∙ append_assoc a (space ∷ number) ((space ∷ worker) ++ (spaced request ++ spaced reply)) in
     let words : spaced (number ∷ worker ∷ request ++ reply) ≡ (space ∷ number) ++ ((space ∷ worker) ++ (spaced request ++ spaced reply)) =
     ap (λ q. (space ∷ number) ++ ((space ∷ worker) ++ q)) (spaced-append request reply) in
+    let line : e ≡ start ++ joined (name ∷ number ∷ worker ∷ request ++ reply) =
+    ends
+    ∙ ap (λ q. q ++ ((space ∷ number) ++ ((space ∷ worker) ++ (spaced request ++ spaced reply)))) first
+    ∙ append_assoc start name ((space ∷ number) ++ ((space ∷ worker) ++ (spaced request ++ spaced reply)))
+    ∙ ap (λ q. start ++ (name ++ q)) (sym words)
+    ∙ ap (λ q. start ++ q) (sym (joined_spaced name (number ∷ worker ∷ request ++ reply))) in
     sixth
-    ∙ ap (λ q. q ++ line_feed ∷ [])
-    (ends ∙ ap (λ q. q ++ ((space ∷ number) ++ ((space ∷ worker) ++ (spaced request ++ spaced reply)))) first
-    ∙ ap (λ q. name ++ q) (sym words) ∙ sym (joined_spaced name (number ∷ worker ∷ request ++ reply)))
+    ∙ ap (λ q. q ++ line_feed ∷ []) line
+    ∙ append_assoc start (joined (name ∷ number ∷ worker ∷ request ++ reply)) (line_feed ∷ [])

@@ -1,20 +1,18 @@
 //! Info lines.
 //!
 //! In Linux: `frag_show_print`.
-ghost use Rattle.std.specs.Prelude.{◌≡◌, ◌≤◌, ◌<◌, ◌+◌, ◌*◌, ◌++◌, ℕ, List, [], ◌∷◌, length, replicate, OnOk, OnErr, decimal};
-ghost use Rattle.arrayvec.specs.ArrayString.{array_string_len};
-ghost use Rattle.zp_model.specs.Info.{counts_of, info_line, right_aligned, number_field};
+ghost use Rattle.std.specs.Prelude.{◌≡◌, ◌≤◌, ◌<◌, ◌+◌, ◌*◌, ◌++◌, ℕ, List, [], ◌∷◌, length, replicate, OnOk, OnErr};
+ghost use Rattle.zp_model.specs.Info.{counts_of, info_line, right_aligned};
 ghost use Rattle.zp_model.specs.Naming.{IsName};
 ghost use Rattle.zp_text.specs.Streams.{IsWritten, IsBegun};
 
 use crate::streams::{WriteFault, Writer, write_all};
-use arrayvec::ArrayString;
-use itoa::Buffer;
-use zp_model::{Counts, Largest, NAME_PLACES, NUMBER_PLACES};
+use crate::text_buffer::TextBuffer;
+use zp_model::{Counts, Largest, NAME_PLACES};
 use zp_zone::Zone;
 
 /// The most bytes of a line: no count of 32 bits has more than ten digits.
-const LINE: usize = 160;
+pub const INFO_LINE: usize = 160;
 
 /// Writes the info line of a zone of this name and largest order with these counts, as `/proc/buddyinfo` shows it: 22 bytes,
 /// seven for each order up to the largest, and more where a count has more than six digits, and a line feed.
@@ -30,7 +28,8 @@ pub fn write_counts<W: Writer>(
     ensures err { OnErr result (IsBegun (W.contents writer.old) (W.contents writer.new) (info_line name.now largest counts.now)) }
     ensures failed { OnErr result (W.failures writer.old < W.failures writer.new) }
 {
-    let line = line_of(name, largest, counts);
+    let mut line: TextBuffer<INFO_LINE> = TextBuffer::new();
+    push_counts(&mut line, name, largest, counts);
     write_all(writer, line.as_bytes())
 }
 
@@ -44,41 +43,53 @@ pub fn write_info<W: Writer>(zone: &Zone, writer: &mut W) -> Result<(), WriteFau
     write_counts(writer, zone.name(), zone.largest(), &zone.counts())
 }
 
-/// The info line as text.
-fn line_of(name: &str, largest: Largest, counts: &Counts) -> ArrayString<LINE>
-    requires { length name.now ≤ NAME_PLACES }
-    ensures { result.bytes ≡ info_line name.now largest counts.now }
+/// Appends that line to a text.
+pub fn push_counts<const CAP: usize>(
+    text: &mut TextBuffer<CAP>,
+    name: &str,
+    largest: Largest,
+    counts: &Counts,
+)
+    requires name { IsName name.now }
+    requires room { length text.old + INFO_LINE ≤ CAP }
+    ensures bytes { text.new ≡ text.old ++ info_line name.now largest counts.now }
+    ensures len { length text.new ≤ length text.old + INFO_LINE }
 {
-    let mut line = ArrayString::new();
-    line.push_str("Node 0, zone ");
-    push_aligned(&mut line, name, NAME_PLACES);
-    line.push_str(" ");
+    text.push("Node 0, zone ");
+    push_name(text, name);
+    text.push(" ");
     'numbers: for count in &counts.by_order[..largest.order().index() + 1] {
-        push_number(&mut line, *count);
+        text.push_field(*count);
     }
-    line.push_str("\n");
-    line
+    text.push("\n");
 }
 
-/// Appends a number in its places, and a space.
-fn push_number(line: &mut ArrayString<LINE>, number: u32)
-    requires { array_string_len line.old + 11 ≤ LINE }
-    ensures bytes { line.new.bytes ≡ line.old.bytes ++ number_field number }
-    ensures len { array_string_len line.new ≤ array_string_len line.old + 11 }
+/// Appends a name, right-aligned in its places.
+fn push_name<const CAP: usize>(text: &mut TextBuffer<CAP>, name: &str)
+    requires name { length name.now ≤ NAME_PLACES }
+    requires room { length text.old + NAME_PLACES ≤ CAP }
+    ensures bytes { text.new ≡ text.old ++ right_aligned NAME_PLACES name.now }
+    ensures len { length text.new ≡ length text.old + NAME_PLACES }
 {
-    let mut digits = Buffer::new();
-    push_aligned(line, digits.format(number), NUMBER_PLACES);
-    line.push_str(" ");
+    text.push(spaces(NAME_PLACES - name.len()));
+    text.push(name);
 }
 
-/// Appends a text, right-aligned in so many places.
-fn push_aligned(line: &mut ArrayString<LINE>, text: &str, places: usize)
-    requires places { array_string_len line.old + places ≤ LINE }
-    requires text { array_string_len line.old + length text.now ≤ LINE }
-    ensures bytes { line.new.bytes ≡ line.old.bytes ++ right_aligned places text.now }
+/// So many spaces.
+fn spaces(count: usize) -> &'static str
+    requires { count ≤ NAME_PLACES }
+    ensures spaces { result.now ≡ replicate count 32 }
+    ensures len { length result.now ≡ count }
 {
-    'spaces: for _ in text.len()..places {
-        line.push_str(" ");
+    match count {
+        0 => "",
+        1 => " ",
+        2 => "  ",
+        3 => "   ",
+        4 => "    ",
+        5 => "     ",
+        6 => "      ",
+        7 => "       ",
+        _ => "        ",
     }
-    line.push_str(text);
 }

@@ -3,8 +3,10 @@ ghost use Rattle.std.specs.Prelude.{◌≡◌, ◌<◌, ◌≤◌, length, OnOk,
 ghost use Rattle.zp_text.specs.Streams.{IsWritten, IsBegun};
 ghost use Rattle.zp_text.specs.JournalText.{journal_text};
 
-use crate::line::entry_line;
+use crate::gathering::{GATHERED, make_room};
+use crate::line::{ENTRY_LINE, push_entry};
 use crate::streams::{WriteFault, Writer, write_all};
+use crate::text_buffer::TextBuffer;
 use zp_journal::Journal;
 use zp_model::LONGEST_NAME;
 
@@ -20,9 +22,10 @@ pub fn write_journal<W: Writer>(
     ensures err { OnErr result (IsBegun (W.contents writer.old) (W.contents writer.new) (journal_text name.now journal.now.entries)) }
     ensures failed { OnErr result (W.failures writer.old < W.failures writer.new) }
 {
+    let mut text: TextBuffer<GATHERED> = TextBuffer::new();
     for at in 0..journal.len() {
-        let line = entry_line(name, at + 1, journal.entry(at + 1));
-        write_all(writer, line.as_bytes())?;
+        make_room(writer, &mut text, ENTRY_LINE)?;
+        push_entry(&mut text, name, at + 1, journal.entry(at + 1));
     }
-    Ok(())
+    write_all(writer, text.as_bytes())
 }

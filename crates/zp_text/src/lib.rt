@@ -4,15 +4,19 @@
 
 mod device;
 mod failures;
+mod gathering;
 mod info;
 mod journal;
 mod line;
 mod streams;
+mod text_buffer;
 mod verdict;
 
 pub use device::{Sink, Source};
 pub use failures::Failures;
-pub use info::{write_counts, write_info};
+pub use gathering::{GATHERED, make_room};
+pub use info::{INFO_LINE, push_counts, write_counts, write_info};
 pub use journal::write_journal;
 pub use streams::{ReadFault, Reader, WriteFault, Writer, write_all};
-pub use verdict::{Verdict, write_verdict};
+pub use text_buffer::{DIGITS, TextBuffer};
+pub use verdict::{VERDICT_LINE, Verdict, push_verdict, write_verdict};

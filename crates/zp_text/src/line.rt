@@ -1,21 +1,16 @@
 //! The words of a line, and what an entry is in words.
 ghost use Rattle.std.specs.Prelude.{◌≡◌, ◌≤◌, ◌+◌, ◌*◌, ◌++◌, [], ◌∷◌, length, map, codes};
 ghost use Rattle.std.specs.Fmt.{decimal};
-ghost use Rattle.arrayvec.specs.ArrayString.{array_string_len};
 ghost use Rattle.zp_model.specs.declared.constants.TheConstants.{LONGEST_LIST, LONGEST_NAME};
 ghost use Rattle.zp_trace.specs.Spelling.{kind_word, mark_word, space};
 ghost use Rattle.zp_text.specs.JournalText.{entry_line, is_low, reply_words, request_words, spaced};
 
-use arrayvec::ArrayString;
-use itoa::Buffer;
+use crate::text_buffer::{DIGITS, TextBuffer};
 use zp_model::{Entry, LONGEST_LIST, LONGEST_NAME, Mark, MigrateType, PageNo, Reply, Request};
 
 /// The most bytes of a line: with the longest name, number and worker, and with as many pages in the request and in the reply as an
 /// entry can have, it is shorter.
-const LINE: usize = 1600;
-
-/// The most digits of a number.
-const DIGITS: usize = 10;
+pub const ENTRY_LINE: usize = 1600;
 
 /// The most bytes of a number and of the space before it.
 const NUMBER: usize = DIGITS + 1;
@@ -23,23 +18,25 @@ const NUMBER: usize = DIGITS + 1;
 /// The most bytes of what an entry asks, or of what it is answered: a few short words, and all pages of a list.
 const WORDS: usize = LONGEST_LIST * NUMBER + 48;
 
-/// A line, as it is made.
-pub type Line = ArrayString<LINE>;
-
-/// An entry's line, with its number.
-pub fn entry_line(name: &str, number: u32, entry: &Entry) -> Line
-    requires { length name.now ≤ LONGEST_NAME }
-    ensures { result.bytes ≡ entry_line name.now number entry.now }
+/// Appends an entry's line, with its number.
+pub fn push_entry<const CAP: usize>(
+    line: &mut TextBuffer<CAP>,
+    name: &str,
+    number: u32,
+    entry: &Entry,
+)
+    requires name { length name.now ≤ LONGEST_NAME }
+    requires room { length line.old + ENTRY_LINE ≤ CAP }
+    ensures bytes { line.new ≡ line.old ++ entry_line name.now number entry.now }
+    ensures len { length line.new ≤ length line.old + ENTRY_LINE }
 {
-    let mut line = Line::new();
-    line.push_str(name);
-    push_number(&mut line, number);
-    push_number(&mut line, u32::from(entry.worker().number()));
+    line.push(name);
+    push_number(line, number);
+    push_number(line, u32::from(entry.worker().number()));
     let request = entry.request();
-    push_request(&mut line, &request);
-    push_reply(&mut line, is_low(&request), &entry.reply());
-    line.push_str("\n");
-    line
+    push_request(line, &request);
+    push_reply(line, is_low(&request), &entry.reply());
+    line.push("\n");
 }
 
 /// Whether the lowest block is asked for.
@@ -50,10 +47,10 @@ fn is_low(request: &Request) -> bool
 }
 
 /// Appends what was asked.
-fn push_request(line: &mut Line, request: &Request)
-    requires { array_string_len line.old + WORDS ≤ LINE }
-    ensures bytes { line.new.bytes ≡ line.old.bytes ++ spaced (request_words request.now) }
-    ensures len { array_string_len line.new ≤ array_string_len line.old + WORDS }
+fn push_request<const CAP: usize>(line: &mut TextBuffer<CAP>, request: &Request)
+    requires { length line.old + WORDS ≤ CAP }
+    ensures bytes { line.new ≡ line.old ++ spaced (request_words request.now) }
+    ensures len { length line.new ≤ length line.old + WORDS }
 {
     match request {
         Request::Alloc(order, kind, mark) => {
@@ -102,10 +99,10 @@ fn push_request(line: &mut Line, request: &Request)
 }
 
 /// Appends what was answered, to a request for the lowest block or to another one.
-fn push_reply(line: &mut Line, low: bool, reply: &Reply)
-    requires { array_string_len line.old + WORDS ≤ LINE }
-    ensures bytes { line.new.bytes ≡ line.old.bytes ++ spaced (reply_words low reply.now) }
-    ensures len { array_string_len line.new ≤ array_string_len line.old + WORDS }
+fn push_reply<const CAP: usize>(line: &mut TextBuffer<CAP>, low: bool, reply: &Reply)
+    requires { length line.old + WORDS ≤ CAP }
+    ensures bytes { line.new ≡ line.old ++ spaced (reply_words low reply.now) }
+    ensures len { length line.new ≤ length line.old + WORDS }
 {
     match reply {
         Reply::Page(page) => push_page(line, *page),
@@ -132,21 +129,21 @@ fn push_reply(line: &mut Line, low: bool, reply: &Reply)
 }
 
 /// Appends the one page that was answered.
-fn push_page(line: &mut Line, page: PageNo)
-    requires { array_string_len line.old + 5 + NUMBER ≤ LINE }
-    ensures bytes { line.new.bytes ≡ line.old.bytes ++ spaced (codes "page" ∷ decimal page ∷ []) }
-    ensures len { array_string_len line.new ≤ array_string_len line.old + 5 + NUMBER }
+fn push_page<const CAP: usize>(line: &mut TextBuffer<CAP>, page: PageNo)
+    requires { length line.old + 5 + NUMBER ≤ CAP }
+    ensures bytes { line.new ≡ line.old ++ spaced (codes "page" ∷ decimal page ∷ []) }
+    ensures len { length line.new ≤ length line.old + 5 + NUMBER }
 {
     push_word(line, "page");
     push_number(line, page.number());
 }
 
 /// Appends pages, in their order.
-fn push_pages(line: &mut Line, pages: &[PageNo])
+fn push_pages<const CAP: usize>(line: &mut TextBuffer<CAP>, pages: &[PageNo])
     requires list { length pages.now ≤ LONGEST_LIST }
-    requires room { array_string_len line.old + LONGEST_LIST * NUMBER ≤ LINE }
-    ensures bytes { line.new.bytes ≡ line.old.bytes ++ spaced (map decimal pages.now) }
-    ensures len { array_string_len line.new ≤ array_string_len line.old + LONGEST_LIST * NUMBER }
+    requires room { length line.old + LONGEST_LIST * NUMBER ≤ CAP }
+    ensures bytes { line.new ≡ line.old ++ spaced (map decimal pages.now) }
+    ensures len { length line.new ≤ length line.old + LONGEST_LIST * NUMBER }
 {
     for page in pages {
         push_number(line, page.number());
@@ -154,23 +151,23 @@ fn push_pages(line: &mut Line, pages: &[PageNo])
 }
 
 /// Appends a space and a number.
-pub fn push_number(line: &mut Line, number: u32)
-    requires { array_string_len line.old + NUMBER ≤ LINE }
-    ensures bytes { line.new.bytes ≡ line.old.bytes ++ space ∷ decimal number }
-    ensures len { array_string_len line.new ≤ array_string_len line.old + NUMBER }
+pub fn push_number<const CAP: usize>(line: &mut TextBuffer<CAP>, number: u32)
+    requires { length line.old + NUMBER ≤ CAP }
+    ensures bytes { line.new ≡ line.old ++ space ∷ decimal number }
+    ensures len { length line.new ≤ length line.old + NUMBER }
 {
-    let mut digits = Buffer::new();
-    push_word(line, digits.format(number));
+    line.push(" ");
+    line.push_number(number);
 }
 
 /// Appends a space and a word.
-pub fn push_word(line: &mut Line, word: &str)
-    requires { array_string_len line.old + 1 + length word.now ≤ LINE }
-    ensures bytes { line.new.bytes ≡ line.old.bytes ++ space ∷ word.now }
-    ensures len { array_string_len line.new ≡ array_string_len line.old + 1 + length word.now }
+pub fn push_word<const CAP: usize>(line: &mut TextBuffer<CAP>, word: &str)
+    requires { length line.old + 1 + length word.now ≤ CAP }
+    ensures bytes { line.new ≡ line.old ++ space ∷ word.now }
+    ensures len { length line.new ≡ length line.old + 1 + length word.now }
 {
-    line.push_str(" ");
-    line.push_str(word);
+    line.push(" ");
+    line.push(word);
 }
 
 fn kind_word(kind: MigrateType) -> &'static str

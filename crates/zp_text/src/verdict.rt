@@ -1,11 +1,15 @@
 //! The line that says what a journal's replay found.
-ghost use Rattle.std.specs.Prelude.{◌≡◌, ◌<◌, ◌≤◌, length, OnOk, OnErr};
+ghost use Rattle.std.specs.Prelude.{◌≡◌, ◌<◌, ◌≤◌, ◌+◌, ◌++◌, length, OnOk, OnErr};
 ghost use Rattle.zp_text.specs.Streams.{IsWritten, IsBegun};
 ghost use Rattle.zp_text.specs.JournalText.{verdict_line};
 
-use crate::line::{Line, push_number, push_word};
+use crate::line::{push_number, push_word};
 use crate::streams::{WriteFault, Writer, write_all};
+use crate::text_buffer::TextBuffer;
 use zp_model::LONGEST_NAME;
+
+/// The most bytes of a line.
+pub const VERDICT_LINE: usize = 64;
 
 /// What a journal's replay found.
 #[derive(Clone, Copy, PartialEq, Eq, Debug, Drop)]
@@ -29,28 +33,34 @@ pub fn write_verdict<W: Writer>(
     ensures err { OnErr result (IsBegun (W.contents writer.old) (W.contents writer.new) (verdict_line name.now entries verdict)) }
     ensures failed { OnErr result (W.failures writer.old < W.failures writer.new) }
 {
-    let line = verdict_line(name, entries, verdict);
+    let mut line: TextBuffer<VERDICT_LINE> = TextBuffer::new();
+    push_verdict(&mut line, name, entries, verdict);
     write_all(writer, line.as_bytes())
 }
 
-/// `journal NAME N legal`, or `journal NAME differs N`.
-fn verdict_line(name: &str, entries: u32, verdict: Verdict) -> Line
-    requires { length name.now ≤ LONGEST_NAME }
-    ensures { result.bytes ≡ verdict_line name.now entries verdict }
+/// Appends that line to a text: `journal NAME N legal`, or `journal NAME differs N`.
+pub fn push_verdict<const CAP: usize>(
+    text: &mut TextBuffer<CAP>,
+    name: &str,
+    entries: u32,
+    verdict: Verdict,
+)
+    requires name { length name.now ≤ LONGEST_NAME }
+    requires room { length text.old + VERDICT_LINE ≤ CAP }
+    ensures bytes { text.new ≡ text.old ++ verdict_line name.now entries verdict }
+    ensures len { length text.new ≤ length text.old + VERDICT_LINE }
 {
-    let mut line = Line::new();
-    line.push_str("journal");
-    push_word(&mut line, name);
+    text.push("journal");
+    push_word(text, name);
     match verdict {
         Verdict::Legal => {
-            push_number(&mut line, entries);
-            push_word(&mut line, "legal");
+            push_number(text, entries);
+            push_word(text, "legal");
         }
         Verdict::Differs(number) => {
-            push_word(&mut line, "differs");
-            push_number(&mut line, number);
+            push_word(text, "differs");
+            push_number(text, number);
         }
     }
-    line.push_str("\n");
-    line
+    text.push("\n");
 }
