@@ -1,5 +1,5 @@
 //! The journals of a trace's zones: what their replays find, and what is written of them.
-ghost use Rattle.std.specs.Prelude.{◌≡◌, ◌<◌, IfErr, IfOk, OnErr, OnOk, List, length, map};
+ghost use Rattle.std.specs.Prelude.{◌≡◌, ◌<◌, ◌≤◌, ◌+◌, ◌++◌, IfErr, IfOk, OnErr, OnOk, List, length, map};
 ghost use Rattle.std.specs.List.{AllZip, flat_map};
 ghost use Rattle.zp_model.specs.Bounds.{IsCrew};
 ghost use Rattle.zp_model.specs.Naming.{IsName};
@@ -12,10 +12,16 @@ use crate::ending::ReplayFault;
 use std::alloc::Global;
 use std::marker::Model;
 use zp_journal::{Journal, JournalCheck, replay_journal};
-use zp_model::{Name, Refused};
-use zp_text::{Verdict, WriteFault, Writer, write_journal, write_verdict};
+use zp_model::{MAX_ZONES, Name, Refused};
+use zp_text::{
+    TextBuffer, VERDICT_LINE, Verdict, WriteFault, Writer, make_room, push_verdict, write_all,
+    write_journal,
+};
 use zp_trace::{Header, ZoneLine};
 use zp_zone::ZoneConfig;
+
+/// The most bytes of what the replays of all journals found, a line for each zone.
+const VERDICTS: usize = MAX_ZONES * VERDICT_LINE;
 
 /// The journal of a zone, under the zone's name, with what its replay found.
 #[derive(Drop)]
@@ -69,14 +75,12 @@ impl ZoneJournal {
         })
     }
 
-    /// Writes the line that says what the replay found.
-    fn write_verdict<W: Writer>(&self, writer: &mut W) -> Result<(), WriteFault>
-        ensures ok { OnOk result (IsWritten (W.contents writer.old) (W.contents writer.new) (judged_verdict self.now)) }
-        ensures calm { OnOk result (W.failures writer.new ≡ W.failures writer.old) }
-        ensures err { OnErr result (IsBegun (W.contents writer.old) (W.contents writer.new) (judged_verdict self.now)) }
-        ensures failed { OnErr result (W.failures writer.old < W.failures writer.new) }
+    /// Appends the line that says what the replay found.
+    fn push_verdict<const CAP: usize>(&self, text: &mut TextBuffer<CAP>)
+        requires { length text.old + VERDICT_LINE ≤ CAP }
+        ensures { text.new ≡ text.old ++ judged_verdict self.now }
     {
-        write_verdict(writer, self.name.as_str(), self.journal.len(), self.verdict)
+        push_verdict(text, self.name.as_str(), self.journal.len(), self.verdict);
     }
 
     /// Writes the entries.
@@ -146,10 +150,12 @@ fn write_verdicts<W: Writer>(writer: &mut W, journals: &[ZoneJournal]) -> Result
     ensures err { OnErr result (IsBegun (W.contents writer.old) (W.contents writer.new) (flat_map judged_verdict journals.now)) }
     ensures failed { OnErr result (W.failures writer.old < W.failures writer.new) }
 {
+    let mut text: TextBuffer<VERDICTS> = TextBuffer::new();
     for journal in journals {
-        journal.write_verdict(writer)?;
+        make_room(writer, &mut text, VERDICT_LINE)?;
+        journal.push_verdict(&mut text);
     }
-    Ok(())
+    write_all(writer, text.as_bytes())
 }
 
 /// Writes the entries of each zone.

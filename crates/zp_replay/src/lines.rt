@@ -1,58 +1,58 @@
 //! The lines of the output, as text.
-ghost use Rattle.std.specs.Prelude.{◌≡◌, ◌≤◌, ◌+◌, ◌*◌, ◌++◌, codes, length, Ok};
-ghost use Rattle.std.specs.Fmt.{decimal};
-ghost use Rattle.arrayvec.specs.ArrayString.{array_string_len};
+ghost use Rattle.std.specs.Prelude.{◌≡◌, ◌≤◌, ◌+◌, ◌*◌, ◌++◌, codes, length};
 ghost use Rattle.zp_model.specs.Mark.{level_of};
 ghost use Rattle.zp_model.specs.Zone.{pages_of};
 ghost use Rattle.zp_replay.specs.Replies.{reply_line, reply_words};
 ghost use Rattle.zp_replay.specs.Output.{level_word, counted, total_line, bad_line};
 
-use arrayvec::ArrayString;
-use itoa::Buffer;
 use zp_model::{LONGEST_NAME, Level, Worker};
 use zp_office::CommandReply;
 use zp_share::Totals;
+use zp_text::{DIGITS, TextBuffer};
 use zp_zone::Zone;
 
 /// The most bytes of a line.
-const LINE: usize = 160;
+pub const LINE: usize = 160;
 
-/// The most digits of a number.
-const DIGITS: usize = 10;
+/// The most bytes of what a worker gets, or that it was done.
+const WORDS: usize = 2 * DIGITS + 15;
 
-/// A line, as it is made.
-pub type Line = ArrayString<LINE>;
-
-/// What a worker is answered: `W: page P`, `W: block P order K`, `W: freed`, `W: posted`, `W: drained N`, `W: isolated`, `W: released`
-/// or `W: refused C`.
-pub fn reply_line(worker: Worker, reply: &CommandReply) -> Line
-    ensures { result.bytes ≡ reply_line worker reply.now }
+/// Appends what a worker is answered: `W: page P`, `W: block P order K`, `W: freed`, `W: posted`, `W: drained N`, `W: isolated`,
+/// `W: released` or `W: refused C`.
+pub fn push_reply_line<const CAP: usize>(
+    text: &mut TextBuffer<CAP>,
+    worker: Worker,
+    reply: &CommandReply,
+)
+    requires { length text.old + LINE ≤ CAP }
+    ensures bytes { text.new ≡ text.old ++ reply_line worker reply.now }
+    ensures len { length text.new ≤ length text.old + LINE }
 {
-    let mut line = line_of(worker);
-    push_reply(&mut line, reply);
-    line.push_str("\n");
-    line
+    text.push_number(u32::from(worker.number()));
+    text.push(": ");
+    push_reply(text, reply);
+    text.push("\n");
 }
 
 /// Appends what a worker gets, or that it was done. An info has lines of its own.
-fn push_reply(line: &mut Line, reply: &CommandReply)
-    requires { array_string_len line.old ≤ DIGITS + 2 }
-    ensures bytes { line.new.bytes ≡ line.old.bytes ++ reply_words reply.now }
-    ensures len { array_string_len line.new ≤ 3 * DIGITS + 15 }
+fn push_reply<const CAP: usize>(text: &mut TextBuffer<CAP>, reply: &CommandReply)
+    requires { length text.old + WORDS ≤ CAP }
+    ensures bytes { text.new ≡ text.old ++ reply_words reply.now }
+    ensures len { length text.new ≤ length text.old + WORDS }
 {
     match reply {
-        CommandReply::Page(page) => push_counted(line, "page ", page.number()),
+        CommandReply::Page(page) => push_counted(text, "page ", page.number()),
         CommandReply::Block(block) => {
-            push_counted(line, "block ", block.page.number());
-            push_counted(line, " order ", u32::from(block.order.number()));
+            push_counted(text, "block ", block.page.number());
+            push_counted(text, " order ", u32::from(block.order.number()));
         }
-        CommandReply::Freed => line.push_str("freed"),
-        CommandReply::Posted => line.push_str("posted"),
-        CommandReply::Drained(pages) => push_counted(line, "drained ", *pages),
-        CommandReply::Isolated => line.push_str("isolated"),
-        CommandReply::Released => line.push_str("released"),
+        CommandReply::Freed => text.push("freed"),
+        CommandReply::Posted => text.push("posted"),
+        CommandReply::Drained(pages) => push_counted(text, "drained ", *pages),
+        CommandReply::Isolated => text.push("isolated"),
+        CommandReply::Released => text.push("released"),
         CommandReply::Refused(refused) => push_counted(
-            line,
+            text,
             "refused ",
             u32::from(refused.number()),
         ),
@@ -60,63 +60,60 @@ fn push_reply(line: &mut Line, reply: &CommandReply)
     }
 }
 
-/// The beginning of a worker's line.
-fn line_of(worker: Worker) -> Line
-    ensures bytes { result.bytes ≡ decimal worker ++ codes ": " }
-    ensures len { array_string_len result ≤ DIGITS + 2 }
-{
-    let mut line = Line::new();
-    push_counted(&mut line, "", u32::from(worker.number()));
-    line.push_str(": ");
-    line
-}
-
-/// A zone's total line, with where its pages are.
-pub fn total_line_of(zone: &Zone, totals: &Totals) -> Line
-    ensures { result.bytes ≡ total_line zone.now.name (pages_of zone.now.plain) totals.now (level_of zone.now.plain) }
+/// Appends a zone's total line, with where its pages are.
+pub fn push_total_of<const CAP: usize>(text: &mut TextBuffer<CAP>, zone: &Zone, totals: &Totals)
+    requires { length text.old + LINE ≤ CAP }
+    ensures bytes { text.new ≡ text.old ++ total_line zone.now.name (pages_of zone.now.plain) totals.now (level_of zone.now.plain) }
+    ensures len { length text.new ≤ length text.old + LINE }
 {
     let name = zone.name();
-    total_line(name, zone.pages(), totals, zone.level())
+    push_total_line(text, name, zone.pages(), totals, zone.level());
 }
 
-/// `total NAME pages A free B posted C cached D lent E level L`.
-fn total_line(name: &str, pages: u32, totals: &Totals, level: Level) -> Line
-    requires { length name.now ≤ LONGEST_NAME }
-    ensures { result.bytes ≡ total_line name.now pages totals.now level }
+/// Appends `total NAME pages A free B posted C cached D lent E level L`.
+fn push_total_line<const CAP: usize>(
+    text: &mut TextBuffer<CAP>,
+    name: &str,
+    pages: u32,
+    totals: &Totals,
+    level: Level,
+)
+    requires name { length name.now ≤ LONGEST_NAME }
+    requires room { length text.old + LINE ≤ CAP }
+    ensures bytes { text.new ≡ text.old ++ total_line name.now pages totals.now level }
+    ensures len { length text.new ≤ length text.old + LINE }
 {
-    let mut line = Line::new();
-    line.push_str("total ");
-    line.push_str(name);
-    push_counted(&mut line, " pages ", pages);
-    push_counted(&mut line, " free ", totals.free);
-    push_counted(&mut line, " posted ", totals.posted);
-    push_counted(&mut line, " cached ", totals.cached);
-    push_counted(&mut line, " lent ", totals.lent);
-    line.push_str(" level ");
-    line.push_str(level_word(level));
-    line.push_str("\n");
-    line
+    text.push("total ");
+    text.push(name);
+    push_counted(text, " pages ", pages);
+    push_counted(text, " free ", totals.free);
+    push_counted(text, " posted ", totals.posted);
+    push_counted(text, " cached ", totals.cached);
+    push_counted(text, " lent ", totals.lent);
+    text.push(" level ");
+    text.push(level_word(level));
+    text.push("\n");
 }
 
 /// `bad line N`.
-pub fn bad_line(number: u32) -> Line
-    ensures { result.bytes ≡ bad_line number }
+pub fn bad_line(number: u32) -> TextBuffer<LINE>
+    ensures { result ≡ bad_line number }
 {
-    let mut line = Line::new();
-    push_counted(&mut line, "bad line ", number);
-    line.push_str("\n");
-    line
+    let mut text = TextBuffer::new();
+    push_counted(&mut text, "bad line ", number);
+    text.push("\n");
+    text
 }
 
 /// Appends what is counted, and how many there are.
-fn push_counted(line: &mut Line, what: &str, number: u32)
-    requires { array_string_len line.old + length what.now + DIGITS ≤ LINE }
-    ensures bytes { line.new.bytes ≡ line.old.bytes ++ counted what.now number }
-    ensures len { array_string_len line.new ≤ array_string_len line.old + length what.now + DIGITS }
+#[inline(always)]
+fn push_counted<const CAP: usize>(text: &mut TextBuffer<CAP>, what: &str, number: u32)
+    requires { length text.old + length what.now + DIGITS ≤ CAP }
+    ensures bytes { text.new ≡ text.old ++ counted what.now number }
+    ensures len { length text.new ≤ length text.old + length what.now + DIGITS }
 {
-    let mut digits = Buffer::new();
-    line.push_str(what);
-    line.push_str(digits.format(number));
+    text.push(what);
+    text.push_number(number);
 }
 
 fn level_word(level: Level) -> &'static str

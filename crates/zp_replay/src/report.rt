@@ -1,5 +1,5 @@
 //! What is written of an office whose workers have carried out a trace's commands.
-ghost use Rattle.std.specs.Prelude.{ℕ, ◌≡◌, ◌<◌, ◌≤◌, ◌++◌, [], All, length, map, vec_capacity, OnOk, OnErr};
+ghost use Rattle.std.specs.Prelude.{ℕ, ◌≡◌, ◌<◌, ◌≤◌, ◌+◌, ◌++◌, [], All, length, map, vec_capacity, OnOk, OnErr};
 ghost use Rattle.std.specs.List.{flat_map};
 ghost use Rattle.zp_model.specs.declared.counts.Counts.{Counts};
 ghost use Rattle.zp_trace.specs.declared.line.CommandLine.{CommandLine};
@@ -12,13 +12,18 @@ ghost use Rattle.zp_office.specs.Offices.{crew_in, workers_in};
 ghost use Rattle.zp_replay.specs.Output.{replies_text, reply_at, report, total_lines, total_of};
 ghost use Rattle.zp_replay.specs.Replies.{info_lines, info_of, reply_text};
 
-use crate::lines::{Line, reply_line, total_line_of};
-use zp_model::{Counts, MAX_WORKERS, Worker};
+use crate::lines::{LINE, push_reply_line, push_total_of};
+use zp_model::{Counts, MAX_WORKERS, MAX_ZONES, Worker};
 use zp_office::{CommandReply, Office};
 use zp_share::{PlainZones, Share, Totals};
-use zp_text::{WriteFault, Writer, write_all, write_counts, write_info};
+use zp_text::{
+    GATHERED, INFO_LINE, TextBuffer, WriteFault, Writer, make_room, push_counts, write_all,
+};
 use zp_trace::CommandLine;
 use zp_zone::Zone;
+
+/// The most bytes of a reply: those of an info, a line for each zone.
+const REPLY: usize = MAX_ZONES * INFO_LINE;
 
 /// Writes the replies to these commands, the total lines and the info lines. The room is for the shares of all workers, so that
 /// no memory is taken.
@@ -43,7 +48,7 @@ pub fn write_report<W: Writer>(
     write_infos(writer, zones.as_slice())
 }
 
-/// Writes the replies to these commands, in this order.
+/// Writes the replies to these commands, in this order. They are gathered, and go out many in one piece.
 fn write_replies<W: Writer>(
     writer: &mut W,
     office: &Office,
@@ -55,69 +60,61 @@ fn write_replies<W: Writer>(
     ensures err { OnErr result (IsBegun (W.contents writer.old) (W.contents writer.new) (replies_text office.now (workers_in commands.now))) }
     ensures failed { OnErr result (W.failures writer.old < W.failures writer.new) }
 {
-    // how many replies of each worker were written
+    // how many replies of each worker were gathered
     let mut written = [0; MAX_WORKERS as usize];
+    let mut text: TextBuffer<GATHERED> = TextBuffer::new();
     for command in commands {
         let worker = usize::from(command.worker.number());
-        write_reply_at(writer, office, command.worker, written[worker])?;
+        make_room(writer, &mut text, REPLY)?;
+        push_reply_at(&mut text, office, command.worker, written[worker]);
         written[worker] += 1;
     }
-    Ok(())
+    write_all(writer, text.as_bytes())
 }
 
-/// Writes a worker's reply at this place among its replies, where it has one there.
-fn write_reply_at<W: Writer>(
-    writer: &mut W,
+/// Appends a worker's reply at this place among its replies, where it has one there.
+fn push_reply_at<const CAP: usize>(
+    text: &mut TextBuffer<CAP>,
     office: &Office,
     worker: Worker,
     place: usize,
-) -> Result<(), WriteFault>
+)
     requires worker { worker < length office.now.desks }
-    ensures ok { OnOk result (IsWritten (W.contents writer.old) (W.contents writer.new) (reply_at office.now worker place)) }
-    ensures calm { OnOk result (W.failures writer.new ≡ W.failures writer.old) }
-    ensures err { OnErr result (IsBegun (W.contents writer.old) (W.contents writer.new) (reply_at office.now worker place)) }
-    ensures failed { OnErr result (W.failures writer.old < W.failures writer.new) }
+    requires room { length text.old + REPLY ≤ CAP }
+    ensures { text.new ≡ text.old ++ reply_at office.now worker place }
 {
     match office.replies(worker).get(place) {
-        Some(reply) => write_reply(writer, office.zones(), worker, reply),
-        None => Ok(()),
+        Some(reply) => push_reply(text, office.zones(), worker, reply),
+        None => {}
     }
 }
 
-/// Writes a reply to a worker: its line, or of an info the line of each zone.
-fn write_reply<W: Writer>(
-    writer: &mut W,
+/// Appends a reply to a worker: its line, or of an info the line of each zone.
+fn push_reply<const CAP: usize>(
+    text: &mut TextBuffer<CAP>,
     zones: &[Zone],
     worker: Worker,
     reply: &CommandReply,
-) -> Result<(), WriteFault>
-    ensures ok { OnOk result (IsWritten (W.contents writer.old) (W.contents writer.new) (reply_text (map named_zone zones.now) worker reply.now)) }
-    ensures calm { OnOk result (W.failures writer.new ≡ W.failures writer.old) }
-    ensures err { OnErr result (IsBegun (W.contents writer.old) (W.contents writer.new) (reply_text (map named_zone zones.now) worker reply.now)) }
-    ensures failed { OnErr result (W.failures writer.old < W.failures writer.new) }
+)
+    requires { length text.old + REPLY ≤ CAP }
+    ensures { text.new ≡ text.old ++ reply_text (map named_zone zones.now) worker reply.now }
 {
     match reply {
-        CommandReply::Info(counts) => write_info_lines(writer, zones, counts.as_slice()),
-        reply => write_all(writer, reply_line(worker, reply).as_bytes()),
+        CommandReply::Info(counts) => push_info_lines(text, zones, counts.as_slice()),
+        reply => push_reply_line(text, worker, reply),
     }
 }
 
-/// Writes the info line of each zone, with these counts.
-fn write_info_lines<W: Writer>(
-    writer: &mut W,
-    zones: &[Zone],
-    counts: &[Counts],
-) -> Result<(), WriteFault>
-    ensures ok { OnOk result (IsWritten (W.contents writer.old) (W.contents writer.new) (info_lines (map named_zone zones.now) counts.now)) }
-    ensures calm { OnOk result (W.failures writer.new ≡ W.failures writer.old) }
-    ensures err { OnErr result (IsBegun (W.contents writer.old) (W.contents writer.new) (info_lines (map named_zone zones.now) counts.now)) }
-    ensures failed { OnErr result (W.failures writer.old < W.failures writer.new) }
+/// Appends the info line of each zone, with these counts.
+fn push_info_lines<const CAP: usize>(text: &mut TextBuffer<CAP>, zones: &[Zone], counts: &[Counts])
+    requires counts { length counts.now ≤ MAX_ZONES }
+    requires room { length text.old + REPLY ≤ CAP }
+    ensures { text.new ≡ text.old ++ info_lines (map named_zone zones.now) counts.now }
 {
     for at in 0..zones.len().min(counts.len()) {
         let zone = &zones[at];
-        write_counts(writer, zone.name(), zone.largest(), &counts[at])?;
+        push_counts(text, zone.name(), zone.largest(), &counts[at]);
     }
-    Ok(())
 }
 
 /// Writes the info line of each zone.
@@ -127,21 +124,30 @@ fn write_infos<W: Writer>(writer: &mut W, zones: &[Zone]) -> Result<(), WriteFau
     ensures err { OnErr result (IsBegun (W.contents writer.old) (W.contents writer.new) (flat_map info_of (map named_zone zones.now))) }
     ensures failed { OnErr result (W.failures writer.old < W.failures writer.new) }
 {
+    let mut text: TextBuffer<REPLY> = TextBuffer::new();
     for zone in zones {
-        write_info(zone, writer)?;
+        make_room(writer, &mut text, INFO_LINE)?;
+        push_counts(&mut text, zone.name(), zone.largest(), &zone.counts());
     }
-    Ok(())
+    write_all(writer, text.as_bytes())
 }
 
-/// The total line of the zone of this number, with where its pages are.
-fn total_line(zones: &PlainZones, shares: &[Share], number: usize, totals: Totals) -> Line
+/// Appends the total line of the zone of this number, with where its pages are.
+fn push_total<const CAP: usize>(
+    text: &mut TextBuffer<CAP>,
+    zones: &PlainZones,
+    shares: &[Share],
+    number: usize,
+    totals: Totals,
+)
     requires place { number < length zones.now }
     requires totals { totals ≡ totals_of (zone_at (map named_zone zones.now) number).plain (owns_at (map plain shares.now) number) }
-    ensures { result.bytes ≡ total_of (crew_of zones.now shares.now) number }
+    requires room { length text.old + LINE ≤ CAP }
+    ensures { text.new ≡ text.old ++ total_of (crew_of zones.now shares.now) number }
 {
     // the shares are named for the contract alone
     let _ = shares;
-    total_line_of(&zones.as_slice()[number], &totals)
+    push_total_of(text, &zones.as_slice()[number], &totals);
 }
 
 /// Writes the total line of each zone. The shares are gathered, so each page is in one place; nothing changes.
@@ -159,9 +165,10 @@ fn write_total_lines<W: Writer>(
     ensures adds_up { (i : ℕ) → i < length zones.old → AddsUp (zone_at (map named_zone zones.old) i).plain (owns_at (map plain shares.old) i) }
 {
     let totals = zones.gather(shares);
+    let mut text: TextBuffer<REPLY> = TextBuffer::new();
     for number in 0..totals.len() {
-        let line = total_line(zones, shares, number, totals[number]);
-        write_all(writer, line.as_bytes())?;
+        make_room(writer, &mut text, LINE)?;
+        push_total(&mut text, zones, shares, number, totals[number]);
     }
-    Ok(())
+    write_all(writer, text.as_bytes())
 }

@@ -17,12 +17,12 @@ pub returns-in_err-write_all-in-Err-BadLine-clause-begun : goal.returns-in_err-w
 returns-in_err-write_all-in-Err-BadLine-clause-begun g c e =
     let faulty : c.in-Err-BadLine.field-0 ≡ bad.BadLine c.in-Err-BadLine.number = cc in
     let is = subst (λ (text : List ℕ). IsBadLine text c.in-Err-BadLine.number) c.deref.ensures.value (c.in-Err-BadLine.ensures.bad c.in-Err-BadLine.number (ap (λ (f : TraceFault). Err f) faulty)) in
-    let line : c.as_bytes.result.now ≡ bad_line c.in-Err-BadLine.number = c.as_bytes.ensures.value ∙ c.deref-in-Err-BadLine.ensures.0 ∙ c.bad_line.ensures ∙ ap (λ (m : ℕ). bad_line m) c.in-Err-BadLine.number-is in
+    let line : c.as_bytes.result.now ≡ bad_line c.in-Err-BadLine.number = c.as_bytes.ensures ∙ c.bad_line.ensures ∙ ap (λ (m : ℕ). bad_line m) c.in-Err-BadLine.number-is in
     bad-cut _ _ _ _ _ c.in-Err-BadLine.number c.in_ok-text.ensures.ok is (begun-same _ _ _ _ line c.in_err-write_all-in-Err-BadLine.ensures.err)
 
 pub returns-in-Err-BadLine-clause-input : goal.returns-in-Err-BadLine-clause-input
 returns-in-Err-BadLine-clause-input g c =
     let faulty : c.in-Err-BadLine.field-0 ≡ bad.BadLine c.in-Err-BadLine.number = cc in
     let is = subst (λ (text : List ℕ). IsBadLine text c.in-Err-BadLine.number) c.deref.ensures.value (c.in-Err-BadLine.ensures.bad c.in-Err-BadLine.number (ap (λ (f : TraceFault). Err f) faulty)) in
-    let line : c.as_bytes.result.now ≡ bad_line c.in-Err-BadLine.number = c.as_bytes.ensures.value ∙ c.deref-in-Err-BadLine.ensures.0 ∙ c.bad_line.ensures ∙ ap (λ (m : ℕ). bad_line m) c.in-Err-BadLine.number-is in
+    let line : c.as_bytes.result.now ≡ bad_line c.in-Err-BadLine.number = c.as_bytes.ensures ∙ c.bad_line.ensures ∙ ap (λ (m : ℕ). bad_line m) c.in-Err-BadLine.number-is in
     refused _ _ _ _ _ c.in-Err-BadLine.number c.in_ok-text.ensures.ok is (subst (λ (q : List ℕ). IsWritten (g.W.Writer.contents c.args.writer.now) (g.W.Writer.contents c.write_all.new.writer) q) line c.in_ok-write_all-in-Err-BadLine.ensures.ok)
