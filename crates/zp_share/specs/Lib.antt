@@ -1,4 +1,5 @@
 pub mod PageUses
+pub mod PackedUse
 pub mod PlainShares
 pub mod ZoneShares
 pub mod Sections

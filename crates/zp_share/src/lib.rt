@@ -5,6 +5,7 @@ mod answered;
 mod commands;
 mod gathering;
 mod list_config;
+mod packed_use;
 mod page_stack;
 mod page_use;
 mod page_uses;

@@ -1,21 +1,23 @@
 //! What each page of a zone is to one worker.
-ghost use Rattle.std.specs.Prelude.{◌≡◌, ◌<◌, ◌-◌, All, replicate, slice_set, IfOk};
+ghost use Rattle.std.specs.Prelude.{◌≡◌, ◌<◌, ◌-◌, ◌↔◌, All, replicate, slice_set, IfOk, IsSome, IsTrue};
 ghost use Rattle.zp_model.specs.declared.request.Request.TheVariants as request;
 ghost use Rattle.zp_zone.specs.NamedZone.{page_reply};
 ghost use Rattle.zp_share.specs.declared.page_use.PageUse.TheVariants.{Away};
-ghost use Rattle.zp_share.specs.PageUses.{use_of, all_as, uses_after, IsPlace};
+ghost use Rattle.zp_share.specs.PageUses.{use_of, all_as, uses_after, is_lent_as, IsPlace};
+ghost use Rattle.zp_share.specs.PlainShares.{lent_kind};
 ghost use Rattle.zp_share.specs.Sections.{HasPlaces};
 
+use crate::packed_use::PackedUse;
 use crate::page_use::PageUse;
 use std::alloc::{AllocError, Global};
 use std::marker::Model;
 use zp_model::{Mark, MigrateType, Order, PageNo, Refused, Reply, Request};
 
-/// One entry for each page of a zone, made with the share.
+/// One byte for each page of a zone, made with the share.
 #[derive(Drop)]
 pub struct PageUses {
     base: u32,
-    uses: Vec<PageUse>,
+    uses: Vec<PackedUse>,
 }
 
 impl Model for PageUses {
@@ -31,7 +33,8 @@ impl PageUses {
     pub fn new(alloc: Global, base: u32, pages: u32) -> Result<PageUses, AllocError>
         ensures { IfOk result (λ u. u ≡ record { base = base; uses = replicate pages Away }) }
     {
-        let uses = Vec::from_elem(alloc, PageUse::Away, pages as usize)?;
+        let away = PackedUse::new(PageUse::Away);
+        let uses = Vec::from_elem(alloc, away, pages as usize)?;
         Ok(PageUses { base, uses })
     }
 
@@ -39,13 +42,35 @@ impl PageUses {
     pub fn of(&self, page: PageNo) -> PageUse
         ensures { result ≡ use_of self.now.base self.now.uses page }
     {
+        self.packed(page).used()
+    }
+
+    /// Whether a block of this order is lent at an absolute page. Nothing else of the page's use is unpacked.
+    pub fn is_lent(&self, page: PageNo, order: Order) -> bool
+        ensures { result ≡ is_lent_as order (use_of self.now.base self.now.uses page) }
+    {
+        self.packed(page).is_lent(order)
+    }
+
+    /// The type of the block at an absolute page, where it is lent with this order.
+    pub fn lent_kind(&self, page: PageNo, order: Order) -> Option<MigrateType>
+        ensures kind { result ≡ lent_kind (use_of self.now.base self.now.uses page) order }
+        ensures lent { IsSome result ↔ IsTrue (is_lent_as order (use_of self.now.base self.now.uses page)) }
+    {
+        self.packed(page).lent_kind(order)
+    }
+
+    #[inline(always)]
+    fn packed(&self, page: PageNo) -> PackedUse
+        ensures { result ≡ use_of self.now.base self.now.uses page }
+    {
         let number = page.number();
         if number < self.base {
-            return PageUse::Away;
+            return PackedUse::new(PageUse::Away);
         }
         match self.uses.get((number - self.base) as usize) {
             Some(used) => *used,
-            None => PageUse::Away,
+            None => PackedUse::new(PageUse::Away),
         }
     }
 
@@ -54,7 +79,7 @@ impl PageUses {
         requires { IsPlace self.old page }
         ensures { self.new ≡ record self.old { uses = slice_set self.old.uses (page - self.old.base) used } }
     {
-        self.uses[(page.number() - self.base) as usize] = used;
+        self.uses[(page.number() - self.base) as usize] = PackedUse::new(used);
     }
 
     /// All of these pages get one use.

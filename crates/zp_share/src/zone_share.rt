@@ -72,10 +72,7 @@ impl ZoneShare {
         ensures lent { result ≡ is_lent self.now page order }
         ensures share { IsShare self.now }
     {
-        match self.uses.of(page) {
-            PageUse::Lent(lent, _) => lent.number() == order.number(),
-            _ => false,
-        }
+        self.uses.is_lent(page, order)
     }
 
     /// The type of the block at this page, where it is lent with this order.
@@ -83,10 +80,7 @@ impl ZoneShare {
         ensures kind { result ≡ lent_kind (use_in self.now page) order }
         ensures lent { IsSome result ↔ IsTrue (is_lent self.now page order) }
     {
-        match self.uses.of(page) {
-            PageUse::Lent(lent, kind) if lent.number() == order.number() => Some(kind),
-            _ => None,
-        }
+        self.uses.lent_kind(page, order)
     }
 
     /// How many pages the list of this type has.
