@@ -5,6 +5,7 @@ ghost use Rattle.zp_share.specs.PageUses.{is_lent_as};
 ghost use Rattle.zp_share.specs.PlainShares.{lent_kind};
 ghost use Rattle.zp_share.specs.PackedUse.{type_numbered};
 ghost use Rattle.zp_share.specs.declared.packed_use.TheConstants.{CACHED, TYPE_ROOM};
+ghost use Rattle.zp_model.specs.declared.constants.TheConstants.{TYPES};
 
 use crate::page_use::PageUse;
 use std::marker::Model;
@@ -98,14 +99,16 @@ fn byte_of(what: u8, kind: MigrateType) -> u8
     what * TYPE_ROOM + kind.number() as u8
 }
 
-/// The type in a byte.
+/// The type in a byte. It has the number that the low bits make, so that no branch is taken for it.
 #[inline(always)]
 fn kind_of(byte: u8) -> MigrateType
+    requires { byte % TYPE_ROOM < TYPES }
     ensures { result ≡ type_numbered (byte % TYPE_ROOM) }
 {
     match byte % TYPE_ROOM {
         0 => MigrateType::Unmovable,
         1 => MigrateType::Reclaimable,
-        _ => MigrateType::Movable,
+        2 => MigrateType::Movable,
+        _ => unreachable!(),
     }
 }

@@ -1,5 +1,5 @@
 //! What each page of a zone is to one worker.
-ghost use Rattle.std.specs.Prelude.{◌≡◌, ◌<◌, ◌-◌, ◌↔◌, All, replicate, slice_set, IfOk, IsSome, IsTrue};
+ghost use Rattle.std.specs.Prelude.{◌≡◌, ◌<◌, ◌-◌, ◌↔◌, All, replicate, slice_set, IfOk, IfNone, IfSome, IsSome, IsTrue};
 ghost use Rattle.zp_model.specs.declared.request.Request.TheVariants as request;
 ghost use Rattle.zp_zone.specs.NamedZone.{page_reply};
 ghost use Rattle.zp_share.specs.declared.page_use.PageUse.TheVariants.{Away};
@@ -42,14 +42,20 @@ impl PageUses {
     pub fn of(&self, page: PageNo) -> PageUse
         ensures { result ≡ use_of self.now.base self.now.uses page }
     {
-        self.packed(page).used()
+        match self.packed(page) {
+            Some(packed) => packed.used(),
+            None => PageUse::Away,
+        }
     }
 
     /// Whether a block of this order is lent at an absolute page. Nothing else of the page's use is unpacked.
     pub fn is_lent(&self, page: PageNo, order: Order) -> bool
         ensures { result ≡ is_lent_as order (use_of self.now.base self.now.uses page) }
     {
-        self.packed(page).is_lent(order)
+        match self.packed(page) {
+            Some(packed) => packed.is_lent(order),
+            None => false,
+        }
     }
 
     /// The type of the block at an absolute page, where it is lent with this order.
@@ -57,21 +63,23 @@ impl PageUses {
         ensures kind { result ≡ lent_kind (use_of self.now.base self.now.uses page) order }
         ensures lent { IsSome result ↔ IsTrue (is_lent_as order (use_of self.now.base self.now.uses page)) }
     {
-        self.packed(page).lent_kind(order)
+        match self.packed(page) {
+            Some(packed) => packed.lent_kind(order),
+            None => None,
+        }
     }
 
+    /// What an absolute page of the zone is to the worker, as its byte. A page that is none of the zone is not the worker's.
     #[inline(always)]
-    fn packed(&self, page: PageNo) -> PackedUse
-        ensures { result ≡ use_of self.now.base self.now.uses page }
+    fn packed(&self, page: PageNo) -> Option<PackedUse>
+        ensures some { IfSome result (λ packed. packed ≡ use_of self.now.base self.now.uses page) }
+        ensures none { IfNone result (use_of self.now.base self.now.uses page ≡ Away) }
     {
         let number = page.number();
         if number < self.base {
-            return PackedUse::new(PageUse::Away);
+            return None;
         }
-        match self.uses.get((number - self.base) as usize) {
-            Some(used) => *used,
-            None => PackedUse::new(PageUse::Away),
-        }
+        self.uses.get((number - self.base) as usize).copied()
     }
 
     /// An absolute page of the zone gets another use.
@@ -79,7 +87,7 @@ impl PageUses {
         requires { IsPlace self.old page }
         ensures { self.new ≡ record self.old { uses = slice_set self.old.uses (page - self.old.base) used } }
     {
-        self.uses[(page.number() - self.base) as usize] = PackedUse::new(used);
+        self.put(page, PackedUse::new(used));
     }
 
     /// All of these pages get one use.
@@ -87,11 +95,19 @@ impl PageUses {
         requires { All (IsPlace self.old) pages.now }
         ensures { self.new ≡ record self.old { uses = all_as self.old.base used pages.now self.old.uses } }
     {
+        // it is packed once for all
+        let packed = PackedUse::new(used);
         for page in pages {
-            // a copy, since the call takes its own
-            let same = used;
-            self.set(*page, same);
+            self.put(*page, packed);
         }
+    }
+
+    #[inline(always)]
+    fn put(&mut self, page: PageNo, packed: PackedUse)
+        requires { IsPlace self.old page }
+        ensures { self.new ≡ record self.old { uses = slice_set self.old.uses (page - self.old.base) packed } }
+    {
+        self.uses[(page.number() - self.base) as usize] = packed;
     }
 
     /// What a request for a block of this order for this type, answered so, makes of the pages.
