@@ -91,6 +91,7 @@ impl PageUses {
     }
 
     /// All of these pages get one use.
+    #[inline(always)]
     pub fn set_all(&mut self, pages: &[PageNo], used: PageUse)
         requires { All (IsPlace self.old) pages.now }
         ensures { self.new ≡ record self.old { uses = all_as self.old.base used pages.now self.old.uses } }
