@@ -6,3 +6,4 @@ pub mod Exits
 pub mod Replaying
 pub mod Judging
 pub mod Serving
+pub mod Rooms

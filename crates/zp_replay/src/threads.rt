@@ -1,11 +1,13 @@
 //! The replay in threads: one for each worker, all at the same time.
-ghost use Rattle.std.specs.Prelude.{◌≡◌, ◌≢◌, ◌<◌, ◌≤◌, ℕ, [], length, vec_capacity, All, Ok, Err, IfOk, OnErr, OnOk};
+ghost use Rattle.std.specs.Prelude.{◌≡◌, ◌≢◌, ◌<◌, ◌≤◌, ◌*◌, ℕ, [], length, vec_capacity, All, Ok, Err, IfOk, OnErr, OnOk};
 ghost use Rattle.std.specs.List.{AllZip};
 ghost use Rattle.zp_zone.specs.Seats.{ZoneState};
 ghost use Rattle.zp_text.specs.Streams.{IsBegun, IsWritten};
 ghost use Rattle.zp_trace.specs.declared.line.CommandLine.{CommandLine};
+ghost use Rattle.zp_trace.specs.declared.bounds.TheConstants.{MOST_LINES};
 ghost use Rattle.zp_journal.specs.declared.journal.TheConstants.{LONGEST_JOURNAL};
 ghost use Rattle.zp_office.specs.Offices.{AreDesksOf};
+ghost use Rattle.zp_replay.specs.Rooms.{most_entries, room_for};
 ghost use Rattle.zp_replay.specs.Replaying.{AddUp, IsParsed, IsRefusedAt, IsUnanswered};
 ghost use Rattle.zp_replay.specs.Serving.{AreSections, IsHistoryOf, IsJudgedOffice, IsOfficeServed, IsReportCut, IsReported, IsServed, IsTraceReported, IsTraceReportBegun, IsUnworked, entries_in, journaled_report};
 
@@ -21,12 +23,42 @@ use zp_model::Refused;
 use zp_office::{Desk, Gate, Office, opened_desks, run_zones};
 use zp_share::Share;
 use zp_text::{Reader, WriteFault, Writer};
-use zp_trace::{CommandLine, Trace};
+use zp_trace::{Call, CommandLine, Trace};
 use zp_zone::Zone;
 
-/// The room of a zone's journal, in entries a command: with one zone a drain makes a section for each of the worker's three lists, a
-/// free at most two, and any other command one.
-const ENTRIES_A_COMMAND: u32 = 3;
+/// The most entries of a command in the journal of one zone.
+const MOST_ENTRIES: u32 = 3;
+
+/// How many entries a command makes at most in the journal of one zone.
+fn entries_of(call: &Call) -> u32
+    ensures entries { result ≡ most_entries call.now }
+    ensures within { result ≤ MOST_ENTRIES }
+{
+    match call {
+        Call::Info => 0,
+        Call::Drain => MOST_ENTRIES,
+        Call::Free { .. } => 2,
+        Call::Alloc { .. }
+        | Call::Low { .. }
+        | Call::Post { .. }
+        | Call::Collect { .. }
+        | Call::Isolate { .. }
+        | Call::Release { .. } => 1,
+    }
+}
+
+/// The room of a zone's journal, in which these commands find room whatever becomes of them.
+fn room_for(commands: &[CommandLine]) -> u32
+    requires { length commands.now ≤ MOST_LINES }
+    ensures room { result ≡ room_for commands.now }
+    ensures within { result ≤ MOST_ENTRIES * length commands.now }
+{
+    let mut room = 0;
+    for command in commands {
+        room += entries_of(&command.call);
+    }
+    room
+}
 
 /// The zones and desks of a trace, when all workers have carried out their commands, each in a thread of its own, with the gate
 /// called round each command. Memory, or NoThread.
@@ -47,7 +79,7 @@ fn serve_at_once<T: Threads + Wait + Sync, G: Gate + Sync>(
         Err(Refused::Memory) => return Err(ReplayFault::Memory),
         Err(_) => unreachable!(),
     };
-    let room = ENTRIES_A_COMMAND * trace.commands.as_slice().len() as u32;
+    let room = room_for(trace.commands.as_slice());
     serve(rt, alloc, zones, desks, room, gate)
 }
 

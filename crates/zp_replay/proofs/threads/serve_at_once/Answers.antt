@@ -4,14 +4,11 @@ use Rattle.zp_replay.proofs.ServedOffices.{if_ok, served_is}
 use Rattle.zp_replay.proofs.ShortLines.{commands_few}
 use Rattle.zp_replay.proofs.threads.serve_at_once.Goals as goal
 
-pub overflow_cast-room : goal.overflow_cast-room
-overflow_cast-room g c = omega (arith, commands_few c.args.trace.now c.requires.lines, ap length c.as_slice.ensures)
-
-pub overflow_mul-room : goal.overflow_mul-room
-overflow_mul-room g c = omega (arith, commands_few c.args.trace.now c.requires.lines, ap length c.as_slice.ensures)
+pub room_for-room-requires : goal.room_for-room-requires
+room_for-room-requires g c = omega (arith, commands_few c.args.trace.now c.requires.lines, ap length c.as_slice.ensures)
 
 pub serve-requires-clause-capacity : goal.serve-requires-clause-capacity
-serve-requires-clause-capacity g c = omega (arith, commands_few c.args.trace.now c.requires.lines, ap length c.as_slice.ensures)
+serve-requires-clause-capacity g c = omega (arith, commands_few c.args.trace.now c.requires.lines, ap length c.as_slice.ensures, c.room_for-room.ensures.within)
 
 pub returns-clause-served : goal.returns-clause-served
 returns-clause-served g c =
