@@ -3,3 +3,4 @@ pub mod Splice
 pub mod Writes
 pub mod Telling
 pub mod Moving
+pub mod MovedOver
