@@ -26,3 +26,4 @@ pub mod OnePageblock
 pub mod Indexing
 pub mod NotedClaims
 pub mod Claimable
+pub mod ClearedPageblocks

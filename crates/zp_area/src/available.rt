@@ -19,7 +19,7 @@ ghost use Rattle.zp_area.specs.OneSet.{IsOneSet};
 
 use zp_links::Lists;
 use zp_model::{Largest, Order, PageAt, PageblockType, State};
-use zp_tree::OrderTree;
+use zp_tree::{GROUP_PAGES, OrderTree};
 
 /// Tells the tree of a block that comes to a pageblock of this type.
 #[inline(always)]
@@ -81,8 +81,6 @@ fn tell_block(lists: &Lists, tree: &mut OrderTree, at: PageAt, isolates: bool) -
 }
 
 /// Tells the tree of each block of a pageblock that is isolated from now on, or is no more.
-#[cold]
-#[inline(never)]
 fn tell_all(
     lists: &Lists,
     kinds: &Vec<PageblockType>,
@@ -105,6 +103,31 @@ fn tell_all(
     'pages: while i < end {
         let seen = tell_block(lists, tree, PageAt::at(i as u32), isolates);
         i = end.min(i + seen as usize);
+    }
+}
+
+/// Tells the tree of the blocks of a pageblock that is isolated from now on, or is no more. Where the pageblock is a group of the tree, its
+/// blocks leave the tree all at once.
+#[cold]
+#[inline(never)]
+fn tell_pageblock(
+    lists: &Lists,
+    kinds: &Vec<PageblockType>,
+    tree: &mut OrderTree,
+    largest: Largest,
+    pageblock: usize,
+    kind: PageblockType,
+)
+    requires one { IsOneSet largest (record { largest = largest; rows = lists.now; kinds = kinds.now.items }) }
+    requires told { tree.old ≡ available_blocks largest kinds.now.items (blocks_of lists.now.states) }
+    requires pageblock { pageblock < length kinds.now.items }
+    requires other { is_isolate kind ≡ not (is_isolate (slice_index_or kinds.now.items pageblock Movable)) }
+    ensures { tree.new ≡ available_blocks largest (slice_set kinds.now.items pageblock kind) (blocks_of lists.now.states) }
+{
+    if kind.is_isolate() && largest.pageblock_pages() == GROUP_PAGES {
+        tree.clear_group(pageblock);
+    } else {
+        tell_all(lists, kinds, tree, largest, pageblock, kind);
     }
 }
 
@@ -132,7 +155,7 @@ pub fn tell_type(
     if kinds[pageblock].is_isolate() == isolates {
         return;
     }
-    tell_all(lists, kinds, tree, largest, pageblock, kind);
+    tell_pageblock(lists, kinds, tree, largest, pageblock, kind);
     if isolates {
         *isolated += free_in[pageblock];
     } else {

@@ -23,7 +23,7 @@ other_group s r g k h v c ne x = record {
   some = λ o e. let w = x.some o e in (w.0, w.1, c.others w.0 (λ f. ne (sym w.1 ∙ f)) ∙ w.2);
 }
 
-ranks_set : (rs : List ℕ) (s r : List (Option ℕ)) (g k v : ℕ) → IsRankedBy rs s → IsChangedIn s r g k → g < length rs → IsRankIn r g v → IsRankedBy (slice_set rs g v) r
+pub ranks_set : (rs : List ℕ) (s r : List (Option ℕ)) (g k v : ℕ) → IsRankedBy rs s → IsChangedIn s r g k → g < length rs → IsRankIn r g v → IsRankedBy (slice_set rs g v) r
 ranks_set rs s r g k v x c room new h = elim (cases_eq h g) [
   | inl e ↦ let here : slice_index (slice_set rs g v) g ≡ v = get_or-set_same rs g v 0 room in rw (e, here) new
   | inr ne ↦ let there : slice_index (slice_set rs g v) h ≡ slice_index rs h = get_or-set_other rs g h v 0 ne in rw there (other_group s r g k h (slice_index rs h) c ne (x h))

@@ -21,7 +21,7 @@ use Rattle.zp_tree.proofs.Ranked.{IsRankedBy, IsChangedIn, rank_bound, ranks_rai
 use Rattle.zp_tree.proofs.Spelling.{block_in_groups}
 
 -- a tree of another set over as many pages
-another : (m pages : ℕ) (ls hs rs ms gs ts : List ℕ) (s r : List (Option ℕ)) → IsTreeOf m pages ls hs rs s → IsWords ms gs → length gs ≡ length hs → length ts ≡ length rs → length r ≡ length s → IsBlockSet m r → IsMarkedBy ms gs r → IsRankedBy ts r →
+pub another : (m pages : ℕ) (ls hs rs ms gs ts : List ℕ) (s r : List (Option ℕ)) → IsTreeOf m pages ls hs rs s → IsWords ms gs → length gs ≡ length hs → length ts ≡ length rs → length r ≡ length s → IsBlockSet m r → IsMarkedBy ms gs r → IsRankedBy ts r →
     IsTreeOf m pages ms gs ts r
 another m pages ls hs rs ms gs ts s r t w n o l x y z = record {
   orders = t.orders;

@@ -1,8 +1,10 @@
 -- Sets of blocks that share no page (Knowlton 1965): when a list of the kind of `zp_model`'s `BlockSet` is one, and what one block more or
 -- less makes of it.
-use Rattle.std.specs.Prelude.{ℕ, suc, zero, ◌+◌, ◌-◌, ◌*◌, ◌^◌, ◌≡◌, ◌≤◌, ◌<◌, ◌⊎◌, true, false, List, length, Option, None, Some, slice_set}
+use Rattle.std.specs.Prelude.{ℕ, suc, zero, ◌+◌, ◌-◌, ◌*◌, ◌/◌, ◌^◌, ◌≡◌, ◌≤◌, ◌<◌, ◌==◌, ◌⊎◌, Bool, true, false, cond, List, length, map, Option, None, Some, slice_index_or, slice_set}
+use Rattle.std.specs.List.{range_with_len}
 use Rattle.zp_model.specs.Block.{IsBlock, head, in_run}
 use Rattle.zp_model.specs.BlockSet.{Starts, is_covered}
+use Rattle.zp_tree.specs.declared.constants.TheConstants.{GROUP_PAGES}
 
 -- each block lies in the zone and has an order of at most m, and no two have a page in common
 pub record IsBlockSet (m : ℕ) (s : List (Option ℕ)) : Type 0 where
@@ -49,3 +51,11 @@ HasBuddies s h k o = (j : ℕ) → k ≤ j → j < o → Starts s (buddy h j) j
 -- the set with the block of order o around page h in the place of the buddies with which the run of order k at h makes it
 abbrev pub joined_set : List (Option ℕ) → ℕ → ℕ → ℕ → List (Option ℕ)
 joined_set s h k o = with_block (without_buddies s h k (o - k)) (head h o) o
+
+-- whether page i is one of group g
+abbrev pub is_in_group : ℕ → ℕ → Bool
+is_in_group g i = i / GROUP_PAGES == g
+
+-- the set without the blocks of group g
+abbrev pub without_group : List (Option ℕ) → ℕ → List (Option ℕ)
+without_group s g = map (λ i. cond (is_in_group g i) None (slice_index_or s i None)) (range_with_len 0 (length s))

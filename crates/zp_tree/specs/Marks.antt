@@ -1,6 +1,6 @@
 -- The bits of the blocks of a zone (this profile). A low word has 32 pages and their blocks below order 5, a high word the 32 low words of a
 -- group and its blocks from order 5 on.
-use Rattle.std.specs.Prelude.{ℕ, ◌+◌, ◌-◌, ◌*◌, ◌/◌, ◌%◌, ◌^◌, ◌≡◌, ◌≤◌, ◌<◌, ◌⊎◌, List, length, cond, ltb, slice_index, slice_set, Option, None, Some}
+use Rattle.std.specs.Prelude.{ℕ, ◌+◌, ◌-◌, ◌*◌, ◌/◌, ◌%◌, ◌^◌, ◌≡◌, ◌≢◌, ◌≤◌, ◌<◌, ◌⊎◌, List, length, cond, ltb, slice_index, slice_set, Option, None, Some}
 use Rattle.std.specs.Int.{bit_at}
 use Rattle.zp_model.specs.Block.{IsBlock, head}
 use Rattle.zp_tree.specs.declared.constants.TheConstants.{PLACES, WORD_LEVELS, GROUP_ORDER, GROUP_PAGES}
@@ -48,6 +48,19 @@ pub record IsJoinedUp (ls hs ms gs : List ℕ) (p f t : ℕ) : Type 0 where
   pub here : mark ms gs (head p t) t ≡ 1
   pub buddies : (j : ℕ) → f ≤ j → j < t → mark ms gs (buddy p j) j ≡ 0
   pub others : (i j : ℕ) → IsInGroups hs i j → (i ≡ head p t → j ≡ t → ⊥) → (i ≡ buddy p j → f ≤ j → j < t → ⊥) → mark ms gs i j ≡ mark ls hs i j
+
+-- some words after n of them, from word a on, were emptied
+pub record AreEmptied (ws vs : List ℕ) (a n : ℕ) : Type 0 where
+  pub size : length vs ≡ length ws
+  pub here : (r : ℕ) → a ≤ r → r < a + n → slice_index vs r ≡ 0
+  pub others : (r : ℕ) → (a ≤ r → r < a + n → ⊥) → slice_index vs r ≡ slice_index ws r
+
+-- the words after those of group g were emptied
+pub record IsGroupCleared (ls hs ms gs : List ℕ) (g : ℕ) : Type 0 where
+  pub words : IsWords ms gs
+  pub size : length gs ≡ length hs
+  pub here : (i k : ℕ) → IsInGroups hs i k → i / GROUP_PAGES ≡ g → mark ms gs i k ≡ 0
+  pub others : (i k : ℕ) → IsInGroups hs i k → i / GROUP_PAGES ≢ g → mark ms gs i k ≡ mark ls hs i k
 
 -- the block of order k at page i is in the words
 pub record HasMark (ls hs : List ℕ) (i k : ℕ) : Type 0 where

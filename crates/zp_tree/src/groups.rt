@@ -12,7 +12,7 @@ use crate::word::{Word, union};
 use zp_model::{Order, PageAt};
 
 /// The number of the first low word of a group.
-fn first_word(group: usize) -> usize
+pub fn first_word(group: usize) -> usize
     requires { group < MOST_GROUPS }
     ensures { result ≡ PLACES * group }
 {

@@ -1,10 +1,11 @@
 //! The bits of blocks in the low and the high words.
-ghost use Rattle.std.specs.Prelude.{◌≡◌, ◌≤◌, ◌<◌};
+ghost use Rattle.std.specs.Prelude.{◌≡◌, ◌≤◌, ◌<◌, ◌+◌, length};
 ghost use Rattle.zp_model.specs.Block.{head};
-ghost use Rattle.zp_tree.specs.declared.constants.TheConstants.{WORD_LEVELS};
-ghost use Rattle.zp_tree.specs.Marks.{mark, IsWords, IsInGroups, IsRemarked, IsJoinedUp, IsSplitUp};
+ghost use Rattle.zp_tree.specs.declared.constants.TheConstants.{WORD_LEVELS, MOST_GROUPS};
+ghost use Rattle.zp_tree.specs.Marks.{mark, AreEmptied, IsWords, IsInGroups, IsGroupCleared, IsRemarked, IsJoinedUp, IsSplitUp};
 
-use crate::constants::WORD_LEVELS;
+use crate::constants::{PLACES, WORD_LEVELS};
+use crate::groups::first_word;
 use crate::place::{group_of, high_place, low_place, low_word};
 use crate::word::Word;
 use zp_model::{Order, PageAt};
@@ -101,4 +102,25 @@ pub fn join_marks(low: &mut [Word], high: &mut [Word], at: PageAt, from: Order, 
     high[group] = high[group]
         .without_buddies(high_place(at), start, level)
         .with(high_place(head), level);
+}
+
+/// Empties so many words from one on.
+fn empty_words(words: &mut [Word], from: usize, count: usize)
+    requires { from + count ≤ length words.old }
+    ensures { AreEmptied words.old words.new from count }
+{
+    'words: for place in 0..count {
+        words[from + place] = Word::empty();
+    }
+}
+
+/// Clears the bits of all blocks of a group.
+pub fn clear_marks(low: &mut [Word], high: &mut [Word], group: usize)
+    requires words { IsWords low.old high.old }
+    requires group { group < length high.old }
+    requires few { length high.old ≤ MOST_GROUPS }
+    ensures { IsGroupCleared low.old high.old low.new high.new group }
+{
+    empty_words(low, first_word(group), PLACES as usize);
+    high[group] = Word::empty();
 }
