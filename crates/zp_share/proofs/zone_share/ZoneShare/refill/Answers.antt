@@ -1,4 +1,4 @@
-use Rattle.std.proofs.Common.{◌≡◌, ◌==◌, sym, ◌∙◌, ap, subst, refl, rules, true, false, List, ℕ}
+use Rattle.std.proofs.Common.{◌≡◌, ◌==◌, sym, ◌∙◌, ap, subst, refl, rules, true, false}
 use Rattle.zp_model.specs.Zone.{workers_of}
 use Rattle.zp_model.specs.declared.request.Request.{Request}
 use Rattle.zp_model.specs.declared.request.Request.TheVariants as request
@@ -6,7 +6,7 @@ use Rattle.zp_model.specs.declared.request.Reply.{Reply}
 use Rattle.zp_model.specs.declared.request.Reply.TheVariants as reply
 use Rattle.zp_model.specs.Step.{step}
 use Rattle.zp_zone.specs.Asking.{IsGiven}
-use Rattle.zp_zone.specs.Seats.{SeatState, replied}
+use Rattle.zp_zone.specs.Seats.{replied}
 use Rattle.zp_share.specs.declared.sections.TheConstants.{LAST_SECTION}
 use Rattle.zp_share.specs.declared.zone_share.ZoneShare.TheInside.{Inside}
 use Rattle.zp_share.specs.PlainShares.{refusal}
