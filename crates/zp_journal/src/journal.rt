@@ -9,7 +9,7 @@ use zp_model::{Entry, Refused};
 /// The most entries of a journal.
 pub const LONGEST_JOURNAL: u32 = 65_536;
 
-/// How many blank entries are put into the room at a time.
+/// How many blank entries are put into the room at a time: some 2.4 KB, which the section that comes upon them writes under its lock.
 const BLANKS: usize = 8;
 
 /// Entries, the oldest first, with room for a number of them that is settled when the journal is made. The room gets blank entries as

@@ -9,7 +9,7 @@ ghost use Rattle.zp_journal.specs.Asking.{AreSeatsOf, IsRepeated};
 use crate::asking::ask;
 use crate::journal::Journal;
 use std::alloc::Global;
-use zp_model::{Counts, Entry, Refused, Reply};
+use zp_model::{Answered, Counts, Entry, Refused};
 use zp_zone::{Seat, Zone, ZoneConfig};
 
 /// What a replay finds.
@@ -116,15 +116,15 @@ fn repeat(zone: &mut Zone, seats: &mut [Seat], entry: &Entry) -> bool
     if place >= workers {
         return false;
     }
-    let request = entry.request();
-    match ask(zone, &mut seats[place], workers, &request) {
-        Some(reply) => is_same(&reply, &entry.reply()),
+    let (request, answered, pages) = entry.parts();
+    match ask(zone, &mut seats[place], workers, &request, pages) {
+        Some(reply) => is_same(&reply, &answered),
         None => false,
     }
 }
 
-/// Whether two replies are the same.
-fn is_same(reply: &Reply, other: &Reply) -> bool
+/// Whether two replies are the same, but for their lists.
+fn is_same(reply: &Answered, other: &Answered) -> bool
     ensures { IsTrue result ↔ (reply.now ≡ other.now) }
 {
     reply == other

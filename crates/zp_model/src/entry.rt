@@ -1,6 +1,7 @@
 //! Entries of a journal: what a worker asked of a zone, and what it was answered.
-ghost use Rattle.std.specs.Prelude.{◌≡◌, ◌↔◌, IsSome, IfSome, IsTrue, false};
-ghost use Rattle.zp_model.specs.Entries.{HasOneList, answered_of, asked_of, has_pages, pages_of};
+ghost use Rattle.std.specs.Prelude.{◌≡◌, ◌≤◌, ◌↔◌, length, IsSome, IfSome, IsTrue, false};
+ghost use Rattle.zp_model.specs.declared.constants.TheConstants.{LONGEST_LIST};
+ghost use Rattle.zp_model.specs.Entries.{HasOneList, answered_of, asked_of, entry_of_parts, has_pages, pages_of};
 
 use crate::{Block, Mark, MigrateType, Order, PageList, PageNo, Refused, Reply, Request, Worker};
 use std::marker::Model;
@@ -20,7 +21,7 @@ pub enum Asked {
 }
 
 /// A reply, without the pages of a refill.
-#[derive(Clone, Copy, Debug, Drop)]
+#[derive(Clone, Copy, PartialEq, Eq, Debug, Drop)]
 pub enum Answered {
     Page(PageNo),
     Block(Block),
@@ -108,6 +109,16 @@ impl Entry {
         ensures { result ≡ self.now.worker }
     {
         self.worker
+    }
+
+    /// What was asked and what was answered, where they lie, without a copy of the list of either: it comes beside them, and is the pages of
+    /// a drain, or of a refill; else it says nothing.
+    #[inline(always)]
+    pub fn parts(&self) -> (Asked, Answered, &[PageNo])
+        ensures same { entry_of_parts self.now.worker result.0 result.1 result.2.now ≡ self.now }
+        ensures within { length result.2.now ≤ LONGEST_LIST }
+    {
+        (self.asked, self.answered, self.pages.as_slice())
     }
 
     /// What was asked.

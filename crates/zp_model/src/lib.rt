@@ -31,7 +31,7 @@ pub use constants::{
     PAGEBLOCK_TYPES, TYPES,
 };
 pub use counts::Counts;
-pub use entry::Entry;
+pub use entry::{Answered, Asked, Entry};
 pub use largest::Largest;
 pub use mark::{Level, Mark};
 pub use migrate_type::MigrateType;

@@ -6,7 +6,7 @@ ghost use Rattle.zp_text.specs.Gathering.{IsGathered};
 use crate::streams::{WriteFault, Writer, write_all};
 use crate::text_buffer::TextBuffer;
 
-/// The most bytes that are held back.
+/// The most bytes that are held back: some hundred lines, so that a device is asked seldom and little is in hand when it fails.
 pub const GATHERED: usize = 8192;
 
 /// Makes room for so many bytes more: writes the text where it leaves less.

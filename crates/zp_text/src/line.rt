@@ -1,12 +1,13 @@
 //! The words of a line, and what an entry is in words.
-ghost use Rattle.std.specs.Prelude.{◌≡◌, ◌≤◌, ◌+◌, ◌*◌, ◌++◌, [], ◌∷◌, length, map, codes};
+ghost use Rattle.std.specs.Prelude.{◌≡◌, ◌≤◌, ◌+◌, ◌*◌, ◌++◌, List, [], ◌∷◌, length, map, ℕ, codes};
 ghost use Rattle.std.specs.Fmt.{decimal};
 ghost use Rattle.zp_model.specs.declared.constants.TheConstants.{LONGEST_LIST, LONGEST_NAME};
+ghost use Rattle.zp_model.specs.Entries.{reply_of, request_of};
 ghost use Rattle.zp_trace.specs.Spelling.{kind_word, mark_word, space};
 ghost use Rattle.zp_text.specs.JournalText.{entry_line, is_low, reply_words, request_words, spaced};
 
 use crate::text_buffer::{DIGITS, TextBuffer};
-use zp_model::{Entry, LONGEST_LIST, LONGEST_NAME, Mark, MigrateType, PageNo, Reply, Request};
+use zp_model::{Answered, Asked, Entry, LONGEST_LIST, LONGEST_NAME, Mark, MigrateType, PageNo};
 
 /// The most bytes of a line: with the longest name, number and worker, and with as many pages in the request and in the reply as an
 /// entry can have, it is shorter.
@@ -33,64 +34,65 @@ pub fn push_entry<const CAP: usize>(
     line.push(name);
     push_number(line, number);
     push_number(line, u32::from(entry.worker().number()));
-    let request = entry.request();
-    push_request(line, &request);
-    push_reply(line, is_low(&request), &entry.reply());
+    let (asked, answered, pages) = entry.parts();
+    push_request(line, &asked, pages);
+    push_reply(line, is_low(&asked), &answered, pages);
     line.push("\n");
 }
 
 /// Whether the lowest block is asked for.
-fn is_low(request: &Request) -> bool
-    ensures { result ≡ is_low request.now }
+fn is_low(asked: &Asked) -> bool
+    ensures { (ps : List ℕ) → result ≡ is_low (request_of asked.now ps) }
 {
-    matches!(request, Request::AllocLow(_))
+    matches!(asked, Asked::AllocLow(_))
 }
 
-/// Appends what was asked.
-fn push_request<const CAP: usize>(line: &mut TextBuffer<CAP>, request: &Request)
-    requires { length line.old + WORDS ≤ CAP }
-    ensures bytes { line.new ≡ line.old ++ spaced (request_words request.now) }
+/// Appends what was asked, with these pages where a list of pages was given back.
+fn push_request<const CAP: usize>(line: &mut TextBuffer<CAP>, asked: &Asked, given: &[PageNo])
+    requires list { length given.now ≤ LONGEST_LIST }
+    requires room { length line.old + WORDS ≤ CAP }
+    ensures bytes { line.new ≡ line.old ++ spaced (request_words (request_of asked.now given.now)) }
     ensures len { length line.new ≤ length line.old + WORDS }
 {
-    match request {
-        Request::Alloc(order, kind, mark) => {
+    match asked {
+        Asked::Alloc(order, kind, mark) => {
             push_word(line, "alloc");
             push_number(line, u32::from(order.number()));
             push_word(line, kind_word(*kind));
             push_word(line, mark_word(*mark));
         }
-        Request::AllocLow(order) => {
+        Asked::AllocLow(order) => {
             push_word(line, "low");
             push_number(line, u32::from(order.number()));
         }
-        Request::Free(page, order) => {
+        Asked::Free(page, order) => {
             push_word(line, "free");
             push_number(line, page.number());
             push_number(line, u32::from(order.number()));
         }
-        Request::Post(page, order, to) => {
+        Asked::Post(page, order, to) => {
             push_word(line, "post");
             push_number(line, page.number());
             push_number(line, u32::from(order.number()));
             push_number(line, u32::from(to.number()));
         }
-        Request::Collect => push_word(line, "collect"),
-        Request::Refill(kind, mark, count) => {
+        Asked::Collect => push_word(line, "collect"),
+        Asked::Refill(kind, mark, count) => {
             push_word(line, "refill");
             push_word(line, kind_word(*kind));
             push_number(line, u32::from(*count));
             push_word(line, mark_word(*mark));
         }
-        Request::Drain(kind, given) => {
+        Asked::Drain(kind) => {
             push_word(line, "drain");
             push_word(line, kind_word(*kind));
-            push_pages(line, given.as_slice());
+            push_pages(line, given);
         }
-        Request::Isolate(pageblock) => {
+        Asked::Isolate(pageblock) => {
             push_word(line, "isolate");
             push_number(line, *pageblock);
         }
-        Request::Release(pageblock, kind) => {
+        Asked::Release(pageblock, kind) => {
             push_word(line, "release");
             push_number(line, *pageblock);
             push_word(line, kind_word(*kind));
@@ -98,30 +100,37 @@ fn push_request<const CAP: usize>(line: &mut TextBuffer<CAP>, request: &Request)
     }
 }
 
-/// Appends what was answered, to a request for the lowest block or to another one.
-fn push_reply<const CAP: usize>(line: &mut TextBuffer<CAP>, low: bool, reply: &Reply)
-    requires { length line.old + WORDS ≤ CAP }
-    ensures bytes { line.new ≡ line.old ++ spaced (reply_words low reply.now) }
+/// Appends what was answered, to a request for the lowest block or to another one, with these pages where a list
+/// of pages was got.
+fn push_reply<const CAP: usize>(
+    line: &mut TextBuffer<CAP>,
+    low: bool,
+    answered: &Answered,
+    taken: &[PageNo],
+)
+    requires list { length taken.now ≤ LONGEST_LIST }
+    requires room { length line.old + WORDS ≤ CAP }
+    ensures bytes { line.new ≡ line.old ++ spaced (reply_words low (reply_of answered.now taken.now)) }
     ensures len { length line.new ≤ length line.old + WORDS }
 {
-    match reply {
-        Reply::Page(page) => push_page(line, *page),
-        Reply::Block(block) if low => push_page(line, block.page),
-        Reply::Block(block) => {
+    match answered {
+        Answered::Page(page) => push_page(line, *page),
+        Answered::Block(block) if low => push_page(line, block.page),
+        Answered::Block(block) => {
             push_word(line, "block");
             push_number(line, block.page.number());
             push_word(line, "order");
             push_number(line, u32::from(block.order.number()));
         }
-        Reply::Freed | Reply::Drained => push_word(line, "freed"),
-        Reply::Posted => push_word(line, "posted"),
-        Reply::Pages(taken) => {
+        Answered::Freed | Answered::Drained => push_word(line, "freed"),
+        Answered::Posted => push_word(line, "posted"),
+        Answered::Pages => {
             push_word(line, "pages");
-            push_pages(line, taken.as_slice());
+            push_pages(line, taken);
         }
-        Reply::Isolated => push_word(line, "isolated"),
-        Reply::Released => push_word(line, "released"),
-        Reply::Refused(refused) => {
+        Answered::Isolated => push_word(line, "isolated"),
+        Answered::Released => push_word(line, "released"),
+        Answered::Refused(refused) => {
             push_word(line, "refused");
             push_number(line, u32::from(refused.number()));
         }
