@@ -2,6 +2,7 @@ pub mod OneUse
 pub mod Listing
 pub mod Closing
 pub mod Tried
+pub mod Refilled
 pub mod Asking
 pub mod Telling
 pub mod Carrying

@@ -81,6 +81,11 @@ abbrev pub done_reply : Reply → Result (Unit {0}) Refused → Reply
 done_reply q (Ok u) = q
 done_reply q (Err e) = Reply.Refused e
 
+-- what is so of a refill's reply, of which no more is told than whether it got pages, or why it got none
+abbrev pub IsRefilled : (Reply → Type 0) → Result (Unit {0}) Refused → Type 0
+IsRefilled P (Ok u) = (ps : List ℕ) × P (Reply.Pages ps)
+IsRefilled P (Err e) = P (Reply.Refused e)
+
 -- the pages that change their use are of the zone
 abbrev pub HasPlaces : Request → Reply → UsesState → Type 0
 HasPlaces (Request.Alloc k t m) (Reply.Page p) u = IsPlace u p

@@ -79,9 +79,9 @@ fn alloc_in<Z: Zones>(
         return zones.alloc_block(share, zone, order, kind, mark);
     }
     if share.cached_len(zone, kind) == 0 {
-        zones.refill(share, zone, kind, mark)?;
+        zones.fill(share, zone, kind, mark)?;
     }
-    // a refill that is not refused has got a page
+    // what is filled has got a page
     share.take_cached(zone, kind).ok_or(Refused::NoBlock)
 }
 

@@ -10,7 +10,7 @@ use crate::share::Share;
 use crate::zones::Zones;
 use arrayvec::ArrayVec;
 use std::marker::Model;
-use zp_model::{Counts, MAX_ZONES, Reply, Request};
+use zp_model::{Counts, MAX_ZONES, Mark, MigrateType, Refused, Reply, Request};
 use zp_zone::Zone;
 
 /// A row of zones for one thread, the lowest first. It tells what its zones are.
@@ -76,6 +76,17 @@ impl Zones for PlainZones {
     #[inline(always)]
     fn section(&mut self, share: &mut Share, zone: usize, request: &Request) -> Reply {
         share.section(&mut self.zones[zone], zone, request)
+    }
+
+    #[inline(never)]
+    fn fill(
+        &mut self,
+        share: &mut Share,
+        zone: usize,
+        kind: MigrateType,
+        mark: Mark,
+    ) -> Result<(), Refused> {
+        share.fill(&mut self.zones[zone], zone, kind, mark)
     }
 
     fn counts(&mut self, zone: usize) -> Counts {

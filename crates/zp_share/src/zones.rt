@@ -5,7 +5,7 @@ ghost use Rattle.zp_model.specs.declared.request.Request.TheVariants as request;
 ghost use Rattle.zp_model.specs.declared.request.Reply.TheVariants as reply;
 ghost use Rattle.zp_zone.specs.NamedZone.{NamedZone, page_reply, block_reply, isolate_reply, release_reply};
 ghost use Rattle.zp_share.specs.PlainShares.{back};
-ghost use Rattle.zp_share.specs.Sections.{MayAsk, done_reply, list_reply};
+ghost use Rattle.zp_share.specs.Sections.{IsRefilled, MayAsk, done_reply, list_reply};
 ghost use Rattle.zp_share.specs.ZoneShares.{cached_of};
 ghost use Rattle.zp_share.specs.Commands.{counts_at};
 ghost use Rattle.zp_share.specs.Shares.{ZoneKey, IsShareOf, HasWorkerAt, IsAskedAt, share_at, workers_at};
@@ -18,7 +18,8 @@ use zp_model::{
 
 /// A row of zones. A section makes one request to the zone at a place of the row, and the same change in the share: one section
 /// more, of this request and this reply, or a refusal 20 or 30 with nothing changed. Where the row tells what its zones are, they and
-/// the answer are exactly those of one step of that zone. Each of the nine typed calls is the section of its request.
+/// the answer are exactly those of one step of that zone. Each of the nine typed calls is the section of its request, and
+/// `fill` is that of a refill.
 pub trait Zones {
     // What ties each zone to its seats, its name, and how many workers it has; this never changes.
     ghost keys: { Self → List ZoneKey };
@@ -132,6 +133,27 @@ pub trait Zones {
     {
         let request = Request::Refill(kind, mark, share.lists().batch());
         answered!(self.section(share, zone, &request), Reply::Pages(pages) => pages)
+    }
+
+    /// Fills an empty list as `refill` does, and answers no pages, for who takes them off the list. Refused 10, 11 or 30.
+    #[inline(never)]
+    fn fill(
+        &mut self,
+        share: &mut Share,
+        zone: usize,
+        kind: MigrateType,
+        mark: Mark,
+    ) -> Result<(), Refused>
+        requires fits { IsShareOf (keys self.old) share.old }
+        requires zone { zone < length share.old.zones }
+        requires empty { cached_of (share_at share.old zone) kind ≡ [] }
+        requires some { 1 ≤ share.old.batch }
+        ensures { IsRefilled (λ q. IsAskedAt zone (request.Refill kind mark share.old.batch) q (keys self.old) (keys self.new) (told self.old) (told self.new) share.old share.new) result }
+    {
+        match self.refill(share, zone, kind, mark) {
+            Ok(_) => Ok(()),
+            Err(refused) => Err(refused),
+        }
     }
 
     /// Gives back `count` pages from the back of the list of this type, the last one first. Refused 30.

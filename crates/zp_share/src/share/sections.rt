@@ -7,7 +7,7 @@ ghost use Rattle.zp_model.specs.declared.request.Reply.TheVariants as reply;
 ghost use Rattle.zp_zone.specs.NamedZone.{page_reply, block_reply, isolate_reply, release_reply};
 ghost use Rattle.zp_zone.specs.Seats.{IsSeatOf};
 ghost use Rattle.zp_share.specs.PlainShares.{back};
-ghost use Rattle.zp_share.specs.Sections.{IsAsked, MayAsk, done_reply, list_reply};
+ghost use Rattle.zp_share.specs.Sections.{IsAsked, IsRefilled, MayAsk, done_reply, list_reply};
 ghost use Rattle.zp_share.specs.ZoneShares.{cached_of};
 ghost use Rattle.zp_share.specs.Shares.{share_at, with_zone_share};
 
@@ -130,6 +130,25 @@ impl Share {
     {
         let request = Request::Refill(kind, mark, self.lists.batch());
         answered!(self.section(zone, place, &request), Reply::Pages(pages) => pages)
+    }
+
+    /// Fills an empty list as `refill` does, and answers no pages. Refused 10 or 11 where none is got, and 30.
+    pub fn fill(
+        &mut self,
+        zone: &mut Zone,
+        place: usize,
+        kind: MigrateType,
+        mark: Mark,
+    ) -> Result<(), Refused>
+        requires place { place < length self.old.zones }
+        requires seat { IsSeatOf zone.old (share_at self.old place).seat }
+        requires empty { cached_of (share_at self.old place) kind ≡ [] }
+        requires some { 1 ≤ self.old.batch }
+        ensures section { IsRefilled (λ q. IsAsked (request.Refill kind mark self.old.batch) q zone.old zone.new (share_at self.old place) (share_at self.new place)) result }
+        ensures others { self.new ≡ with_zone_share place (share_at self.new place) self.old }
+    {
+        let batch = self.lists.batch();
+        self.zones[place].fill(zone, kind, mark, batch)
     }
 
     /// Gives back `count` pages from the back of the list of this type, the last one first. Refused 30.

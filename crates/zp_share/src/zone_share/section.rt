@@ -6,7 +6,7 @@ ghost use Rattle.zp_model.specs.declared.request.Request.TheVariants as request;
 ghost use Rattle.zp_zone.specs.NamedZone.{page_reply};
 ghost use Rattle.zp_zone.specs.Seats.{IsSeatOf};
 ghost use Rattle.zp_share.specs.PlainShares.{lends_for, lists_after};
-ghost use Rattle.zp_share.specs.Sections.{HaveRoom, IsAsked, MayAsk};
+ghost use Rattle.zp_share.specs.Sections.{HaveRoom, IsAsked, IsRefilled, MayAsk};
 ghost use Rattle.zp_share.specs.ZoneShares.{HasAtMost, IsShare, RefillsAtMost, plain_share};
 
 use super::ZoneShare;
@@ -85,8 +85,7 @@ impl ZoneShare {
         got
     }
 
-    /// Up to so many pages for this type, each held to this mark, which come to the front of its list. Refused 10, 11 or 30.
-    // (where little memory is left, most refills are refused, on each way down a row: that way has no list of pages in hand)
+    /// Up to so many pages for this type, each held to this mark, which come to the front of its list: the pages. Refused as `fill` is.
     #[inline(always)]
     fn refill(&mut self, zone: &mut Zone, kind: MigrateType, mark: Mark, count: u8) -> Reply
         requires seat { IsSeatOf zone.old self.old.seat }
@@ -94,8 +93,32 @@ impl ZoneShare {
         ensures section { IsAsked (request.Refill kind mark count) result zone.old zone.new self.old self.new }
         ensures lists { (n : ℕ) → RefillsAtMost n (request.Refill kind mark count) → HasAtMost n self.old → HasAtMost n self.new }
     {
+        if let Err(refused) = self.fill(zone, kind, mark, count) {
+            return Reply::Refused(refused);
+        }
+        let Some(entry) = self.sections.last() else {
+            unreachable!()
+        };
+        entry.reply()
+    }
+
+    /// Up to so many pages for this type, each held to this mark, which come to the front of its list. Refused 10, 11 or 30.
+    // (where little memory is left, most refills are refused, on each way down a row: that way has no list of pages in hand)
+    #[inline(always)]
+    pub fn fill(
+        &mut self,
+        zone: &mut Zone,
+        kind: MigrateType,
+        mark: Mark,
+        count: u8,
+    ) -> Result<(), Refused>
+        requires seat { IsSeatOf zone.old self.old.seat }
+        requires may { MayAsk (workers_of zone.old.plain) MAX_BATCH (request.Refill kind mark count) self.old }
+        ensures section { IsRefilled (λ q. IsAsked (request.Refill kind mark count) q zone.old zone.new self.old self.new) result }
+        ensures lists { (n : ℕ) → RefillsAtMost n (request.Refill kind mark count) → HasAtMost n self.old → HasAtMost n self.new }
+    {
         if self.sections.are_full() {
-            return Reply::Refused(Refused::JournalFull);
+            return Err(Refused::JournalFull);
         }
         let worker = self.seat.worker();
         let request = Request::Refill(kind, mark, count);
@@ -105,12 +128,12 @@ impl ZoneShare {
                 self.uses.note(&request, &reply);
                 note_lists(&mut self.cached, &request, &reply);
                 self.sections.add(worker, &request, &reply);
-                reply
+                Ok(())
             }
             Err(refused) => {
                 self.sections
                     .add(worker, &request, &Reply::Refused(refused));
-                Reply::Refused(refused)
+                Err(refused)
             }
         }
     }

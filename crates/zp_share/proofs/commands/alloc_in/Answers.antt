@@ -3,13 +3,13 @@ use Rattle.zp_share.specs.Shares.{IsShareOf}
 use Rattle.zp_share.proofs.Carrying.{moved_fits}
 use Rattle.zp_share.proofs.Lending.{front_ok, from_list, from_refill, filled_before, filled_now, taken_asked}
 use Rattle.zp_share.proofs.commands.alloc_in.Goals as goal
-use Rattle.zp_share.proofs.commands.alloc_in.Goals.{then-cached_len-eq0+in_ok-refill, else-cached_len-eq0}
+use Rattle.zp_share.proofs.commands.alloc_in.Goals.{then-cached_len-eq0+in_ok-fill, else-cached_len-eq0}
 
 pub returns-clause-fits : goal.returns-clause-fits
 returns-clause-fits g c =
     moved_fits (g.Z.Zones.keys c.if-cached_len-eq0.zones) c.if-cached_len-eq0.share c.take_cached.new.self c.args.zone
     (elim c.if-cached_len-eq0.branch [
-      | then-cached_len-eq0+in_ok-refill w ↦ subst (λ s. IsShareOf (g.Z.Zones.keys c.if-cached_len-eq0.zones) s) (sym w.share-is) (subst (λ z. IsShareOf (g.Z.Zones.keys z) w.refill.new.share) (sym w.zones-is) w.refill.ensures.fits)
+      | then-cached_len-eq0+in_ok-fill w ↦ subst (λ s. IsShareOf (g.Z.Zones.keys c.if-cached_len-eq0.zones) s) (sym w.share-is) (subst (λ z. IsShareOf (g.Z.Zones.keys z) w.fill.new.share) (sym w.zones-is) w.in_ok-fill.ensures.1.fits)
       | else-cached_len-eq0 w ↦ subst (λ s. IsShareOf (g.Z.Zones.keys c.if-cached_len-eq0.zones) s) (sym w.share-is) (subst (λ z. IsShareOf (g.Z.Zones.keys z) c.args.share.now) (sym w.zones-is) c.requires.fits)
     ])
     c.take_cached.ensures.others c.take_cached.ensures.seat
@@ -18,10 +18,10 @@ pub returns-clause-told : goal.returns-clause-told
 returns-clause-told g c =
     λ rows e.
     elim c.if-cached_len-eq0.branch [
-      | then-cached_len-eq0+in_ok-refill w ↦
-          from_refill rows c.args.share.now c.take_cached.new.self c.if-cached_len-eq0.share w.refill.new.share c.args.zone c.args.order c.cached_len.result c.args.kind c.args.mark
-          w.in_ok-refill.field-0 c.ok_or.result _ _
-          (sym c.is_listed.ensures ∙ c.if-not-is_listed.false) c.cached_len.ensures.same w.if-cached_len-eq0.true (w.in_ok-refill.ensures.told rows e) (ap g.Z.Zones.told w.zones-is) w.share-is
+      | then-cached_len-eq0+in_ok-fill w ↦
+          from_refill rows c.args.share.now c.take_cached.new.self c.if-cached_len-eq0.share w.fill.new.share c.args.zone c.args.order c.cached_len.result c.args.kind c.args.mark
+          w.in_ok-fill.ensures.0 c.ok_or.result _ _
+          (sym c.is_listed.ensures ∙ c.if-not-is_listed.false) c.cached_len.ensures.same w.if-cached_len-eq0.true (w.in_ok-fill.ensures.1.told rows e) (ap g.Z.Zones.told w.zones-is) w.share-is
           c.take_cached.ensures.others c.take_cached.ensures.after (front_ok _ c.take_cached.result c.ok_or.result c.ok_or.ensures.value c.take_cached.ensures.answer)
       | else-cached_len-eq0 w ↦
           from_list rows c.args.share.now c.take_cached.new.self c.if-cached_len-eq0.share c.args.zone c.args.order c.cached_len.result c.args.kind c.args.mark c.ok_or.result _ _ e
@@ -34,9 +34,9 @@ returns-clause-asked g c =
     taken_asked c.args.share.now c.if-cached_len-eq0.share c.take_cached.new.self c.args.zone c.args.kind c.take_cached.result c.ok_or.result
     (search rules)
     (elim c.if-cached_len-eq0.branch [
-      | then-cached_len-eq0+in_ok-refill w ↦
-          filled_now c.args.share.now c.if-cached_len-eq0.share c.args.zone c.args.share.now.batch c.args.kind c.args.mark w.in_ok-refill.field-0 c.requires.zone c.cached_len.ensures.share
-          (w.share-is ∙ w.in_ok-refill.ensures.share) w.in_ok-refill.ensures.reply.fresh w.in_ok-refill.ensures.reply.some
+      | then-cached_len-eq0+in_ok-fill w ↦
+          filled_now c.args.share.now c.if-cached_len-eq0.share c.args.zone c.args.share.now.batch c.args.kind c.args.mark w.in_ok-fill.ensures.0 c.requires.zone c.cached_len.ensures.share
+          (w.share-is ∙ w.in_ok-fill.ensures.1.share) w.in_ok-fill.ensures.1.reply.fresh w.in_ok-fill.ensures.1.reply.some
       | else-cached_len-eq0 w ↦ filled_before c.args.share.now c.if-cached_len-eq0.share c.args.zone c.cached_len.result c.args.kind w.share-is c.cached_len.ensures.same w.if-cached_len-eq0.false
     ])
     c.take_cached.ensures.share c.take_cached.ensures.others c.take_cached.ensures.after c.take_cached.ensures.answer c.ok_or.ensures.value

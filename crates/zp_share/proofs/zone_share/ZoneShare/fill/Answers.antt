@@ -14,7 +14,7 @@ use Rattle.zp_share.specs.Sections.{ComesOf, IsReplyTo, MayAsk}
 use Rattle.zp_model.specs.declared.constants.TheConstants.{MAX_BATCH}
 use Rattle.zp_share.proofs.Closing.{IsFit, IsAnswered, answered_parts, section_is, share_of}
 use Rattle.zp_share.proofs.Asking.{IsAsking, fits, given_pages, has_places, reply_to}
-use Rattle.zp_share.proofs.zone_share.ZoneShare.refill.Goals as goal
+use Rattle.zp_share.proofs.zone_share.ZoneShare.fill.Goals as goal
 
 pub note-requires : goal.note-requires
 note-requires c =
@@ -72,17 +72,19 @@ pub returns-in-Ok-clause-section : goal.returns-in-Ok-clause-section
 returns-in-Ok-clause-section c =
     let full : (c.args.self.now.sections.made == LAST_SECTION) ≡ false = ap (λ s. s.sections.made == LAST_SECTION) (sym c.self.view_is) ∙ sym c.are_full.ensures.full ∙ c.if-are_full.false in
     let one = section_is (asked c) (pages c) c.args.zone.now c.refill.new.self c.self.inside (after c) c.args.self.now c.self.invariant c.self.view_is (made c)
-    (stepped c) c.refill.ensures.after c.requires.seat c.refill.ensures.fits c.refill.ensures.known c.refill.ensures.agrees in
-    record {
-      made = subst (λ b. ComesOf (refusal true b) (asked c) (pages c) c.args.zone.now c.refill.new.self c.args.self.now (share_of (after c))) (sym full) one;
-      reply =
-          subst (λ s. IsReplyTo (asked c) (pages c) s (share_of (after c))) c.self.view_is
-          (reply_to (asked c) (pages c) c.args.zone.now.plain c.self.inside.seat.worker c.self.inside.seat c.refill.new.seat (share_of c.self.inside) (share_of (after c)) (fit c) (made c).same
-          (stepped c) (given c));
-      same = record { tie = search rules; worker = search rules };
-      fits = c.refill.ensures.fits;
-      seats = c.refill.ensures.seats;
-    }
+    (stepped c) c.refill.ensures.after c.requires.seat c.refill.ensures.fits c.refill.ensures.known c.refill.ensures.agrees in (
+      c.of.result,
+      record {
+        made = subst (λ b. ComesOf (refusal true b) (asked c) (pages c) c.args.zone.now c.refill.new.self c.args.self.now (share_of (after c))) (sym full) one;
+        reply =
+            subst (λ s. IsReplyTo (asked c) (pages c) s (share_of (after c))) c.self.view_is
+            (reply_to (asked c) (pages c) c.args.zone.now.plain c.self.inside.seat.worker c.self.inside.seat c.refill.new.seat (share_of c.self.inside) (share_of (after c)) (fit c) (made c).same
+            (stepped c) (given c));
+        same = record { tie = search rules; worker = search rules };
+        fits = c.refill.ensures.fits;
+        seats = c.refill.ensures.seats;
+      },
+    )
 
 -- the refusal
 
