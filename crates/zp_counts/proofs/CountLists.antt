@@ -1,14 +1,13 @@
--- Beginnings of mapped lists, and counts that come back from their words.
-use Rattle.std.proofs.Common.{◌≡◌, ℕ, ◌<◌, ◌-◌, List, [], ◌∷◌, ◌++◌, ◌+◌, Some, length, length-append, map, take, set, get_or, subst, sym, ap, ◌∙◌, arith}
+-- Beginnings of mapped lists, and lists element by element.
+use Rattle.std.proofs.Common.{◌≡◌, ℕ, zero, suc, ◌<◌, ◌-◌, List, [], ◌∷◌, ◌++◌, ◌+◌, Some, length, length-append, map, drop, get_or, subst, sym, ap, ◌∙◌, arith}
 use Rattle.std.proofs.lemmas.Option.{get_or_from_slice_get, slice_get-get_or, slice_get-map, slice_get_within}
-use Rattle.std.proofs.lemmas.List.{get_or_append_left, map-append, get_or-map, length-map, length-set, length-take-le, get_or-take, ext_get_or, take_all, take_at, take_more_set, get_or_at}
+use Rattle.std.proofs.lemmas.List.{drop_all, drop_more, get_or_append_left, map-append}
 use mathlib.Core.List.{IsPrefix}
-use Rattle.zp_model.specs.declared.constants.TheConstants.{ORDERS}
 use Rattle.zp_model.specs.declared.counts.Counts.{Counts}
 use Rattle.std.specs.Option.{option_map}
 use Rattle.zp_board.specs.Boards.{entry_at, last_of}
 use Rattle.zp_counts.specs.declared.reading.Reading.{Reading}
-use Rattle.zp_counts.specs.CountBoards.{IsReadingOf, count_in, counts_in}
+use Rattle.zp_counts.specs.CountBoards.{IsReadingOf}
 
 -- where entries begin with others, so do the counts that they stand for
 pub prefix_counts : (f : List ℕ → Counts) (old new : List (List ℕ)) {before after : List Counts} → before ≡ map f old → after ≡ map f new → IsPrefix old new → IsPrefix before after
@@ -36,23 +35,11 @@ reading_kept xs ys r p taken =
     subst (λ l. IsReadingOf l r) p.1
     (slice_get-get_or (xs ++ p.0) r.place r.counts (omega (arith, lt, length-append xs p.0)) ∙ ap Some here)
 
--- a list that agrees with another up to its last place, where x is put, is the other with x after it
-pub last_put : (xs ys : List ℕ) (n x : ℕ) → length xs ≡ n → length ys ≡ n + 1 → ((k : ℕ) → k < n → get_or ys k 0 ≡ get_or xs k 0) → set ys n x ≡ xs ++ x ∷ []
-last_put xs ys n x short long same =
-    let front : take n ys ≡ xs = ext_get_or 0 _ _ (length-take-le n ys (omega arith) ∙ sym short)
-    (λ k lt. let inside : k < n = omega (arith, lt, length-take-le n ys (omega arith)) in get_or-take n ys k 0 inside ∙ same k inside) in
-    sym (take_all (n + 1) (set ys n x) (omega (arith, length-set ys n x))) ∙ take_more_set ys n x (omega arith) ∙ ap (λ l. l ++ x ∷ []) front
+-- the elements of a list from a place on, one by one
+abbrev pub elements : List ℕ → ℕ → ℕ → List ℕ
+elements ns k zero = []
+elements ns k (suc m) = get_or ns k 0 ∷ elements ns (k + 1) m
 
--- numbers of 32 bits stand for themselves
-pub counts_fit : (ns : List ℕ) → ((k : ℕ) → get_or ns k 0 < 4294967296) → map count_in ns ≡ ns
-counts_fit ns fit =
-    ext_get_or 0 _ _ (length-map ns count_in)
-    (λ k lt. get_or-map count_in ns k 0 0 (omega (arith, lt, length-map ns count_in)) ∙ omega (arith, fit k))
-
--- counts come back from their words
-pub counts_back : (ns : List ℕ) (free : ℕ) → length ns ≡ ORDERS → ((k : ℕ) → get_or ns k 0 < 4294967296) → free < 4294967296
-    → counts_in (ns ++ free ∷ []) ≡ record { by_order = ns; free = free }
-counts_back ns free long fit low =
-    let by_order : map count_in (take ORDERS (ns ++ free ∷ [])) ≡ ns = ap (map count_in) (take_at ns (free ∷ []) ORDERS long) ∙ counts_fit ns fit in
-    let last : count_in (get_or (ns ++ free ∷ []) ORDERS 0) ≡ free = ap count_in (get_or_at ns free [] 0 ORDERS long) ∙ omega arith in
-    λ j. record { by_order = by_order j; free = last j }
+pub each_element : (ns : List ℕ) (k m : ℕ) → k + m ≡ length ns → drop k ns ≡ elements ns k m
+each_element ns k zero e = drop_all k ns (omega (arith, e))
+each_element ns k (suc m) e = drop_more ns k 0 (omega (arith, e)) ∙ ap (λ l. get_or ns k 0 ∷ l) (each_element ns (k + 1) m (omega (arith, e)))

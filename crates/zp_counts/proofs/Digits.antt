@@ -8,7 +8,8 @@ use Rattle.zp_model.specs.declared.constants.TheConstants.{ORDERS}
 use Rattle.zp_model.specs.declared.counts.Counts.{Counts}
 use Rattle.zp_counts.specs.declared.packed.TheConstants.{WIDE, MIDDLE, NARROW}
 use Rattle.zp_counts.specs.CountBoards.{ArePackable, StayBelow}
-use Rattle.zp_counts.specs.Packing.{digits_of, number_of, packed_in, packed_words}
+use Rattle.zp_counts.specs.declared.words.TheConstants.{PAIR}
+use Rattle.zp_counts.specs.Packing.{digits_of, number_of, numbers_in, packed_in, packed_words, paired_in, pairs_of}
 
 -- a number of so many digits is below that power of the base
 pub number_below : (base : ℕ) (ds : List ℕ) → All (λ d. d < base) ds → number_of base ds < base ^ length ds
@@ -91,3 +92,20 @@ packed_back c long low =
     (λ j. drop 1 (wide j) ++ (middle j ++ narrow j)) ∙ ap (λ l. take 2 ns ++ (take 4 (drop 2 ns) ++ l)) top ∙ ap (λ l. take 2 ns ++ l) upper ∙ whole in
     let free : get_or (digits_of WIDE 3 (number_of WIDE (c.free ∷ take 2 ns))) 0 0 ≡ c.free = ap (λ l. get_or l 0 0) wide in
     λ j. record { by_order = by_order j; free = free j }
+
+-- numbers come back from their words
+numbers_back : (ns : List ℕ) → length ns % 2 ≡ 0 → All (λ d. d < PAIR) ns → numbers_in (pairs_of ns) ≡ ns
+numbers_back [] even low = refl
+numbers_back (a ∷ []) even low = cc
+numbers_back (a ∷ (b ∷ ns)) even low =
+    let first : (b * PAIR + a) % PAIR ≡ a = mod-mul-add b PAIR a (All-head (λ d. d < PAIR) a (b ∷ ns) low) in
+    let second : (b * PAIR + a) / PAIR ≡ b = div-mul-add b PAIR a (All-head (λ d. d < PAIR) a (b ∷ ns) low) in
+    let rest : All (λ d. d < PAIR) ns = All-tail (λ d. d < PAIR) b ns (All-tail (λ d. d < PAIR) a (b ∷ ns) low) in
+    (λ j. first j ∷ second j ∷ numbers_in (pairs_of ns)) ∙ ap (λ l. a ∷ b ∷ l) (numbers_back ns (omega (arith, even)) rest)
+
+-- counts come back from their words
+pub paired_back : (ns : List ℕ) (free : ℕ) → length ns ≡ ORDERS → ((k : ℕ) → get_or ns k 0 < PAIR) → free < PAIR → paired_in (pairs_of (free ∷ ns)) ≡ record { by_order = ns; free = free }
+paired_back ns free long low fits =
+    let each : All (λ d. d < PAIR) ns = λ k d lt. rw (get_or_default ns k d 0 lt) (low k) in
+    let all : numbers_in (pairs_of (free ∷ ns)) ≡ free ∷ ns = numbers_back (free ∷ ns) (omega (arith, long)) (All-cons (λ d. d < PAIR) free ns fits each) in
+    λ j. record { by_order = drop 1 (all j); free = get_or (all j) 0 0 }

@@ -1,5 +1,5 @@
 -- The counts of a zone on a board (this profile).
-use Rattle.std.specs.Prelude.{ℕ, ◌≡◌, ◌+◌, ◌-◌, ◌*◌, ◌<◌, ◌≤◌, ◌⊎◌, Bool, Some, slice_get, List, [], ◌∷◌, ◌++◌, length, map, min, take, slice_index, slice_index_or}
+use Rattle.std.specs.Prelude.{ℕ, ◌≡◌, ◌+◌, ◌-◌, ◌*◌, ◌<◌, ◌≤◌, ◌⊎◌, Bool, Some, slice_get, List, [], length, map, min, take, slice_index, slice_index_or}
 use Rattle.atomic_table.specs.Seated.{TableId}
 use Rattle.zp_model.specs.declared.constants.TheConstants.{ORDERS}
 use Rattle.zp_model.specs.declared.counts.Counts.{Counts}
@@ -8,15 +8,11 @@ use Rattle.zp_counts.specs.declared.kinds.TheConstants.{SLOTS}
 use Rattle.zp_counts.specs.declared.packed.TheConstants.{WIDE, MIDDLE, NARROW}
 use Rattle.zp_counts.specs.declared.reading.Reading.{Reading}
 
--- the words of counts: those of each order, the least order first, and the free pages
-abbrev pub words_of : Counts → List ℕ
-words_of c = c.by_order ++ c.free ∷ []
-
--- the number that a word stands for: a count has 32 bits
+-- the number that a word of one count stands for: a count has 32 bits
 abbrev pub count_in : ℕ → ℕ
 count_in w = min w 4294967295
 
--- the counts that words stand for
+-- the counts that words of one count each stand for; those of no words are what is taken where nothing is published
 abbrev pub counts_in : List ℕ → Counts
 counts_in ws = record { by_order = map count_in (take ORDERS ws); free = count_in (slice_index_or ws ORDERS 0) }
 

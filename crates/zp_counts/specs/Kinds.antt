@@ -1,8 +1,8 @@
 -- What contracts see of a board of either kind, of its publisher and of its readers.
 use Rattle.std.specs.Prelude.{true, false, length, map}
 use Rattle.atomic_table.specs.Seated.{TableId}
-use Rattle.zp_counts.specs.CountBoards.{BoardState, CountTie, CountsPublished, CountsSeen, counts_in}
-use Rattle.zp_counts.specs.Packing.{packed_in}
+use Rattle.zp_counts.specs.CountBoards.{BoardState, CountTie, CountsPublished, CountsSeen}
+use Rattle.zp_counts.specs.Packing.{packed_in, paired_in}
 use Rattle.zp_counts.specs.declared.kinds.BoardKind.{BoardKind}
 use Rattle.zp_counts.specs.declared.kinds.BoardKind.TheVariants as board
 use Rattle.zp_counts.specs.declared.kinds.PublisherKind.{PublisherKind}
@@ -22,10 +22,10 @@ board_state (board.Fixed b) = record { tie = fixed_tie b.tie; capacity = b.capac
 board_state (board.Turning b capacity) = record { tie = turning_tie b.tie; capacity = capacity }
 
 abbrev pub published_counts : PublisherKind → CountsPublished
-published_counts (publisher.Fixed p) = record { tie = fixed_tie p.tie; published = map counts_in p.published }
+published_counts (publisher.Fixed p) = record { tie = fixed_tie p.tie; published = map paired_in p.published }
 published_counts (publisher.Turning p) = record { tie = turning_tie p.tie; published = map packed_in p.published }
 
 -- a reader of a board that does not turn knows of what it has seen, and of no more
 abbrev pub seen_counts : ReaderKind → CountsSeen
-seen_counts (reader.Fixed r) = record { tie = fixed_tie r.tie; seen = map counts_in r.seen; known = length r.seen }
+seen_counts (reader.Fixed r) = record { tie = fixed_tie r.tie; seen = map paired_in r.seen; known = length r.seen }
 seen_counts (reader.Turning r) = record { tie = turning_tie r.tie; seen = map packed_in r.seen; known = r.known }

@@ -2,6 +2,7 @@
 use Rattle.std.specs.Prelude.{ℕ, zero, suc, ◌+◌, ◌*◌, ◌/◌, ◌%◌, List, [], ◌∷◌, ◌++◌, take, drop, slice_index}
 use Rattle.zp_model.specs.declared.counts.Counts.{Counts}
 use Rattle.zp_counts.specs.declared.packed.TheConstants.{WIDE, MIDDLE, NARROW}
+use Rattle.zp_counts.specs.declared.words.TheConstants.{PAIR}
 
 -- the number that has these digits to this base, the first one the least
 abbrev pub number_of : ℕ → List ℕ → ℕ
@@ -24,3 +25,20 @@ packed_in ws = record {
   by_order = drop 1 (digits_of WIDE 3 (slice_index ws 0)) ++ (digits_of MIDDLE 4 (slice_index ws 1) ++ digits_of NARROW 5 (slice_index ws 2));
   free = slice_index (digits_of WIDE 3 (slice_index ws 0)) 0;
 }
+
+-- numbers by twos, each two in a word, the first one lower
+abbrev pub pairs_of : List ℕ → List ℕ
+pairs_of (a ∷ (b ∷ ns)) = (b * PAIR + a) ∷ pairs_of ns
+pairs_of ns = []
+
+abbrev pub numbers_in : List ℕ → List ℕ
+numbers_in [] = []
+numbers_in (w ∷ ws) = (w % PAIR) ∷ ((w / PAIR) ∷ numbers_in ws)
+
+-- the words of counts by twos: the free pages and the blocks of order 0, and then those of two orders each
+abbrev pub paired_words : Counts → List ℕ
+paired_words c = pairs_of (c.free ∷ c.by_order)
+
+-- the counts that such words stand for
+abbrev pub paired_in : List ℕ → Counts
+paired_in ws = record { by_order = drop 1 (numbers_in ws); free = slice_index (numbers_in ws) 0 }

@@ -1,16 +1,16 @@
 //! A board on which counts are published, its publisher and its readers.
 ghost use Rattle.std.specs.Prelude.{◌≡◌, ◌+◌, ◌*◌, ◌^◌, ◌<◌, ◌≤◌, ◌↔◌, true, false, [], ◌∷◌, ◌++◌, length, IfOk, IsTrue};
 ghost use mathlib.Core.List.{IsPrefix};
-ghost use Rattle.zp_counts.specs.CountBoards.{ArePackable, IsFreshRead, IsReadingOf, counts_in, last_reading};
+ghost use Rattle.zp_counts.specs.CountBoards.{ArePackable, IsFreshRead, IsReadingOf, last_reading};
 ghost use Rattle.zp_counts.specs.Kinds.{fixed_tie, turning_tie};
-ghost use Rattle.zp_counts.specs.Packing.{packed_in};
+ghost use Rattle.zp_counts.specs.Packing.{packed_in, paired_in};
 ghost use Rattle.zp_counts.specs.declared.reading.Reading.{Reading};
 ghost use Rattle.zp_counts.specs.declared.words.TheConstants.{COUNT_WORDS};
 
 use crate::kinds::{BoardKind, PublisherKind, ReaderKind, SLOTS};
 use crate::packed::{PACKED_WORDS, packed_in, packed_words};
 use crate::reading::Reading;
-use crate::words::{COUNT_WORDS, counts_in, words_of};
+use crate::words::{PAIR_WORDS, paired_in, paired_words};
 use std::alloc::{AllocError, Global};
 use std::marker::Model;
 use zp_board::{WordBoard, WordReading};
@@ -84,7 +84,7 @@ pub fn new_board(
     ensures published { IfOk result (λ r. r.1.published ≡ opening.now ∷ []) }
 {
     let (words, mut entries) = WordBoard::new(alloc, capacity)?;
-    entries.publish(&words, &words_of(opening));
+    entries.publish(&words, &paired_words(opening));
     let board = Board {
         kind: BoardKind::Fixed(words),
     };
@@ -119,7 +119,7 @@ pub fn new_turning_board(
 
 impl Board {
     /// The words of a board that does not turn.
-    fn fixed(&self) -> &WordBoard<COUNT_WORDS>
+    fn fixed(&self) -> &WordBoard<PAIR_WORDS>
         requires { self.now.tie.turns ≡ false }
         ensures tie { self.now.tie ≡ fixed_tie result.now.tie }
         ensures capacity { self.now.capacity ≡ result.now.capacity }
@@ -181,7 +181,7 @@ impl Publisher {
         ensures published { self.new.published ≡ self.old.published ++ counts.now ∷ [] }
     {
         match &mut self.kind {
-            PublisherKind::Fixed(entries) => entries.publish(board.fixed(), &words_of(counts)),
+            PublisherKind::Fixed(entries) => entries.publish(board.fixed(), &paired_words(counts)),
             PublisherKind::Turning(entries) => {
                 entries.publish(board.turning(), &packed_words(counts))
             }
@@ -252,12 +252,12 @@ impl BoardReader {
 }
 
 /// The counts that the words of a reading stand for, with their place.
-fn reading_of(found: &WordReading<COUNT_WORDS>) -> Reading
-    ensures counts { result.counts ≡ counts_in found.now.words }
+fn reading_of(found: &WordReading<PAIR_WORDS>) -> Reading
+    ensures counts { result.counts ≡ paired_in found.now.words }
     ensures place { result.place ≡ found.now.place }
 {
     Reading {
-        counts: counts_in(&found.words),
+        counts: paired_in(&found.words),
         place: found.place,
     }
 }

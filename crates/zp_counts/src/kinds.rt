@@ -1,7 +1,7 @@
 //! The two kinds that a board is of, and its publisher and its readers with it.
 
 use crate::packed::PACKED_WORDS;
-use crate::words::COUNT_WORDS;
+use crate::words::PAIR_WORDS;
 use zp_board::{WordBoard, WordPublisher, WordReader};
 use zp_ring::{Ring, RingPublisher, RingReader};
 
@@ -13,18 +13,18 @@ pub const SLOTS: usize = 16;
 /// opening ones.
 #[derive(Drop)]
 pub(crate) enum BoardKind {
-    Fixed(WordBoard<COUNT_WORDS>),
+    Fixed(WordBoard<PAIR_WORDS>),
     Turning(Ring<PACKED_WORDS, SLOTS>, u64),
 }
 
 #[derive(Drop)]
 pub(crate) enum PublisherKind {
-    Fixed(WordPublisher<COUNT_WORDS>),
+    Fixed(WordPublisher<PAIR_WORDS>),
     Turning(RingPublisher<PACKED_WORDS, SLOTS>),
 }
 
 #[derive(Drop)]
 pub(crate) enum ReaderKind {
-    Fixed(WordReader<COUNT_WORDS>),
+    Fixed(WordReader<PAIR_WORDS>),
     Turning(RingReader<PACKED_WORDS, SLOTS>),
 }

@@ -1,7 +1,6 @@
 use Rattle.std.proofs.Common.{◌+◌, sym, ap, ◌∙◌}
-use Rattle.zp_counts.specs.CountBoards.{counts_in}
 use Rattle.zp_counts.specs.Kinds.{seen_counts}
-use Rattle.zp_counts.specs.Packing.{packed_in}
+use Rattle.zp_counts.specs.Packing.{packed_in, paired_in}
 use Rattle.zp_counts.proofs.CountLists.{prefix_counts, reading_kept, reading_last}
 use Rattle.zp_counts.proofs.board.BoardReader.read.Goals.{in-Fixed, in-Turning}
 use Rattle.zp_counts.proofs.board.BoardReader.read.Goals as goal
@@ -10,14 +9,14 @@ pub returns-clause-seen : goal.returns-clause-seen
 returns-clause-seen c =
     let before = ap (λ r. r.seen) (sym c.self.view_is) in
     elim c.match-self.branch [
-      | in-Fixed w ↦ prefix_counts counts_in _ _ (before ∙ ap (λ k. (seen_counts k).seen) w.in-Fixed.is) (ap (λ r. (seen_counts r.kind).seen) w.self-inside-is) w.read.ensures.seen
+      | in-Fixed w ↦ prefix_counts paired_in _ _ (before ∙ ap (λ k. (seen_counts k).seen) w.in-Fixed.is) (ap (λ r. (seen_counts r.kind).seen) w.self-inside-is) w.read.ensures.seen
       | in-Turning w ↦ prefix_counts packed_in _ _ (before ∙ ap (λ k. (seen_counts k).seen) w.in-Turning.is) (ap (λ r. (seen_counts r.kind).seen) w.self-inside-is) w.read-in-Turning.ensures.seen
     ]
 
 pub returns-clause-taken : goal.returns-clause-taken
 returns-clause-taken c =
     elim c.match-self.branch [
-      | in-Fixed w ↦ reading_last counts_in _ w.read.result.words _ (ap (λ r. (seen_counts r.kind).seen) w.self-inside-is)
+      | in-Fixed w ↦ reading_last paired_in _ w.read.result.words _ (ap (λ r. (seen_counts r.kind).seen) w.self-inside-is)
           (ap (λ r. r.place + 1) w.result-is ∙ ap (λ n. n + 1) w.reading_of.ensures.place ∙ w.read.ensures.place) w.read.ensures.last (ap (λ r. r.counts) w.result-is ∙ w.reading_of.ensures.counts)
       | in-Turning w ↦ reading_last packed_in _ w.read-in-Turning.result.words _ (ap (λ r. (seen_counts r.kind).seen) w.self-inside-is)
           (ap (λ r. r.place + 1) w.result-is ∙ ap (λ n. n + 1) w.turned_reading_of.ensures.place ∙ w.read-in-Turning.ensures.place) w.read-in-Turning.ensures.last (ap (λ r. r.counts) w.result-is ∙ w.turned_reading_of.ensures.counts)

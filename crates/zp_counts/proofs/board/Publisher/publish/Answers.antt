@@ -1,8 +1,7 @@
 use Rattle.std.proofs.Common.{length, sym, ap, ◌∙◌, arith}
 use Rattle.std.proofs.lemmas.List.{length-map}
-use Rattle.zp_counts.specs.CountBoards.{counts_in}
 use Rattle.zp_counts.specs.Kinds.{published_counts}
-use Rattle.zp_counts.specs.Packing.{packed_in}
+use Rattle.zp_counts.specs.Packing.{packed_in, paired_in}
 use Rattle.zp_counts.proofs.CountLists.{counts_more}
 use Rattle.zp_counts.proofs.board.Publisher.publish.Goals.{in-Fixed, in-Turning}
 use Rattle.zp_counts.proofs.board.Publisher.publish.Goals as goal
@@ -18,8 +17,8 @@ pub returns-clause-published : goal.returns-clause-published
 returns-clause-published c =
     let before = ap (λ p. p.published) (sym c.self.view_is) in
     elim c.match-self.branch [
-      | in-Fixed w ↦ counts_more counts_in _ _ w.words_of.result (before ∙ ap (λ k. (published_counts k).published) w.in-Fixed.is)
-          (ap (λ p. (published_counts p.kind).published) w.self-inside-is) w.publish.ensures.published w.words_of.ensures.back
+      | in-Fixed w ↦ counts_more paired_in _ _ w.paired_words.result (before ∙ ap (λ k. (published_counts k).published) w.in-Fixed.is)
+          (ap (λ p. (published_counts p.kind).published) w.self-inside-is) w.publish.ensures.published w.paired_words.ensures.back
       | in-Turning w ↦ counts_more packed_in _ _ w.packed_words.result (before ∙ ap (λ k. (published_counts k).published) w.in-Turning.is)
           (ap (λ p. (published_counts p.kind).published) w.self-inside-is) w.publish-in-Turning.ensures.published w.packed_words.ensures.back
     ]

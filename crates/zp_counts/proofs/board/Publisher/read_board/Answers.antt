@@ -1,7 +1,6 @@
 use Rattle.std.proofs.Common.{◌+◌, sym, ap, ◌∙◌}
-use Rattle.zp_counts.specs.CountBoards.{counts_in}
 use Rattle.zp_counts.specs.Kinds.{published_counts, seen_counts}
-use Rattle.zp_counts.specs.Packing.{packed_in}
+use Rattle.zp_counts.specs.Packing.{packed_in, paired_in}
 use Rattle.zp_counts.proofs.CountLists.{prefix_counts, reading_kept, reading_last}
 use Rattle.zp_counts.proofs.board.Publisher.read_board.Goals.{in-Fixed-Fixed, in-Turning-Turning}
 use Rattle.zp_counts.proofs.board.Publisher.read_board.Goals as goal
@@ -12,7 +11,7 @@ returns-clause-before c =
     let after = ap (λ p. p.published) (sym c.self.view_is) in
     elim c.match-self.branch [
       | in-Fixed-Fixed w ↦ let i = w.in-Fixed-Fixed in
-          prefix_counts counts_in _ _ (before ∙ ap (λ k. (seen_counts k).seen) i.is-1) (after ∙ ap (λ k. (published_counts k).published) i.is-0) w.read_board.ensures.before
+          prefix_counts paired_in _ _ (before ∙ ap (λ k. (seen_counts k).seen) i.is-1) (after ∙ ap (λ k. (published_counts k).published) i.is-0) w.read_board.ensures.before
       | in-Turning-Turning w ↦ let i = w.in-Turning-Turning in
           prefix_counts packed_in _ _ (before ∙ ap (λ k. (seen_counts k).seen) i.is-1) (after ∙ ap (λ k. (published_counts k).published) i.is-0) w.read_board-in-Turning-Turning.ensures.before
     ]
@@ -22,7 +21,7 @@ returns-clause-taken c =
     let after = ap (λ p. p.published) (sym c.self.view_is) in
     elim c.match-self.branch [
       | in-Fixed-Fixed w ↦ let found = w.read_board in
-          reading_last counts_in _ found.result.words _ (after ∙ ap (λ k. (published_counts k).published) w.in-Fixed-Fixed.is-0)
+          reading_last paired_in _ found.result.words _ (after ∙ ap (λ k. (published_counts k).published) w.in-Fixed-Fixed.is-0)
           (ap (λ r. r.place + 1) w.result-is ∙ ap (λ n. n + 1) w.reading_of.ensures.place ∙ found.ensures.place) found.ensures.last (ap (λ r. r.counts) w.result-is ∙ w.reading_of.ensures.counts)
       | in-Turning-Turning w ↦ let found = w.read_board-in-Turning-Turning in
           reading_last packed_in _ found.result.words _ (after ∙ ap (λ k. (published_counts k).published) w.in-Turning-Turning.is-0)
