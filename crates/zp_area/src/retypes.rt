@@ -26,7 +26,8 @@ fn move_block(lists: &mut Lists, at: PageAt, from: PageblockType, to: PageblockT
     // a clause of this call says that no page stands twice and each is one of the zone's
     let _pages = lists.pages();
     if let State::Free(order) = lists.state(at) {
-        lists.move_to_front(list_of(order, from), list_of(order, to), at);
+        lists.remove(list_of(order, from), at);
+        lists.push_front(list_of(order, to), at);
         return order.pages();
     }
     1

@@ -3,4 +3,3 @@ pub mod Splice
 pub mod Writes
 pub mod Telling
 pub mod Moving
-pub mod MovedOver

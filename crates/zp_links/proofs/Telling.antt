@@ -14,7 +14,7 @@ use Rattle.zp_links.proofs.Places.{after_is, any_at, before_has, distinct, get_s
 use Rattle.zp_links.proofs.Splice.{row_of}
 use Rattle.zp_links.proofs.Writes.{value, linked_in, pages_in}
 
-pub may_stand : (o : Option ℕ) (n : ℕ) → ((q : ℕ) → o ≡ Some q → q < n) → MayStand o n
+may_stand : (o : Option ℕ) (n : ℕ) → ((q : ℕ) → o ≡ Some q → q < n) → MayStand o n
 may_stand None n h = tt
 may_stand (Some q) n h = h q refl
 

@@ -7,7 +7,7 @@ ghost use Rattle.zp_model.specs.declared.constants.TheConstants.{MAX_PAGES};
 ghost use Rattle.zp_table.specs.Entries.{IsUnlinked};
 ghost use Rattle.zp_table.specs.Packed.{packed};
 ghost use Rattle.zp_links.specs.Linked.{states_of, At, entry_in, loose_entry};
-ghost use Rattle.zp_links.specs.Moved.{StandAsBefore, moved_to_front};
+ghost use Rattle.zp_links.specs.Moved.{StandAsBefore};
 
 use crate::ends::{Ends, is_front};
 use crate::neighbour::{close_gap, set_back_or_last, set_forward_or_first};
@@ -143,24 +143,6 @@ impl Lists {
             forward: nowhere,
         };
         self.table.set(at, entry);
-    }
-
-    /// Moves a page from its list to the front of a list: its entry is written once.
-    pub fn move_to_front(&mut self, from: usize, to: usize, at: PageAt)
-        requires on { IsOn self.old.lists from at }
-        requires list { to < length self.old.lists }
-        ensures after { self.new ≡ moved_to_front self.old at from to }
-        ensures on { IsOn self.new.lists to at }
-        ensures others { StandAsBefore at self.old.lists self.new.lists }
-    {
-        close_gap(&mut self.table, &mut self.ends[from], at);
-        let here = Link::to(at);
-        let ends = &mut self.ends[to];
-        let next = ends.first;
-        self.table.set_links(at, Link::none(), next);
-        set_back_or_last(&mut self.table, &mut ends.last, next, here);
-        ends.first = here;
-        ends.len += 1;
     }
 
     /// Takes the page in front of a list.
