@@ -1,8 +1,9 @@
 //! One command, carried out.
-ghost use Rattle.std.specs.Prelude.{◌≡◌, List, length, map, All, Some};
+ghost use Rattle.std.specs.Prelude.{ℕ, ◌≡◌, List, length, map, All, Some};
 ghost use Rattle.std.specs.List.{range_with_len};
 ghost use Rattle.zp_model.specs.declared.counts.Counts.{Counts};
 ghost use Rattle.zp_zone.specs.NamedZone.{NamedZone};
+ghost use Rattle.zp_share.specs.Readings.{CoversOwn};
 ghost use Rattle.zp_share.specs.Shares.{IsDone, IsSameShare, IsShareOf, world};
 ghost use Rattle.zp_office.specs.Desks.{HaveWorker, HasSlotBelow, IsAnswerTo, IsCommandFor, IsFreeAnswer, IsInRow, IsPostAnswer, Slots, answer_with, carried_out, counts_in, free_kept, lent_of, post_kept};
 
@@ -29,6 +30,7 @@ pub fn carry_out<Z: Zones>(
     ensures slots { length slots.new ≡ length slots.old }
     ensures kept { All (IsInRow (length share.old.zones)) slots.new }
     ensures answers { IsAnswerTo (length share.old.zones) command result }
+    ensures read { CoversOwn (Z.covers zones.old) (Z.covers zones.new) share.old share.new }
     ensures shown { (cs : List Counts) → result ≡ CommandReply.Info cs → cs ≡ map (Z.shown zones.new) (range_with_len 0 (length share.old.zones)) }
     ensures told { (rows : List NamedZone) → Z.told zones.old ≡ Some rows → IsDone (carried_out slots.old (world rows share.old) command) (answer_with slots.new result) (Z.told zones.new) share.new }
 {
@@ -102,6 +104,7 @@ fn free_kept<Z: Zones>(share: &mut Share, zones: &mut Z, kept: Option<Lent>) -> 
     ensures fits { IsShareOf (Z.keys zones.new) share.new }
     ensures same { IsSameShare share.old share.new }
     ensures answers { IsFreeAnswer result }
+    ensures read { CoversOwn (Z.covers zones.old) (Z.covers zones.new) share.old share.new }
     ensures told { (rows : List NamedZone) (slots : Slots) → Z.told zones.old ≡ Some rows → IsDone (free_kept slots kept (world rows share.old)) (answer_with slots result) (Z.told zones.new) share.new }
 {
     let Some(lent) = kept else {
@@ -127,6 +130,7 @@ fn post_kept<Z: Zones>(
     ensures fits { IsShareOf (Z.keys zones.new) share.new }
     ensures same { IsSameShare share.old share.new }
     ensures answers { IsPostAnswer result }
+    ensures read { CoversOwn (Z.covers zones.old) (Z.covers zones.new) share.old share.new }
     ensures told { (rows : List NamedZone) (slots : Slots) → Z.told zones.old ≡ Some rows → IsDone (post_kept slots kept to (world rows share.old)) (answer_with slots result) (Z.told zones.new) share.new }
 {
     let Some(lent) = kept else {
@@ -143,6 +147,7 @@ fn counts_in<Z: Zones>(share: &Share, zones: &mut Z) -> CountsRow
     requires { IsShareOf (Z.keys zones.old) share.now }
     ensures keys { Z.keys zones.new ≡ Z.keys zones.old }
     ensures each { length result ≡ length share.now.zones }
+    ensures covered { (i n : ℕ) → Z.covers zones.old i n → Z.covers zones.new i n }
     ensures shown { result ≡ map (Z.shown zones.new) (range_with_len 0 (length share.now.zones)) }
     ensures told { (rows : List NamedZone) → Z.told zones.old ≡ Some rows → (result ≡ counts_in (world rows share.now)) × (Z.told zones.new ≡ Some rows) }
 {

@@ -1,6 +1,7 @@
 //! A worker's script, carried out.
 ghost use Rattle.std.specs.Prelude.{◌≡◌, ◌<◌, List, length, Some};
 ghost use Rattle.zp_zone.specs.NamedZone.{NamedZone};
+ghost use Rattle.zp_share.specs.Readings.{CoversOwn};
 ghost use Rattle.zp_share.specs.Shares.{IsShareOf};
 ghost use Rattle.zp_office.specs.Desks.{IsCommandFor, IsDeskLeft, IsNextAnswered, IsReady, IsWorked, after_command, after_commands, desk_world, next_of};
 
@@ -17,6 +18,7 @@ pub fn work_next<Z: Zones>(desk: &mut Desk, zones: &mut Z)
     ensures keys { Z.keys zones.new ≡ Z.keys zones.old }
     ensures fits { IsShareOf (Z.keys zones.new) desk.new.share }
     ensures answered { IsNextAnswered desk.old desk.new }
+    ensures read { CoversOwn (Z.covers zones.old) (Z.covers zones.new) desk.old.share desk.new.share }
     ensures told { (rows : List NamedZone) → Z.told zones.old ≡ Some rows → IsDeskLeft (after_command (desk_world rows desk.old) (next_of desk.old)) (Z.told zones.new) desk.new }
 {
     let command = desk.next_command();
@@ -25,12 +27,14 @@ pub fn work_next<Z: Zones>(desk: &mut Desk, zones: &mut Z)
 }
 
 /// Carries out the whole script, with the gate called round each command. Each has one reply, and the count of the replies rises
-/// by the script's length: a desk whose script was carried out is not ready to be worked again.
+/// by the script's length: a desk whose script was carried out is not ready to be worked again. No reading of the zones after it is older
+/// than the worker's own sections.
 pub fn work<Z: Zones, G: Gate>(desk: &mut Desk, zones: &mut Z, gate: &G)
     requires { IsReady (Z.keys zones.old) desk.old }
     ensures keys { Z.keys zones.new ≡ Z.keys zones.old }
     ensures fits { IsShareOf (Z.keys zones.new) desk.new.share }
     ensures worked { IsWorked desk.old desk.new }
+    ensures read { CoversOwn (Z.covers zones.old) (Z.covers zones.new) desk.old.share desk.new.share }
     ensures told { (rows : List NamedZone) → Z.told zones.old ≡ Some rows → IsDeskLeft (after_commands (desk_world rows desk.old) desk.old.script) (Z.told zones.new) desk.new }
 {
     let worker = desk.worker();

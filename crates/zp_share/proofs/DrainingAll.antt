@@ -15,7 +15,7 @@ use Rattle.zp_share.specs.PageUses.{use_of, is_lent_as, all_as}
 use Rattle.zp_share.specs.PlainShares.{back, lent_kind, list_of, own_at}
 use Rattle.zp_share.specs.Commands.{World, Done, done, and_then, done_answer, section, drain_back, drain_pages, drain_list, drain_zone, drain_zones, drain_all}
 use Rattle.zp_share.specs.ZoneShares.{ZoneShareState, IsShare, use_in, cached_of, answered}
-use Rattle.zp_share.specs.Shares.{ShareState, HasSameLent, IsDone, plain, world, share_at, noted_at, is_section, IsSameShare, KeepsEmptyLists, KeepsOrEmptiesLists}
+use Rattle.zp_share.specs.Shares.{ShareState, HasSameLent, IsDone, plain, world, share_at, noted_at, is_section, IsSameShare}
 use Rattle.zp_share.specs.Sections.{done_reply}
 use Rattle.zp_share.proofs.Carrying.{here, noted_one, own-plain, then_ok, told_as_is, same_lent, then_err}
 use Rattle.zp_share.proofs.OneUse.{use-all_as}
@@ -117,19 +117,9 @@ drained_err start all n i e told last s u lt x f =
     subst (λ d. IsDone d (Err e) last u) (sym (x.rest ∙ next_left all n i (world x.rows s) lt))
     (then_err (drain_zone n (world x.rows s) i) (λ m v. left_from all m v (i + 1)) e (Err e) last u (f x.rows x.known) refl)
 
--- the lists of the zones below a place are empty
-abbrev pub AreEmptyBelow : ℕ → ShareState → Type 0
-AreEmptyBelow n s = (i : ℕ) (t : MigrateType) → i < n → cached_of (share_at s i) t ≡ []
-
-pub empty_more : (n : ℕ) (s u : ShareState) → AreEmptyBelow n s → KeepsEmptyLists s u → ((t : MigrateType) → cached_of (share_at u n) t ≡ []) → AreEmptyBelow (n + 1) u
-empty_more n s u x k e i t lt = elim (cases_eq i n) [ inl same ↦ ap (λ j. cached_of (share_at u j) t) same ∙ e t | inr other ↦ k i t (x i t (omega (arith, lt, other))) ]
-
 pub same_share : (s u v : ShareState) → IsSameShare s u → IsSameShare u v → IsSameShare s v
 same_share s u v x y = record { worker = y.worker ∙ x.worker; batch = y.batch ∙ x.batch; high_len = y.high_len ∙ x.high_len; places = y.places ∙ x.places }
 
 -- one command after the other
 pub same_lent_then : (s u v : ShareState) → HasSameLent s u → HasSameLent u v → HasSameLent s v
 same_lent_then s u v f g i p k = g i p k ∙ f i p k
-
-pub lists_then : (s u v : ShareState) → KeepsOrEmptiesLists s u → KeepsOrEmptiesLists u v → KeepsOrEmptiesLists s v
-lists_then s u v f g i t = grind (arith, f i t, g i t)

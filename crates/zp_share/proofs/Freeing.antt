@@ -11,9 +11,9 @@ use Rattle.zp_share.specs.PageUses.{is_lent_as}
 use Rattle.zp_share.specs.PlainShares.{PlainZoneShare, PlainShare, Putting, used_as, list_of, lends, lent_kind, put, putting}
 use Rattle.zp_share.specs.ZoneShares.{plain_share, use_in, is_lent, cached_of}
 use Rattle.zp_share.specs.Commands.{World, Done, done, told_as, and_then, done_answer, section, is_listed, drain_full, put_page, free_listed, free_as, free_in}
-use Rattle.zp_share.specs.Shares.{ShareState, IsDone, share_at, with_zone_share, plain, world}
-use Rattle.zp_share.proofs.OneUse.{in_by_use, use-set, lent_use}
-use Rattle.zp_share.proofs.Carrying.{own-plain, moved, then_ok}
+use Rattle.zp_share.specs.Shares.{ShareState, HasSameLentBut, IsDone, share_at, with_zone_share, plain, world}
+use Rattle.zp_share.proofs.OneUse.{in_by_use, use-set, use-set_other, lent_use}
+use Rattle.zp_share.proofs.Carrying.{own-plain, moved, same_lent_but, then_ok}
 
 -- a page that is put on its list is lent no more
 put_away : (x : PlainZoneShare) (p k : ℕ) (t : MigrateType) → (used_as x p ≡ Away → ⊥) → lends (put p t x) p k ≡ false
@@ -22,6 +22,15 @@ put_away x p k t ne = ap (is_lent_as k) (use-set x.base p (Cached t) x.uses (in_
 pub put_gone : (s u : ShareState) (i p k : ℕ) (t : MigrateType) → lent_kind (use_in (share_at s i) p) 0 ≡ Some t →
     plain_share (share_at u i) ≡ put p t (plain_share (share_at s i)) → is_lent (share_at u i) p k ≡ false
 put_gone s u i p k t e f = ap (λ x. lends x p k) f ∙ put_away (plain_share (share_at s i)) p k t (λ away. let none = rw away at e in cc)
+
+-- and no other block is
+pub put_others : (s u : ShareState) (i p : ℕ) (t : MigrateType) → i < length s.zones → lent_kind (use_in (share_at s i) p) 0 ≡ Some t → u ≡ with_zone_share i (share_at u i) s →
+    plain_share (share_at u i) ≡ put p t (plain_share (share_at s i)) → HasSameLentBut i p s u
+put_others s u i p t lt e o f j q k ne =
+    let x : PlainZoneShare = plain_share (share_at s i) in
+    let from = (in_by_use x.base p x.uses (λ away. let none = rw away at e in cc)).from in
+    ap (λ v. is_lent (share_at v j) q k) o
+    ∙ same_lent_but s i p (share_at u i) lt (λ v n other. ap (λ y. lends y v n) f ∙ ap (is_lent_as n) (use-set_other x.base p v (Cached t) x.uses from other)) j q k ne
 
 -- a lent page of order 0 is put on its list, where that has room
 put_done : (x : PlainZoneShare) (p high : ℕ) (t : MigrateType) → lent_kind (used_as x p) 0 ≡ Some t → length (list_of x t) < high →

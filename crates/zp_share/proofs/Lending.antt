@@ -1,6 +1,7 @@
 -- A block out of a zone or one below it, and a page off a list: what is lent then, and what is done.
 use Rattle.std.specs.Option.{ok_or}
-use Rattle.std.proofs.Common.{ℕ, ◌+◌, ◌≡◌, ◌≢◌, ◌<◌, ◌≤◌, refl, sym, ◌∙◌, ap, subst, arith, Bool, true, cond, List, [], ◌∷◌, ◌++◌, length, All, Option, Result, Ok, Some, Err, false, zero, suc}
+use Rattle.std.proofs.lemmas.Bool.{cases_eq}
+use Rattle.std.proofs.Common.{ℕ, ◌+◌, ◌==◌, ◌&&◌, not, ◌≡◌, ◌≢◌, ◌<◌, ◌≤◌, ◌⊎◌, inl, inr, refl, sym, ◌∙◌, ap, subst, arith, Bool, true, cond, List, [], ◌∷◌, ◌++◌, length, All, Option, Result, Ok, Some, Err, false, zero, suc}
 use Rattle.std.proofs.lemmas.List.{get_or-set_same, length-append, nil_from_length}
 use Rattle.zp_model.specs.declared.mark.Mark.{Mark}
 use Rattle.zp_model.specs.declared.migrate_type.MigrateType.{MigrateType}
@@ -9,19 +10,21 @@ use Rattle.zp_model.specs.declared.refused.Refused.TheVariants.{NoBlock, Journal
 use Rattle.zp_model.specs.declared.request.Reply.{Reply}
 use Rattle.zp_model.specs.MigrateType.{type_number}
 use Rattle.zp_model.specs.Rows.{front, stands_in}
+use Rattle.zp_model.specs.declared.request.Request.{Request}
 use Rattle.zp_model.specs.declared.request.Request.TheVariants.{Refill}
 use Rattle.zp_model.proofs.Settles.{stands_first}
-use Rattle.zp_zone.specs.NamedZone.{NamedZone}
+use Rattle.zp_zone.specs.NamedZone.{NamedZone, page_reply}
 use Rattle.zp_model.specs.declared.request.Request.TheVariants as request
 use Rattle.zp_share.specs.declared.page_use.PageUse.{PageUse}
 use Rattle.zp_share.specs.declared.page_use.PageUse.TheVariants.{Away, Lent, Cached}
 use Rattle.zp_share.specs.PageUses.{is_lent_as, use_of, all_as}
 use Rattle.zp_share.specs.PlainShares.{lends, taken, taken_at, own_at, list_of}
-use Rattle.zp_share.specs.ZoneShares.{ZoneShareState, IsShare, IsNew, use_in, is_lent, cached_of, answered, plain_share}
-use Rattle.zp_share.specs.Shares.{ShareState, IsAskedFor, HasSameLent, share_at, with_zone_share, noted_at, IsDone, plain, world}
+use Rattle.zp_share.specs.ZoneShares.{ZoneShareState, IsAllocRefusal, IsShare, IsNew, use_in, is_lent, cached_of, answered, plain_share}
+use Rattle.zp_share.specs.Sections.{IsReplyTo}
+use Rattle.zp_share.specs.Shares.{ShareState, AreAskedDown, AreAskedTo, IsAskedFor, IsGivenBy, IsGivenIn, IsSameShare, WasRefused, HasSameLent, is_section, noted, page_request, share_at, with_zone_share, noted_at, IsDone, plain, world}
 use Rattle.zp_share.specs.declared.commands.Lent.{Lent as LentBlock}
 use Rattle.zp_share.specs.Commands.{World, Done, told_as, and_then, done_answer, section, is_listed, alloc_in, alloc_listed, alloc_down, goes_down, lent_in, take_front, front_answer}
-use Rattle.zp_share.proofs.Carrying.{here, elsewhere, same_lent, same_lent_but, own-plain, moved, told_as_is, then_ok}
+use Rattle.zp_share.proofs.Carrying.{here, elsewhere, noted_one, same_lent, same_lent_but, own-plain, moved, told_as_is, then_ok}
 use Rattle.zp_share.proofs.OneUse.{use-set_other, use-all_as}
 use Rattle.zp_share.proofs.Listing.{standing_of_all, number_in, standing_cached, standing_in}
 use Rattle.zp_share.proofs.Closing.{listing}
@@ -61,13 +64,92 @@ filled_now s v i n t m ps lt whole is new some =
       some = omega (arith, some, many, at);
     })
 
--- the front of such a list, taken and lent: it was cached
-pub taken_asked : (s v u : ShareState) (i : ℕ) (t : MigrateType) (o : Option ℕ) (r : Result ℕ Refused) → i < length v.zones → IsFilled i t s v → IsShare (share_at v i) →
-    u ≡ with_zone_share i (share_at u i) v → plain_share (share_at u i) ≡ taken t (plain_share (share_at v i)) → o ≡ front (cached_of (share_at v i) t) → r ≡ ok_or o NoBlock →
-    IsAskedFor i r s u
-taken_asked s v u i t o r lt full whole is after first answer = go (cached_of (share_at v i) t) refl
+-- a request that a zone refused leaves the same blocks lent
+same_lent_refused : (k : ℕ) (t : MigrateType) (m : Mark) (i : ℕ) (e : Refused) (s : ShareState) → i < length s.zones → HasSameLent s (noted_at i (page_request s k t m) (Reply.Refused e) s)
+same_lent_refused k t m i e s lt =
+    subst (λ w. HasSameLent s w) (sym (noted_one s i (page_request s k t m) (Reply.Refused e)))
+    (same_lent s i (noted (page_request s k t m) (Reply.Refused e) (share_at s i)) lt (λ p j. go (is_listed (plain s) k) (is_section (Reply.Refused e)) p j))
   where
-    go : (xs : List ℕ) → cached_of (share_at v i) t ≡ xs → IsAskedFor i r s u
+    go : (b c : Bool) (p j : ℕ) → is_lent (cond c (answered (cond b (request.Refill t m s.batch) (request.Alloc k t m)) (Reply.Refused e) (share_at s i)) (share_at s i)) p j ≡ is_lent (share_at s i) p j
+    go b false p j = refl
+    go true true p j = refl
+    go false true p j = refl
+
+-- what the share has of the zone of a request is noted there, and elsewhere all stays
+pub noted_here : (s u : ShareState) (i : ℕ) (r : Request) (q : Reply) → i < length s.zones → u ≡ noted_at i r q s → share_at u i ≡ noted r q (share_at s i)
+noted_here s u i r q lt is = ap (λ w. share_at w i) (is ∙ noted_one s i r q) ∙ here s i (noted r q (share_at s i)) lt
+
+pub noted_elsewhere : (s u : ShareState) (i j : ℕ) (r : Request) (q : Reply) → j ≢ i → u ≡ noted_at i r q s → share_at u j ≡ share_at s j
+noted_elsewhere s u i j r q ne is = ap (λ w. share_at w j) (is ∙ noted_one s i r q) ∙ elsewhere s i j (noted r q (share_at s i)) ne
+
+-- the request for a page, where lists serve it and where they do not
+pub request_listed : (s : ShareState) (k : ℕ) (t : MigrateType) (m : Mark) → is_listed (plain s) k ≡ true → page_request s k t m ≡ request.Refill t m s.batch
+request_listed s k t m on = ap (λ b. cond b (request.Refill t m s.batch) (request.Alloc k t m)) on
+
+pub request_unlisted : (s : ShareState) (k : ℕ) (t : MigrateType) (m : Mark) → is_listed (plain s) k ≡ false → page_request s k t m ≡ request.Alloc k t m
+request_unlisted s k t m off = ap (λ b. cond b (request.Refill t m s.batch) (request.Alloc k t m)) off
+
+-- a zone that was asked for a page and refused it
+pub refused_for : (k : ℕ) (t : MigrateType) (m : Mark) (i : ℕ) (e : Refused) (r : Request) (s u : ShareState) → i < length s.zones → page_request s k t m ≡ r → u ≡ noted_at i r (Reply.Refused e) s →
+    IsAskedFor k t m i (Err e) s u
+refused_for k t m i e r s u lt same is =
+    let asked : u ≡ noted_at i (page_request s k t m) (Reply.Refused e) s = is ∙ ap (λ v. noted_at i v (Reply.Refused e) s) (sym same) in
+    record {
+      fresh = tt;
+      others = tt;
+      left = subst (λ w. HasSameLent s w) (sym asked) (same_lent_refused k t m i e s lt);
+      given = tt;
+      refused = noted_here s u i (page_request s k t m) (Reply.Refused e) lt asked;
+      elsewhere = λ j ne. noted_elsewhere s u i j (page_request s k t m) (Reply.Refused e) ne asked;
+    }
+
+-- a zone that gave a block past the lists
+given_past : (k : ℕ) (t : MigrateType) (m : Mark) (i p : ℕ) (s u : ShareState) → i < length s.zones → is_listed (plain s) k ≡ false → u ≡ noted_at i (request.Alloc k t m) (Reply.Page p) s →
+    IsGivenIn k t m i p s u
+given_past k t m i p s u lt off is =
+    let now : share_at u i ≡ answered (request.Alloc k t m) (Reply.Page p) (share_at s i) = noted_here s u i (request.Alloc k t m) (Reply.Page p) lt is in
+    subst (λ b. IsGivenBy b (cached_of (share_at s i) t) (page_request s k t m) t p (share_at s i) (share_at u i)) (sym off)
+    (now ∙ ap (λ r. answered r (Reply.Page p) (share_at s i)) (sym (request_unlisted s k t m off)))
+
+pub block_for : (k : ℕ) (t : MigrateType) (m : Mark) (i : ℕ) (r : Result ℕ Refused) (s u : ShareState) → i < length s.zones → is_listed (plain s) k ≡ false → u ≡ noted_at i (request.Alloc k t m) (page_reply r) s →
+    IsReplyTo (request.Alloc k t m) (page_reply r) (share_at s i) (share_at u i) → IsAskedFor k t m i r s u
+block_for k t m i (Err e) s u lt off is reply = refused_for k t m i e (request.Alloc k t m) s u lt (request_unlisted s k t m off) is
+block_for k t m i (Ok p) s u lt off is reply = record {
+  fresh = λ j. ap (is_lent_as j) reply.fresh.away;
+  others = λ j q l ne.
+      ap (λ w. is_lent (share_at w j) q l) (is ∙ noted_one s i (request.Alloc k t m) (Reply.Page p))
+      ∙ same_lent_but s i p (answered (request.Alloc k t m) (Reply.Page p) (share_at s i)) lt
+      (λ v n other. ap (is_lent_as n) (use-set_other (share_at s i).seat.part.base p v (Lent k t) (share_at s i).uses reply.fresh.place.from other)) j q l ne;
+  left = tt;
+  given = given_past k t m i p s u lt off is;
+  refused = tt;
+  elsewhere = λ j ne. noted_elsewhere s u i j (request.Alloc k t m) (Reply.Page p) ne is;
+}
+
+-- a page off a list that had some, and off one that was filled first
+pub given_before : (k : ℕ) (t : MigrateType) (m : Mark) (i n : ℕ) (s v u : ShareState) → is_listed (plain s) k ≡ true → n ≡ length (cached_of (share_at s i) t) → n ≢ 0 → v ≡ s →
+    plain_share (share_at u i) ≡ taken t (plain_share (share_at v i)) → (p : ℕ) → IsGivenIn k t m i p s u
+given_before k t m i n s v u on len ne same after p = go (is_listed (plain s) k) (cached_of (share_at s i) t) on len
+  where
+    go : (b : Bool) (l : List ℕ) → b ≡ true → n ≡ length l → IsGivenBy b l (page_request s k t m) t p (share_at s i) (share_at u i)
+    go false l e len = absurd (let no : false ≡ true = e in cc)
+    go true [] e len = absurd (ne len)
+    go true (q ∷ qs) e len = after ∙ ap (λ w. taken t (plain_share (share_at w i))) same
+
+pub given_now : (k : ℕ) (t : MigrateType) (m : Mark) (i n : ℕ) (ps : List ℕ) (s v u : ShareState) → i < length s.zones → is_listed (plain s) k ≡ true → n ≡ length (cached_of (share_at s i) t) → n ≡ 0 →
+    v ≡ noted_at i (request.Refill t m s.batch) (Reply.Pages ps) s → plain_share (share_at u i) ≡ taken t (plain_share (share_at v i)) → (p : ℕ) → IsGivenIn k t m i p s u
+given_now k t m i n ps s v u lt on len none is after p =
+    subst (λ l. IsGivenBy (is_listed (plain s) k) l (page_request s k t m) t p (share_at s i) (share_at u i)) (sym (nil_from_length (cached_of (share_at s i) t) (sym len ∙ none)))
+    (subst (λ b. IsGivenBy b [] (page_request s k t m) t p (share_at s i) (share_at u i)) (sym on)
+    (ps, after ∙ ap (λ y. taken t (plain_share y)) (noted_here s v i (request.Refill t m s.batch) (Reply.Pages ps) lt is ∙ ap (λ r. answered r (Reply.Pages ps) (share_at s i)) (sym (request_listed s k t m on)))))
+
+-- the front of such a list, taken and lent: it was cached
+pub taken_asked : (k : ℕ) (m : Mark) (s v u : ShareState) (i : ℕ) (t : MigrateType) (o : Option ℕ) (r : Result ℕ Refused) → i < length v.zones → IsFilled i t s v → IsShare (share_at v i) →
+    u ≡ with_zone_share i (share_at u i) v → plain_share (share_at u i) ≡ taken t (plain_share (share_at v i)) → o ≡ front (cached_of (share_at v i) t) → r ≡ ok_or o NoBlock →
+    ((p : ℕ) → IsGivenIn k t m i p s u) → IsAskedFor k t m i r s u
+taken_asked k m s v u i t o r lt full whole is after first answer given = go (cached_of (share_at v i) t) refl
+  where
+    go : (xs : List ℕ) → cached_of (share_at v i) t ≡ xs → IsAskedFor k t m i r s u
     go [] e = absurd (let none : length (cached_of (share_at v i) t) ≡ 0 = ap length e in omega (arith, none, full.some))
     go (p ∷ ps) e =
         let z : ZoneShareState = share_at v i in
@@ -75,14 +157,15 @@ taken_asked s v u i t o r lt full whole is after first answer = go (cached_of (s
         let cached : use_in z p ≡ Cached t = standing_cached z.seat.part.base p z.uses z.cached t (listing z whole) on in
         let place = standing_in z.seat.part.base (type_number t) p z.uses z.cached (listing z whole) on in
         let now : plain_share (share_at u i) ≡ taken_at t (p ∷ ps) (plain_share z) = after ∙ ap (λ l. taken_at t l (plain_share z)) e in
-        let others : (q k : ℕ) → q ≢ p → is_lent (share_at u i) q k ≡ is_lent z q k = λ q k ne. ap (λ y. lends y q k) now ∙ ap (is_lent_as k) (use-set_other z.seat.part.base p q (Lent 0 t) z.uses place.from ne) in
+        let others : (q l : ℕ) → q ≢ p → is_lent (share_at u i) q l ≡ is_lent z q l = λ q l ne. ap (λ y. lends y q l) now ∙ ap (is_lent_as l) (use-set_other z.seat.part.base p q (Lent 0 t) z.uses place.from ne) in
         let got : r ≡ Ok p = answer ∙ ap (λ q. ok_or q NoBlock) (first ∙ ap front e) in
-        subst (λ q. IsAskedFor i q s u) (sym got)
+        subst (λ q. IsAskedFor k t m i q s u) (sym got)
         (record {
-          fresh = λ k. sym (full.lent i p k) ∙ ap (is_lent_as k) cached;
-          others = λ j q k ne. ap (λ y. is_lent (share_at y j) q k) is ∙ same_lent_but v i p (share_at u i) lt others j q k ne ∙ full.lent j q k;
+          fresh = λ l. sym (full.lent i p l) ∙ ap (is_lent_as l) cached;
+          others = λ j q l ne. ap (λ y. is_lent (share_at y j) q l) is ∙ same_lent_but v i p (share_at u i) lt others j q l ne ∙ full.lent j q l;
           left = tt;
-          asked = tt;
+          given = given p;
+          refused = tt;
           elsewhere = λ j ne. ap (λ y. share_at y j) is ∙ elsewhere v i j (share_at u i) ne ∙ full.elsewhere j ne;
         })
 
@@ -162,3 +245,83 @@ from_refill rows s u v x i k n t m ps r told mid on len none d same share e g a 
     subst (λ y. IsDone y r told u) (sym is)
     (then_ok sec f tt (Ok tt) told v r told u (told_as_is done_answer (section w i (Refill t m s.batch)) (Reply.Pages ps) (Ok tt) told v y refl) refl
     (λ rows2 e2. takes rows2 v u i t r told e2 e g a))
+
+-- the walk down the zones: the zone at the top gave a page
+pub asked_first : (k : ℕ) (t : MigrateType) (m : Mark) (n : ℕ) (l : LentBlock) (s u : ShareState) → l.zone ≡ n → IsAskedFor k t m n (Ok l.page) s u → AreAskedDown k t m n (Ok l) s u
+asked_first k t m n l s u at x = (
+  record {
+    within = omega (arith, at);
+    above = λ i lo hi. absurd (omega (arith, at, lo, hi));
+    below = λ i lt. x.elsewhere i (λ e. omega (arith, at, lt, e));
+  },
+  subst (λ i. IsGivenIn k t m i l.page s u) (sym at) x.given,
+)
+
+-- it refused, and was the last that was asked
+pub asked_last : (k : ℕ) (t : MigrateType) (m : Mark) (n : ℕ) (e : Refused) (s u : ShareState) → (e ≡ JournalFull) ⊎ (n ≡ 0) → IsAskedFor k t m n (Err e) s u → AreAskedDown k t m n (Err e) s u
+asked_last k t m n e s u why x = (
+  n,
+  (
+    record { within = omega arith; above = λ i lo hi. absurd (omega (arith, lo, hi)); below = λ i lt. x.elsewhere i (λ e. omega (arith, lt, e)) },
+    why,
+    x.refused,
+  ),
+)
+
+-- a request for a page is the same after a zone was asked
+same_request : (k : ℕ) (t : MigrateType) (m : Mark) (s v : ShareState) → IsSameShare s v → page_request v k t m ≡ page_request s k t m
+same_request k t m s v x = ap (λ b. cond ((k == 0) && not (b == 0)) (request.Refill t m b) (request.Alloc k t m)) x.batch
+
+-- a refusal but 30 is a section
+section_but_full : (e : Refused) → IsAllocRefusal e → (e ≡ JournalFull → ⊥) → is_section (Reply.Refused e) ≡ true
+section_but_full e why ne = grind (arith, why)
+
+-- so it is one more zone that was asked in vain
+more_above : (r : Request) (j n i : ℕ) (e : Refused) (s v u : ShareState) → n ≡ i + 1 → AreAskedTo r j i v u → is_section (Reply.Refused e) ≡ true → share_at v n ≡ noted r (Reply.Refused e) (share_at s n) →
+    ((h : ℕ) → h ≢ n → share_at v h ≡ share_at s h) → ((h : ℕ) → i < h → share_at u h ≡ share_at v h) → AreAskedTo r j n s u
+more_above r j n i e s v u next x section now elsewhere above = record {
+  within = omega (arith, next, x.within);
+  above = λ h lo hi.
+      elim (cases_eq h n) [
+        | inl same ↦ (
+          e,
+          (
+            section,
+            above h (omega (arith, next, same)) ∙ subst (λ g. share_at v g ≡ answered r (Reply.Refused e) (share_at s g)) (sym same) (now ∙ ap (λ b. cond b (answered r (Reply.Refused e) (share_at s n)) (share_at s n)) section),
+          ),
+        )
+        | inr other ↦
+            let w = x.above h lo (omega (arith, next, hi, other)) in
+            (w.0, (w.1.0, w.1.1 ∙ ap (answered r (Reply.Refused w.0)) (elsewhere h other)))
+      ];
+  below = λ h lt. x.below h lt ∙ elsewhere h (λ same. omega (arith, next, x.within, lt, same));
+}
+
+-- it refused, and the zones below it were asked
+pub asked_below : (k : ℕ) (t : MigrateType) (m : Mark) (n i : ℕ) (e : Refused) (b : Result LentBlock Refused) (s v u : ShareState) → n ≡ i + 1 → IsSameShare s v → IsAllocRefusal e → (e ≡ JournalFull → ⊥) →
+    IsAskedFor k t m n (Err e) s v → ((h : ℕ) → i < h → share_at u h ≡ share_at v h) → AreAskedDown k t m i b v u → AreAskedDown k t m n b s u
+asked_below k t m n i e b s v u next same why ne x above y = go b y
+  where
+    r : Request
+    r = page_request s k t m
+
+    to : (j : ℕ) → AreAskedTo (page_request v k t m) j i v u → AreAskedTo r j n s u
+    to j z = more_above r j n i e s v u next (subst (λ q. AreAskedTo q j i v u) (same_request k t m s v same) z) (section_but_full e why ne) x.refused x.elsewhere above
+
+    below : (j : ℕ) → j ≤ i → share_at v j ≡ share_at s j
+    below j le = x.elsewhere j (λ q. omega (arith, next, le, q))
+
+    go : (b : Result LentBlock Refused) → AreAskedDown k t m i b v u → AreAskedDown k t m n b s u
+    go (Ok l) z = (
+      to l.zone z.0,
+      subst (λ f. IsGivenBy ((k == 0) && not (f == 0)) (cached_of (share_at s l.zone) t) (cond ((k == 0) && not (f == 0)) (request.Refill t m f) (request.Alloc k t m)) t l.page (share_at s l.zone) (share_at u l.zone)) same.batch
+          (subst (λ (g : ZoneShareState). IsGivenBy (is_listed (plain v) k) (cached_of g t) (page_request v k t m) t l.page g (share_at u l.zone)) (below l.zone z.0.within) z.1),
+    )
+    go (Err f) z = (
+      z.0,
+      (
+        to z.0 z.1.0,
+        z.1.1,
+        z.1.2 ∙ ap (λ q. noted q (Reply.Refused f) (share_at v z.0)) (same_request k t m s v same) ∙ ap (noted r (Reply.Refused f)) (below z.0 z.1.0.within),
+      ),
+    )

@@ -6,8 +6,10 @@ pub mod Refilled
 pub mod Asking
 pub mod Telling
 pub mod Carrying
+pub mod Covering
 pub mod Lending
 pub mod Freeing
 pub mod DrainingAll
+pub mod Drained
 pub mod Owners
 pub mod Gathered

@@ -1,6 +1,7 @@
 -- What a request to a zone may come to: one section, or no section, with nothing changed.
 use Rattle.std.specs.Prelude.{◌↔◌, slice_get}
-use Rattle.std.proofs.Common.{ℕ, suc, zero, ◌≡◌, ◌⊎◌, ◌++◌, inl, inr, refl, sym, ◌∙◌, ap, arith, Bool, true, false, cond, List, [], ◌∷◌, Option, Some, None}
+use Rattle.std.proofs.lemmas.Bool.{eqb-true}
+use Rattle.std.proofs.Common.{ℕ, suc, zero, ◌==◌, ◌≡◌, ◌⊎◌, ◌++◌, inl, inr, refl, sym, ◌∙◌, ap, arith, Bool, true, false, cond, List, [], ◌∷◌, Option, Some, None}
 use Rattle.zp_model.specs.declared.mark.Mark.{Mark}
 use Rattle.zp_model.specs.declared.migrate_type.MigrateType.{MigrateType}
 use Rattle.zp_model.specs.declared.refused.Refused.{Refused}
@@ -14,9 +15,10 @@ use Rattle.zp_model.specs.Mark.{passes}
 use Rattle.zp_model.specs.Zone.{PlainZone, PostedBlock, posted_to}
 use Rattle.zp_model.specs.Step.{Outcome, alloc, alloc_chosen, alloc_low_at, refuse, collected, isolated, refill, refill_end, page_of, released, step}
 use Rattle.zp_zone.specs.Seats.{ZoneState}
-use Rattle.zp_share.specs.PlainShares.{refusal}
+use Rattle.zp_share.specs.declared.sections.TheConstants.{LAST_SECTION}
+use Rattle.zp_share.specs.PlainShares.{lends_for, refusal, refusal_of}
 use Rattle.zp_share.specs.Sections.{ComesOf}
-use Rattle.zp_share.specs.ZoneShares.{ZoneShareState, answered}
+use Rattle.zp_share.specs.ZoneShares.{ZoneShareState, IsLeft, answered, plain_share}
 use Rattle.zp_share.specs.Shares.{is_section}
 
 -- why a zone gives no block
@@ -103,3 +105,15 @@ not_lent_alone false full r q z y a b x = (λ e. refl, λ e. x.0)
 not_lent_alone true true r q z y a b x = (λ e. absurd (let same : Reply.Refused NotLent ≡ Reply.Refused JournalFull = sym e ∙ x.0 in cc), λ e. absurd (cc))
 not_lent_alone true false r q z y a b x =
     (λ e. absurd (let same : false ≡ true = ap is_section (sym e ∙ x.reply) ∙ step-section z.plain a.seat.worker r in cc), λ e. absurd (cc))
+
+-- one that was refused for want of room found the journal full, and left all as it was
+pub full_of : (lent full : Bool) (r : Request) (q : Reply) (z y : ZoneState) (a b : ZoneShareState) → ComesOf (refusal lent full) r q z y a b → q ≡ Reply.Refused JournalFull → (full ≡ true) × IsLeft z y a b
+full_of false full r q z y a b x e = absurd (let same : Reply.Refused NotLent ≡ Reply.Refused JournalFull = sym x.0 ∙ e in cc)
+full_of true true r q z y a b x e = (refl, x.1)
+full_of true false r q z y a b x e = absurd (let same : false ≡ true = sym (ap is_section e) ∙ ap is_section x.reply ∙ step-section z.plain a.seat.worker r in cc)
+
+-- so a request of a share that was refused 30 found the last section made
+pub last_made : (r : Request) (q : Reply) (z y : ZoneState) (a b : ZoneShareState) → ComesOf (refusal_of r (plain_share a)) r q z y a b → q ≡ Reply.Refused JournalFull → b.sections.made ≡ LAST_SECTION
+last_made r q z y a b x e =
+    let f = full_of (lends_for r (plain_share a)) (a.sections.made == LAST_SECTION) r q z y a b x e in
+    ap (λ (v : ZoneShareState). v.sections.made) f.1.share ∙ eqb-true a.sections.made LAST_SECTION f.0

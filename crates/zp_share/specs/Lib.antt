@@ -5,4 +5,5 @@ pub mod ZoneShares
 pub mod Sections
 pub mod Commands
 pub mod Shares
+pub mod Readings
 pub mod Gathering

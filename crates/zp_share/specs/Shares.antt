@@ -1,19 +1,23 @@
 -- A worker's share of a row of zones, and what its calls with the zones promise (this profile).
-use Rattle.std.specs.Prelude.{ℕ, ◌≡◌, ◌≢◌, ◌<◌, ◌≤◌, ◌+◌, ◌⊎◌, ◌↔◌, IsTrue, IfOk, IfErr, Bool, true, false, List, [], length, map, slice_index_or, slice_set, Option, Some, Result, Ok, Err, cond}
+use Rattle.std.specs.Prelude.{ℕ, ◌≡◌, ◌≢◌, ◌<◌, ◌≤◌, ◌+◌, ◌*◌, ◌⊎◌, ◌↔◌, IsTrue, IfOk, IfErr, Bool, true, false, List, [], ◌∷◌, length, map, slice_index_or, slice_set, Option, Some, Result, Ok, Err, cond}
 use Rattle.atomic_table.specs.Seated.{TableId}
 use Rattle.zp_model.specs.declared.refused.Refused.{Refused}
 use Rattle.zp_model.specs.declared.refused.Refused.TheVariants.{NotLent, JournalFull}
 use Rattle.zp_model.specs.declared.request.Request.{Request}
 use Rattle.zp_model.specs.declared.request.Reply.{Reply}
+use Rattle.zp_model.specs.declared.constants.TheConstants.{TYPES}
+use Rattle.zp_model.specs.declared.mark.Mark.{Mark}
 use Rattle.zp_model.specs.declared.migrate_type.MigrateType.{MigrateType}
+use Rattle.zp_model.specs.declared.migrate_type.MigrateType.TheVariants.{Unmovable, Reclaimable, Movable}
+use Rattle.zp_model.specs.MigrateType.{type_number}
 use Rattle.zp_model.specs.Zone.{PlainZone, pages_of, workers_of, zone_opening}
 use Rattle.zp_zone.specs.NamedZone.{NamedZone}
 use Rattle.zp_zone.specs.Seats.{ZoneState, SeatState}
 use Rattle.zp_share.specs.declared.commands.Lent.{Lent}
-use Rattle.zp_share.specs.PlainShares.{PlainShare, lends_for}
+use Rattle.zp_share.specs.PlainShares.{PlainShare, lends_for, taken}
 use Rattle.zp_share.specs.Sections.{IsReplyTo}
 use Rattle.zp_share.specs.ZoneShares.{ZoneShareState, plain_share, answered, opening_share, is_lent, cached_of}
-use Rattle.zp_share.specs.Commands.{World, Done, section}
+use Rattle.zp_share.specs.Commands.{World, Done, is_listed, section}
 
 pub record ShareState : Type 0 where
   pub worker : ℕ
@@ -122,10 +126,6 @@ pub record IsAskedAt (i : ℕ) (r : Request) (q : Reply) (ks ls : List ZoneKey) 
 abbrev pub sections_at : ShareState → ℕ → ℕ
 sections_at s i = (share_at s i).sections.made
 
--- one section was made with each zone from place n up to place m
-abbrev pub WereAsked : ℕ → ℕ → ShareState → ShareState → Type 0
-WereAsked n m s u = (i : ℕ) → n ≤ i → i ≤ m → sections_at u i ≡ sections_at s i + 1
-
 -- each block that is lent stays so
 abbrev pub KeepsLent : ShareState → ShareState → Type 0
 KeepsLent s u = (i p k : ℕ) → IsTrue (is_lent (share_at s i) p k) → IsTrue (is_lent (share_at u i) p k)
@@ -147,31 +147,87 @@ abbrev pub IsLentBy : Result Lent Refused → ShareState → ShareState → Type
 IsLentBy (Ok l) s u = IsNoneLentAt l.zone l.page s × HasSameLentBut l.zone l.page s u
 IsLentBy (Err e) s u = HasSameLent s u
 
--- from place n down a zone is asked where the one above it was refused: one section was made with each zone above the one that gave a
--- block, and with all of them where none did, unless a refusal 30 ended the walk
-abbrev pub AreAskedDown : ℕ → Result Lent Refused → ShareState → ShareState → Type 0
-AreAskedDown n (Ok l) s u = WereAsked (l.zone + 1) n s u
-AreAskedDown n (Err e) s u = (e ≡ JournalFull) ⊎ WereAsked 0 n s u
+-- what the share has of a zone after a request to it that was answered so: one section more, or as it was
+abbrev pub noted : Request → Reply → ZoneShareState → ZoneShareState
+noted r q x = cond (is_section q) (answered r q x) x
 
--- where zone i alone was asked for a page: what is lent after the answer, and that a refusal but 30 is one section with the zone
-pub record IsAskedFor (i : ℕ) (r : Result ℕ Refused) (s u : ShareState) : Type 0 where
+-- the request by which a zone is asked for a block of order k for type t: where such blocks come from the worker's lists, a refill
+abbrev pub page_request : ShareState → ℕ → MigrateType → Mark → Request
+page_request s k t m = cond (is_listed (plain s) k) (Request.Refill t m s.batch) (Request.Alloc k t m)
+
+-- a zone gave page p, and what the share has of it changed so: by one section; or the front of this list of type t was taken, where it was empty
+-- after one section that filled it
+abbrev pub IsGivenBy : Bool → List ℕ → Request → MigrateType → ℕ → ZoneShareState → ZoneShareState → Type 0
+IsGivenBy false on r t p x y = y ≡ answered r (Reply.Page p) x
+IsGivenBy true [] r t p x y = (ps : List ℕ) × (plain_share y ≡ taken t (plain_share (answered r (Reply.Pages ps) x)))
+IsGivenBy true (q ∷ qs) r t p x y = plain_share y ≡ taken t (plain_share x)
+
+-- the same of zone i, asked for a block of order k for type t to mark m
+abbrev pub IsGivenIn : ℕ → MigrateType → Mark → ℕ → ℕ → ShareState → ShareState → Type 0
+IsGivenIn k t m i p s u = IsGivenBy (is_listed (plain s) k) (cached_of (share_at s i) t) (page_request s k t m) t p (share_at s i) (share_at u i)
+
+-- zone i was asked, and refused by one section: nothing else changed there
+abbrev pub WasRefused : Request → ℕ → ShareState → ShareState → Type 0
+WasRefused r i s u = (e : Refused) × ((is_section (Reply.Refused e) ≡ true) × (share_at u i ≡ answered r (Reply.Refused e) (share_at s i)))
+
+-- of the zones from place n down to place j those above it were asked in vain, and none below it was asked
+pub record AreAskedTo (r : Request) (j n : ℕ) (s u : ShareState) : Type 0 where
+  pub within : j ≤ n
+  pub above : (i : ℕ) → j < i → i ≤ n → WasRefused r i s u
+  pub below : (i : ℕ) → i < j → share_at u i ≡ share_at s i
+
+-- from place n down zones are asked for a block until one gives it, up to the lowest; a refusal 30 ends the walk, and the zone that answers it
+-- is left as it was
+abbrev pub AreAskedDown : ℕ → MigrateType → Mark → ℕ → Result Lent Refused → ShareState → ShareState → Type 0
+AreAskedDown k t m n (Ok l) s u = AreAskedTo (page_request s k t m) l.zone n s u × IsGivenIn k t m l.zone l.page s u
+AreAskedDown k t m n (Err e) s u =
+    (j : ℕ) × (AreAskedTo (page_request s k t m) j n s u × ((e ≡ JournalFull) ⊎ (j ≡ 0)) × (share_at u j ≡ noted (page_request s k t m) (Reply.Refused e) (share_at s j)))
+
+-- where zone i alone was asked for a page: what is lent after the answer, and what the share then has of the zone
+pub record IsAskedFor (k : ℕ) (t : MigrateType) (m : Mark) (i : ℕ) (r : Result ℕ Refused) (s u : ShareState) : Type 0 where
   pub fresh : IfOk r (λ p. IsNoneLentAt i p s)
   pub others : IfOk r (λ p. HasSameLentBut i p s u)
   pub left : IfErr r (λ e. HasSameLent s u)
-  pub asked : IfErr r (λ e. (e ≡ JournalFull) ⊎ (sections_at u i ≡ sections_at s i + 1))
+  pub given : IfOk r (λ p. IsGivenIn k t m i p s u)
+  pub refused : IfErr r (λ e. share_at u i ≡ noted (page_request s k t m) (Reply.Refused e) (share_at s i))
   pub elsewhere : (j : ℕ) → j ≢ i → share_at u j ≡ share_at s j
 
--- each list is as it was, or empty
-abbrev pub KeepsOrEmptiesLists : ShareState → ShareState → Type 0
-KeepsOrEmptiesLists s u = (i : ℕ) (t : MigrateType) → (cached_of (share_at u i) t ≡ []) ⊎ (cached_of (share_at u i) t ≡ cached_of (share_at s i) t)
+-- the number of a list of pages among all of a share: zone by zone, in the order of the types
+abbrev pub list_place : ℕ → MigrateType → ℕ
+list_place i t = i * TYPES + type_number t
+
+-- the lists from number n up to below number m are empty, and the others as they were
+pub record AreDrained (n m : ℕ) (s u : ShareState) : Type 0 where
+  pub emptied : (i : ℕ) (t : MigrateType) → n ≤ list_place i t → list_place i t < m → cached_of (share_at u i) t ≡ []
+  pub others : (i : ℕ) (t : MigrateType) → (list_place i t < n) ⊎ (m ≤ list_place i t) → cached_of (share_at u i) t ≡ cached_of (share_at s i) t
+
+-- from number n on the lists before one that has pages are empty; that one and the rest are as they were
+pub record IsDrainedTill (n : ℕ) (s u : ShareState) : Type 0 where
+  pub zone : ℕ
+  pub kind : MigrateType
+  pub pages : 1 ≤ length (cached_of (share_at s zone) kind)
+  pub from : n ≤ list_place zone kind
+  pub drained : AreDrained n (list_place zone kind) s u
+
+-- 1 where a list had pages and has none
+abbrev pub was_emptied : List ℕ → List ℕ → ℕ
+was_emptied (p ∷ ps) [] = 1
+was_emptied before after = 0
+
+-- how many lists of zone i had pages and have none
+abbrev pub emptied_lists : ℕ → ShareState → ShareState → ℕ
+emptied_lists i s u = emptied Unmovable + emptied Reclaimable + emptied Movable
+  where
+    emptied : MigrateType → ℕ
+    emptied t = was_emptied (cached_of (share_at s i) t) (cached_of (share_at u i) t)
+
+-- with each zone as many sections were made as lists of it were given back
+abbrev pub DrainsOnce : ShareState → ShareState → Type 0
+DrainsOnce s u = (i : ℕ) → sections_at u i ≡ sections_at s i + emptied_lists i s u
 
 -- no list of the share has a page
 abbrev pub HasEmptyLists : ShareState → Type 0
 HasEmptyLists s = (i : ℕ) (t : MigrateType) → i < length s.zones → cached_of (share_at s i) t ≡ []
-
--- each list that is empty stays so
-abbrev pub KeepsEmptyLists : ShareState → ShareState → Type 0
-KeepsEmptyLists s u = (i : ℕ) (t : MigrateType) → cached_of (share_at s i) t ≡ [] → cached_of (share_at u i) t ≡ []
 
 -- the worker, the settings and the number of zones stay
 pub record IsSameShare (s u : ShareState) : Type 0 where

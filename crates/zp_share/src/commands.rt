@@ -1,7 +1,7 @@
 //! A worker's commands, each made of sections with zones of a row and of moves on the worker's own lists.
 //!
 //! In Linux: `rmqueue` with `rmqueue_pcplist`, `free_unref_page`, and `drain_pages`.
-ghost use Rattle.std.specs.Prelude.{ℕ, ◌≡◌, ◌<◌, ◌≤◌, ◌+◌, ◌*◌, ◌⊎◌, List, [], length, false, Some, Ok, Err, IfOk, IfErr, OnOk, IsTrue};
+ghost use Rattle.std.specs.Prelude.{ℕ, ◌≡◌, ◌≢◌, ◌<◌, ◌≤◌, ◌+◌, ◌*◌, ◌⊎◌, List, [], length, false, Some, Ok, Err, IfOk, IfErr, OnOk, OnErr, IsTrue};
 ghost use Rattle.zp_model.specs.declared.migrate_type.MigrateType.{MigrateType};
 ghost use Rattle.zp_model.specs.declared.refused.Refused.TheVariants.{NotLent, JournalFull};
 ghost use Rattle.zp_model.specs.declared.constants.TheConstants.{LONGEST_LIST, TYPES, MAX_ZONES};
@@ -9,7 +9,8 @@ ghost use Rattle.zp_zone.specs.NamedZone.{NamedZone};
 ghost use Rattle.zp_share.specs.PlainShares.{lent_kind};
 ghost use Rattle.zp_share.specs.ZoneShares.{IsAllocRefusal, IsShare, use_in, is_lent, cached_of};
 ghost use Rattle.zp_share.specs.Commands.{alloc_in, alloc_down, free_in, drain_full, drain_list, drain_zone, drain_all};
-ghost use Rattle.zp_share.specs.Shares.{IsShareOf, IsSameShare, IsDone, IsAskedFor, IsLentBy, AreAskedDown, KeepsLent, HasSameLent, HasSameLentBut, HasEmptyLists, KeepsEmptyLists, KeepsOrEmptiesLists, share_at, world};
+ghost use Rattle.zp_share.specs.Readings.{CoversOwn};
+ghost use Rattle.zp_share.specs.Shares.{IsShareOf, IsSameShare, IsDone, IsAskedFor, IsLentBy, AreAskedDown, AreDrained, DrainsOnce, IsDrainedTill, KeepsLent, HasSameLent, HasSameLentBut, HasEmptyLists, list_place, sections_at, share_at, world};
 
 use crate::share::Share;
 use crate::zones::Zones;
@@ -25,7 +26,7 @@ pub struct Lent {
 
 /// A block of this order for this type, held to this mark, out of the zone at this place or the nearest below it that gives one;
 /// the block is then lent. Single pages come from the worker's list, which is refilled where it is empty; what lies on the list
-/// is held to no mark. Refused as the last zone tried refuses it; a refusal 30 ends the walk.
+/// is held to no mark. Refused as the last zone tried refuses it; a refusal 30 ends the walk, and leaves what the zones before it made.
 pub fn alloc<Z: Zones>(
     share: &mut Share,
     zones: &mut Z,
@@ -45,8 +46,10 @@ pub fn alloc<Z: Zones>(
     ensures kept { KeepsLent share.old share.new }
     ensures blocks { IsLentBy result share.old share.new }
     ensures only { IfErr result IsAllocRefusal }
-    ensures asked { AreAskedDown zone result share.old share.new }
+    ensures asked { AreAskedDown order kind mark zone result share.old share.new }
     ensures above { (i : ℕ) → zone < i → share_at share.new i ≡ share_at share.old i }
+    ensures read { CoversOwn (Z.covers zones.old) (Z.covers zones.new) share.old share.new }
+    ensures full { result ≡ Err JournalFull → (i : ℕ) × ((i ≤ zone) × Z.ended zones.new i share.new) }
     ensures told { (rows : List NamedZone) → Z.told zones.old ≡ Some rows → IsDone (alloc_down order kind mark zone (world rows share.old)) result (Z.told zones.new) share.new }
 {
     match alloc_in(share, zones, zone, order, kind, mark) {
@@ -72,7 +75,9 @@ fn alloc_in<Z: Zones>(
     ensures same { IsSameShare share.old share.new }
     ensures lent { IfOk result (λ page. IsTrue (is_lent (share_at share.new zone) page order)) }
     ensures only { IfErr result IsAllocRefusal }
-    ensures asked { IsAskedFor zone result share.old share.new }
+    ensures asked { IsAskedFor order kind mark zone result share.old share.new }
+    ensures read { CoversOwn (Z.covers zones.old) (Z.covers zones.new) share.old share.new }
+    ensures full { result ≡ Err JournalFull → Z.ended zones.new zone share.new }
     ensures told { (rows : List NamedZone) → Z.told zones.old ≡ Some rows → IsDone (alloc_in (world rows share.old) zone order kind mark) result (Z.told zones.new) share.new }
 {
     if !share.is_listed(order) {
@@ -87,7 +92,7 @@ fn alloc_in<Z: Zones>(
 
 /// Gives back the block of this order at this page of the zone at this place. A single page goes to the front of the list of its
 /// type; a list that has `high_len` pages gives back a batch, before and after. Refused 20 where the block is not lent with
-/// this order, and 30.
+/// this order, and 30; then the share is as it was.
 pub fn free<Z: Zones>(
     share: &mut Share,
     zones: &mut Z,
@@ -103,8 +108,10 @@ pub fn free<Z: Zones>(
     ensures not_lent { is_lent (share_at share.old zone) page order ≡ false → result ≡ Err NotLent }
     ensures gone { OnOk result (is_lent (share_at share.new zone) page order ≡ false) }
     ensures others { HasSameLentBut zone page share.old share.new }
-    ensures left { IfErr result (λ e. HasSameLent share.old share.new) }
-    ensures same_where_not_lent { result ≡ Err NotLent → share.new ≡ share.old }
+    ensures left { OnErr result (share.new ≡ share.old) }
+    ensures elsewhere { (i : ℕ) → i ≢ zone → share_at share.new i ≡ share_at share.old i }
+    ensures read { CoversOwn (Z.covers zones.old) (Z.covers zones.new) share.old share.new }
+    ensures full { result ≡ Err JournalFull → Z.ended zones.new zone share.new }
     ensures only { IfErr result (λ e. (e ≡ NotLent) ⊎ (e ≡ JournalFull)) }
     ensures told { (rows : List NamedZone) → Z.told zones.old ≡ Some rows → IsDone (free_in (world rows share.old) zone page order) result (Z.told zones.new) share.new }
 {
@@ -143,6 +150,10 @@ fn drain_full<Z: Zones>(
     ensures lent { HasSameLent share.old share.new }
     ensures kinds { (p k : ℕ) → lent_kind (use_in (share_at share.new zone) p) k ≡ lent_kind (use_in (share_at share.old zone) p) k }
     ensures room { OnOk result (length (cached_of (share_at share.new zone) kind) < share.old.high_len) }
+    ensures left { OnErr result (share.new ≡ share.old) }
+    ensures elsewhere { (i : ℕ) → i ≢ zone → share_at share.new i ≡ share_at share.old i }
+    ensures read { CoversOwn (Z.covers zones.old) (Z.covers zones.new) share.old share.new }
+    ensures full { result ≡ Err JournalFull → Z.ended zones.new zone share.new }
     ensures only { IfErr result (λ e. e ≡ JournalFull) }
     ensures told { (rows : List NamedZone) → Z.told zones.old ≡ Some rows → IsDone (drain_full (world rows share.old) zone kind) result (Z.told zones.new) share.new }
 {
@@ -161,7 +172,10 @@ pub fn drain_all<Z: Zones>(share: &mut Share, zones: &mut Z) -> Result<usize, Re
     ensures fits { IsShareOf (Z.keys zones.new) share.new }
     ensures same { IsSameShare share.old share.new }
     ensures empty { OnOk result (HasEmptyLists share.new) }
-    ensures lists { KeepsOrEmptiesLists share.old share.new }
+    ensures stopped { OnErr result (IsDrainedTill 0 share.old share.new) }
+    ensures once { DrainsOnce share.old share.new }
+    ensures read { CoversOwn (Z.covers zones.old) (Z.covers zones.new) share.old share.new }
+    ensures full { result ≡ Err JournalFull → (i : ℕ) × Z.ended zones.new i share.new }
     ensures lent { HasSameLent share.old share.new }
     ensures only { IfErr result (λ e. e ≡ JournalFull) }
     ensures few { IfOk result (λ n. n ≤ MAX_ZONES * (TYPES * LONGEST_LIST)) }
@@ -188,9 +202,11 @@ fn drain_zone<Z: Zones>(
     ensures fits { IsShareOf (Z.keys zones.new) share.new }
     ensures same { IsSameShare share.old share.new }
     ensures room { IfOk result (λ n. n ≤ before + TYPES * LONGEST_LIST) }
-    ensures empty { OnOk result ((t : MigrateType) → cached_of (share_at share.new zone) t ≡ []) }
-    ensures others { KeepsEmptyLists share.old share.new }
-    ensures lists { KeepsOrEmptiesLists share.old share.new }
+    ensures drained { OnOk result (AreDrained (zone * TYPES) (zone * TYPES + TYPES) share.old share.new) }
+    ensures stopped { OnErr result (IsDrainedTill (zone * TYPES) share.old share.new) }
+    ensures once { DrainsOnce share.old share.new }
+    ensures read { CoversOwn (Z.covers zones.old) (Z.covers zones.new) share.old share.new }
+    ensures full { result ≡ Err JournalFull → Z.ended zones.new zone share.new }
     ensures lent { HasSameLent share.old share.new }
     ensures only { IfErr result (λ e. e ≡ JournalFull) }
     ensures told { (rows : List NamedZone) → Z.told zones.old ≡ Some rows → IsDone (drain_zone before (world rows share.old) zone) result (Z.told zones.new) share.new }
@@ -215,9 +231,11 @@ fn drain_list<Z: Zones>(
     ensures fits { IsShareOf (Z.keys zones.new) share.new }
     ensures same { IsSameShare share.old share.new }
     ensures room { IfOk result (λ n. n ≤ before + LONGEST_LIST) }
-    ensures empty { OnOk result (cached_of (share_at share.new zone) kind ≡ []) }
-    ensures others { KeepsEmptyLists share.old share.new }
-    ensures lists { KeepsOrEmptiesLists share.old share.new }
+    ensures drained { OnOk result (AreDrained (list_place zone kind) (list_place zone kind + 1) share.old share.new) }
+    ensures stopped { OnErr result (IsDrainedTill (list_place zone kind) share.old share.new) }
+    ensures once { DrainsOnce share.old share.new }
+    ensures read { CoversOwn (Z.covers zones.old) (Z.covers zones.new) share.old share.new }
+    ensures full { result ≡ Err JournalFull → Z.ended zones.new zone share.new }
     ensures lent { HasSameLent share.old share.new }
     ensures only { IfErr result (λ e. e ≡ JournalFull) }
     ensures told { (rows : List NamedZone) → Z.told zones.old ≡ Some rows → IsDone (drain_list before (world rows share.old) zone kind) result (Z.told zones.new) share.new }

@@ -63,15 +63,35 @@ impl PlainZones {
 }
 
 impl Zones for PlainZones {
-    ghost use Rattle.std.specs.Prelude.{map, Some};
+    ghost use Rattle.std.specs.Prelude.{map, Some, ◌≡◌};
+    ghost use Rattle.zp_model.specs.declared.refused.Refused.TheVariants.{JournalFull};
+    ghost use Rattle.zp_model.specs.declared.request.Reply.{Reply};
+    ghost use Rattle.zp_share.specs.declared.sections.TheConstants.{LAST_SECTION};
     ghost use Rattle.zp_share.specs.Commands.{counts_at};
-    ghost use Rattle.zp_share.specs.Shares.{key_of, named_zone};
+    ghost use Rattle.zp_share.specs.Shares.{key_of, named_zone, sections_at};
 
     ghost keys = { λ z. map key_of z };
 
     ghost told = { λ z. Some (map named_zone z) };
 
     ghost shown = { λ z i. counts_at (map named_zone z) i };
+
+    // A reading is of the zone itself.
+    ghost reads = { λ z y i q t. q ≡ Reply.Refused JournalFull → sections_at t i ≡ LAST_SECTION };
+
+    ghost counted = { λ z y i. y ≡ z };
+
+    ghost covers = { λ z i n. Unit {0} };
+
+    ghost ended = { λ z i t. sections_at t i ≡ LAST_SECTION };
+
+    ghost covers_own = { λ z y i q t read section. tt };
+
+    ghost covers_counted = { λ z y i read j n covered. tt };
+
+    ghost covers_still = { λ z y i q t read j n covered. tt };
+
+    ghost ends = { λ z y i q t read full. read full };
 
     #[inline(always)]
     fn section(&mut self, share: &mut Share, zone: usize, request: &Request) -> Reply {

@@ -1,6 +1,8 @@
 //! A row of zones to which a worker turns with its share.
-ghost use Rattle.std.specs.Prelude.{ℕ, ◌≡◌, ◌≢◌, ◌<◌, ◌≤◌, List, [], length, Option, Some};
+ghost use Rattle.std.specs.Prelude.{ℕ, ◌≡◌, ◌≢◌, ◌<◌, ◌≤◌, List, [], length, true, Option, Some};
 ghost use Rattle.zp_model.specs.declared.counts.Counts.{Counts};
+ghost use Rattle.zp_model.specs.declared.refused.Refused.TheVariants.{JournalFull};
+ghost use Rattle.zp_model.specs.declared.request.Reply.{Reply};
 ghost use Rattle.zp_model.specs.declared.request.Request.TheVariants as request;
 ghost use Rattle.zp_model.specs.declared.request.Reply.TheVariants as reply;
 ghost use Rattle.zp_zone.specs.NamedZone.{NamedZone, page_reply, block_reply, isolate_reply, release_reply};
@@ -8,7 +10,7 @@ ghost use Rattle.zp_share.specs.PlainShares.{back};
 ghost use Rattle.zp_share.specs.Sections.{IsRefilled, MayAsk, done_reply, list_reply};
 ghost use Rattle.zp_share.specs.ZoneShares.{cached_of};
 ghost use Rattle.zp_share.specs.Commands.{counts_at};
-ghost use Rattle.zp_share.specs.Shares.{ZoneKey, IsShareOf, HasWorkerAt, IsAskedAt, share_at, workers_at};
+ghost use Rattle.zp_share.specs.Shares.{ShareState, ZoneKey, IsShareOf, HasWorkerAt, IsAskedAt, is_section, sections_at, share_at, workers_at};
 
 use crate::answered;
 use crate::share::Share;
@@ -19,7 +21,8 @@ use zp_model::{
 /// A row of zones. A section makes one request to the zone at a place of the row, and the same change in the share: one section
 /// more, of this request and this reply, or a refusal 20 or 30 with nothing changed. Where the row tells what its zones are, they and
 /// the answer are exactly those of one step of that zone. Each of the nine typed calls is the section of its request, and
-/// `fill` is that of a refill.
+/// `fill` is that of a refill. What each of them leaves of the row's readings the row says (`reads`): after a section no reading of its zone
+/// is older than it.
 pub trait Zones {
     // What ties each zone to its seats, its name, and how many workers it has; this never changes.
     ghost keys: { Self → List ZoneKey };
@@ -28,13 +31,22 @@ pub trait Zones {
     // The counts that a reading of each zone answers: the zone's own, where the row tells its zones; where it does not, those that were
     // seen last.
     ghost shown: { Self → ℕ → Counts };
+    // What a request to the zone of a place, answered so, leaves of the row's readings, with the share as it is then.
+    ghost reads: { Self → Self → ℕ → Reply → ShareState → Type 0 };
+    // What a reading of the counts of the zone of a place leaves of the row's readings.
+    ghost counted: { Self → Self → ℕ → Type 0 };
+    // No reading of the zone of a place is older, from here on, than so many of the worker's sections with it.
+    ghost covers: { Self → ℕ → ℕ → Type 0 };
+    // There is no room for a section more with the zone of a place, as far as the row and this share can know.
+    ghost ended: { Self → ℕ → ShareState → Type 0 };
 
     /// One request to the zone at a place. Refused 20 where the block that it names is not lent, 30, and as the zone refuses it.
     fn section(&mut self, share: &mut Share, zone: usize, request: &Request) -> Reply
         requires fits { IsShareOf (keys self.old) share.old }
         requires zone { zone < length share.old.zones }
         requires may { MayAsk (workers_at (keys self.old) zone) share.old.batch request.now (share_at share.old zone) }
-        ensures { IsAskedAt zone request.now result (keys self.old) (keys self.new) (told self.old) (told self.new) share.old share.new };
+        ensures asked { IsAskedAt zone request.now result (keys self.old) (keys self.new) (told self.old) (told self.new) share.old share.new }
+        ensures read { reads self.old self.new zone result share.new };
 
     /// How many free blocks of each order the zone has, and how many free pages, as a reading of it answers.
     fn counts(&mut self, zone: usize) -> Counts
@@ -42,6 +54,7 @@ pub trait Zones {
         ensures keys { keys self.new ≡ keys self.old }
         ensures shown { result ≡ shown self.new zone }
         ensures others { (i : ℕ) → i ≢ zone → shown self.new i ≡ shown self.old i }
+        ensures read { counted self.old self.new zone }
         ensures told { (rows : List NamedZone) → told self.old ≡ Some rows → (told self.new ≡ Some rows) × (result ≡ counts_at rows zone) };
 
     /// A block of this order for this type, held to this mark, which is then lent: its first page. Refused 10, 11 or 30.
@@ -57,7 +70,8 @@ pub trait Zones {
     ) -> Result<PageNo, Refused>
         requires fits { IsShareOf (keys self.old) share.old }
         requires zone { zone < length share.old.zones }
-        ensures { IsAskedAt zone (request.Alloc order kind mark) (page_reply result) (keys self.old) (keys self.new) (told self.old) (told self.new) share.old share.new }
+        ensures asked { IsAskedAt zone (request.Alloc order kind mark) (page_reply result) (keys self.old) (keys self.new) (told self.old) (told self.new) share.old share.new }
+        ensures read { reads self.old self.new zone (page_reply result) share.new }
     {
         let request = Request::Alloc(order, kind, mark);
         answered!(self.section(share, zone, &request), Reply::Page(page) => page)
@@ -67,7 +81,8 @@ pub trait Zones {
     fn alloc_low(&mut self, share: &mut Share, zone: usize, order: Order) -> Result<Block, Refused>
         requires fits { IsShareOf (keys self.old) share.old }
         requires zone { zone < length share.old.zones }
-        ensures { IsAskedAt zone (request.AllocLow order) (block_reply result) (keys self.old) (keys self.new) (told self.old) (told self.new) share.old share.new }
+        ensures asked { IsAskedAt zone (request.AllocLow order) (block_reply result) (keys self.old) (keys self.new) (told self.old) (told self.new) share.old share.new }
+        ensures read { reads self.old self.new zone (block_reply result) share.new }
     {
         let request = Request::AllocLow(order);
         answered!(self.section(share, zone, &request), Reply::Block(block) => block)
@@ -83,7 +98,8 @@ pub trait Zones {
     ) -> Result<(), Refused>
         requires fits { IsShareOf (keys self.old) share.old }
         requires zone { zone < length share.old.zones }
-        ensures { IsAskedAt zone (request.Free page order) (done_reply reply.Freed result) (keys self.old) (keys self.new) (told self.old) (told self.new) share.old share.new }
+        ensures asked { IsAskedAt zone (request.Free page order) (done_reply reply.Freed result) (keys self.old) (keys self.new) (told self.old) (told self.new) share.old share.new }
+        ensures read { reads self.old self.new zone (done_reply reply.Freed result) share.new }
     {
         let request = Request::Free(page, order);
         answered!(self.section(share, zone, &request), Reply::Freed => ())
@@ -101,7 +117,8 @@ pub trait Zones {
         requires fits { IsShareOf (keys self.old) share.old }
         requires zone { zone < length share.old.zones }
         requires to { HasWorkerAt (keys self.old) zone to }
-        ensures { IsAskedAt zone (request.Post page order to) (done_reply reply.Posted result) (keys self.old) (keys self.new) (told self.old) (told self.new) share.old share.new }
+        ensures asked { IsAskedAt zone (request.Post page order to) (done_reply reply.Posted result) (keys self.old) (keys self.new) (told self.old) (told self.new) share.old share.new }
+        ensures read { reads self.old self.new zone (done_reply reply.Posted result) share.new }
     {
         let request = Request::Post(page, order, to);
         answered!(self.section(share, zone, &request), Reply::Posted => ())
@@ -111,7 +128,8 @@ pub trait Zones {
     fn collect(&mut self, share: &mut Share, zone: usize) -> Result<Block, Refused>
         requires fits { IsShareOf (keys self.old) share.old }
         requires zone { zone < length share.old.zones }
-        ensures { IsAskedAt zone request.Collect (block_reply result) (keys self.old) (keys self.new) (told self.old) (told self.new) share.old share.new }
+        ensures asked { IsAskedAt zone request.Collect (block_reply result) (keys self.old) (keys self.new) (told self.old) (told self.new) share.old share.new }
+        ensures read { reads self.old self.new zone (block_reply result) share.new }
     {
         answered!(self.section(share, zone, &Request::Collect), Reply::Block(block) => block)
     }
@@ -129,7 +147,8 @@ pub trait Zones {
         requires zone { zone < length share.old.zones }
         requires empty { cached_of (share_at share.old zone) kind ≡ [] }
         requires some { 1 ≤ share.old.batch }
-        ensures { IsAskedAt zone (request.Refill kind mark share.old.batch) (list_reply result) (keys self.old) (keys self.new) (told self.old) (told self.new) share.old share.new }
+        ensures asked { IsAskedAt zone (request.Refill kind mark share.old.batch) (list_reply result) (keys self.old) (keys self.new) (told self.old) (told self.new) share.old share.new }
+        ensures read { reads self.old self.new zone (list_reply result) share.new }
     {
         let request = Request::Refill(kind, mark, share.lists().batch());
         answered!(self.section(share, zone, &request), Reply::Pages(pages) => pages)
@@ -148,7 +167,8 @@ pub trait Zones {
         requires zone { zone < length share.old.zones }
         requires empty { cached_of (share_at share.old zone) kind ≡ [] }
         requires some { 1 ≤ share.old.batch }
-        ensures { IsRefilled (λ q. IsAskedAt zone (request.Refill kind mark share.old.batch) q (keys self.old) (keys self.new) (told self.old) (told self.new) share.old share.new) result }
+        ensures asked { IsRefilled (λ q. IsAskedAt zone (request.Refill kind mark share.old.batch) q (keys self.old) (keys self.new) (told self.old) (told self.new) share.old share.new) result }
+        ensures read { IsRefilled (λ q. reads self.old self.new zone q share.new) result }
     {
         match self.refill(share, zone, kind, mark) {
             Ok(_) => Ok(()),
@@ -169,7 +189,8 @@ pub trait Zones {
         requires zone { zone < length share.old.zones }
         requires some { 1 ≤ count }
         requires within { count ≤ length (cached_of (share_at share.old zone) kind) }
-        ensures { IsAskedAt zone (request.Drain kind (back count (cached_of (share_at share.old zone) kind))) (done_reply reply.Drained result) (keys self.old) (keys self.new) (told self.old) (told self.new) share.old share.new }
+        ensures asked { IsAskedAt zone (request.Drain kind (back count (cached_of (share_at share.old zone) kind))) (done_reply reply.Drained result) (keys self.old) (keys self.new) (told self.old) (told self.new) share.old share.new }
+        ensures read { reads self.old self.new zone (done_reply reply.Drained result) share.new }
     {
         let request = Request::Drain(kind, share.back(zone, kind, count));
         answered!(self.section(share, zone, &request), Reply::Drained => ())
@@ -180,7 +201,8 @@ pub trait Zones {
     fn isolate(&mut self, share: &mut Share, zone: usize, pageblock: u32) -> Result<(), Refused>
         requires fits { IsShareOf (keys self.old) share.old }
         requires zone { zone < length share.old.zones }
-        ensures { IsAskedAt zone (request.Isolate pageblock) (isolate_reply result) (keys self.old) (keys self.new) (told self.old) (told self.new) share.old share.new }
+        ensures asked { IsAskedAt zone (request.Isolate pageblock) (isolate_reply result) (keys self.old) (keys self.new) (told self.old) (told self.new) share.old share.new }
+        ensures read { reads self.old self.new zone (isolate_reply result) share.new }
     {
         let request = Request::Isolate(pageblock);
         answered!(self.section(share, zone, &request), Reply::Isolated => ())
@@ -196,9 +218,19 @@ pub trait Zones {
     ) -> Result<(), Refused>
         requires fits { IsShareOf (keys self.old) share.old }
         requires zone { zone < length share.old.zones }
-        ensures { IsAskedAt zone (request.Release pageblock kind) (release_reply result) (keys self.old) (keys self.new) (told self.old) (told self.new) share.old share.new }
+        ensures asked { IsAskedAt zone (request.Release pageblock kind) (release_reply result) (keys self.old) (keys self.new) (told self.old) (told self.new) share.old share.new }
+        ensures read { reads self.old self.new zone (release_reply result) share.new }
     {
         let request = Request::Release(pageblock, kind);
         answered!(self.section(share, zone, &request), Reply::Released => ())
     }
+
+    // A section is covered by the readings after it, and what was covered is so still.
+    ghost covers_own: { (z y : Self) (i : ℕ) (q : Reply) (t : ShareState) → reads z y i q t → is_section q ≡ true → covers y i (sections_at t i) };
+
+    ghost covers_counted: { (z y : Self) (i : ℕ) → counted z y i → (j n : ℕ) → covers z j n → covers y j n };
+
+    ghost covers_still: { (z y : Self) (i : ℕ) (q : Reply) (t : ShareState) → reads z y i q t → (j n : ℕ) → covers z j n → covers y j n };
+    // A request is refused 30 where there is no room.
+    ghost ends: { (z y : Self) (i : ℕ) (q : Reply) (t : ShareState) → reads z y i q t → q ≡ Reply.Refused JournalFull → ended y i t };
 }

@@ -91,6 +91,12 @@ pub seen_set : (before : List (List Counts)) (rs : List CountsSeen) (k : ℕ) (s
 seen_set before rs k s d h more i =
     prefix_trans (seen_at before i) (seen_at (seen_by rs) i) (seen_at (seen_by (slice_set rs k s)) i) (h i) (seen_put rs k s d more i)
 
+-- what is seen at a place is what the reader there has seen
+pub seen_by_at : (rs : List CountsSeen) (k : ℕ) (d : CountsSeen) → k < length rs → seen_at (seen_by rs) k ≡ (slice_index_or rs k d).seen
+seen_by_at [] k d lt = absurd (omega (arith, lt))
+seen_by_at (r ∷ rs) zero d lt = refl
+seen_by_at (r ∷ rs) (suc k) d lt = seen_by_at rs k d (omega (arith, lt))
+
 -- the reader that is put at a place is there, and at the others is what was there
 pub seen_here : (rs : List CountsSeen) (k : ℕ) (s : CountsSeen) → k < length rs → seen_at (seen_by (slice_set rs k s)) k ≡ s.seen
 seen_here [] k s lt = absurd (omega (arith, lt))

@@ -16,7 +16,7 @@ use Rattle.zp_share.specs.PlainShares.{lends_for, refusal}
 use Rattle.zp_share.specs.Sections.{ComesOf}
 use Rattle.zp_share.specs.ZoneShares.{ZoneShareState, IsLeft, IsSection, plain_share}
 use Rattle.zp_share.specs.Shares.{ShareState, ZoneKey, is_section, share_at}
-use Rattle.zp_share.proofs.Tried.{step-section}
+use Rattle.zp_share.proofs.Tried.{full_of}
 use Rattle.zp_shared.specs.Rows.{GuardedZone, HasReadAfter, HaveSeen, IsAskedUnderLock, IsPublished, IsReadAfter, IsReadWhole, ViewState, is_journal_full, is_not_lent, seen_at, seen_by}
 use Rattle.zp_shared.proofs.Guarding.{filter_few}
 use Rattle.zp_shared.proofs.Readers.{known_put, seen_beside, seen_here, seen_put, seen_same}
@@ -26,12 +26,6 @@ section_of : (lent full : Bool) (r : Request) (q : Reply) (z y : ZoneState) (a b
 section_of false full r q z y a b x e = absurd (let same : false ≡ true = sym (ap is_section x.0) ∙ e in cc)
 section_of true true r q z y a b x e = absurd (let same : false ≡ true = sym (ap is_section x.0) ∙ e in cc)
 section_of true false r q z y a b x e = x
-
--- one that was refused for want of room found the journal full, and left all as it was
-full_of : (lent full : Bool) (r : Request) (q : Reply) (z y : ZoneState) (a b : ZoneShareState) → ComesOf (refusal lent full) r q z y a b → q ≡ Reply.Refused JournalFull → (full ≡ true) × IsLeft z y a b
-full_of false full r q z y a b x e = absurd (let same : Reply.Refused NotLent ≡ Reply.Refused JournalFull = sym x.0 ∙ e in cc)
-full_of true true r q z y a b x e = (refl, x.1)
-full_of true false r q z y a b x e = absurd (let same : false ≡ true = sym (ap is_section e) ∙ ap is_section x.reply ∙ step-section z.plain a.seat.worker r in cc)
 
 -- the share has made fewer sections than are published
 own_seen : (g h : GuardedZone) (r : Request) (q : Reply) (a b : ZoneShareState) → ComesOf (refusal (lends_for r (plain_share a)) (is_journal_full g)) r q g.zone h.zone a b → is_section q ≡ true →

@@ -8,7 +8,7 @@ use Rattle.zp_model.specs.declared.refused.Refused.TheVariants.{NotLent, Journal
 use Rattle.zp_model.specs.Zone.{PlainZone}
 use Rattle.zp_model.specs.Run.{IsLegal, opening_of}
 use Rattle.zp_counts.specs.declared.reading.Reading.{Reading}
-use Rattle.zp_counts.specs.CountBoards.{BoardState, CountsSeen, last_counts}
+use Rattle.zp_counts.specs.CountBoards.{BoardState, CountsSeen, IsFreshRead, last_counts}
 use Rattle.zp_journal.specs.Journals.{JournalState, counts_after}
 use Rattle.std.specs.Global.{Vec}
 use Rattle.std.specs.List.{range_with_len}
@@ -113,6 +113,15 @@ no_reader = record { tie = no_board.tie; seen = []; known = 0 }
 abbrev pub reader_at : ViewState → ℕ → CountsSeen
 reader_at v i = slice_index_or v.readers i no_reader
 
+-- what a view's reading of the counts of place i leaves: its reader there has seen all that it had seen, and what it then sees is fresh; its
+-- other readers stay, and so does whether it strayed
+pub record IsReadAt (i : ℕ) (before after : ViewState) : Type 0 where
+  pub seen : IsPrefix (seen_at (seen_by before.readers) i) (seen_at (seen_by after.readers) i)
+  pub fresh : IsFreshRead (reader_at before i) (reader_at after i)
+  pub others : (j : ℕ) → j ≢ i → reader_at after j ≡ reader_at before j
+  pub unseen : (j : ℕ) → j ≢ i → seen_at (seen_by after.readers) j ≡ seen_at (seen_by before.readers) j
+  pub strayed : after.strayed ≡ before.strayed
+
 -- the counts that its reader of a place saw last
 abbrev pub shown_at : ViewState → ℕ → Counts
 shown_at v i = last_counts (seen_at (seen_by v.readers) i)
@@ -197,12 +206,20 @@ pub record HasReadAfter (bounds : ℕ → Type 0) (q : Reply) (h : GuardedZone) 
   pub left : is_not_lent q ≡ true → s ≡ r
   pub read : is_not_lent q ≡ false → IsReadWhole bounds h s.seen
 
+-- the view's reader of a place has seen more counts than so many sections published: so no later reading is older than they are
+abbrev pub HasCovered : ViewState → ℕ → ℕ → Type 0
+HasCovered v i n = n < length (seen_at (seen_by v.readers) i)
+
+-- the view's reader of a place has seen as much as there is room for, where that is one of these; or the view has strayed
+abbrev pub HasSeenAll : (ℕ → Type 0) → ViewState → ℕ → Type 0
+HasSeenAll bounds v i = (v.strayed ≡ true) ⊎ ((capacity : ℕ) × bounds capacity × (length (seen_at (seen_by v.readers) i) ≡ capacity + 1))
+
 -- what a worker's view has read when a request to the zone of place i was answered so, where the room for its entries is one of these
 pub record IsReadAfter (bounds : ℕ → Type 0) (i : ℕ) (q : Reply) (t : ShareState) (before after : ViewState) : Type 0 where
   -- where it was a section, more than the share has made sections there: no later reading is older than they are
-  pub own : is_section q ≡ true → sections_at t i < length (seen_at (seen_by after.readers) i)
+  pub own : is_section q ≡ true → HasCovered after i (sections_at t i)
   -- where there was no room, as much as there is room for, unless the zone lay under another's lock
-  pub full : q ≡ Reply.Refused JournalFull → (after.strayed ≡ true) ⊎ ((capacity : ℕ) × bounds capacity × (length (seen_at (seen_by after.readers) i) ≡ capacity + 1))
+  pub full : q ≡ Reply.Refused JournalFull → HasSeenAll bounds after i
   -- where no such block was lent, nothing
   pub not_lent : q ≡ Reply.Refused NotLent → after.readers ≡ before.readers
   pub seen : HaveSeen (seen_by before.readers) (seen_by after.readers)

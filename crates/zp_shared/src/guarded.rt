@@ -14,7 +14,7 @@ ghost use Rattle.zp_share.specs.Shares.{IsShareOf, key_of, share_at};
 ghost use Rattle.zp_share.specs.ZoneShares.{IsShare, SharesIn};
 ghost use mathlib.Core.List.{IsPrefix};
 ghost use Rattle.zp_counts.specs.declared.reading.Reading.{Reading};
-ghost use Rattle.zp_counts.specs.CountBoards.{IsReadingOf};
+ghost use Rattle.zp_counts.specs.CountBoards.{IsReadingOf, last_counts};
 ghost use Rattle.zp_shared.specs.Rows.{IsCountsOf, IsPublished, board_at, key_at, opened_key, zone_counts};
 
 use crate::naming::Naming;
@@ -83,12 +83,16 @@ impl<J: Naming, K: Keeps> Guarded<J, K> {
         self.place
     }
 
-    /// How many free blocks of each order there are, and how many free pages.
+    /// How many free blocks of each order there are, and how many free pages: the last counts that are published, whatever is kept.
+    #[tactic(auto, using(crate::proofs::Publishing::last_published))]
     pub fn counts(&self) -> Counts
         ensures counts { result ≡ counts_of self.now.zone.plain.area.largest self.now.zone.plain.area.free }
         ensures published { IsPublished self.now.zone self.now.published }
+        ensures newest { result ≡ last_counts self.now.published }
         ensures lawful { IsLawful self.now.zone.plain }
     {
+        // a clause of this call says that the zone is the run of its entries
+        self.zone.history();
         self.zone.counts()
     }
 

@@ -1,11 +1,11 @@
 //! One worker's view of a row of zones that threads share.
-ghost use Rattle.std.specs.Prelude.{ℕ, ◌≡◌, ◌≢◌, ◌<◌, false, length, IfSome, None};
+ghost use Rattle.std.specs.Prelude.{◌≡◌, ◌<◌, false, length, IfSome};
 ghost use Rattle.std.specs.Sync.Mutex.{mutex_guard_value};
-ghost use mathlib.Core.List.{IsPrefix};
-ghost use Rattle.zp_counts.specs.CountBoards.{IsFreshRead, last_reading};
+ghost use Rattle.zp_counts.specs.declared.reading.Reading.{Reading};
+ghost use Rattle.zp_counts.specs.CountBoards.{IsReadingOf, last_reading};
 ghost use Rattle.zp_share.specs.Sections.{MayAsk};
-ghost use Rattle.zp_share.specs.Shares.{IsAskedAt, IsShareOf, share_at, workers_at};
-ghost use Rattle.zp_shared.specs.Rows.{IsRowOf, AreReadersOf, HaveSeen, HasReadAfter, IsAskedUnderLock, IsReadAfter, board_at, is_not_lent, reader_at, seen_at, seen_by};
+ghost use Rattle.zp_share.specs.Shares.{IsShareOf, share_at, workers_at};
+ghost use Rattle.zp_shared.specs.Rows.{IsRowOf, AreReadersOf, HaveSeen, HasReadAfter, IsAskedUnderLock, IsReadAt, board_at, is_not_lent, seen_at, seen_by};
 
 use crate::guarded::Guarded;
 use crate::naming::{Earlier, Naming};
@@ -83,11 +83,12 @@ impl<'a, J: Naming, E: Earlier, R, K: Keeps> LockedZones<'a, J, E, R, K> {
     pub fn read(&mut self, zone: usize) -> Reading
         requires { zone < length J.zones }
         ensures last { result ≡ last_reading (seen_at (seen_by self.new.readers) zone) }
-        ensures seen { IsPrefix (seen_at (seen_by self.old.readers) zone) (seen_at (seen_by self.new.readers) zone) }
-        ensures fresh { IsFreshRead (reader_at self.old zone) (reader_at self.new zone) }
-        ensures others { (i : ℕ) → i ≢ zone → seen_at (seen_by self.new.readers) i ≡ seen_at (seen_by self.old.readers) i }
-        ensures kept { (i : ℕ) → i ≢ zone → reader_at self.new i ≡ reader_at self.old i }
-        ensures strayed { self.new.strayed ≡ self.old.strayed }
+        ensures read { IsReadAt zone self.old self.new }
+        ensures some { 0 < length (seen_at (seen_by self.new.readers) zone) }
+
+        // What was read before is of what is seen still, and so is this.
+        ensures taken { IsReadingOf (seen_at (seen_by self.new.readers) zone) result }
+        ensures kept { (r : Reading) → IsReadingOf (seen_at (seen_by self.old.readers) zone) r → IsReadingOf (seen_at (seen_by self.new.readers) zone) r }
     {
         let board = self.shared_at(zone).board();
         self.readers[zone].read(board)
@@ -123,7 +124,8 @@ impl<'a, J: Naming, E: Earlier, R: Wait, K: Keeps> LockedZones<'a, J, E, R, K> {
 
 impl<'a, J: Naming, E: Earlier, R: Wait, K: Keeps> Zones for LockedZones<'a, J, E, R, K> {
     ghost use Rattle.std.specs.Prelude.{None};
-    ghost use Rattle.zp_shared.specs.Rows.{shown_at};
+    ghost use Rattle.zp_shared.specs.Rows.{HasCovered, HasSeenAll, IsReadAfter, IsReadAt, board_at, shown_at};
+    ghost use Rattle.zp_shared.specs.Covered.{covered_counted, covered_still};
 
     ghost keys = { λ z. J.zones };
 
@@ -131,15 +133,25 @@ impl<'a, J: Naming, E: Earlier, R: Wait, K: Keeps> Zones for LockedZones<'a, J, 
 
     ghost shown = { shown_at };
 
+    ghost reads = { λ z y i q t. IsReadAfter (K.bounds (board_at J.boards i).capacity) i q t z y };
+
+    ghost counted = { λ z y i. IsReadAt i z y };
+
+    ghost covers = { HasCovered };
+
+    ghost ended = { λ z i t. HasSeenAll (K.bounds (board_at J.boards i).capacity) z i };
+
+    ghost covers_own = { λ z y i q t read section. read.own section };
+
+    ghost covers_counted = { λ z y i read j n covered. covered_counted z y i j n read covered };
+
+    ghost covers_still = { λ z y i q t read j n covered. covered_still z y j n (read.seen j) covered };
+
+    ghost ends = { λ z y i q t read full. read.full full };
+
     // (in line: where a caller knows which request it is, no room is cleared for a list of pages)
     #[inline(always)]
-    fn section(&mut self, share: &mut Share, zone: usize, request: &Request) -> Reply
-        requires fits { IsShareOf J.zones share.old }
-        requires zone { zone < length share.old.zones }
-        requires may { MayAsk (workers_at J.zones zone) share.old.batch request.now (share_at share.old zone) }
-        ensures asked { IsAskedAt zone request.now result J.zones J.zones None None share.old share.new }
-        ensures read { IsReadAfter (K.bounds (board_at J.boards zone).capacity) zone result share.new self.old self.new }
-    {
+    fn section(&mut self, share: &mut Share, zone: usize, request: &Request) -> Reply {
         let Some((mut guarded, board)) = self.locked(zone) else {
             self.strayed = true;
             return share.refuse(zone, request);
@@ -148,6 +160,7 @@ impl<'a, J: Naming, E: Earlier, R: Wait, K: Keeps> Zones for LockedZones<'a, J, 
         section_and_reading(&mut guarded, board, reader, share, request)
     }
 
+    /// The counts of the reading that `read` makes.
     fn counts(&mut self, zone: usize) -> Counts {
         self.read(zone).counts
     }

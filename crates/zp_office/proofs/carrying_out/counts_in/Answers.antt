@@ -10,6 +10,7 @@ loop-zone-preserved g c =
     record {
       keys = c.counts.ensures.keys ∙ x.keys;
       count = grind (arith, common_steps);
+      covered = λ i n covered. g.met.Z.Zones.covers_counted _ _ _ c.counts.ensures.read i n (x.covered i n covered);
       shown = c.push.ensures ∙ shown-more (g.Z.Zones.shown c.loop-zone.zones) (g.Z.Zones.shown c.counts.new.self) c.loop-zone.row c.loop-zone.zone c.counts.result x.shown c.counts.ensures.others c.counts.ensures.shown;
       told = λ rows e.
           let before = x.told rows e in

@@ -1,5 +1,6 @@
 use Rattle.std.proofs.Common.{◌≡◌, ◌<◌, ◌∙◌, arith, get_or, length, subst, sym, ap}
 use Rattle.std.proofs.lemmas.Grind.{common_steps}
+use Rattle.zp_share.proofs.Covering.{covers_then}
 use Rattle.zp_share.proofs.DrainingAll.{same_share}
 use Rattle.zp_office.specs.declared.command.Command.TheVariants.{Info}
 use Rattle.zp_office.specs.Desks.{IsAnswerTo, IsDeskLeft, after_command, desk_world, next_of}
@@ -26,6 +27,7 @@ loop-at-preserved g c =
       answers =
           answers_more (IsAnswerTo (length old.share.zones)) script c.loop-at.at c.loop-at.desk.replies c.work_next.new.desk.replies command Info a.answer lt is a.replies x.answers
           (subst (λ n. IsAnswerTo n command a.answer) x.same.places a.answers);
+      read = covers_then (g.Z.Zones.covers c.args.zones.now) (g.Z.Zones.covers c.loop-at.zones) (g.Z.Zones.covers c.work_next.new.zones) old.share c.loop-at.desk.share c.work_next.new.desk.share x.read y.read;
       told = λ rows e.
           subst (λ w. IsDeskLeft w (g.Z.Zones.told c.work_next.new.zones) c.work_next.new.desk) (sym (after_more (desk_world rows old) script c.loop-at.at command Info lt is))
           (goes_on (λ w. after_command w command) _ _ _ c.loop-at.desk c.work_next.new.desk (x.told rows e) y.told);

@@ -1,6 +1,7 @@
 use Rattle.std.proofs.Common.{◌≡◌, List, length, take, Some}
 use Rattle.std.specs.List.{AllZip}
 use Rattle.zp_zone.specs.NamedZone.{NamedZone}
+use Rattle.zp_share.specs.Readings.{CoversOwn}
 use Rattle.zp_share.specs.Shares.{IsShareOf, IsSameShare, ties_of}
 use Rattle.zp_office.specs.Desks.{IsAnswerTo, IsDeskLeft, after_commands, desk_world}
 use Rattle.zp_office.proofs.working.work.Given as goal
@@ -15,6 +16,7 @@ invariant-loop-at g l = record {
   script : l.desk.script ≡ l.fn.desk.script;
   count : length l.desk.replies ≡ l.at;
   answers : AllZip (IsAnswerTo (length l.fn.desk.share.zones)) (take l.at l.fn.desk.script) l.desk.replies;
+  read : CoversOwn (g.Z.Zones.covers l.fn.zones) (g.Z.Zones.covers l.zones) l.fn.desk.share l.desk.share;
   told : (rows : List NamedZone) → g.Z.Zones.told l.fn.zones ≡ Some rows →
       IsDeskLeft (after_commands (desk_world rows l.fn.desk) (take l.at l.fn.desk.script)) (g.Z.Zones.told l.zones) l.desk;
 }

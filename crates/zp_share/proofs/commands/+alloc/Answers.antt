@@ -2,7 +2,7 @@ use Rattle.std.proofs.Common.{◌≡◌, ◌-◌, refl, ap, arith, rules, Ok, Er
 use Rattle.zp_model.specs.declared.refused.Refused.TheVariants.{JournalFull}
 use Rattle.zp_share.specs.Commands.{goes_down}
 use Rattle.zp_share.specs.Shares.{world}
-use Rattle.zp_share.proofs.Lending.{stops, down_below, goes_on}
+use Rattle.zp_share.proofs.Lending.{asked_below, stops, down_below, goes_on}
 use Rattle.zp_share.proofs.commands.+alloc.Goals as goal
 use Rattle.zp_share.proofs.commands.+alloc.Goals.{then-zone-eq0, else-zone-eq0}
 
@@ -28,3 +28,10 @@ returns-in-Err-2-clause-told g n c =
     let other : c.in-Err.refused ≡ JournalFull → ⊥ = elim c.if-zone-eq0.branch [ then-zone-eq0 w ↦ search rules | else-zone-eq0 w ↦ search rules ] in
     down_below c.args.order c.args.kind c.args.mark c.args.zone (c.args.zone - 1) (world rows c.args.share.now) c.in-Err.refused _ c.alloc_in.new.share c.alloc.result _ c.alloc.new.share
     (omega (arith, above)) (c.in-Err.ensures.told rows e) (goes_on c.in-Err.refused other) c.alloc.ensures.told
+
+pub returns-in-Err-2-clause-asked : goal.returns-in-Err-2-clause-asked
+returns-in-Err-2-clause-asked g n c =
+    let above : c.args.zone ≡ 0 → ⊥ = elim c.if-zone-eq0.branch [ then-zone-eq0 w ↦ search rules | else-zone-eq0 w ↦ w.if-zone-eq0.false ] in
+    let other : c.in-Err.refused ≡ JournalFull → ⊥ = elim c.if-zone-eq0.branch [ then-zone-eq0 w ↦ search rules | else-zone-eq0 w ↦ search rules ] in
+    asked_below c.args.order c.args.kind c.args.mark c.args.zone (c.args.zone - 1) c.in-Err.refused c.alloc.result c.args.share.now c.alloc_in.new.share c.alloc.new.share
+    (omega (arith, above)) c.in-Err.ensures.same c.in-Err.ensures.only other c.in-Err.ensures.asked c.alloc.ensures.above c.alloc.ensures.asked

@@ -1,6 +1,6 @@
 use Rattle.std.proofs.Common.{◌∙◌, sym, rules}
 use Rattle.zp_share.proofs.Carrying.{moved_fits}
-use Rattle.zp_share.proofs.Freeing.{put_gone, freed, lent_still}
+use Rattle.zp_share.proofs.Freeing.{put_gone, put_others, freed, lent_still}
 use Rattle.zp_share.proofs.commands.free.Goals as goal
 
 pub put_lent-len-requires-clause-lent : goal.put_lent-len-requires-clause-lent
@@ -24,3 +24,12 @@ returns-clause-told g c =
     c.in-Some.ensures.kind (sym c.is_listed.ensures ∙ c.if-not-is_listed.false) (c.in_ok-drain_full.ensures.told rows e)
     (lent_still c.args.share.now c.drain_full.new.share c.args.zone c.args.page c.args.order c.in-Some.kind c.drain_full.ensures.kinds c.in-Some.ensures.kind (sym c.is_listed.ensures ∙ c.if-not-is_listed.false)) (search rules)
     c.put_lent-len.ensures.others c.put_lent-len.ensures.after c.drain_full-2.ensures.told
+
+pub returns-clause-others : goal.returns-clause-others
+returns-clause-others g c =
+    λ i p k ne.
+    c.drain_full-2.ensures.lent i p k
+    ∙ put_others c.drain_full.new.share c.put_lent-len.new.self c.args.zone c.args.page c.in-Some.kind (search rules)
+    (lent_still c.args.share.now c.drain_full.new.share c.args.zone c.args.page c.args.order c.in-Some.kind c.drain_full.ensures.kinds c.in-Some.ensures.kind (sym c.is_listed.ensures ∙ c.if-not-is_listed.false))
+    c.put_lent-len.ensures.others c.put_lent-len.ensures.after i p k ne
+    ∙ c.drain_full.ensures.lent i p k

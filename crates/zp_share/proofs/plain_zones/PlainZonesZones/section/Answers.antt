@@ -2,6 +2,7 @@ use Rattle.std.proofs.Common.{◌<◌, length, map, sym, subst, arith, Some}
 use Rattle.std.specs.Prelude.{slice_set}
 use Rattle.zp_zone.specs.Seats.{IsSeatOf}
 use Rattle.zp_share.specs.Shares.{IsShareOf, IsAskedAt, key_of, named_zone, share_at}
+use Rattle.zp_share.proofs.Tried.{last_made}
 use Rattle.zp_share.proofs.Telling.{as_many, seat_at, asked_at}
 use Rattle.zp_share.proofs.plain_zones.PlainZonesZones.section.Goals as goal
 
@@ -16,9 +17,13 @@ section-requires-clause-seat c =
     subst (λ z. IsSeatOf z (share_at c.args.share.now c.args.zone).seat) (sym c.index_mut.ensures.value)
     (seat_at c.self.inside.zones.items c.args.zone c.args.share.now c.index_mut.result.now (there c) (fits c))
 
-pub returns : goal.returns
-returns c =
+pub returns-clause-asked : goal.returns-clause-asked
+returns-clause-asked c =
     let after = slice_set c.self.inside.zones.items c.args.zone c.section.new.zone in
     subst (λ zs. IsAskedAt c.args.zone c.args.request.now c.section.result (map key_of zs) (map key_of after) (Some (map named_zone zs)) (Some (map named_zone after)) c.args.share.now c.section.new.self) c.self.view_is
     (asked_at c.args.request.now c.section.result c.self.inside.zones.items c.args.share.now c.section.new.self c.args.zone c.index_mut.result.now c.section.new.zone
     (record { fits = subst (λ zs. IsShareOf (map key_of zs) c.args.share.now) (sym c.self.view_is) c.requires.fits; place = c.requires.zone; zone = c.index_mut.ensures.value; others = c.section.ensures.others }) c.section.ensures.section)
+
+pub returns-clause-read : goal.returns-clause-read
+returns-clause-read c =
+    last_made c.args.request.now c.section.result c.index_mut.result.now c.section.new.zone (share_at c.args.share.now c.args.zone) (share_at c.section.new.self c.args.zone) c.section.ensures.section.made
