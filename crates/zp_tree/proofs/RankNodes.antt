@@ -208,6 +208,6 @@ rank_lowered d x v ns r at pos down =
     omega (arith, same, held d i y ns r above (omega arith), best_lowered ns (FAN * y) FAN x v room down)
 
 -- one of eight that is v or more
-pub found_as_much : (q : Option ℕ) (ns : List ℕ) (x v : ℕ) → IsFirstOfEight ns x v q → IsSome q → v ≤ best_from ns x FAN
+pub found_as_much : (q : Option (ℕ × ℕ)) (ns : List ℕ) (x v : ℕ) → IsFirstOfEight ns x v q → IsSome q → v ≤ best_from ns x FAN
 found_as_much None ns x v f some = absurd cc
-found_as_much (Some z) ns x v f some = omega (arith, f.2, best_most ns x FAN z f.0 f.1)
+found_as_much (Some b) ns x v f some = omega (arith, f.2, f.3, best_most ns x FAN b.0 f.0 f.1)

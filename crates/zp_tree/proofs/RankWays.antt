@@ -1,7 +1,8 @@
 -- The ways between the nodes of a tree of ranks and its last row.
-use Rattle.std.proofs.Common.{ℕ, suc, zero, ◌+◌, ◌-◌, ◌*◌, ◌/◌, ◌^◌, ◌≡◌, ◌≤◌, ◌<◌, ◌⊎◌, inl, inr, refl, subst, ◌∙◌, ap, arith, List, slice_index, Some, None}
+use Rattle.std.proofs.Common.{ℕ, suc, zero, ◌+◌, ◌-◌, ◌*◌, ◌/◌, ◌^◌, ◌≡◌, ◌≤◌, ◌<◌, ◌⊎◌, inl, inr, refl, subst, ◌∙◌, ap, arith, List, drop, length, slice_index, Some, None}
 use Rattle.std.proofs.lemmas.Bool.{cases_lt, cases_eq}
-use Rattle.zp_tree.specs.declared.constants.TheConstants.{FAN}
+use Rattle.std.proofs.lemmas.List.{length-drop}
+use Rattle.zp_tree.specs.declared.constants.TheConstants.{FAN, MOST_ROWS, MOST_GROUPS}
 use Rattle.zp_tree.specs.RankRows.{IsInRow, IsRanked, IsFirstOfEight}
 use Rattle.zp_tree.proofs.RankNodes.{eight_of, row_grows, above_in, below_in, best_most, best_some, held, root_row, not_root}
 
@@ -53,20 +54,20 @@ way_begins d v ns = record {
   before = λ y at lt. let r = (above_row d d 0 y (omega arith) at).from in let z : d - 0 ≡ d = omega arith in absurd (omega (arith, r, ap (λ n. above n y) z, lt));
 }
 
-pub way_down : (d j x v z : ℕ) (ns : List ℕ) → IsRanked d ns → IsOnWay d j x v ns → j < d → IsFirstOfEight ns (FAN * x) v (Some z) → IsOnWay d (j + 1) z v ns
+pub way_down : (d j x v : ℕ) (b : ℕ × ℕ) (ns : List ℕ) → IsRanked d ns → IsOnWay d j x v ns → j < d → IsFirstOfEight ns (FAN * x) v (Some b) → IsOnWay d (j + 1) b.0 v ns
 unfolding above
-way_down d j x v z ns r w lt f =
+way_down d j x v b ns r w lt f =
     let e : d - j ≡ suc (d - (j + 1)) = omega arith in
     record {
-      row = (below_in j x z w.row f.0 f.1).0;
+      row = (below_in j x b.0 w.row f.0 f.1).0;
       down = omega arith;
-      enough = inr f.2;
+      enough = inr (omega (arith, f.2, f.3));
       before = λ y at less.
           let u = above (d - (j + 1)) y in
           let same : above (d - j) y ≡ u / FAN = ap (λ n. above n y) e in
           elim (cases_lt (u / FAN) x) [
             | inl lower ↦ w.before y at (omega (arith, same))
-            | inr here ↦ omega (arith, (last_below d (d - (j + 1)) (j + 1) y ns r (omega arith) at).1, f.3 u (omega arith) less)
+            | inr here ↦ omega (arith, (last_below d (d - (j + 1)) (j + 1) y ns r (omega arith) at).1, f.4 u (omega arith) less)
           ];
     }
 
@@ -101,6 +102,13 @@ row_above i x at lt =
 -- the nodes of the last row
 pub last_row : (d x g : ℕ) → x ≡ FAN ^ d + g → g < FAN ^ d → IsInRow d x
 last_row d x g e lt = record { from = omega arith; to = omega arith }
+
+pub group_row : (d f g : ℕ) (ns : List ℕ) → IsRanked d ns → f ≡ FAN ^ d → g < length (drop f ns) → IsInRow d (f + g)
+group_row d f g ns r e lt = last_row d (f + g) g (omega (arith, e)) (omega (arith, lt, e, length-drop f ns, r.size))
+
+-- there are few nodes
+pub few_nodes : (d x : ℕ) → d ≤ MOST_ROWS → IsInRow d x → x < MOST_GROUPS + MOST_GROUPS
+few_nodes d x few at = omega (arith, at.to, row_le d MOST_ROWS few)
 
 -- a node that is no rank stands above the last row, and the others in it
 pub row_short : (d j x : ℕ) → IsInRow j x → j ≤ d → x < FAN ^ d → j < d

@@ -1,8 +1,7 @@
 -- A status tree after a block came, went, was split or joined.
-use Rattle.std.proofs.Common.{ℕ, ◌+◌, ◌-◌, ◌/◌, ◌%◌, ◌^◌, ◌≡◌, ◌≢◌, ◌≤◌, ◌<◌, inl, inr, refl, sym, ◌∙◌, ap, arith, List, length, get_or, max, slice_index, slice_set, Option, Some, None, Vec}
-use Rattle.std.specs.Vec.{with_items}
+use Rattle.std.proofs.Common.{ℕ, ◌+◌, ◌-◌, ◌/◌, ◌%◌, ◌^◌, ◌≡◌, ◌≢◌, ◌≤◌, ◌<◌, inl, inr, refl, sym, ◌∙◌, ap, arith, List, length, get_or, max, slice_index, slice_set, Option, Some, None}
 use Rattle.std.proofs.lemmas.Bool.{cases_eq}
-use Rattle.std.proofs.lemmas.List.{length-set, get_or-set_same, get_or-set_other, with_items_is}
+use Rattle.std.proofs.lemmas.List.{length-set, get_or-set_same, get_or-set_other}
 use Rattle.std.proofs.lemmas.Nat.{pow_pos, pow_below}
 use Rattle.zp_model.specs.Block.{IsBlock, head}
 use Rattle.zp_model.specs.BlockSet.{Starts}
@@ -240,9 +239,3 @@ join_tree m pages ls hs rs ms gs ts s p f t x w r e =
     let v = max (t + 1) (slice_index rs g) in
     let ranked : IsRankedBy (slice_set rs g v) d = ranks_raised rs s d g h t x.ranked (changed_joined m s p f t x.orders w) group room here in
     rw e (another m pages ls hs rs ms gs (slice_set rs g v) s d x r.words r.size (length-set rs g v) (length-set c h (Some t) ∙ a.size) (joined_block_set m s p f t w) (marked_joined m ls hs ms gs s p f t x.marked r w) ranked)
-
--- a tree is kept in the vectors that its words are written back to
-pub tree_kept : {Z Y : Type 0} (m pages : ℕ) (v : Vec ℕ Z) (u : Vec ℕ Y) (ms gs rs ts : List ℕ) (s r : List (Option ℕ)) → IsTreeOf m pages v.items u.items rs s → length gs ≡ length u.items → IsTreeOf m pages ms gs ts r →
-    IsTreeOf m pages (with_items v ms).items (with_items u gs).items ts r
-tree_kept m pages v u ms gs rs ts s r old n t =
-    rw (with_items_is v ms (omega (arith, t.words.size, n, old.words.size, v.ok.0)), with_items_is u gs (n ∙ sym u.ok.0)) t

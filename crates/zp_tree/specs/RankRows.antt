@@ -42,10 +42,15 @@ pub record IsRaised (ns : List ℕ) (x v : ℕ) : Type 0 where
 abbrev pub IsMended : List ℕ → List ℕ → ℕ → Type 0
 IsMended ns ms x = (d : ℕ) → IsInRow d x → IsRankedBut d ns (x / FAN) → IsRanked d ms × (drop (FAN ^ d) ms ≡ drop (FAN ^ d) ns)
 
--- the first node of the eight from node x on that holds v or more
-abbrev pub IsFirstOfEight : List ℕ → ℕ → ℕ → Option ℕ → Type 0
+-- the first of eight ranks that is v or more
+abbrev pub IsFirstAmong : List ℕ → ℕ → Option ℕ → Type 0
+IsFirstAmong rs v None = (p : ℕ) → p < FAN → slice_index rs p < v
+IsFirstAmong rs v (Some p) = (p < FAN) × (v ≤ slice_index rs p) × ((q : ℕ) → q < p → slice_index rs q < v)
+
+-- the first node of the eight from node x on that holds v or more, and what it holds
+abbrev pub IsFirstOfEight : List ℕ → ℕ → ℕ → Option (ℕ × ℕ) → Type 0
 IsFirstOfEight ns x v None = (y : ℕ) → x ≤ y → y < x + FAN → slice_index ns y < v
-IsFirstOfEight ns x v (Some z) = (x ≤ z) × (z < x + FAN) × (v ≤ slice_index ns z) × ((y : ℕ) → x ≤ y → y < z → slice_index ns y < v)
+IsFirstOfEight ns x v (Some b) = (x ≤ b.0) × (b.0 < x + FAN) × (b.1 ≡ slice_index ns b.0) × (v ≤ b.1) × ((y : ℕ) → x ≤ y → y < b.0 → slice_index ns y < v)
 
 -- the first of some ranks that is v or more, and that rank
 abbrev pub IsFirstRank : List ℕ → ℕ → Option (ℕ × ℕ) → Type 0

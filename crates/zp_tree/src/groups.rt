@@ -6,9 +6,10 @@ ghost use Rattle.zp_tree.specs.Marks.{IsLowAlone, IsWords, IsInGroups, HasHigh, 
 
 use crate::constants::{GROUP_PAGES, PLACES, WORD_LEVELS};
 use crate::meter::Meter;
+use crate::metered::MeteredWords;
 use crate::place::{group_of, high_place, low_place, low_word};
 use crate::rank::Rank;
-use crate::word::{Word, union};
+use crate::word::union;
 use zp_model::{Order, PageAt};
 
 /// The number of the first low word of a group.
@@ -20,32 +21,35 @@ pub fn first_word(group: usize) -> usize
 }
 
 /// The rank of the blocks of a group.
-pub fn rank_of(low: &[Word], high: &[Word], group: usize) -> Rank
+pub fn rank_of(low: &MeteredWords, high: &MeteredWords, group: usize) -> Rank
     requires words { IsWords low.now high.now }
     requires group { group < length high.now }
     requires few { length high.now ≤ MOST_GROUPS }
     ensures { IsRankOf low.now high.now group result }
 {
-    if let Some(level) = high[group].largest() {
+    let mut meter = Meter::new();
+    if let Some(level) = high.read(group, &mut meter).largest() {
         return Rank::of_number(level + WORD_LEVELS);
     }
-    match union(low, first_word(group), PLACES as usize).largest() {
+    match union(low, first_word(group), PLACES as usize, &mut meter).largest() {
         Some(level) => Rank::of_number(level),
         None => Rank::none(),
     }
 }
 
 /// Whether the low word around a page has a block of this order and none above. Where it does, the page's group has a block of the order.
-pub fn has_in_word(low: &[Word], at: PageAt, order: Order) -> bool
+pub fn has_in_word(low: &MeteredWords, at: PageAt, order: Order) -> bool
     requires { at / PLACES < length low.now }
     ensures { IsTrue result → (i : ℕ) × HasLow low.now i order × (i / PLACES ≡ at / PLACES) }
 {
-    order.number() < WORD_LEVELS && low[low_word(at)].largest() == Some(order.number())
+    let mut meter = Meter::new();
+    order.number() < WORD_LEVELS
+        && low.read(low_word(at), &mut meter).largest() == Some(order.number())
 }
 
 /// The first block of this order or more of those below order 5 that start in some first low words of a group.
 fn first_low(
-    low: &[Word],
+    low: &MeteredWords,
     group: usize,
     words: u32,
     order: Order,
@@ -63,9 +67,8 @@ fn first_low(
 {
     let first = first_word(group);
     'words: for word in 0..words {
-        meter.rise();
         let number = first + word as usize;
-        if let Some((place, level)) = low[number].first(order.number()) {
+        if let Some((place, level)) = low.read(number, meter).first(order.number()) {
             let at = PageAt::at(PLACES * number as u32 + place);
             return Some((at, Order::new(level)?));
         }
@@ -75,7 +78,7 @@ fn first_low(
 
 /// The first block of this order or more of those from order 5 on of a group. Where its rank tells that there are none, no word is read.
 fn first_high(
-    high: &[Word],
+    high: &MeteredWords,
     group: usize,
     rank: Rank,
     order: Order,
@@ -93,9 +96,8 @@ fn first_high(
     if rank.number() <= WORD_LEVELS {
         return None;
     }
-    meter.rise();
     let least = order.number().max(WORD_LEVELS) - WORD_LEVELS;
-    let (place, level) = high[group].first(least)?;
+    let (place, level) = high.read(group, meter).first(least)?;
     let at = PageAt::at(GROUP_PAGES * group as u32 + PLACES * place);
     Some((at, Order::new(level + WORD_LEVELS)?))
 }
@@ -113,8 +115,8 @@ fn words_before(block: &Option<(PageAt, Order)>) -> u32
 
 /// The first block of this order or more of a group with blocks of this rank. At most as many words are read as it has low ones.
 pub fn first_of(
-    low: &[Word],
-    high: &[Word],
+    low: &MeteredWords,
+    high: &MeteredWords,
     group: usize,
     rank: Rank,
     order: Order,
@@ -152,19 +154,29 @@ fn order_of(level: Option<u8>, place: u8) -> Option<Order>
 }
 
 /// The largest order of a block that lies in the range of this order at a page.
-pub fn largest_in(low: &[Word], high: &[Word], at: PageAt, order: Order) -> Option<Order>
+pub fn largest_in(
+    low: &MeteredWords,
+    high: &MeteredWords,
+    at: PageAt,
+    order: Order,
+) -> Option<Order>
     requires words { IsWords low.now high.now }
     requires aligned { IsInGroups high.now at order }
     ensures { IsLargestMark low.now high.now at order result }
 {
+    let mut meter = Meter::new();
     let level = order.number();
     if level < WORD_LEVELS {
-        return order_of(low[low_word(at)].largest_in(low_place(at), level), 0);
+        let word = low.read(low_word(at), &mut meter);
+        return order_of(word.largest_in(low_place(at), level), 0);
     }
     let above = level - WORD_LEVELS;
-    let word = high[group_of(at)];
+    let word = high.read(group_of(at), &mut meter);
     if let Some(order) = order_of(word.largest_in(high_place(at), above), WORD_LEVELS) {
         return Some(order);
     }
-    order_of(union(low, low_word(at), 1 << above).largest(), 0)
+    order_of(
+        union(low, low_word(at), 1 << above, &mut meter).largest(),
+        0,
+    )
 }

@@ -1,126 +1,152 @@
 //! The bits of blocks in the low and the high words.
-ghost use Rattle.std.specs.Prelude.{◌≡◌, ◌≤◌, ◌<◌, ◌+◌, length};
+ghost use Rattle.std.specs.Prelude.{◌≡◌, ◌≤◌, ◌<◌, ◌+◌, ◌^◌, length};
 ghost use Rattle.zp_model.specs.Block.{head};
 ghost use Rattle.zp_tree.specs.declared.constants.TheConstants.{WORD_LEVELS, MOST_GROUPS};
 ghost use Rattle.zp_tree.specs.Marks.{mark, AreEmptied, IsWords, IsInGroups, IsGroupCleared, IsRemarked, IsJoinedUp, IsSplitUp};
 
 use crate::constants::{PLACES, WORD_LEVELS};
 use crate::groups::first_word;
+use crate::meter::Meter;
+use crate::metered::MeteredWords;
 use crate::place::{group_of, high_place, low_place, low_word};
 use crate::word::Word;
 use zp_model::{Order, PageAt};
 
 /// Sets the bit of a block.
 #[inline]
-pub fn set_mark(low: &mut [Word], high: &mut [Word], at: PageAt, order: Order)
+pub fn set_mark(low: &mut MeteredWords, high: &mut MeteredWords, at: PageAt, order: Order)
     requires words { IsWords low.old high.old }
     requires inside { IsInGroups high.old at order }
     ensures { IsRemarked low.old high.old low.new high.new at order 1 }
 {
+    let mut meter = Meter::new();
     let level = order.number();
     if level < WORD_LEVELS {
         let word = low_word(at);
-        low[word] = low[word].with(low_place(at), level);
+        let old = low.read(word, &mut meter);
+        low.write(word, old.with(low_place(at), level));
     } else {
         let word = group_of(at);
-        high[word] = high[word].with(high_place(at), level - WORD_LEVELS);
+        let old = high.read(word, &mut meter);
+        high.write(word, old.with(high_place(at), level - WORD_LEVELS));
     }
 }
 
 /// Clears the bit of a block.
 #[inline]
-pub fn clear_mark(low: &mut [Word], high: &mut [Word], at: PageAt, order: Order)
+pub fn clear_mark(low: &mut MeteredWords, high: &mut MeteredWords, at: PageAt, order: Order)
     requires words { IsWords low.old high.old }
     requires inside { IsInGroups high.old at order }
     ensures { IsRemarked low.old high.old low.new high.new at order 0 }
 {
+    let mut meter = Meter::new();
     let level = order.number();
     if level < WORD_LEVELS {
         let word = low_word(at);
-        low[word] = low[word].without(low_place(at), level);
+        let old = low.read(word, &mut meter);
+        low.write(word, old.without(low_place(at), level));
     } else {
         let word = group_of(at);
-        high[word] = high[word].without(high_place(at), level - WORD_LEVELS);
+        let old = high.read(word, &mut meter);
+        high.write(word, old.without(high_place(at), level - WORD_LEVELS));
     }
 }
 
 /// Clears the bit of a block of order `from`, and sets those of the high halves that are left where it is split down to order `to`. One
 /// word is written, and a second one where the chain goes from a high word into a low one.
 #[inline]
-pub fn split_marks(low: &mut [Word], high: &mut [Word], at: PageAt, from: Order, to: Order)
+pub fn split_marks(
+    low: &mut MeteredWords,
+    high: &mut MeteredWords,
+    at: PageAt,
+    from: Order,
+    to: Order,
+)
     requires words { IsWords low.old high.old }
     requires inside { IsInGroups high.old at from }
     requires down { to ≤ from }
     ensures { IsSplitUp low.old high.old low.new high.new at from to }
 {
+    let mut meter = Meter::new();
     let top = from.number();
     let least = to.number();
     let word = low_word(at);
     if top < WORD_LEVELS {
         let place = low_place(at);
-        low[word] = low[word].without(place, top).with_halves(place, top, least);
+        let old = low.read(word, &mut meter);
+        let new = old.without(place, top).with_halves(place, top, least);
+        low.write(word, new);
         return;
     }
     let group = group_of(at);
     let place = high_place(at);
     let level = top - WORD_LEVELS;
     let end = least.max(WORD_LEVELS) - WORD_LEVELS;
-    high[group] = high[group]
-        .without(place, level)
-        .with_halves(place, level, end);
+    let old = high.read(group, &mut meter);
+    let new = old.without(place, level).with_halves(place, level, end);
+    high.write(group, new);
     if least < WORD_LEVELS {
-        low[word] = low[word].with_halves(0, WORD_LEVELS, least);
+        let old = low.read(word, &mut meter);
+        low.write(word, old.with_halves(0, WORD_LEVELS, least));
     }
 }
 
 /// Clears the bits of the buddies of the runs around a page, of orders `from` to below `to`, and sets that of the block of order `to`
 /// around it. One word is written, and a second one where the chain goes from a low word into a high one.
 #[inline]
-pub fn join_marks(low: &mut [Word], high: &mut [Word], at: PageAt, from: Order, to: Order)
+pub fn join_marks(
+    low: &mut MeteredWords,
+    high: &mut MeteredWords,
+    at: PageAt,
+    from: Order,
+    to: Order,
+)
     requires words { IsWords low.old high.old }
     requires inside { IsInGroups high.old (head at to) to }
     requires up { from ≤ to }
     ensures { IsJoinedUp low.old high.old low.new high.new at from to }
 {
+    let mut meter = Meter::new();
     let least = from.number();
     let top = to.number();
     let word = low_word(at);
     let head = at.head(to);
     if least < WORD_LEVELS {
         let place = low_place(at);
+        let old = low.read(word, &mut meter);
         if top < WORD_LEVELS {
-            low[word] = low[word]
-                .without_buddies(place, least, top)
-                .with(low_place(head), top);
+            let left = old.without_buddies(place, least, top);
+            low.write(word, left.with(low_place(head), top));
             return;
         }
-        low[word] = low[word].without_buddies(place, least, WORD_LEVELS);
+        low.write(word, old.without_buddies(place, least, WORD_LEVELS));
     }
     let group = group_of(at);
     let level = top - WORD_LEVELS;
     let start = least.max(WORD_LEVELS) - WORD_LEVELS;
-    high[group] = high[group]
-        .without_buddies(high_place(at), start, level)
-        .with(high_place(head), level);
+    let old = high.read(group, &mut meter);
+    let left = old.without_buddies(high_place(at), start, level);
+    high.write(group, left.with(high_place(head), level));
 }
 
 /// Empties so many words from one on.
-fn empty_words(words: &mut [Word], from: usize, count: usize)
-    requires { from + count ≤ length words.old }
+fn empty_words(words: &mut MeteredWords, from: usize, count: usize)
+    requires inside { from + count ≤ length words.old }
+    requires room { from + count < 2 ^ 64 }
     ensures { AreEmptied words.old words.new from count }
 {
     'words: for place in 0..count {
-        words[from + place] = Word::empty();
+        words.write(from + place, Word::empty());
     }
 }
 
 /// Clears the bits of all blocks of a group.
-pub fn clear_marks(low: &mut [Word], high: &mut [Word], group: usize)
+pub fn clear_marks(low: &mut MeteredWords, high: &mut MeteredWords, group: usize)
     requires words { IsWords low.old high.old }
     requires group { group < length high.old }
     requires few { length high.old ≤ MOST_GROUPS }
     ensures { IsGroupCleared low.old high.old low.new high.new group }
 {
     empty_words(low, first_word(group), PLACES as usize);
-    high[group] = Word::empty();
+    high.write(group, Word::empty());
 }

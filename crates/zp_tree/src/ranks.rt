@@ -1,10 +1,11 @@
 //! The ranks of groups, and a tree over them.
 ghost use Rattle.std.specs.Prelude.{◌≡◌, ◌≤◌, ◌<◌, ◌+◌, ◌^◌, ℕ, IfOk, length, slice_index, slice_set};
 ghost use Rattle.zp_tree.specs.declared.constants.TheConstants.{FAN, MOST_ROWS, MOST_GROUPS};
-ghost use Rattle.zp_tree.specs.RankRows.{best_from, IsFirstOfEight, IsFirstRank, IsTopRank, IsOpen, IsRaised, IsMended};
+ghost use Rattle.zp_tree.specs.RankRows.{best_from, IsFirstAmong, IsFirstOfEight, IsFirstRank, IsTopRank, IsOpen, IsRaised, IsMended};
 
 use crate::constants::{FAN, MOST_ROWS};
 use crate::meter::Meter;
+use crate::metered::MeteredRanks;
 use crate::rank::Rank;
 use std::alloc::{AllocError, Global};
 use std::marker::Model;
@@ -17,7 +18,7 @@ const ROOT: usize = 1;
 pub struct RankTree {
     /// How many ranks the row has, and the node of the first.
     first: usize,
-    nodes: Vec<Rank>,
+    nodes: MeteredRanks,
 }
 
 impl Model for RankTree {
@@ -27,58 +28,82 @@ impl Model for RankTree {
 
     ghost Value = { List ℕ };
 
-    ghost view = { λ t. drop t.first t.nodes.items };
+    ghost view = { λ t. drop t.first t.nodes };
 
-    ghost invariant = { λ t. (d : ℕ) × (0 < d) × (d ≤ MOST_ROWS) × (t.first ≡ FAN ^ d) × IsRanked d t.nodes.items };
+    ghost invariant = { λ t. (d : ℕ) × (0 < d) × (d ≤ MOST_ROWS) × (t.first ≡ FAN ^ d) × IsRanked d t.nodes };
 }
 
-/// The largest of the ranks that stand side by side from a node on.
-fn best_of_eight(nodes: &[Rank], node: usize) -> Rank
-    requires { node + FAN ≤ length nodes.now }
-    ensures { result ≡ best_from nodes.now node FAN }
+/// The largest of the ranks that stand side by side from a node on. They are one read.
+fn best_of_eight(nodes: &MeteredRanks, node: usize, meter: &mut Meter) -> Rank
+    requires inside { node + FAN ≤ length nodes.now }
+    requires count { meter.old + 1 < 2 ^ 64 }
+    ensures best { result ≡ best_from nodes.now node FAN }
+    ensures counted { meter.new ≡ meter.old + 1 }
 {
+    let eight = nodes.read_eight(node, meter);
     let mut best = Rank::none();
     'nodes: for place in 0..FAN {
-        best = best.with(nodes[node + place]);
+        best = best.with(eight[place]);
     }
     best
 }
 
-/// The first of the ranks side by side from a node on that is this one or more.
-fn first_of_eight(nodes: &[Rank], node: usize, rank: Rank) -> Option<usize>
-    requires { node + FAN ≤ length nodes.now }
-    ensures { IsFirstOfEight nodes.now node rank result }
+/// The first of eight ranks that is this one or more.
+fn first_among(eight: &[Rank], rank: Rank) -> Option<usize>
+    requires { length eight.now ≡ FAN }
+    ensures { IsFirstAmong eight.now rank result }
 {
-    (node..node + FAN).find(|&it| nodes[it].is_at_least(rank))
+    (0..FAN).find(|&it| eight[it].is_at_least(rank))
+}
+
+/// The first node with this rank or more of those side by side from a node on, and its rank. They are one read.
+fn first_of_eight(
+    nodes: &MeteredRanks,
+    node: usize,
+    rank: Rank,
+    meter: &mut Meter,
+) -> Option<(usize, Rank)>
+    requires inside { node + FAN ≤ length nodes.now }
+    requires count { meter.old + 1 < 2 ^ 64 }
+    ensures first { IsFirstOfEight nodes.now node rank result }
+    ensures counted { meter.new ≡ meter.old + 1 }
+{
+    let eight = nodes.read_eight(node, meter);
+    let place = first_among(eight, rank)?;
+    Some((node + place, eight[place]))
 }
 
 /// Mends the nodes above a rank that fell, up to the first that still holds as much as one of those below it.
-fn mend(nodes: &mut [Rank], rank: usize)
+fn mend(nodes: &mut MeteredRanks, rank: usize)
     requires { IsOpen nodes.old rank }
     ensures { IsMended nodes.old nodes.new rank }
 {
     let mut node = rank;
     'mending: while node > ROOT {
+        let mut meter = Meter::new();
         node /= FAN;
-        if first_of_eight(nodes, FAN * node, nodes[node]).is_some() {
+        let held = nodes.read(node, &mut meter);
+        if first_of_eight(nodes, FAN * node, held, &mut meter).is_some() {
             return;
         }
-        nodes[node] = best_of_eight(nodes, FAN * node);
+        let best = best_of_eight(nodes, FAN * node, &mut meter);
+        nodes.write(node, best);
     }
 }
 
 /// Raises the nodes above a rank that was written, up to the first that holds as much already.
-fn raise(nodes: &mut [Rank], place: usize, rank: Rank)
+fn raise(nodes: &mut MeteredRanks, place: usize, rank: Rank)
     requires { IsRaised nodes.old place rank }
     ensures { IsMended nodes.old nodes.new place }
 {
     let mut node = place;
     'rising: while node > ROOT {
+        let mut meter = Meter::new();
         node /= FAN;
-        if nodes[node].is_at_least(rank) {
+        if nodes.read(node, &mut meter).is_at_least(rank) {
             return;
         }
-        nodes[node] = rank;
+        nodes.write(node, rank);
     }
 }
 
@@ -95,7 +120,7 @@ impl RankTree {
                 first *= FAN;
             }
         }
-        let nodes = Vec::from_elem(alloc, Rank::none(), 2 * first)?;
+        let nodes = MeteredRanks::new(alloc, 2 * first)?;
         Ok(RankTree { first, nodes })
     }
 
@@ -105,7 +130,8 @@ impl RankTree {
         requires { group < length self.now }
         ensures { result ≡ slice_index self.now group }
     {
-        self.nodes[self.first + group]
+        let mut meter = Meter::new();
+        self.nodes.read(self.first + group, &mut meter)
     }
 
     /// Gives a group a rank that is no larger.
@@ -115,9 +141,8 @@ impl RankTree {
         ensures { self.new ≡ slice_set self.old group rank }
     {
         let node = self.first + group;
-        let nodes: &mut [Rank] = &mut self.nodes;
-        nodes[node] = rank;
-        mend(nodes, node);
+        self.nodes.write(node, rank);
+        mend(&mut self.nodes, node);
     }
 
     /// Gives a group a rank that is no smaller.
@@ -127,16 +152,16 @@ impl RankTree {
         ensures { self.new ≡ slice_set self.old group rank }
     {
         let node = self.first + group;
-        let nodes: &mut [Rank] = &mut self.nodes;
-        nodes[node] = rank;
-        raise(nodes, node, rank);
+        self.nodes.write(node, rank);
+        raise(&mut self.nodes, node, rank);
     }
 
     /// The largest rank.
     pub fn largest(&self) -> Rank
         ensures { IsTopRank self.now result }
     {
-        self.nodes[ROOT]
+        let mut meter = Meter::new();
+        self.nodes.read(ROOT, &mut meter)
     }
 
     /// The first group of this rank or more, and its rank. The meter rises by one for each word of ranks read.
@@ -148,10 +173,10 @@ impl RankTree {
         ensures read { meter.old < meter.new }
     {
         let mut node = ROOT;
+        let mut held = Rank::none();
         'rows: while node < self.first {
-            meter.rise();
-            node = first_of_eight(&self.nodes, FAN * node, rank)?;
+            (node, held) = first_of_eight(&self.nodes, FAN * node, rank, meter)?;
         }
-        Some((node - self.first, self.nodes[node]))
+        Some((node - self.first, held))
     }
 }

@@ -8,6 +8,8 @@ ghost use Rattle.zp_tree.specs.Words.{node, IsPlace, IsMarked, IsChain, IsHalved
 
 use crate::buddies::BUDDIES;
 use crate::constants::{PLACES, WORD_LEVELS};
+use crate::meter::Meter;
+use crate::metered::MeteredWords;
 use std::marker::Model;
 
 /// The blocks of 32 places. Contracts see the number whose bits they are.
@@ -193,14 +195,17 @@ impl Word {
     }
 }
 
-/// The blocks of some words together, at their places in each.
-pub fn union(words: &[Word], from: usize, count: usize) -> Word
-    requires { from + count ≤ length words.now }
-    ensures { IsUnion words.now from count result }
+/// The blocks of some words together, at their places in each. Each word is read once.
+pub fn union(words: &MeteredWords, from: usize, count: usize, meter: &mut Meter) -> Word
+    requires inside { from + count ≤ length words.now }
+    requires room { from + count < 2 ^ 64 }
+    requires count { meter.old + count < 2 ^ 64 }
+    ensures union { IsUnion words.now from count result }
+    ensures counted { meter.new ≡ meter.old + count }
 {
     let mut bits = 0;
     'words: for place in 0..count {
-        let word = words[from + place];
+        let word = words.read(from + place, meter);
         bits |= word.bits;
     }
     Word { bits }

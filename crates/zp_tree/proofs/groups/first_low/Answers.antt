@@ -1,26 +1,24 @@
-use Rattle.std.proofs.Common.{ℕ, ◌+◌, ◌*◌, ◌/◌, ◌%◌, ◌≡◌, ◌∙◌, inl, inr, subst, sym, ap, arith, slice_index, slice_index_or}
+use Rattle.std.proofs.Common.{ℕ, ◌+◌, ◌*◌, ◌/◌, ◌%◌, ◌≡◌, ◌∙◌, inl, inr, subst, sym, ap, arith, slice_index}
 use Rattle.std.proofs.lemmas.Bool.{cases_eq}
-use Rattle.std.proofs.lemmas.List.{get_or_default}
 use Rattle.zp_tree.specs.declared.constants.TheConstants.{PLACES}
 use Rattle.zp_tree.specs.Words.{Has}
 use Rattle.zp_tree.specs.Marks.{HasLow}
 use Rattle.zp_tree.proofs.GroupBlocks.{level_low, low_of, low_has}
-use Rattle.zp_tree.proofs.groups.first_low.Goals.{After-index-low-number}
+use Rattle.zp_tree.proofs.groups.first_low.Goals.{After-read}
 use Rattle.zp_tree.proofs.groups.first_low.Goals as goal
 
 -- the word that is read
-read : (c : After-index-low-number) → c.index-low-number.result ≡ slice_index c.args.low.now (PLACES * c.args.group + c.words.word)
+read : (c : After-read) → c.read.result ≡ slice_index c.args.low.now (PLACES * c.args.group + c.words.word)
 read c =
-    c.index-low-number.is ∙ ap (λ r. slice_index_or c.args.low.now (r + c.words.word) c.index-low-number.result) c.first_word-first.ensures
-    ∙ get_or_default c.args.low.now (PLACES * c.args.group + c.words.word) c.index-low-number.result 0 (omega (arith, c.requires.inside))
+    c.read.ensures.word ∙ ap (λ r. slice_index c.args.low.now (r + c.words.word)) c.first_word-first.ensures
 
 -- a block that starts in it
-here : (c : After-index-low-number) (i o : ℕ) → HasLow c.args.low.now i o → i / PLACES ≡ PLACES * c.args.group + c.words.word → Has c.index-low-number.result (i % PLACES) o
+here : (c : After-read) (i o : ℕ) → HasLow c.args.low.now i o → i / PLACES ≡ PLACES * c.args.group + c.words.word → Has c.read.result (i % PLACES) o
 here c i o h e = let P : ℕ → Type 0 = λ w. Has w (i % PLACES) o in subst P (ap (slice_index c.args.low.now) e ∙ sym (read c)) (low_has c.args.low.now i o h)
 
 pub returns-in-Some-clause-first : goal.returns-in-Some-clause-first
 returns-in-Some-clause-first c =
-    let w = (goal.at.returns-in-Some-clause-first c).After-index-low-number in
+    let w = (goal.at.returns-in-Some-clause-first c).After-read in
     let r = PLACES * c.args.group + c.words.word in
     let f = c.in-Some.ensures in
     let P : ℕ → Type 0 = λ v. Has v c.in-Some.place c.in-Some.level in
@@ -40,11 +38,11 @@ returns-in-Some-clause-first c =
 
 pub words-preserved : goal.words-preserved
 words-preserved c =
-    let w = (goal.at.words-preserved c).After-index-low-number in
+    let w = (goal.at.words-preserved c).After-read in
     record {
       none = λ i o y lo hi. elim (cases_eq (i / PLACES) (PLACES * c.args.group + c.words.word)) [
         | inl e ↦ omega (arith, c.in_default.ensures (i % PLACES) o (here w i o y e), c.number.ensures.same)
         | inr ne ↦ c.words.invariant.none i o y lo (omega arith)
       ];
-      counted = omega (arith, c.rise.ensures, c.words.invariant.counted);
+      counted = omega (arith, c.read.ensures.counted, c.words.invariant.counted);
     }

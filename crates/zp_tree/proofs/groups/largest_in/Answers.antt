@@ -1,5 +1,4 @@
-use Rattle.std.proofs.Common.{ℕ, ◌+◌, ◌-◌, ◌*◌, ◌/◌, ◌%◌, ◌^◌, ◌≡◌, ◌≤◌, ◌<◌, ◌∙◌, sym, ap, arith, slice_index, slice_index_or, Option, Some, None}
-use Rattle.std.proofs.lemmas.List.{get_or_default}
+use Rattle.std.proofs.Common.{ℕ, ◌+◌, ◌-◌, ◌*◌, ◌/◌, ◌%◌, ◌^◌, ◌≡◌, ◌≤◌, ◌<◌, ◌∙◌, sym, ap, arith, slice_index, Option, Some, None}
 use Rattle.std.proofs.Math.Pow.{pow_mono}
 use Rattle.zp_tree.specs.declared.constants.TheConstants.{PLACES, WORD_LEVELS, GROUP_PAGES}
 use Rattle.zp_tree.specs.Words.{IsLargestIn, IsUnion}
@@ -15,9 +14,8 @@ largest_in-requires c = rw (c.low_place.ensures.place, c.number-level.ensures.sa
 pub returns-then-level-lt-WORD_LEVELS : goal.returns-then-level-lt-WORD_LEVELS
 returns-then-level-lt-WORD_LEVELS c =
     let lt : c.args.order < WORD_LEVELS = omega arith in
-    let room = (low_place c.args.high.now c.args.at c.args.order c.requires.aligned lt).word in
-    let read : c.index-low-low_word.result ≡ slice_index c.args.low.now (c.args.at / PLACES) =
-    c.index-low-low_word.is ∙ ap (λ r. slice_index_or c.args.low.now r c.index-low-low_word.result) c.low_word.ensures ∙ get_or_default c.args.low.now (c.args.at / PLACES) c.index-low-low_word.result 0 (omega (arith, room, c.requires.words.size)) in
+    let read : c.read-word.result ≡ slice_index c.args.low.now (c.args.at / PLACES) =
+    c.read-word.ensures.word ∙ ap (slice_index c.args.low.now) c.low_word.ensures in
     let m : IsLargestIn (slice_index c.args.low.now (c.args.at / PLACES)) (c.args.at % PLACES) c.args.order c.largest_in.result = rw (read, c.low_place.ensures.place, c.number-level.ensures.same) at c.largest_in.ensures in
     rw c.order_of.ensures (largest_small c.args.low.now c.args.high.now c.args.at c.args.order c.largest_in.result c.requires.words c.requires.aligned lt m)
 
@@ -27,9 +25,8 @@ largest_in-requires-2 c = rw (c.high_place.ensures.place, c.number-level.ensures
 -- what the high word has
 high : (c : After-largest_in-2) → IsLargestIn (slice_index c.args.high.now (c.args.at / GROUP_PAGES)) (c.args.at / PLACES % PLACES) (c.args.order - WORD_LEVELS) c.largest_in-2.result
 high c =
-    let room = (high_place c.args.high.now c.args.at c.args.order c.requires.aligned (omega arith)).word in
-    let read : c.index-high-group_of.result ≡ slice_index c.args.high.now (c.args.at / GROUP_PAGES) =
-    c.index-high-group_of.is ∙ ap (λ r. slice_index_or c.args.high.now r c.index-high-group_of.result) c.group_of.ensures ∙ get_or_default c.args.high.now (c.args.at / GROUP_PAGES) c.index-high-group_of.result 0 room in
+    let read : c.read-word-2.result ≡ slice_index c.args.high.now (c.args.at / GROUP_PAGES) =
+    c.read-word-2.ensures.word ∙ ap (slice_index c.args.high.now) c.group_of.ensures in
     rw (read, c.high_place.ensures.place, c.number-level.ensures.same) at c.largest_in-2.ensures
 
 -- an order is told where a level is
@@ -52,12 +49,12 @@ words c =
     let e : 2 ^ (c.number-level.result - 5) ≡ 2 ^ (c.args.order - WORD_LEVELS) = ap (λ n. 2 ^ (n - 5)) c.number-level.ensures.same in
     (c.low_word-2.ensures, omega (arith, e, le))
 
-pub union-requires : goal.union-requires
-union-requires c = let w = words (goal.at.union-requires c).After-low_word-2 in omega (arith, w.0, w.1, run_words c.args.low.now c.args.high.now c.args.at c.args.order c.requires.words c.requires.aligned (omega arith))
+pub union-requires-clause-inside : goal.union-requires-clause-inside
+union-requires-clause-inside c = let w = words (goal.at.union-requires-clause-inside c).After-low_word-2 in omega (arith, w.0, w.1, run_words c.args.low.now c.args.high.now c.args.at c.args.order c.requires.words c.requires.aligned (omega arith))
 
 pub returns : goal.returns
 returns c =
     let w = words (goal.at.returns c).After-low_word-2 in
-    let u : IsUnion c.args.low.now (c.args.at / PLACES) (2 ^ (c.args.order - WORD_LEVELS)) c.union.result = rw (w.0, w.1) at c.union.ensures in
+    let u : IsUnion c.args.low.now (c.args.at / PLACES) (2 ^ (c.args.order - WORD_LEVELS)) c.union.result = rw (w.0, w.1) at c.union.ensures.union in
     let none = untold c.largest_in-2.result _ _ _ (sym c.order_of-2.ensures ∙ c.in_default.is) (high (goal.at.returns c).After-largest_in-2) in
     rw c.order_of-3.ensures (largest_rest c.args.low.now c.args.high.now c.args.at c.args.order c.union.result c.largest.result c.requires.words c.requires.aligned (omega arith) none u c.largest.ensures)

@@ -1,24 +1,20 @@
-use Rattle.std.proofs.Common.{ℕ, ◌*◌, ◌≡◌, ◌∙◌, subst, slice_index, Some, None}
-use Rattle.std.proofs.lemmas.List.{get_or_default}
+use Rattle.std.proofs.Common.{ℕ, ◌*◌, subst, slice_index, Some, None}
 use Rattle.zp_tree.specs.declared.constants.TheConstants.{PLACES, WORD_LEVELS}
 use Rattle.zp_tree.specs.Words.{IsLargestIn, IsUnion}
 use Rattle.zp_tree.proofs.GroupBlocks.{rank_of_high, rank_of_low, rank_of_none}
-use Rattle.zp_tree.proofs.groups.rank_of.Goals.{After-index-high-group, After-union}
+use Rattle.zp_tree.proofs.groups.rank_of.Goals.{After-union}
 use Rattle.zp_tree.proofs.groups.rank_of.Goals as goal
 
-read : (c : After-index-high-group) → c.index-high-group.result ≡ slice_index c.args.high.now c.args.group
-read c = c.index-high-group.is ∙ get_or_default c.args.high.now c.args.group c.index-high-group.result 0 c.requires.group
-
 united : (c : After-union) → IsUnion c.args.low.now (PLACES * c.args.group) PLACES c.union.result
-united c = rw (← c.first_word.ensures) c.union.ensures
+united c = rw (← c.first_word.ensures) c.union.ensures.union
 
 none : (c : After-union) → IsLargestIn (slice_index c.args.high.now c.args.group) 0 WORD_LEVELS None
-none c = let P : ℕ → Type 0 = λ w. IsLargestIn w 0 WORD_LEVELS None in subst P (read (goal.at.After-union c).After-index-high-group) c.in_default.ensures
+none c = let P : ℕ → Type 0 = λ w. IsLargestIn w 0 WORD_LEVELS None in subst P c.read.ensures.word c.in_default.ensures
 
 pub returns-in-Some : goal.returns-in-Some
 returns-in-Some c =
     let P : ℕ → Type 0 = λ w. IsLargestIn w 0 WORD_LEVELS (Some c.in-Some.level) in
-    rank_of_high _ _ _ c.in-Some.level _ c.requires.words c.requires.group (subst P (read (goal.at.returns-in-Some c).After-index-high-group) c.in-Some.ensures) c.of_number.ensures
+    rank_of_high _ _ _ c.in-Some.level _ c.requires.words c.requires.group (subst P c.read.ensures.word c.in-Some.ensures) c.of_number.ensures
 
 pub returns-in-Some-largest : goal.returns-in-Some-largest
 returns-in-Some-largest c =

@@ -1,5 +1,4 @@
-use Rattle.std.proofs.Common.{ℕ, ◌+◌, ◌-◌, ◌/◌, ◌%◌, ◌≡◌, ◌≤◌, ◌<◌, ◌∙◌, ap, arith, slice_index, slice_index_or, slice_set}
-use Rattle.std.proofs.lemmas.List.{get_or_default}
+use Rattle.std.proofs.Common.{ℕ, ◌+◌, ◌-◌, ◌/◌, ◌%◌, ◌≡◌, ◌≤◌, ◌<◌, ◌∙◌, ap, arith, slice_index, slice_set}
 use Rattle.zp_model.specs.Block.{head}
 use Rattle.zp_tree.specs.declared.constants.TheConstants.{PLACES, WORD_LEVELS, GROUP_PAGES}
 use Rattle.zp_tree.specs.Words.{IsMarked, IsUnpaired}
@@ -18,11 +17,11 @@ returns-then-top-lt-WORD_LEVELS c =
     let lt : c.args.to < WORD_LEVELS = omega arith in
     let room = (low_place c.args.high.now (head c.args.at c.args.to) c.args.to c.requires.inside lt).word in
     let around = head_around c.args.at c.args.to WORD_LEVELS (omega arith) in
-    let read : c.index-low-word.result ≡ slice_index c.args.low.now (c.args.at / PLACES) =
-    c.index-low-word.is ∙ ap (λ r. slice_index_or c.args.low.now r c.index-low-word.result) c.low_word-word.ensures ∙ get_or_default c.args.low.now (c.args.at / PLACES) c.index-low-word.result 0 (omega (arith, room, around, c.requires.words.size)) in
-    let a : IsUnpaired (slice_index c.args.low.now (c.args.at / PLACES)) c.without_buddies.result (c.args.at % PLACES) c.args.from c.args.to = rw (read, c.low_place-place.ensures.place, c.number-least.ensures.same, c.number-top.ensures.same) at c.without_buddies.ensures in
-    let m : IsMarked c.without_buddies.result c.with.result (head c.args.at c.args.to % PLACES) c.args.to 1 = rw (c.low_place.ensures.place, c.head-head.ensures, c.number-top.ensures.same) at c.with.ensures in
-    rw c.low_word-word.ensures (low_joined c.args.low.now c.args.high.now _ _ c.args.at c.args.from c.args.to c.requires.words c.requires.inside lt a m)
+    let read : c.read-old.result ≡ slice_index c.args.low.now (c.args.at / PLACES) =
+    c.read-old.ensures.word ∙ ap (slice_index c.args.low.now) c.low_word-word.ensures in
+    let a : IsUnpaired (slice_index c.args.low.now (c.args.at / PLACES)) c.without_buddies-left.result (c.args.at % PLACES) c.args.from c.args.to = rw (read, c.low_place-place.ensures.place, c.number-least.ensures.same, c.number-top.ensures.same) at c.without_buddies-left.ensures in
+    let m : IsMarked c.without_buddies-left.result c.with.result (head c.args.at c.args.to % PLACES) c.args.to 1 = rw (c.low_place.ensures.place, c.head-head.ensures, c.number-top.ensures.same) at c.with.ensures in
+    rw (c.write.ensures, c.low_word-word.ensures) (low_joined c.args.low.now c.args.high.now _ _ c.args.at c.args.from c.args.to c.requires.words c.requires.inside lt a m)
 
 -- the block stands in a high word
 large : (c : After-group_of-group) → WORD_LEVELS ≤ c.args.to
@@ -39,11 +38,11 @@ high : (c : After-with-2) → (f : ℕ) → WORD_LEVELS ≤ f → f ≤ c.args.t
 high c f least le start =
     let room = (high_place c.args.high.now (head c.args.at c.args.to) c.args.to c.requires.inside (omega arith)).word in
     let around = head_around c.args.at c.args.to (WORD_LEVELS + WORD_LEVELS) (omega (arith, c.requires.inside.order)) in
-    let w = c.index-high-group in
+    let w = c.read-old-2 in
     let read : w.result ≡ slice_index c.args.high.now (c.args.at / GROUP_PAGES) =
-    w.is ∙ ap (λ r. slice_index_or c.args.high.now r w.result) c.group_of-group.ensures ∙ get_or_default c.args.high.now (c.args.at / GROUP_PAGES) w.result 0 (omega (arith, room, around)) in
-    let a : IsUnpaired (slice_index c.args.high.now (c.args.at / GROUP_PAGES)) c.without_buddies-2.result (c.args.at / PLACES % PLACES) (f - WORD_LEVELS) (c.args.to - WORD_LEVELS) = rw (read, c.high_place.ensures.place, start, c.number-top.ensures.same) at c.without_buddies-2.ensures in
-    let m : IsMarked c.without_buddies-2.result c.with-2.result (head c.args.at c.args.to / PLACES % PLACES) (c.args.to - WORD_LEVELS) 1 = rw (c.high_place-2.ensures.place, c.head-head.ensures, c.number-top.ensures.same) at c.with-2.ensures in
+    w.ensures.word ∙ ap (slice_index c.args.high.now) c.group_of-group.ensures in
+    let a : IsUnpaired (slice_index c.args.high.now (c.args.at / GROUP_PAGES)) c.without_buddies-left-2.result (c.args.at / PLACES % PLACES) (f - WORD_LEVELS) (c.args.to - WORD_LEVELS) = rw (read, c.high_place.ensures.place, start, c.number-top.ensures.same) at c.without_buddies-left-2.ensures in
+    let m : IsMarked c.without_buddies-left-2.result c.with-2.result (head c.args.at c.args.to / PLACES % PLACES) (c.args.to - WORD_LEVELS) 1 = rw (c.high_place-2.ensures.place, c.head-head.ensures, c.number-top.ensures.same) at c.with-2.ensures in
     rw c.group_of-group.ensures (high_joined c.args.low.now c.args.high.now _ _ c.args.at f c.args.to c.requires.words c.requires.inside least le a m)
 
 pub returns : goal.returns
@@ -53,13 +52,13 @@ returns c =
       | then-least-lt-WORD_LEVELS+else-top-lt-WORD_LEVELS w ↦
           let room = (high_place c.args.high.now (head c.args.at c.args.to) c.args.to c.requires.inside (omega arith)).word in
           let around = head_around c.args.at c.args.to (WORD_LEVELS + WORD_LEVELS) (omega (arith, c.requires.inside.order)) in
-          let v = w.index-low-word-then-least-lt-WORD_LEVELS in
+          let v = w.read-old in
           let read : v.result ≡ slice_index c.args.low.now (c.args.at / PLACES) =
-          v.is ∙ ap (λ r. slice_index_or c.args.low.now r v.result) c.low_word-word.ensures ∙ get_or_default c.args.low.now (c.args.at / PLACES) v.result 0 (omega (arith, room, around, c.requires.words.size)) in
-          let u = w.without_buddies-then-least-lt-WORD_LEVELS in
+          v.ensures.word ∙ ap (slice_index c.args.low.now) c.low_word-word.ensures in
+          let u = w.without_buddies in
           let a : IsUnpaired (slice_index c.args.low.now (c.args.at / PLACES)) u.result (c.args.at % PLACES) c.args.from WORD_LEVELS = rw (read, w.low_place-place.ensures.place, c.number-least.ensures.same) at u.ensures in
           let s = high after WORD_LEVELS (omega arith) (omega arith) (omega arith) in
-          rw (w.low-is, c.low_word-word.ensures) (join_on _ _ _ u.result c.args.at c.args.from c.args.to c.requires.words c.requires.inside (omega arith) (omega arith) a s)
+          rw (w.low-is, w.write-then-least-lt-WORD_LEVELS.ensures, c.low_word-word.ensures) (join_on _ _ _ u.result c.args.at c.args.from c.args.to c.requires.words c.requires.inside (omega arith) (omega arith) a s)
       | else-least-lt-WORD_LEVELS w ↦ rw w.low-is (high after c.args.from (omega arith) c.requires.up (omega arith))
     ] in
-    whole
+    rw c.write-2.ensures whole

@@ -1,56 +1,55 @@
-use Rattle.std.proofs.Common.{ℕ, ◌-◌, ◌/◌, ◌%◌, ◌≡◌, ◌≤◌, ◌<◌, ◌∙◌, ap, arith, max, slice_index, slice_index_or, slice_set}
-use Rattle.std.proofs.lemmas.List.{get_or_default}
+use Rattle.std.proofs.Common.{ℕ, ◌-◌, ◌/◌, ◌%◌, ◌≡◌, ◌≤◌, ◌<◌, ◌∙◌, ap, arith, max, slice_index, slice_set}
 use Rattle.zp_tree.specs.declared.constants.TheConstants.{PLACES, WORD_LEVELS, GROUP_PAGES}
 use Rattle.zp_tree.specs.Words.{IsMarked, IsHalved}
 use Rattle.zp_tree.specs.Marks.{IsSplitUp}
 use Rattle.zp_tree.proofs.Places.{low_place, high_place}
 use Rattle.zp_tree.proofs.SplitMarks.{low_split, high_split, split_on}
-use Rattle.zp_tree.proofs.marks.split_marks.Goals.{After-with_halves-2}
+use Rattle.zp_tree.proofs.marks.split_marks.Goals.{After-with_halves-new-2}
 use Rattle.zp_tree.proofs.marks.split_marks.Goals as goal
 
 pub without-requires : goal.without-requires
 without-requires c = rw (c.low_place-place.ensures.place, c.number-top.ensures.same) (low_place c.args.high.now c.args.at c.args.from c.requires.inside (omega arith)).place
 
-pub with_halves-requires-clause-block : goal.with_halves-requires-clause-block
-with_halves-requires-clause-block c = rw (c.low_place-place.ensures.place, c.number-top.ensures.same) (low_place c.args.high.now c.args.at c.args.from c.requires.inside (omega arith)).place
+pub with_halves-new-requires-clause-block : goal.with_halves-new-requires-clause-block
+with_halves-new-requires-clause-block c = rw (c.low_place-place.ensures.place, c.number-top.ensures.same) (low_place c.args.high.now c.args.at c.args.from c.requires.inside (omega arith)).place
 
 pub returns-then-top-lt-WORD_LEVELS : goal.returns-then-top-lt-WORD_LEVELS
 returns-then-top-lt-WORD_LEVELS c =
     let lt : c.args.from < WORD_LEVELS = omega arith in
     let room = (low_place c.args.high.now c.args.at c.args.from c.requires.inside lt).word in
-    let read : c.index-low-word.result ≡ slice_index c.args.low.now (c.args.at / PLACES) =
-    c.index-low-word.is ∙ ap (λ r. slice_index_or c.args.low.now r c.index-low-word.result) c.low_word-word.ensures ∙ get_or_default c.args.low.now (c.args.at / PLACES) c.index-low-word.result 0 (omega (arith, room, c.requires.words.size)) in
+    let read : c.read-old.result ≡ slice_index c.args.low.now (c.args.at / PLACES) =
+    c.read-old.ensures.word ∙ ap (slice_index c.args.low.now) c.low_word-word.ensures in
     let m : IsMarked (slice_index c.args.low.now (c.args.at / PLACES)) c.without.result (c.args.at % PLACES) c.args.from 0 = rw (read, c.low_place-place.ensures.place, c.number-top.ensures.same) at c.without.ensures in
-    let h : IsHalved c.without.result c.with_halves.result (c.args.at % PLACES) c.args.from c.args.to = rw (c.low_place-place.ensures.place, c.number-top.ensures.same, c.number-least.ensures.same) at c.with_halves.ensures in
-    rw c.low_word-word.ensures (low_split c.args.low.now c.args.high.now c.without.result c.with_halves.result c.args.at c.args.from c.args.to c.requires.words c.requires.inside lt m h)
+    let h : IsHalved c.without.result c.with_halves-new.result (c.args.at % PLACES) c.args.from c.args.to = rw (c.low_place-place.ensures.place, c.number-top.ensures.same, c.number-least.ensures.same) at c.with_halves-new.ensures in
+    rw (c.write.ensures, c.low_word-word.ensures) (low_split c.args.low.now c.args.high.now c.without.result c.with_halves-new.result c.args.at c.args.from c.args.to c.requires.words c.requires.inside lt m h)
 
 pub without-requires-2 : goal.without-requires-2
 without-requires-2 c = rw (c.high_place-place.ensures.place, c.number-top.ensures.same) (high_place c.args.high.now c.args.at c.args.from c.requires.inside (omega arith)).place
 
-pub with_halves-requires-2-clause-block : goal.with_halves-requires-2-clause-block
-with_halves-requires-2-clause-block c = rw (c.high_place-place.ensures.place, c.number-top.ensures.same) (high_place c.args.high.now c.args.at c.args.from c.requires.inside (omega arith)).place
+pub with_halves-new-requires-2-clause-block : goal.with_halves-new-requires-2-clause-block
+with_halves-new-requires-2-clause-block c = rw (c.high_place-place.ensures.place, c.number-top.ensures.same) (high_place c.args.high.now c.args.at c.args.from c.requires.inside (omega arith)).place
 
 -- the high word after it, for the last order that stands there
-high : (c : After-with_halves-2) → (t : ℕ) → t ≡ max c.args.to WORD_LEVELS → IsSplitUp c.args.low.now c.args.high.now c.args.low.now (slice_set c.args.high.now c.group_of-group.result c.with_halves-2.result) c.args.at c.args.from t
+high : (c : After-with_halves-new-2) → (t : ℕ) → t ≡ max c.args.to WORD_LEVELS → IsSplitUp c.args.low.now c.args.high.now c.args.low.now (slice_set c.args.high.now c.group_of-group.result c.with_halves-new-2.result) c.args.at c.args.from t
 high c t e =
     let le : WORD_LEVELS ≤ c.args.from = omega arith in
     let room = (high_place c.args.high.now c.args.at c.args.from c.requires.inside le).word in
-    let read : c.index-high-group.result ≡ slice_index c.args.high.now (c.args.at / GROUP_PAGES) =
-    c.index-high-group.is ∙ ap (λ r. slice_index_or c.args.high.now r c.index-high-group.result) c.group_of-group.ensures ∙ get_or_default c.args.high.now (c.args.at / GROUP_PAGES) c.index-high-group.result 0 room in
+    let read : c.read-old-2.result ≡ slice_index c.args.high.now (c.args.at / GROUP_PAGES) =
+    c.read-old-2.ensures.word ∙ ap (slice_index c.args.high.now) c.group_of-group.ensures in
     let end : c.max-end.result ≡ t = omega arith in
     let m : IsMarked (slice_index c.args.high.now (c.args.at / GROUP_PAGES)) c.without-2.result (c.args.at / PLACES % PLACES) (c.args.from - WORD_LEVELS) 0 = rw (read, c.high_place-place.ensures.place, c.number-top.ensures.same) at c.without-2.ensures in
-    let h : IsHalved c.without-2.result c.with_halves-2.result (c.args.at / PLACES % PLACES) (c.args.from - WORD_LEVELS) (t - WORD_LEVELS) = rw (c.high_place-place.ensures.place, c.number-top.ensures.same, end) at c.with_halves-2.ensures in
-    rw c.group_of-group.ensures (high_split c.args.low.now c.args.high.now c.without-2.result c.with_halves-2.result c.args.at c.args.from t c.requires.words c.requires.inside (omega arith) (omega arith) m h)
+    let h : IsHalved c.without-2.result c.with_halves-new-2.result (c.args.at / PLACES % PLACES) (c.args.from - WORD_LEVELS) (t - WORD_LEVELS) = rw (c.high_place-place.ensures.place, c.number-top.ensures.same, end) at c.with_halves-new-2.ensures in
+    rw c.group_of-group.ensures (high_split c.args.low.now c.args.high.now c.without-2.result c.with_halves-new-2.result c.args.at c.args.from t c.requires.words c.requires.inside (omega arith) (omega arith) m h)
 
 pub returns-then-least-lt-WORD_LEVELS : goal.returns-then-least-lt-WORD_LEVELS
 returns-then-least-lt-WORD_LEVELS c =
-    let s = high (goal.at.returns-then-least-lt-WORD_LEVELS c).After-with_halves-2 WORD_LEVELS (omega arith) in
+    let s = high (goal.at.returns-then-least-lt-WORD_LEVELS c).After-with_halves-new-2 WORD_LEVELS (omega arith) in
     let room = (high_place c.args.high.now c.args.at c.args.from c.requires.inside (omega arith)).word in
-    let w = c.index-low-word-then-least-lt-WORD_LEVELS in
+    let w = c.read-old-then-least-lt-WORD_LEVELS in
     let read : w.result ≡ slice_index c.args.low.now (c.args.at / PLACES) =
-    w.is ∙ ap (λ r. slice_index_or c.args.low.now r w.result) c.low_word-word.ensures ∙ get_or_default c.args.low.now (c.args.at / PLACES) w.result 0 (omega (arith, room, c.requires.words.size)) in
-    let h : IsHalved (slice_index c.args.low.now (c.args.at / PLACES)) c.with_halves-then-least-lt-WORD_LEVELS.result 0 WORD_LEVELS c.args.to = rw (read, c.number-least.ensures.same) at c.with_halves-then-least-lt-WORD_LEVELS.ensures in
-    rw c.low_word-word.ensures (split_on c.args.low.now c.args.high.now _ _ _ c.args.at c.args.from c.args.to (omega arith) (omega arith) c.requires.inside s h)
+    w.ensures.word ∙ ap (slice_index c.args.low.now) c.low_word-word.ensures in
+    let h : IsHalved (slice_index c.args.low.now (c.args.at / PLACES)) c.with_halves.result 0 WORD_LEVELS c.args.to = rw (read, c.number-least.ensures.same) at c.with_halves.ensures in
+    rw (c.write-2.ensures, c.write-then-least-lt-WORD_LEVELS.ensures, c.low_word-word.ensures) (split_on c.args.low.now c.args.high.now _ _ _ c.args.at c.args.from c.args.to (omega arith) (omega arith) c.requires.inside s h)
 
 pub returns-else-least-lt-WORD_LEVELS : goal.returns-else-least-lt-WORD_LEVELS
-returns-else-least-lt-WORD_LEVELS c = high (goal.at.returns-else-least-lt-WORD_LEVELS c).After-with_halves-2 c.args.to (omega arith)
+returns-else-least-lt-WORD_LEVELS c = rw c.write-2.ensures (high (goal.at.returns-else-least-lt-WORD_LEVELS c).After-with_halves-new-2 c.args.to (omega arith))

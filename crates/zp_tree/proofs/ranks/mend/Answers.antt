@@ -1,5 +1,5 @@
-use Rattle.std.proofs.Common.{ℕ, rules, refl, ◌+◌, ◌-◌, ◌*◌, ◌/◌, ◌≡◌, ◌≤◌, ◌<◌, ◌∙◌, subst, arith, length, slice_index, slice_index_or}
-use Rattle.std.proofs.lemmas.List.{drop-set-lt, get_or_default}
+use Rattle.std.proofs.Common.{ℕ, rules, refl, ◌+◌, ◌-◌, ◌*◌, ◌/◌, ◌≡◌, ◌≤◌, ◌<◌, ◌∙◌, sym, subst, arith, length, slice_index}
+use Rattle.std.proofs.lemmas.List.{drop-set-lt}
 use Rattle.zp_tree.specs.declared.constants.TheConstants.{FAN}
 use Rattle.zp_tree.specs.RankRows.{best_from, IsInRow, IsRankedBut}
 use Rattle.zp_tree.proofs.RankNodes.{row_grows, row_same, node_right, node_mended, lowered_next, found_as_much}
@@ -20,14 +20,11 @@ room c =
     let up = row_above v.0 c.mending.node v.2 (omega arith) in
     eight_in c.requires.d up.0 (c.mending.node / FAN) (length c.mending.nodes) (omega (arith, up.1, v.1)) up.2 v.3.size
 
-pub bounds-nodes-node : goal.bounds-nodes-node
-bounds-nodes-node c = omega (arith, room (goal.at.bounds-nodes-node c).In-mending)
+pub read-held-requires-clause-inside : goal.read-held-requires-clause-inside
+read-held-requires-clause-inside c = omega (arith, room (goal.at.read-held-requires-clause-inside c).In-mending)
 
-pub bounds-nodes-node-in-mending : goal.bounds-nodes-node-in-mending
-bounds-nodes-node-in-mending c = omega (arith, room (goal.at.bounds-nodes-node-in-mending c).In-mending)
-
-pub first_of_eight-requires : goal.first_of_eight-requires
-first_of_eight-requires c = room (goal.at.first_of_eight-requires c).In-mending
+pub first_of_eight-requires-clause-inside : goal.first_of_eight-requires-clause-inside
+first_of_eight-requires-clause-inside c = room (goal.at.first_of_eight-requires-clause-inside c).In-mending
 
 pub returns-then-is_some : goal.returns-then-is_some
 returns-then-is_some c d at but =
@@ -35,31 +32,31 @@ returns-then-is_some c d at but =
     let v = c.mending.invariant d at but (most m d at) in
     let up = row_above v.0 c.mending.node v.2 (omega arith) in
     let y = c.mending.node / FAN in
-    let lt : y < length c.mending.nodes = omega (arith, room m) in
-    let held = slice_index_or c.mending.nodes y c.index-nodes-node.result in
-    let read : slice_index c.mending.nodes y ≡ held = get_or_default c.mending.nodes y 0 c.index-nodes-node.result lt in
-    let found : held ≤ best_from c.mending.nodes (FAN * y) FAN = found_as_much c.first_of_eight.result c.mending.nodes (FAN * y) held c.first_of_eight.ensures (search rules) in
+    let held = c.read-held.result in
+    let read : slice_index c.mending.nodes y ≡ held = sym c.read-held.ensures.rank in
+    let found : held ≤ best_from c.mending.nodes (FAN * y) FAN = found_as_much c.first_of_eight.result c.mending.nodes (FAN * y) held c.first_of_eight.ensures.first (search rules) in
     let here : slice_index c.mending.nodes y ≡ best_from c.mending.nodes (FAN * y) FAN = omega (arith, found, read, v.5 (omega (arith, up.1))) in
     (node_right d up.0 y c.mending.nodes v.3 up.2 here, v.4)
 
-pub best_of_eight-requires : goal.best_of_eight-requires
-best_of_eight-requires c = room (goal.at.best_of_eight-requires c).In-mending
+pub best_of_eight-best-requires-clause-inside : goal.best_of_eight-best-requires-clause-inside
+best_of_eight-best-requires-clause-inside c = room (goal.at.best_of_eight-best-requires-clause-inside c).In-mending
 
-pub bounds-nodes-node-in-mending-2 : goal.bounds-nodes-node-in-mending-2
-bounds-nodes-node-in-mending-2 c = omega (arith, room (goal.at.bounds-nodes-node-in-mending-2 c).In-mending)
+pub write-requires : goal.write-requires
+write-requires c = omega (arith, room (goal.at.write-requires c).In-mending)
 
 pub mending-preserved : goal.mending-preserved
 mending-preserved c d at but start =
     let v = c.mending.invariant d at but start in
     let up = row_above v.0 c.mending.node v.2 (omega arith) in
     let y = c.mending.node / FAN in
-    let b = c.best_of_eight.result in
+    let b = c.best_of_eight-best.result in
     let lt : up.0 < d = omega (arith, up.1, v.1) in
-    let down : b ≤ slice_index c.mending.nodes y = omega (arith, c.best_of_eight.ensures, v.5 (omega (arith, up.1))) in (
+    let down : b ≤ slice_index c.mending.nodes y = omega (arith, c.best_of_eight-best.ensures.best, v.5 (omega (arith, up.1))) in
+    rw c.write.ensures (
       up.0,
       omega arith,
       up.2,
-      node_mended d up.0 y b c.mending.nodes v.3 up.2 lt c.best_of_eight.ensures,
+      node_mended d up.0 y b c.mending.nodes v.3 up.2 lt c.best_of_eight-best.ensures.best,
       drop-set-lt _ c.mending.nodes y _ (omega (arith, up.2.to, row_grows up.0 d lt)) ∙ v.4,
       λ pos.
           let i = up.0 - 1 in

@@ -1,5 +1,5 @@
 use Rattle.std.proofs.Common.{ℕ, rules, refl, ◌+◌, ◌-◌, ◌*◌, ◌/◌, ◌≡◌, ◌≤◌, ◌<◌, ◌∙◌, sym, subst, arith, length, max, slice_index}
-use Rattle.std.proofs.lemmas.List.{drop-set-lt, get_or_default}
+use Rattle.std.proofs.lemmas.List.{drop-set-lt}
 use Rattle.zp_tree.specs.declared.constants.TheConstants.{FAN}
 use Rattle.zp_tree.specs.RankRows.{best_from, IsInRow, IsRankedBut}
 use Rattle.zp_tree.proofs.RankNodes.{row_grows, row_same, node_mended, raised_right, raised_next}
@@ -20,21 +20,21 @@ room c =
     let up = row_above v.0 c.rising.node v.2 (omega arith) in
     omega (arith, eight_in c.requires.d up.0 (c.rising.node / FAN) (length c.rising.nodes) (omega (arith, up.1, v.1)) up.2 v.3.size)
 
-pub bounds-nodes-node : goal.bounds-nodes-node
-bounds-nodes-node c = room (goal.at.bounds-nodes-node c).In-rising
+pub read-requires-clause-inside : goal.read-requires-clause-inside
+read-requires-clause-inside c = room (goal.at.read-requires-clause-inside c).In-rising
 
-read : (c : After-is_at_least) → slice_index c.rising.nodes (c.rising.node / FAN) ≡ c.index-nodes-node.result
-read c = get_or_default c.rising.nodes (c.rising.node / FAN) 0 c.index-nodes-node.result (room (goal.at.After-is_at_least c).In-rising) ∙ sym c.index-nodes-node.is
+read : (c : After-is_at_least) → slice_index c.rising.nodes (c.rising.node / FAN) ≡ c.read.result
+read c = sym c.read.ensures.rank
 
 pub returns-then-is_at_least : goal.returns-then-is_at_least
 returns-then-is_at_least c d at but =
     let v = c.rising.invariant d at but (next (goal.at.returns-then-is_at_least c).In-rising d at) in
     let up = row_above v.0 c.rising.node v.2 (omega arith) in
-    let le : c.args.rank ≤ c.index-nodes-node.result = search rules in
+    let le : c.args.rank ≤ c.read.result = search rules in
     (raised_right d up.0 (c.rising.node / FAN) c.args.rank c.rising.nodes v.3 up.2 (v.5 (omega (arith, up.1))) (omega (arith, le, read (goal.at.returns-then-is_at_least c).After-is_at_least)), v.4)
 
-pub bounds-nodes-node-in-rising : goal.bounds-nodes-node-in-rising
-bounds-nodes-node-in-rising c = room (goal.at.bounds-nodes-node-in-rising c).In-rising
+pub write-requires : goal.write-requires
+write-requires c = room (goal.at.write-requires c).In-rising
 
 pub rising-preserved : goal.rising-preserved
 rising-preserved c d at but start =
@@ -42,9 +42,10 @@ rising-preserved c d at but start =
     let up = row_above v.0 c.rising.node v.2 (omega arith) in
     let y = c.rising.node / FAN in
     let lt : up.0 < d = omega (arith, up.1, v.1) in
-    let less : c.index-nodes-node.result < c.args.rank = search rules in
+    let less : c.read.result < c.args.rank = search rules in
     let small : slice_index c.rising.nodes y < c.args.rank = omega (arith, less, read (goal.at.rising-preserved c).After-is_at_least) in
-    let best = v.5 (omega (arith, up.1)) in (
+    let best = v.5 (omega (arith, up.1)) in
+    rw c.write.ensures (
       up.0,
       omega arith,
       up.2,

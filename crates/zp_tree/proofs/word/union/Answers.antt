@@ -1,7 +1,6 @@
 use Rattle.std.proofs.Common.{◌+◌, ◌≡◌, inl, inr, ◌∙◌, ap, sym, arith, slice_index}
 use Rattle.std.specs.Int.{bit_at}
 use Rattle.std.proofs.lemmas.Bool.{cases_eq}
-use Rattle.std.proofs.lemmas.List.{get_or_default}
 use Rattle.std.proofs.lemmas.Nat.Bits.{bit_at_or, bit_at-lt}
 use Rattle.zp_tree.proofs.word.union.Goals as goal
 
@@ -9,7 +8,7 @@ pub words-preserved : goal.words-preserved
 words-preserved c =
     let b = c.words.bits in
     let w = c.word.inside.bits in
-    let at : slice_index c.args.words.now (c.args.from + c.words.place) ≡ w = get_or_default c.args.words.now (c.args.from + c.words.place) 0 c.index-words-from.result (omega (arith, c.requires)) ∙ sym c.index-words-from.is ∙ sym c.word.view_is in
+    let at : slice_index c.args.words.now (c.args.from + c.words.place) ≡ w = sym c.read-word.ensures.word ∙ sym c.word.view_is in
     let u = c.words.invariant.union in
     record {
       union = record {
@@ -25,4 +24,5 @@ words-preserved c =
             ];
       };
       none = omega (arith, bit_at_or b w 0, c.words.invariant.none, c.word.invariant);
+      counted = omega (arith, c.read-word.ensures.counted, c.words.invariant.counted);
     }

@@ -1,53 +1,46 @@
-use Rattle.std.proofs.Common.{ℕ, ◌+◌, ◌*◌, ◌/◌, ◌≡◌, ◌∙◌, List, subst, sym, ap, arith, drop, length, max, set, slice_index}
-use Rattle.std.specs.Vec.{with_items}
-use Rattle.std.proofs.lemmas.List.{drop-set-add, get_or-drop, with_items_is, length-drop}
-use Rattle.zp_tree.specs.declared.constants.TheConstants.{FAN}
-use Rattle.zp_tree.specs.RankRows.{best_from, IsRanked, IsRankedBut, IsInRow}
+use Rattle.std.proofs.Common.{◌+◌, ◌≡◌, ◌∙◌, sym, ap, arith, drop, length, set, slice_index}
+use Rattle.std.proofs.lemmas.List.{drop-set-add, get_or-drop}
+use Rattle.zp_tree.specs.RankRows.{IsRanked, IsInRow, IsMended}
 use Rattle.zp_tree.proofs.RankNodes.{rank_written, rank_raised}
-use Rattle.zp_tree.proofs.RankWays.{last_row}
-use Rattle.zp_tree.proofs.ranks.RankTree.raise.Goals.{After-deref_mut-nodes, After-raise}
+use Rattle.zp_tree.proofs.RankWays.{group_row, few_nodes}
+use Rattle.zp_tree.proofs.ranks.RankTree.raise.Goals.{After-self, After-raise}
 use Rattle.zp_tree.proofs.ranks.RankTree.raise.Goals as goal
 
 -- the group's node
-at : (c : After-deref_mut-nodes) → IsInRow c.self.invariant.0 (c.self.inside.first + c.args.group)
-at c =
-    let v = c.self.invariant in
-    let n : length (drop c.self.inside.first c.self.inside.nodes.items) ≡ length c.args.self.now = ap length c.self.view_is in
-    last_row v.0 (c.self.inside.first + c.args.group) c.args.group (omega (arith, v.3)) (omega (arith, c.requires.group, n, length-drop c.self.inside.first c.self.inside.nodes.items, v.4.size, v.3))
+at : (c : After-self) → IsInRow c.self.invariant.0 (c.self.inside.first + c.args.group)
+at c = let v = c.self.invariant in group_row v.0 _ _ c.self.inside.nodes v.4 v.3 (omega (arith, c.requires.group, ap length c.self.view_is))
 
-wrote : (c : After-deref_mut-nodes) → IsRankedBut c.self.invariant.0 (set c.deref_mut-nodes.result.now (c.self.inside.first + c.args.group) c.args.rank) ((c.self.inside.first + c.args.group) / FAN)
-wrote c =
-    let v = c.self.invariant in
-    let P : List ℕ → Type 0 = λ ns. IsRanked v.0 ns in
-    rank_written v.0 (c.self.inside.first + c.args.group) c.args.rank c.deref_mut-nodes.result.now (subst P (sym c.deref_mut-nodes.ensures.value) v.4) (at c)
+pub overflow_add-node : goal.overflow_add-node
+overflow_add-node c = omega (arith, few_nodes c.self.invariant.0 _ c.self.invariant.2 (at (goal.at.overflow_add-node c).After-self))
 
--- the node above should hold the larger of the rank and what it holds
-next : (c : After-deref_mut-nodes) → max (slice_index (set c.deref_mut-nodes.result.now (c.self.inside.first + c.args.group) c.args.rank) ((c.self.inside.first + c.args.group) / FAN)) c.args.rank ≡ best_from (set c.deref_mut-nodes.result.now (c.self.inside.first + c.args.group) c.args.rank) (FAN * ((c.self.inside.first + c.args.group) / FAN)) FAN
-next c =
-    let v = c.self.invariant in
-    let x = c.self.inside.first + c.args.group in
-    let P : List ℕ → Type 0 = λ ns. IsRanked v.0 ns in
-    let r = subst P (sym c.deref_mut-nodes.ensures.value) v.4 in
-    let held : slice_index c.deref_mut-nodes.result.now x ≡ slice_index c.args.self.now c.args.group =
-    ap (λ ns. slice_index ns x) c.deref_mut-nodes.ensures.value ∙ sym (get_or-drop c.self.inside.first c.self.inside.nodes.items c.args.group 0) ∙ ap (λ rs. slice_index rs c.args.group) c.self.view_is in
-    rank_raised v.0 x c.args.rank c.deref_mut-nodes.result.now r (at c) v.1 (omega (arith, held, c.requires.up))
+pub write-requires : goal.write-requires
+write-requires c = omega (arith, (at (goal.at.write-requires c).After-self).to, c.self.invariant.4.size)
 
 pub raise-requires : goal.raise-requires
 raise-requires c =
-    let d = (goal.at.raise-requires c).After-deref_mut-nodes in
-    record { d = c.self.invariant.0; few = c.self.invariant.2; row = at d; but = wrote d; next = λ _. next d }
+    let v = c.self.invariant in
+    let x = c.self.inside.first + c.args.group in
+    let row = at (goal.at.raise-requires c).After-self in
+    let held : slice_index c.self.inside.nodes x ≡ slice_index c.args.self.now c.args.group =
+    sym (get_or-drop c.self.inside.first c.self.inside.nodes c.args.group 0) ∙ ap (λ rs. slice_index rs c.args.group) c.self.view_is in
+    rw c.write.ensures (record {
+      d = v.0;
+      few = v.2;
+      row = row;
+      but = rank_written v.0 x c.args.rank c.self.inside.nodes v.4 row;
+      next = λ _. rank_raised v.0 x c.args.rank c.self.inside.nodes v.4 row v.1 (omega (arith, held, c.requires.up));
+    })
 
-mended : (c : After-raise) → IsRanked c.self.invariant.0 (with_items c.self.inside.nodes c.raise.new.nodes).items × (drop c.self.inside.first (with_items c.self.inside.nodes c.raise.new.nodes).items ≡ set c.args.self.now c.args.group c.args.rank)
+mended : (c : After-raise) → IsRanked c.self.invariant.0 c.raise.new.nodes × (drop c.self.inside.first c.raise.new.nodes ≡ set c.args.self.now c.args.group c.args.rank)
 mended c =
     let v = c.self.invariant in
-    let d = (goal.at.After-raise c).After-deref_mut-nodes in
-    let m = c.raise.ensures v.0 (at d) (wrote d) in
     let f = c.self.inside.first in
-    let same : (with_items c.self.inside.nodes c.raise.new.nodes).items ≡ c.raise.new.nodes = with_items_is c.self.inside.nodes c.raise.new.nodes (m.0.size ∙ sym v.4.size ∙ sym c.self.inside.nodes.ok.0) in
-    let row : drop f c.raise.new.nodes ≡ set c.args.self.now c.args.group c.args.rank =
-    let last : drop f c.raise.new.nodes ≡ drop f (set c.deref_mut-nodes.result.now (f + c.args.group) c.args.rank) = ap (λ n. drop n c.raise.new.nodes) v.3 ∙ m.1 ∙ ap (λ n. drop n (set c.deref_mut-nodes.result.now (f + c.args.group) c.args.rank)) (sym v.3) in
-    last ∙ drop-set-add f c.deref_mut-nodes.result.now c.args.group c.args.rank ∙ ap (λ ns. set (drop f ns) c.args.group c.args.rank) c.deref_mut-nodes.ensures.value ∙ ap (λ rs. set rs c.args.group c.args.rank) c.self.view_is in
-    rw same (m.0, row)
+    let ns = c.self.inside.nodes in
+    let row = at (goal.at.After-raise c).After-self in
+    let after : IsMended (set ns (f + c.args.group) c.args.rank) c.raise.new.nodes (f + c.args.group) = rw c.write.ensures at c.raise.ensures in
+    let m = after v.0 row (rank_written v.0 (f + c.args.group) c.args.rank ns v.4 row) in
+    let last : drop f c.raise.new.nodes ≡ drop f (set ns (f + c.args.group) c.args.rank) = ap (λ n. drop n c.raise.new.nodes) v.3 ∙ m.1 ∙ ap (λ n. drop n (set ns (f + c.args.group) c.args.rank)) (sym v.3) in
+    (m.0, last ∙ drop-set-add f ns c.args.group c.args.rank ∙ ap (λ rs. set rs c.args.group c.args.rank) c.self.view_is)
 
 pub invariant_of-self : goal.invariant_of-self
 invariant_of-self c = let v = c.self.invariant in (v.0, v.1, v.2, v.3, (mended (goal.at.invariant_of-self c).After-raise).0)

@@ -1,30 +1,28 @@
-use Rattle.std.proofs.Common.{ℕ, arith, sym, subst, List}
-use Rattle.std.specs.Vec.{with_items}
+use Rattle.std.proofs.Common.{arith}
 use Rattle.zp_model.specs.declared.constants.TheConstants.{LARGEST_ORDER}
 use Rattle.zp_tree.specs.Blocks.{split_set}
-use Rattle.zp_tree.specs.Marks.{IsInGroups, IsSplitUp}
+use Rattle.zp_tree.specs.Marks.{IsSplitUp}
 use Rattle.zp_tree.specs.Spelled.{IsTreeOf}
 use Rattle.zp_tree.proofs.Spelling.{tree_in, spelled_is, spelled_tree, block_in_groups}
-use Rattle.zp_tree.proofs.TreeSteps.{split_bound, split_tree, tree_kept}
+use Rattle.zp_tree.proofs.TreeSteps.{split_bound, split_tree}
 use Rattle.zp_tree.proofs.tree.OrderTree.split.Goals.{After-lower_rank}
 use Rattle.zp_tree.proofs.tree.OrderTree.split.Goals as goal
 
 pub split_marks-requires-clause-inside : goal.split_marks-requires-clause-inside
 split_marks-requires-clause-inside c =
-    let P : List ℕ → Type 0 = λ hs. IsInGroups hs c.args.at c.args.from in
-    subst P (sym c.deref_mut-high.ensures.value) (block_in_groups _ _ _ _ _ _ _ _ (tree_in LARGEST_ORDER _ _ _ _ _ c.self.view_is c.self.invariant) c.requires.block)
+    block_in_groups _ _ _ _ _ _ _ _ (tree_in LARGEST_ORDER _ _ _ _ _ c.self.view_is c.self.invariant) c.requires.block
 
 pub lower_rank-requires-clause-down : goal.lower_rank-requires-clause-down
 lower_rank-requires-clause-down c =
     let t = tree_in LARGEST_ORDER _ _ _ _ _ c.self.view_is c.self.invariant in
-    let r : IsSplitUp c.self.inside.low.items c.self.inside.high.items c.split_marks.new.low c.split_marks.new.high c.args.at c.args.from c.args.to = rw (c.deref_mut-low.ensures.value, c.deref_mut-high.ensures.value) at c.split_marks.ensures in
+    let r : IsSplitUp c.self.inside.low c.self.inside.high c.split_marks.new.low c.split_marks.new.high c.args.at c.args.from c.args.to = c.split_marks.ensures in
     split_bound _ _ _ _ _ _ _ _ _ _ _ t c.requires.block (omega (arith, c.requires.down)) r
 
-after : (c : After-lower_rank) → IsTreeOf LARGEST_ORDER c.self.inside.pages (with_items c.self.inside.low c.split_marks.new.low).items (with_items c.self.inside.high c.split_marks.new.high).items c.lower_rank.new.ranks (split_set c.args.self.now c.args.at c.args.from c.args.to)
+after : (c : After-lower_rank) → IsTreeOf LARGEST_ORDER c.self.inside.pages c.split_marks.new.low c.split_marks.new.high c.lower_rank.new.ranks (split_set c.args.self.now c.args.at c.args.from c.args.to)
 after c =
     let t = tree_in LARGEST_ORDER _ _ _ _ _ c.self.view_is c.self.invariant in
-    let r : IsSplitUp c.self.inside.low.items c.self.inside.high.items c.split_marks.new.low c.split_marks.new.high c.args.at c.args.from c.args.to = rw (c.deref_mut-low.ensures.value, c.deref_mut-high.ensures.value) at c.split_marks.ensures in
-    tree_kept _ _ c.self.inside.low c.self.inside.high _ _ _ _ _ _ t r.size (split_tree _ _ _ _ _ _ _ _ _ _ _ _ t c.requires.block (omega (arith, c.requires.down)) r c.lower_rank.ensures)
+    let r : IsSplitUp c.self.inside.low c.self.inside.high c.split_marks.new.low c.split_marks.new.high c.args.at c.args.from c.args.to = c.split_marks.ensures in
+    split_tree _ _ _ _ _ _ _ _ _ _ _ _ t c.requires.block (omega (arith, c.requires.down)) r c.lower_rank.ensures
 
 pub invariant_of-self : goal.invariant_of-self
 invariant_of-self c = spelled_tree _ _ _ _ _ _ (after (goal.at.invariant_of-self c).After-lower_rank)
