@@ -1,4 +1,4 @@
-//! The nodes of a status tree. Nothing reads them but a meter, which one read raises by one.
+//! The nodes of a status tree. The only reads of them are by a meter, which each raises by one.
 ghost use Rattle.std.specs.Prelude.{◌≡◌, ◌≤◌, ◌<◌, ◌+◌, ◌^◌, ℕ, IfOk, length, replicate, slice_index, slice_set};
 ghost use Rattle.zp_tree.specs.declared.constants.TheConstants.{FAN};
 

@@ -1,0 +1,75 @@
+//! The first block of the largest order and the last page, in a status tree of the largest zone.
+ghost use Rattle.std.specs.Prelude.{◌≡◌, ◌≤◌};
+ghost use Rattle.zp_model.specs.declared.constants.TheConstants.{LARGEST_ORDER, MAX_PAGES};
+
+use std::alloc::AllocGlobal;
+use std::process::Abort;
+use std::test::*;
+use zp_model::{MAX_PAGES, Order, PageAt};
+use zp_tree::{Meter, OrderTree};
+
+/// The most words that `lowest` may read.
+const MOST_READS: u64 = 34;
+
+fn order(number: u8) -> Order
+    requires { number ≤ LARGEST_ORDER }
+    ensures { result ≡ number }
+{
+    Order::new(number).unwrap()
+}
+
+/// The order of this number, from a table.
+fn order_from(rt: &impl Abort, number: u8) -> Order {
+    Order::new(number).expect(rt, "there is no such order")
+}
+
+/// Compares the largest order, and for each order asked for the head and the order of the lowest block.
+fn expect_blocks(
+    rt: &impl Abort,
+    tree: &OrderTree,
+    largest: u8,
+    lowest: &[(u8, Option<(u32, u8)>)],
+) {
+    assert_eq!(rt; tree.largest().map(|it| it.number()), Some(largest));
+    for &(least, wanted) in lowest {
+        let mut meter = Meter::new();
+        let found = tree.lowest(order_from(rt, least), &mut meter);
+        assert_eq!(rt;
+            found.map(|(at, order)| (at.number(), order.number())),
+            wanted
+        );
+        assert!(rt; meter.count() <= MOST_READS);
+    }
+}
+
+/// Compares the largest orders in ranges, each given by its first page and its order.
+fn expect_largest_in(rt: &impl Abort, tree: &OrderTree, ranges: &[(u32, u8, Option<u8>)]) {
+    for &(page, number, wanted) in ranges {
+        let order = order_from(rt, number);
+        assert!(rt; page < MAX_PAGES);
+        assert!(rt; page % order.pages() == 0);
+        let found = tree.largest_in(PageAt::at(page), order);
+        assert_eq!(rt; found.map(|it| it.number()), wanted);
+    }
+}
+
+/// The pages are those of the largest zone.
+fn compare_two_blocks(rt: &(impl Abort + AllocGlobal), pages: u32) -> Result<(), Fail>
+    requires { pages ≡ MAX_PAGES }
+{
+    let mut tree = OrderTree::new(rt.alloc(), pages)?;
+    tree.set(PageAt::at(65535), order(0));
+    expect_blocks(rt, &tree, 0, &[(0, Some((65535, 0))), (1, None)]);
+    tree.set(PageAt::at(0), order(10));
+    expect_blocks(rt, &tree, 10, &[(0, Some((0, 10)))]);
+    let ranges = [(64512, 10, Some(0)), (1024, 10, None), (512, 9, None)];
+    expect_largest_in(rt, &tree, &ranges);
+    tree.clear(PageAt::at(0), order(10));
+    expect_blocks(rt, &tree, 0, &[(0, Some((65535, 0)))]);
+    Ok(())
+}
+
+#[test]
+fn two_blocks_of_the_largest_zone(rt: HostRuntime) -> Result<(), Fail> {
+    compare_two_blocks(&rt, MAX_PAGES)
+}
