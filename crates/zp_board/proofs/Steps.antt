@@ -161,7 +161,7 @@ module _ (W size : ℕ) where
       let mine : Sits size b id v = tied.2 id v at in
       let pre = (mine.reads rd).0 in
       let big = (mine.reads rd).1 in
-      let w : BoardView = record v { seen = b.entries } in (
+      let w : BoardView = record v { seen = b.entries; looks = v.looks ++ slice_index s.words 0 ∷ [] } in (
         w,
         keeps,
         tt,

@@ -17,10 +17,11 @@ pub record WordPublisherState : Type 0 where
   pub tie : TableId
   pub published : List (List ℕ)
 
--- a reader: the entries that it has seen
+-- a reader: the entries that it has seen, and the places that its looks found since it was made, or since it last read with the publisher at hand
 pub record WordReaderState : Type 0 where
   pub tie : TableId
   pub seen : List (List ℕ)
+  pub looks : List ℕ
 
 -- an entry of a list, counted from 0
 abbrev pub entry_at : List (List ℕ) → ℕ → List ℕ
@@ -31,7 +32,7 @@ abbrev pub last_of : List (List ℕ) → List ℕ
 last_of es = entry_at es (length es - 1)
 
 abbrev pub blank : ℕ → BoardView
-blank size = record { size = size; stores = true; entries = []; next = []; reads = false; seen = [] }
+blank size = record { size = size; stores = true; entries = []; next = []; reads = false; seen = []; looks = [] }
 
 abbrev pub emptied : BoardView → BoardView
 emptied v = record v { stores = false; reads = false }
@@ -40,13 +41,13 @@ abbrev pub storing : BoardView → BoardView
 storing v = record v { reads = false }
 
 abbrev pub reading : BoardView → BoardView
-reading v = record v { stores = false }
+reading v = record v { stores = false; looks = [] }
 
 abbrev pub both_of : BoardView → BoardView → BoardView
 both_of v w = record v { reads = w.reads; seen = w.seen }
 
 abbrev pub newcomer : BoardView → BoardView
-newcomer v = record v { stores = false; reads = true; seen = v.entries }
+newcomer v = record v { stores = false; reads = true; seen = v.entries; looks = [] }
 
 -- the seat that stores, the entries that are published, and the next one, as far as it is written
 pub record Posts : Type 0 where
@@ -80,10 +81,10 @@ module _ (W : ℕ) where
   abbrev pub IsBoarded : ℕ → State (Unit {0}) BoardView → Type 0
   IsBoarded size s = (b : Posts) × Lies size b s.words × ((by : ℕ) (v : BoardView) → get_elem? s.views by ≡ some v → Sits size b by v)
 
-  -- the entries up to the place are seen. They begin with what was seen. A seat that stores too has seen all that is published
+  -- the entries up to the place are seen, and the place is one more that was found. They begin with what was seen. A seat that stores too has seen all that is published
   abbrev pub Looks : Step (Unit {0}) → Me (Unit {0}) BoardView → ℕ → Me (Unit {0}) BoardView → Type 0
   Looks step me found after =
-      (after ≡ (record me.0 { seen = after.0.seen }, me.1))
+      (after ≡ (record me.0 { seen = after.0.seen; looks = me.0.looks ++ found ∷ [] }, me.1))
       × IsPrefix me.0.seen after.0.seen × (length after.0.seen ≡ found + 1) × (W * length after.0.seen + 1 ≤ me.0.size) × AreWide after.0.seen
       × (me.0.stores ≡ true → after.0.seen ≡ me.0.entries)
 

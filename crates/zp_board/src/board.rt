@@ -51,7 +51,8 @@ impl<const W: usize> Model for WordPublisher<W> {
     ghost invariant = { λ p. (p.pin.me.1 ≡ []) × (p.pin.me.0.stores ≡ true) × (p.pin.me.0.reads ≡ false) × (p.pin.me.0.next ≡ []) × (length p.pin.me.0.entries ≡ p.published) × (p.pin.me.0.size ≡ p.pin.table_id.words) };
 }
 
-/// The right to read. It cannot be copied. Contracts see the identity of its tie, and the entries that it has seen.
+/// The right to read. It cannot be copied. Contracts see the identity of its tie, the entries that it has seen, and the places that its
+/// looks found.
 #[derive(Drop)]
 pub struct WordReader<const W: usize> {
     pin: Pin,
@@ -63,7 +64,7 @@ impl<const W: usize> Model for WordReader<W> {
 
     ghost Value = { WordReaderState };
 
-    ghost view = { λ r. record { tie = r.pin.table_id; seen = r.pin.me.0.seen } };
+    ghost view = { λ r. record { tie = r.pin.table_id; seen = r.pin.me.0.seen; looks = r.pin.me.0.looks } };
 
     ghost invariant = { λ r. (r.pin.me.1 ≡ []) × (r.pin.me.0.stores ≡ false) × (r.pin.me.0.reads ≡ true) × (0 < length r.pin.me.0.seen) × (r.pin.me.0.size ≡ r.pin.table_id.words) };
 }
@@ -166,7 +167,7 @@ impl<const W: usize> WordPublisher<W> {
         requires tie { self.old.tie ≡ board.now.tie }
         requires some { 0 < length self.old.published }
         ensures same { self.new ≡ self.old }
-        ensures reader { result ≡ record { tie = self.old.tie; seen = self.old.published } }
+        ensures reader { result ≡ record { tie = self.old.tie; seen = self.old.published; looks = [] } }
     {
         let row = &board.row.shared;
         let pin = row.split_seat::<Newcomer>(&mut self.pin);
@@ -179,7 +180,7 @@ impl<const W: usize> WordPublisher<W> {
         requires reader { reader.old.tie ≡ board.now.tie }
         ensures same { self.new ≡ self.old }
         ensures before { IsPrefix reader.old.seen self.old.published }
-        ensures reader { reader.new ≡ record { tie = reader.old.tie; seen = self.old.published } }
+        ensures reader { reader.new ≡ record { tie = reader.old.tie; seen = self.old.published; looks = [] } }
         ensures place { result.place + 1 ≡ length self.old.published }
         ensures last { result.words ≡ last_of self.old.published }
     {
@@ -194,11 +195,12 @@ impl<const W: usize> WordPublisher<W> {
 }
 
 impl<const W: usize> WordReader<W> {
-    /// The last entry of those that are then seen. They begin with all that was seen before.
+    /// The last entry of those that are then seen, up to the place that this call finds. They begin with all that was seen before.
     pub fn read(&mut self, board: &WordBoard<W>) -> WordReading<W>
         requires { self.old.tie ≡ board.now.tie }
         ensures tie { self.new.tie ≡ self.old.tie }
         ensures seen { IsPrefix self.old.seen self.new.seen }
+        ensures looked { self.new.looks ≡ self.old.looks ++ result.place ∷ [] }
         ensures place { result.place + 1 ≡ length self.new.seen }
         ensures last { result.words ≡ last_of self.new.seen }
     {

@@ -16,6 +16,8 @@ pub struct BoardView {
     pub reads: bool,
     /// The entries that were seen.
     pub seen: LinkedList<LinkedList<u64>>,
+    /// The places that were found by looks, since the seat is a reader's.
+    pub looks: LinkedList<u64>,
 }
 
 /// The rule of the row. The key is the number of its words.

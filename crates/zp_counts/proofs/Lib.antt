@@ -1,3 +1,4 @@
 pub mod CountLists
 pub mod Digits
 pub mod FewBlocks
+mod FreshReads

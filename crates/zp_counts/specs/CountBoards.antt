@@ -1,9 +1,9 @@
 -- The counts of a zone on a board (this profile).
-use Rattle.std.specs.Prelude.{ℕ, ◌≡◌, ◌+◌, ◌-◌, ◌*◌, ◌<◌, ◌≤◌, ◌⊎◌, Bool, Some, slice_get, List, [], length, map, min, take, slice_index, slice_index_or}
+use Rattle.std.specs.Prelude.{ℕ, ◌≡◌, ◌+◌, ◌-◌, ◌<◌, ◌≤◌, ◌⊎◌, Bool, true, false, Some, slice_get, List, [], ◌∷◌, ◌++◌, length, map, min, take, slice_index, slice_index_or}
 use Rattle.atomic_table.specs.Seated.{TableId}
 use Rattle.zp_model.specs.declared.constants.TheConstants.{ORDERS}
 use Rattle.zp_model.specs.declared.counts.Counts.{Counts}
-use Rattle.zp_ring.specs.declared.ring.TheConstants.{TRIES}
+use Rattle.zp_ring.specs.Rings.{AreLooks, WasMet, WerePassed}
 use Rattle.zp_counts.specs.declared.kinds.TheConstants.{SLOTS}
 use Rattle.zp_counts.specs.declared.packed.TheConstants.{WIDE, MIDDLE, NARROW}
 use Rattle.zp_counts.specs.declared.reading.Reading.{Reading}
@@ -39,18 +39,33 @@ pub record CountsPublished : Type 0 where
   pub tie : CountTie
   pub published : List Counts
 
--- a reader: the counts that it has seen, and how many it knows to be published
+-- a reader: the counts that it has seen, how many it knows to be published, and the places at which it looked since it was made, or since it last read with the publisher at hand
 pub record CountsSeen : Type 0 where
   pub tie : CountTie
   pub seen : List Counts
   pub known : ℕ
+  pub looks : List ℕ
 
--- what a reader saw by a reading is fresh: it misses nothing that was known before it, and at most SLOTS - 2 of what is known after it; or
--- nothing new is seen, and so many counts were published meanwhile that each try was passed
+-- a reading of a board that does not turn looks once, and all up to the place that it finds is seen
+pub record IsFreshFixedRead (before after : CountsSeen) : Type 0 where
+  pub place : ℕ
+  pub looked : after.looks ≡ before.looks ++ place ∷ []
+  pub found : length after.seen ≡ place + 1
+  pub known : after.known ≡ length after.seen
+
+-- a reading of one that turns sees what was the newest at a look of this reading; or nothing new is seen, and in this reading each try was passed by
+pub record IsFreshTurningRead (before after : CountsSeen) : Type 0 where
+  pub places : List ℕ
+  pub looked : after.looks ≡ before.looks ++ places
+  pub order : AreLooks places before.known after.known
+  pub fresh : WasMet SLOTS places before.known (length after.seen) after.known ⊎ ((after.seen ≡ before.seen) × WerePassed SLOTS places)
+
+-- what a reader saw by a reading is fresh
 pub record IsFreshRead (before after : CountsSeen) : Type 0 where
   pub grown : before.known ≤ after.known
   pub within : length after.seen ≤ after.known
-  pub near : ((before.known ≤ length after.seen) × (after.known + 1 < length after.seen + SLOTS)) ⊎ ((after.seen ≡ before.seen) × (before.known + TRIES * (SLOTS - 1) ≤ after.known))
+  pub fixed : before.tie.turns ≡ false → IsFreshFixedRead before after
+  pub turning : before.tie.turns ≡ true → IsFreshTurningRead before after
 
 -- the last of some counts
 abbrev pub last_counts : List Counts → Counts

@@ -27,5 +27,5 @@ published_counts (publisher.Turning p) = record { tie = turning_tie p.tie; publi
 
 -- a reader of a board that does not turn knows of what it has seen, and of no more
 abbrev pub seen_counts : ReaderKind → CountsSeen
-seen_counts (reader.Fixed r) = record { tie = fixed_tie r.tie; seen = map paired_in r.seen; known = length r.seen }
-seen_counts (reader.Turning r) = record { tie = turning_tie r.tie; seen = map packed_in r.seen; known = r.known }
+seen_counts (reader.Fixed r) = record { tie = fixed_tie r.tie; seen = map paired_in r.seen; known = length r.seen; looks = r.looks }
+seen_counts (reader.Turning r) = record { tie = turning_tie r.tie; seen = map packed_in r.seen; known = r.known; looks = r.looks }

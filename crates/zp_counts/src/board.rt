@@ -55,7 +55,8 @@ impl Model for Publisher {
     ghost invariant = { λ p. 0 < length (published_counts p.kind).published };
 }
 
-/// The right to read. It cannot be copied. Contracts see its tie, the counts that it has seen, and how many it knows to be published.
+/// The right to read. It cannot be copied. Contracts see its tie, the counts that it has seen, how many it knows to be published, and the
+/// places at which it looked.
 #[derive(Drop)]
 pub struct BoardReader {
     kind: ReaderKind,
@@ -192,7 +193,7 @@ impl Publisher {
     pub fn reader(&mut self, board: &Board) -> BoardReader
         requires { self.old.tie ≡ board.now.tie }
         ensures same { self.new ≡ self.old }
-        ensures reader { result ≡ record { tie = self.old.tie; seen = self.old.published; known = length self.old.published } }
+        ensures reader { result ≡ record { tie = self.old.tie; seen = self.old.published; known = length self.old.published; looks = [] } }
     {
         let kind = match &mut self.kind {
             PublisherKind::Fixed(entries) => ReaderKind::Fixed(entries.reader(board.fixed())),
@@ -210,7 +211,7 @@ impl Publisher {
         ensures same { self.new ≡ self.old }
         ensures before { IsPrefix reader.old.seen self.old.published }
         ensures known { reader.old.known ≤ length self.old.published }
-        ensures reader { reader.new ≡ record { tie = reader.old.tie; seen = self.old.published; known = length self.old.published } }
+        ensures reader { reader.new ≡ record { tie = reader.old.tie; seen = self.old.published; known = length self.old.published; looks = [] } }
         ensures last { result ≡ last_reading self.old.published }
 
         // What was read before is of what is published, and so is this.

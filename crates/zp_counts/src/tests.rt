@@ -1,5 +1,8 @@
 //! Counts on a board, where there is memory.
+ghost use Rattle.std.specs.Prelude.{◌≡◌};
+
 use super::*;
+use std::process::Abort;
 use std::test::*;
 use zp_model::Counts;
 
@@ -117,5 +120,54 @@ fn a_board_of_no_capacity_has_its_opening_counts(rt: HostRuntime) -> Result<(), 
     assert_eq!(rt; reader.read(&board), single_pages_at(0, 5));
     let under = publisher.read_board(&board, &mut reader);
     assert_eq!(rt; under, single_pages_at(0, 5));
+    Ok(())
+}
+
+/// How many counts are published by the times at which a reader looks: between two of these it sleeps.
+const PUBLISHED: [u32; 6] = [1, 2, 17, 63, 164, 501];
+
+/// Publishes the counts of these numbers, from the one after `from` on. Those of number n have n free pages.
+fn publish_pages<R: Abort>(
+    rt: &R,
+    board: &Board,
+    mut publisher: Publisher,
+    from: u32,
+    to: u32,
+) -> Publisher
+    requires { publisher.tie ≡ board.now.tie }
+    ensures { result.tie ≡ board.now.tie }
+{
+    for before in from..to {
+        let counts = single_pages(before + 1);
+        assert!(rt; are_packable(&counts));
+        assert!(rt; !publisher.is_full(board));
+        publisher.publish(board, &counts);
+    }
+    publisher
+}
+
+/// A reader that slept is answered the newest counts, however many came meanwhile.
+fn expect_newest_counts<R: Abort>(rt: &R, board: &Board, mut publisher: Publisher)
+    requires { publisher.tie ≡ board.now.tie }
+{
+    let mut reader = publisher.reader(board);
+    let mut before = 1;
+    for published in PUBLISHED {
+        publisher = publish_pages(rt, board, publisher, before, published);
+        let reading = reader.read(board);
+        assert_eq!(rt; reading.counts, single_pages(published));
+        assert_eq!(rt; reading.place, publisher.place());
+        before = published;
+    }
+}
+
+#[test]
+fn a_reader_that_slept_sees_the_newest_counts(rt: HostRuntime) -> Result<(), Fail> {
+    let opening = single_pages(1);
+    let (board, publisher) = new_board(rt.alloc(), 500, &opening)?;
+    expect_newest_counts(&rt, &board, publisher);
+    assert!(rt; are_packable(&opening));
+    let (board, publisher) = new_turning_board(rt.alloc(), u64::MAX, &opening)?;
+    expect_newest_counts(&rt, &board, publisher);
     Ok(())
 }

@@ -219,7 +219,7 @@ module _ (W S : ℕ) where
       let mine : Sits W S b id v = tied.2 id v at in
       let r : IsPrefix v.seen b.entries × (v.from < length v.seen) × (length b.entries < v.from + S → Heads v.got (entry_at b.entries v.from)) = mine.reads rd in
       let n : ℕ = slice_index s.words 0 in
-      let w : RingView = record v { seen = b.entries; from = n; got = [] } in
+      let w : RingView = record v { seen = b.entries; from = n; got = []; looks = v.looks ++ n ∷ [] } in
       let least : length v.seen ≤ length b.entries = prefix_length v.seen b.entries r.0 in
       let place : n ≡ length b.entries - 1 = lies.place in
       let many : length b.entries ≡ n + 1 = omega (arith, place, least, r.1) in (

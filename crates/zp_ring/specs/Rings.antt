@@ -1,10 +1,11 @@
 -- What the seats of a turning board's row know, and the rule over them: one seat stores, what a seat has seen is a beginning of what is published, and what it fetched is of the entry that it looks for, as long as that one has not been turned over.
-use Rattle.std.specs.Prelude.{◌≡◌, ℕ, ◌+◌, ◌-◌, ◌*◌, ◌%◌, ◌<◌, ◌≤◌, true, false, List, [], ◌∷◌, ◌++◌, length, slice_index, slice_index_or}
+use Rattle.std.specs.Prelude.{◌≡◌, ℕ, ◌+◌, ◌-◌, ◌*◌, ◌%◌, ◌<◌, ◌≤◌, ◌⊎◌, true, false, List, [], ◌∷◌, ◌++◌, length, slice_index, slice_index_or}
 use mathlib.Core.Option.{some}
 use mathlib.Core.List.{IsPrefix}
 use lib.ListN.{get_elem?}
 use Rattle.atomic_table.specs.Table.{State, Me, Step}
 use Rattle.atomic_table.specs.Seated.{TableId}
+use Rattle.zp_ring.specs.declared.ring.TheConstants.{TRIES}
 use Rattle.zp_ring.specs.declared.ring_row.RingView.{RingView}
 
 -- a board, to a contract
@@ -16,11 +17,43 @@ pub record RingPublisherState : Type 0 where
   pub tie : TableId
   pub published : List (List ℕ)
 
--- a reader: the entries up to the one that it read last, and how many it knows to be published
+-- a reader: the entries up to the one that it read last, how many it knows to be published, and the places at which it looked since it was made, or since it last read with the publisher at hand
 pub record RingReaderState : Type 0 where
   pub tie : TableId
   pub seen : List (List ℕ)
   pub known : ℕ
+  pub looks : List ℕ
+
+-- each place is at least so far beyond the one before it
+abbrev pub AreApart : ℕ → List ℕ → Type 0
+AreApart far places = (k : ℕ) → k + 1 < length places → slice_index places k + far ≤ slice_index places (k + 1)
+
+-- the places of the looks of one reading, one after another: none is before what was known, nor before the look before it, and after the last one it is known how many are published by then
+pub record AreLooks (places : List ℕ) (known now_known : ℕ) : Type 0 where
+  pub some : 0 < length places
+  pub few : length places ≤ TRIES + 1
+  pub order : AreApart 0 places
+  pub first : known ≤ slice_index places 0 + 1
+  pub last : now_known ≡ slice_index places (length places - 1) + 1
+
+-- the last try was met: all up to the place of the last look but one is seen, which is no less than what was known before, and the last look found so few more that the words are whole
+pub record WasMet (slots : ℕ) (places : List ℕ) (known seen now_known : ℕ) : Type 0 where
+  pub tried : 2 ≤ length places
+  pub found : seen ≡ slice_index places (length places - 2) + 1
+  pub newer : known ≤ seen
+  pub near : now_known + 1 < seen + slots
+
+-- each of the tries was passed by: between two looks so many were published that the words may have been turned over
+pub record WerePassed (slots : ℕ) (places : List ℕ) : Type 0 where
+  pub tries : length places ≡ TRIES + 1
+  pub passed : AreApart (slots - 1) places
+
+-- what a reading answers is fresh: it is what was the newest at a look of this reading; or nothing new is seen, and in this reading each try was passed by
+pub record IsFresh (slots : ℕ) (before after : RingReaderState) : Type 0 where
+  pub places : List ℕ
+  pub looked : after.looks ≡ before.looks ++ places
+  pub order : AreLooks places before.known after.known
+  pub fresh : WasMet slots places before.known (length after.seen) after.known ⊎ ((after.seen ≡ before.seen) × WerePassed slots places)
 
 -- an entry of a list, counted from 0
 abbrev pub entry_at : List (List ℕ) → ℕ → List ℕ
@@ -31,7 +64,7 @@ abbrev pub last_of : List (List ℕ) → List ℕ
 last_of es = entry_at es (length es - 1)
 
 abbrev pub blank : RingView
-blank = record { stores = true; entries = []; next = []; reads = false; seen = []; from = 0; got = [] }
+blank = record { stores = true; entries = []; next = []; reads = false; seen = []; from = 0; got = []; looks = [] }
 
 abbrev pub emptied : RingView → RingView
 emptied v = record v { stores = false; reads = false }
@@ -40,13 +73,13 @@ abbrev pub storing : RingView → RingView
 storing v = record v { reads = false }
 
 abbrev pub reading : RingView → RingView
-reading v = record v { stores = false }
+reading v = record v { stores = false; looks = [] }
 
 abbrev pub both_of : RingView → RingView → RingView
 both_of v w = record v { reads = w.reads; seen = w.seen; from = w.from; got = w.got }
 
 abbrev pub newcomer : RingView → RingView
-newcomer v = record v { stores = false; reads = true; seen = v.entries; from = length v.entries - 1; got = [] }
+newcomer v = record v { stores = false; reads = true; seen = v.entries; from = length v.entries - 1; got = []; looks = [] }
 
 -- the seat that stores, the entries that are published, and the next one, as far as it is written
 pub record Posts : Type 0 where
@@ -84,12 +117,12 @@ module _ (W S : ℕ) where
   abbrev pub IsTurning : State (Unit {0}) RingView → Type 0
   IsTurning s = (b : Posts) × Lies b s.words × ((by : ℕ) (v : RingView) → get_elem? s.views by ≡ some v → Sits b by v)
 
-  -- The entries up to the place are seen, and the last of them is looked for. They begin with what was seen. Where not too many were
+  -- The entries up to the place are seen, the last of them is looked for, and the place is one more that was found. They begin with what was seen. Where not too many were
   -- published since the look before, what was fetched is of the entry that was looked for. A seat that stores too has seen all that is
   -- published
   abbrev pub Looks : Step (Unit {0}) → Me (Unit {0}) RingView → ℕ → Me (Unit {0}) RingView → Type 0
   Looks step me found after =
-      (after ≡ (record me.0 { seen = after.0.seen; from = found; got = [] }, me.1))
+      (after ≡ (record me.0 { seen = after.0.seen; from = found; got = []; looks = me.0.looks ++ found ∷ [] }, me.1))
       × IsPrefix me.0.seen after.0.seen × (length after.0.seen ≡ found + 1) × AreWide after.0.seen
       × (found + 1 < me.0.from + S → Heads me.0.got (entry_at after.0.seen me.0.from))
       × (me.0.stores ≡ true → after.0.seen ≡ me.0.entries)

@@ -1,8 +1,7 @@
 //! The board, the publisher that writes it, and its readers.
 ghost use Rattle.std.specs.Prelude.{◌≡◌, ◌+◌, ◌-◌, ◌*◌, ◌<◌, ◌≤◌, ◌^◌, ◌↔◌, ◌⊎◌, ℕ, [], ◌∷◌, ◌++◌, true, length, IfOk, IsTrue};
 ghost use mathlib.Core.List.{IsPrefix};
-ghost use Rattle.zp_ring.specs.Rings.{AreWide, Heads, entry_at, last_of, word_at};
-ghost use Rattle.zp_ring.specs.declared.ring.TheConstants.{TRIES};
+ghost use Rattle.zp_ring.specs.Rings.{AreWide, Heads, IsFresh, entry_at, last_of, word_at};
 
 use crate::ring_row::{
     FetchWord, FindWord, LookAtPlace, NewReader, OpenEntry, Pin, Row, SeenSide, WholeSide,
@@ -57,7 +56,7 @@ impl<const W: usize, const S: usize> Model for RingPublisher<W, S> {
 }
 
 /// The right to read. It cannot be copied. It remembers what it read last. Contracts see the identity of its tie, the entries up to the
-/// one that it read last, and how many it knows to be published.
+/// one that it read last, how many it knows to be published, and the places at which it looked.
 #[derive(Drop)]
 pub struct RingReader<const W: usize, const S: usize> {
     last: RingReading<W>,
@@ -70,7 +69,7 @@ impl<const W: usize, const S: usize> Model for RingReader<W, S> {
 
     ghost Value = { RingReaderState };
 
-    ghost view = { λ r. record { tie = r.pin.table_id; seen = take (r.last.place + 1) r.pin.me.0.seen; known = length r.pin.me.0.seen } };
+    ghost view = { λ r. record { tie = r.pin.table_id; seen = take (r.last.place + 1) r.pin.me.0.seen; known = length r.pin.me.0.seen; looks = r.pin.me.0.looks } };
 
     ghost invariant = { λ r. (r.pin.me.1 ≡ []) × (r.pin.me.0.stores ≡ false) × (r.pin.me.0.reads ≡ true) × (r.last.place < length r.pin.me.0.seen) × (r.last.words ≡ entry_at r.pin.me.0.seen r.last.place) };
 }
@@ -204,7 +203,7 @@ impl<const W: usize, const S: usize> RingPublisher<W, S> {
     pub fn reader(&mut self, board: &Ring<W, S>) -> RingReader<W, S>
         requires { self.old.tie ≡ board.now.tie }
         ensures same { self.new ≡ self.old }
-        ensures reader { result ≡ record { tie = self.old.tie; seen = self.old.published; known = length self.old.published } }
+        ensures reader { result ≡ record { tie = self.old.tie; seen = self.old.published; known = length self.old.published; looks = [] } }
     {
         let last = self.newest(board);
         let row = &board.row.shared;
@@ -223,7 +222,7 @@ impl<const W: usize, const S: usize> RingPublisher<W, S> {
         ensures same { self.new ≡ self.old }
         ensures before { IsPrefix reader.old.seen self.old.published }
         ensures known { reader.old.known ≤ length self.old.published }
-        ensures reader { reader.new ≡ record { tie = reader.old.tie; seen = self.old.published; known = length self.old.published } }
+        ensures reader { reader.new ≡ record { tie = reader.old.tie; seen = self.old.published; known = length self.old.published; looks = [] } }
         ensures last { result.words ≡ last_of self.old.published }
         ensures place { result.place + 1 ≡ length self.old.published }
     {
@@ -251,7 +250,7 @@ impl<const W: usize, const S: usize> RingReader<W, S> {
         ensures later { length self.old.seen ≤ result.place + 1 }
         ensures last { result.words ≡ last_of self.new.seen }
         ensures known { (self.old.known ≤ self.new.known) × (length self.new.seen ≤ self.new.known) }
-        ensures fresh { ((self.old.known ≤ length self.new.seen) × (self.new.known + 1 < length self.new.seen + S)) ⊎ ((self.new.seen ≡ self.old.seen) × (self.old.known + TRIES * (S - 1) ≤ self.new.known)) }
+        ensures fresh { IsFresh S self.old self.new }
     {
         let row = &board.row.shared;
         let mut place = row.load::<LookAtPlace<W, S>>(&mut self.pin, 0);

@@ -18,6 +18,8 @@ pub struct RingView {
     pub from: u64,
     /// The words that were fetched since.
     pub got: LinkedList<u64>,
+    /// The places that were found by looks, since the seat is a reader's.
+    pub looks: LinkedList<u64>,
 }
 
 /// The rule of the row.

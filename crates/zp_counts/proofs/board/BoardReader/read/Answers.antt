@@ -2,6 +2,7 @@ use Rattle.std.proofs.Common.{◌+◌, sym, ap, ◌∙◌}
 use Rattle.zp_counts.specs.Kinds.{seen_counts}
 use Rattle.zp_counts.specs.Packing.{packed_in, paired_in}
 use Rattle.zp_counts.proofs.CountLists.{prefix_counts, reading_kept, reading_last}
+use Rattle.zp_counts.proofs.FreshReads.{fixed_read, turning_read}
 use Rattle.zp_counts.proofs.board.BoardReader.read.Goals.{in-Fixed, in-Turning}
 use Rattle.zp_counts.proofs.board.BoardReader.read.Goals as goal
 
@@ -24,3 +25,12 @@ returns-clause-taken c =
 
 pub returns-clause-kept : goal.returns-clause-kept
 returns-clause-kept c = λ r taken. reading_kept _ _ r (returns-clause-seen c) taken
+
+pub returns-clause-fresh : goal.returns-clause-fresh
+returns-clause-fresh c =
+    let before = sym c.self.view_is in
+    elim c.match-self.branch [
+      | in-Fixed w ↦ fixed_read _ _ w.read.result.place (before ∙ ap seen_counts w.in-Fixed.is) (ap (λ r. seen_counts r.kind) w.self-inside-is) w.read.ensures.seen w.read.ensures.looked w.read.ensures.place
+      | in-Turning w ↦ let found = w.read-in-Turning.ensures in
+          turning_read _ _ (before ∙ ap seen_counts w.in-Turning.is) (ap (λ r. seen_counts r.kind) w.self-inside-is) found.fresh found.known.0 found.known.1
+    ]

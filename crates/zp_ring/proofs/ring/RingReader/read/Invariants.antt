@@ -1,6 +1,7 @@
 use Rattle.std.proofs.Common.{◌≡◌, ◌+◌, ◌-◌, ◌*◌, ◌≤◌, [], true, false, length}
 use mathlib.Core.List.{IsPrefix}
 use Rattle.zp_ring.specs.declared.ring.TheConstants.{TRIES}
+use Rattle.zp_ring.proofs.Looking.{HaveTried}
 use Rattle.zp_ring.proofs.ring.RingReader.read.Given as goal
 
 -- the last look found the place, and each try before it was passed by
@@ -16,5 +17,5 @@ invariant-loop g l = record {
   got : l.self-inside.pin.me.0.got ≡ [];
   seen : IsPrefix l.initial.self-inside.pin.me.0.seen l.self-inside.pin.me.0.seen;
   many : length l.self-inside.pin.me.0.seen ≡ l.place + 1;
-  passed : length l.initial.self-inside.pin.me.0.seen + (g.row.S - 1) * l.counter ≤ length l.self-inside.pin.me.0.seen;
+  tried : HaveTried g.row.S l.fn.self.known l.fn.self.looks l.self-inside.pin.me.0.looks l.counter l.place;
 }
