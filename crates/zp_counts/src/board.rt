@@ -5,7 +5,7 @@ ghost use Rattle.zp_counts.specs.CountBoards.{ArePackable, IsFreshRead, IsReadin
 ghost use Rattle.zp_counts.specs.Kinds.{fixed_tie, turning_tie};
 ghost use Rattle.zp_counts.specs.Packing.{packed_in, paired_in};
 ghost use Rattle.zp_counts.specs.declared.reading.Reading.{Reading};
-ghost use Rattle.zp_counts.specs.declared.words.TheConstants.{COUNT_WORDS};
+ghost use Rattle.zp_counts.specs.declared.words.TheConstants.{PAIR_WORDS};
 
 use crate::kinds::{BoardKind, PublisherKind, ReaderKind, SLOTS};
 use crate::packed::{PACKED_WORDS, packed_in, packed_words};
@@ -78,7 +78,7 @@ pub fn new_board(
     capacity: u32,
     opening: &Counts,
 ) -> Result<(Board, Publisher), AllocError>
-    requires { COUNT_WORDS * (capacity + 1) + 1 < 2 ^ 32 }
+    requires { PAIR_WORDS * (capacity + 1) + 1 < 2 ^ 32 }
     ensures tie { IfOk result (λ r. r.1.tie ≡ r.0.tie) }
     ensures turns { IfOk result (λ r. r.0.tie.turns ≡ false) }
     ensures capacity { IfOk result (λ r. r.0.capacity ≡ capacity) }

@@ -14,7 +14,7 @@ pub use board::{Board, BoardReader, Publisher, new_board, new_turning_board};
 pub use kinds::SLOTS;
 pub use packed::{PACKED_WORDS, are_packable};
 pub use reading::Reading;
-pub use words::COUNT_WORDS;
+pub use words::PAIR_WORDS;
 
 #[cfg(test)]
 mod tests;

@@ -4,11 +4,8 @@ ghost use Rattle.zp_counts.specs.Packing.{paired_in, paired_words, pairs_of};
 
 use zp_model::{Counts, ORDERS};
 
-/// How many numbers the counts of a zone are: the free blocks of each order, and the free pages.
-pub const COUNT_WORDS: usize = ORDERS + 1;
-
-/// How many words they take.
-pub const PAIR_WORDS: usize = COUNT_WORDS / 2;
+/// How many words the counts of a zone take, two numbers each: the free blocks of each order, and the free pages.
+pub const PAIR_WORDS: usize = (ORDERS + 1) / 2;
 
 /// The lower number of a word is below this.
 pub const PAIR: u64 = 4_294_967_296;
