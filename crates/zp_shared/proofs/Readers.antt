@@ -174,7 +174,7 @@ pub none_read : (rows : List (Vec CountsSeen)) → All (HaveReadZones []) rows
 none_read rows = λ k d lt i v is. let bad : i < 0 = slice_get_within {A = ZoneState} [] i v is in absurd (omega arith)
 
 -- one reader more has read them
-pub read_all_more : (cs : List Counts) (r s : CountsSeen) (old new : List CountsSeen) → IsPrefix r.seen cs → r.known ≤ length cs → s ≡ record r { seen = cs; known = length cs } → HaveReadAll cs old new → HaveReadAll cs (r ∷ old) (s ∷ new)
+pub read_all_more : (cs : List Counts) (r s : CountsSeen) (old new : List CountsSeen) → IsPrefix r.seen cs → r.known ≤ length cs → s ≡ record r { seen = cs; known = length cs; looks = [] } → HaveReadAll cs old new → HaveReadAll cs (r ∷ old) (s ∷ new)
 read_all_more cs r s old new before known after rest = record {
   before = All-cons (λ (x : CountsSeen). IsPrefix x.seen cs) r old before rest.before;
   known = All-cons (λ (x : CountsSeen). x.known ≤ length cs) r old known rest.known;

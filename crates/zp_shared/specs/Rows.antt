@@ -55,7 +55,7 @@ opened_board o = o.board
 
 -- a new reader of its board has seen all that is published
 abbrev pub opened_reader : OpenedState → CountsSeen
-opened_reader o = record { tie = o.board.tie; seen = o.published; known = length o.published }
+opened_reader o = record { tie = o.board.tie; seen = o.published; known = length o.published; looks = [] }
 
 -- a zone that says its place in the row
 pub record GuardedZone : Type 0 where
@@ -107,7 +107,7 @@ pub record ViewState : Type 0 where
 
 -- a reader that has seen nothing
 abbrev pub no_reader : CountsSeen
-no_reader = record { tie = no_board.tie; seen = []; known = 0 }
+no_reader = record { tie = no_board.tie; seen = []; known = 0; looks = [] }
 
 -- its reader of a place
 abbrev pub reader_at : ViewState → ℕ → CountsSeen
@@ -130,7 +130,7 @@ shown_at v i = last_counts (seen_at (seen_by v.readers) i)
 pub record HaveReadAll (cs : List Counts) (old new : List CountsSeen) : Type 0 where
   pub before : All (λ (r : CountsSeen). IsPrefix r.seen cs) old
   pub known : All (λ (r : CountsSeen). r.known ≤ length cs) old
-  pub after : new ≡ map (λ (r : CountsSeen). record r { seen = cs; known = length cs }) old
+  pub after : new ≡ map (λ (r : CountsSeen). record r { seen = cs; known = length cs; looks = [] }) old
 
 -- they have seen all that was published of the zone
 abbrev pub HaveReadZone : ZoneState → List CountsSeen → List CountsSeen → Type 0

@@ -113,7 +113,7 @@ impl<J: Naming, K: Keeps> Guarded<J, K> {
         ensures counts { result ≡ record { counts = zone_counts self.old.zone; place = length self.old.zone.entries } }
         ensures before { IsPrefix reader.old.seen self.old.published }
         ensures known { reader.old.known ≤ length self.old.published }
-        ensures reader { reader.new ≡ record { tie = reader.old.tie; seen = self.old.published; known = length self.old.published } }
+        ensures reader { reader.new ≡ record { tie = reader.old.tie; seen = self.old.published; known = length self.old.published; looks = [] } }
         ensures published { IsPublished self.old.zone self.old.published }
         ensures taken { (r : Reading) → IsReadingOf reader.old.seen r → IsCountsOf self.old.zone r }
         ensures room { (length self.old.zone.entries ≤ self.old.capacity) × K.bounds (board_at J.boards self.old.place).capacity self.old.capacity }
