@@ -1,7 +1,8 @@
 -- Texts that are gathered, one after another, before they are written.
-use Rattle.std.proofs.Common.{ℕ, ◌+◌, ◌≡◌, ◌<◌, List, [], ◌++◌, length, take, drop, get_or, Option, None, Some, sym, ap, subst, ◌∙◌, append_assoc}
+use Rattle.std.proofs.Common.{ℕ, ◌+◌, ◌-◌, ◌≡◌, ◌<◌, ◌≤◌, List, [], ◌++◌, length, take, drop, get_or, Option, None, Some, sym, ap, subst, ◌∙◌, append_assoc, arith, length-drop}
+use Rattle.std.proofs.Math.Seq.{take-add}
 use Rattle.std.specs.List.{flat_map}
-use Rattle.std.proofs.lemmas.List.{append-nil, take-append-drop}
+use Rattle.std.proofs.lemmas.List.{append-nil, length-take, length-take-le, take-append-drop, take-take}
 use Rattle.std.proofs.lemmas.List.Concat.{flat_map-append}
 use Rattle.zp_text.specs.Streams.{IsWritten, IsBegun}
 use Rattle.zp_text.specs.Gathering.{IsGathered}
@@ -48,3 +49,17 @@ pub begun_items : {X : Type 0} (f : X → List ℕ) (xs : List X) (i : ℕ) (a b
 begun_items f xs i a b c g before is =
     begun-same a c _ _ (sym (flat_map-append f (take i xs) (drop i xs)) ∙ ap (λ ys. flat_map f ys) (take-append-drop i xs))
     (begun-longer a c (flat_map f (take i xs)) (flat_map f (drop i xs)) (gathered_begun a b c g _ before is))
+
+-- the part of a text behind its first `at` bytes and up to `end` was lent, and its first n bytes were taken
+pub part_taken : (text : List ℕ) (at end n : ℕ) (a b c : Option (List ℕ)) → at ≤ end → end ≤ length text → n ≤ length (take (end - at) (drop at text)) →
+    IsWritten a b (take at text) → IsWritten b c (take n (take (end - at) (drop at text))) → (at + n ≤ end) × IsWritten a c (take (at + n) text)
+part_taken text at end n a b c le inside within before is =
+    let short : n ≤ end - at = omega (arith, within, length-take (end - at) (drop at text)) in
+    (omega arith, written-same a c _ _ (sym (take-add at n text)) (written-then a b c _ _ before (written-same b c _ _ (take-take n (end - at) (drop at text) short) is)))
+
+pub part_length : (text : List ℕ) (at end : ℕ) → at ≤ end → end ≤ length text → length (take (end - at) (drop at text)) ≡ end - at
+part_length text at end le inside = length-take-le (end - at) (drop at text) (omega (arith, length-drop at text))
+
+-- where no byte of the part is left, all of it was taken
+pub whole_part : (text : List ℕ) (at end n : ℕ) → at ≤ end → end ≤ length text → n ≤ length (take (end - at) (drop at text)) → end ≤ at + n → n ≡ length (take (end - at) (drop at text))
+whole_part text at end n le inside within all = omega (arith, within, all, part_length text at end le inside)

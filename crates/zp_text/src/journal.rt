@@ -3,9 +3,9 @@ ghost use Rattle.std.specs.Prelude.{◌≡◌, ◌<◌, ◌≤◌, length, OnOk,
 ghost use Rattle.zp_text.specs.Streams.{IsWritten, IsBegun};
 ghost use Rattle.zp_text.specs.JournalText.{journal_text};
 
-use crate::gathering::{GATHERED, make_room};
+use crate::gathering::{GATHERED, make_room, write_gathered};
 use crate::line::{ENTRY_LINE, push_entry};
-use crate::streams::{WriteFault, Writer, write_all};
+use crate::streams::{WriteFault, Writer};
 use crate::text_buffer::TextBuffer;
 use zp_journal::Journal;
 use zp_model::LONGEST_NAME;
@@ -27,5 +27,5 @@ pub fn write_journal<W: Writer>(
         make_room(writer, &mut text, ENTRY_LINE)?;
         push_entry(&mut text, name, at + 1, journal.entry(at + 1));
     }
-    write_all(writer, text.as_bytes())
+    write_gathered(writer, text.as_bytes())
 }

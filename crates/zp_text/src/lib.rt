@@ -14,7 +14,7 @@ mod verdict;
 
 pub use device::{Sink, Source};
 pub use failures::Failures;
-pub use gathering::{GATHERED, make_room};
+pub use gathering::{GATHERED, make_room, write_gathered};
 pub use info::{INFO_LINE, push_counts, write_counts, write_info};
 pub use journal::write_journal;
 pub use streams::{ReadFault, Reader, WriteFault, Writer, write_all};

@@ -1,5 +1,5 @@
 //! Readers and writers whose failed calls contracts can count.
-ghost use Rattle.std.specs.Prelude.{◌≡◌, ◌<◌, ◌+◌, ℕ, List, Option, length, IfOk, OnOk, OnErr};
+ghost use Rattle.std.specs.Prelude.{◌≡◌, ◌<◌, ◌≤◌, ◌+◌, ℕ, List, Option, length, take, IfOk, OnOk, OnErr};
 ghost use Rattle.std.specs.Io.KnownBytes.{Keeps};
 ghost use Rattle.zp_text.specs.Streams.{Takes, Fills, IsWritten, IsBegun};
 
@@ -46,9 +46,26 @@ pub fn write_all<W: Writer>(writer: &mut W, bytes: &[u8]) -> Result<(), WriteFau
     ensures err { OnErr result (IsBegun (W.contents writer.old) (W.contents writer.new) bytes.now) }
     ensures failed { OnErr result (W.failures writer.old < W.failures writer.new) }
 {
-    let mut at = 0;
-    'pieces: while at < bytes.len() {
-        at += writer.write(&bytes[at..])?;
+    if write_pieces(writer, bytes) < bytes.len() {
+        return Err(WriteFault);
     }
     Ok(())
+}
+
+/// Writes the bytes until the writer fails, and says how many it took: all of them, or fewer where it failed.
+#[inline]
+pub(crate) fn write_pieces<W: Writer>(writer: &mut W, bytes: &[u8]) -> usize
+    ensures within { result ≤ length bytes.now }
+    ensures written { IsWritten (W.contents writer.old) (W.contents writer.new) (take result bytes.now) }
+    ensures calm { result ≡ length bytes.now → W.failures writer.new ≡ W.failures writer.old }
+    ensures failed { result < length bytes.now → W.failures writer.new ≡ W.failures writer.old + 1 }
+{
+    let mut at = 0;
+    'pieces: while at < bytes.len() {
+        match writer.write(&bytes[at..]) {
+            Ok(count) => at += count,
+            Err(WriteFault) => return at,
+        }
+    }
+    at
 }

@@ -26,9 +26,9 @@ loop-at-preserved g c =
 pub returns-clause-ok : goal.returns-clause-ok
 returns-clause-ok g c =
     let all = gathered-same _ _ _ _ _ (numbered_end c.args.name.now c.args.journal.now.entries c.loop-at.at (omega (arith, c.loop-at-test.false, c.len-at-end.ensures.entries))) c.loop-at.invariant.gathered in
-    on_ok_weaker c.write_all.result (λ w. gathered_written _ _ _ _ _ all (written-same _ _ _ _ c.as_bytes.ensures w)) c.write_all.ensures.ok
+    on_ok_weaker c.write_gathered.result (λ w. gathered_written _ _ _ _ _ all (written-same _ _ _ _ c.as_bytes.ensures w)) c.write_gathered.ensures.ok
 
 pub returns-clause-err : goal.returns-clause-err
 returns-clause-err g c =
     let all = gathered-same _ _ _ _ _ (numbered_end c.args.name.now c.args.journal.now.entries c.loop-at.at (omega (arith, c.loop-at-test.false, c.len-at-end.ensures.entries))) c.loop-at.invariant.gathered in
-    on_err_weaker c.write_all.result (λ w. gathered_begun _ _ _ _ _ all (begun-same _ _ _ _ c.as_bytes.ensures w)) c.write_all.ensures.err
+    on_err_weaker c.write_gathered.result (λ w. gathered_begun _ _ _ _ _ all (begun-same _ _ _ _ c.as_bytes.ensures w)) c.write_gathered.ensures.err

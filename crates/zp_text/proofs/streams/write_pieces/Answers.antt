@@ -3,7 +3,7 @@ use Rattle.std.proofs.Math.Seq.{take-add}
 use Rattle.std.proofs.lemmas.List.{take_rest}
 use Rattle.zp_text.specs.Streams.{IsWritten, Takes}
 use Rattle.zp_text.proofs.Written.{written-same, written-then}
-use Rattle.zp_text.proofs.streams.write_all.Goals as goal
+use Rattle.zp_text.proofs.streams.write_pieces.Goals as goal
 
 -- the piece that the code lends is the rest of the bytes
 rest_taken : (bytes : List ℕ) (at n : ℕ) (old new : Option (List ℕ)) → Takes (take (length bytes - at) (drop at bytes)) n old new → at ≤ length bytes →
@@ -17,9 +17,9 @@ rest_taken bytes at n old new x le =
 pub pieces-preserved : goal.pieces-preserved
 pieces-preserved g c =
     let i = c.pieces.invariant in
-    let r = rest_taken _ _ _ _ _ c.in_ok-at.ensures.taken i.inside in
+    let r = rest_taken _ _ _ _ _ c.in-Ok.ensures.taken i.inside in
     record {
       inside = r.0;
-      written = written-same _ _ _ _ (sym (take-add c.pieces.at c.in_ok-at.field-0 c.args.bytes.now)) (written-then _ _ _ _ _ i.written r.1);
-      calm = c.in_ok-at.ensures.calm ∙ i.calm;
+      written = written-same _ _ _ _ (sym (take-add c.pieces.at c.in-Ok.count c.args.bytes.now)) (written-then _ _ _ _ _ i.written r.1);
+      calm = c.in-Ok.ensures.calm ∙ i.calm;
     }
