@@ -14,7 +14,7 @@ use std::marker::Model;
 use zp_journal::{Journal, JournalCheck, replay_journal};
 use zp_model::{MAX_ZONES, Name, Refused};
 use zp_text::{
-    TextBuffer, VERDICT_LINE, Verdict, WriteFault, Writer, make_room, push_verdict, write_all,
+    TextBuffer, VERDICT_LINE, Verdict, WriteFault, Writer, make_room, push_verdict, write_gathered,
     write_journal,
 };
 use zp_trace::{Header, ZoneLine};
@@ -155,7 +155,7 @@ fn write_verdicts<W: Writer>(writer: &mut W, journals: &[ZoneJournal]) -> Result
         make_room(writer, &mut text, VERDICT_LINE)?;
         journal.push_verdict(&mut text);
     }
-    write_all(writer, text.as_bytes())
+    write_gathered(writer, text.as_bytes())
 }
 
 /// Writes the entries of each zone.

@@ -17,7 +17,7 @@ use zp_model::{Counts, MAX_WORKERS, MAX_ZONES, Worker};
 use zp_office::{CommandReply, Office};
 use zp_share::{PlainZones, Share, Totals};
 use zp_text::{
-    GATHERED, INFO_LINE, TextBuffer, WriteFault, Writer, make_room, push_counts, write_all,
+    GATHERED, INFO_LINE, TextBuffer, WriteFault, Writer, make_room, push_counts, write_gathered,
 };
 use zp_trace::CommandLine;
 use zp_zone::Zone;
@@ -69,7 +69,7 @@ fn write_replies<W: Writer>(
         push_reply_at(&mut text, office, command.worker, written[worker]);
         written[worker] += 1;
     }
-    write_all(writer, text.as_bytes())
+    write_gathered(writer, text.as_bytes())
 }
 
 /// Appends a worker's reply at this place among its replies, where it has one there.
@@ -129,7 +129,7 @@ fn write_infos<W: Writer>(writer: &mut W, zones: &[Zone]) -> Result<(), WriteFau
         make_room(writer, &mut text, INFO_LINE)?;
         push_counts(&mut text, zone.name(), zone.largest(), &zone.counts());
     }
-    write_all(writer, text.as_bytes())
+    write_gathered(writer, text.as_bytes())
 }
 
 /// Appends the total line of the zone of this number, with where its pages are.
@@ -170,5 +170,5 @@ fn write_total_lines<W: Writer>(
         make_room(writer, &mut text, LINE)?;
         push_total(&mut text, zones, shares, number, totals[number]);
     }
-    write_all(writer, text.as_bytes())
+    write_gathered(writer, text.as_bytes())
 }

@@ -25,10 +25,10 @@ pub returns-clause-ok : goal.returns-clause-ok
 returns-clause-ok g c =
     let end : length c.args.journals.now ≤ c.loop-journal.journal-index = omega arith in
     let all = gathered-same _ _ _ _ _ (ap (λ js. flat_map judged_verdict js) (take_all c.loop-journal.journal-index c.args.journals.now end)) c.loop-journal.invariant.gathered in
-    on_ok_weaker c.write_all.result (λ w. gathered_written _ _ _ _ _ all (written-same _ _ _ _ c.as_bytes.ensures w)) c.write_all.ensures.ok
+    on_ok_weaker c.write_gathered.result (λ w. gathered_written _ _ _ _ _ all (written-same _ _ _ _ c.as_bytes.ensures w)) c.write_gathered.ensures.ok
 
 pub returns-clause-err : goal.returns-clause-err
 returns-clause-err g c =
     let end : length c.args.journals.now ≤ c.loop-journal.journal-index = omega arith in
     let all = gathered-same _ _ _ _ _ (ap (λ js. flat_map judged_verdict js) (take_all c.loop-journal.journal-index c.args.journals.now end)) c.loop-journal.invariant.gathered in
-    on_err_weaker c.write_all.result (λ w. gathered_begun _ _ _ _ _ all (begun-same _ _ _ _ c.as_bytes.ensures w)) c.write_all.ensures.err
+    on_err_weaker c.write_gathered.result (λ w. gathered_begun _ _ _ _ _ all (begun-same _ _ _ _ c.as_bytes.ensures w)) c.write_gathered.ensures.err

@@ -31,10 +31,10 @@ pub returns-clause-ok : goal.returns-clause-ok
 returns-clause-ok g c =
     let end : length (map named_zone c.args.zones.now) ≤ c.loop-zone.zone-index = omega (arith, length-map c.args.zones.now named_zone) in
     let all = gathered-same _ _ _ _ _ (ap (λ zs. flat_map info_of zs) (take_all c.loop-zone.zone-index (map named_zone c.args.zones.now) end)) c.loop-zone.invariant.gathered in
-    on_ok_weaker c.write_all.result (λ w. gathered_written _ _ _ _ _ all (written-same _ _ _ _ c.as_bytes.ensures w)) c.write_all.ensures.ok
+    on_ok_weaker c.write_gathered.result (λ w. gathered_written _ _ _ _ _ all (written-same _ _ _ _ c.as_bytes.ensures w)) c.write_gathered.ensures.ok
 
 pub returns-clause-err : goal.returns-clause-err
 returns-clause-err g c =
     let end : length (map named_zone c.args.zones.now) ≤ c.loop-zone.zone-index = omega (arith, length-map c.args.zones.now named_zone) in
     let all = gathered-same _ _ _ _ _ (ap (λ zs. flat_map info_of zs) (take_all c.loop-zone.zone-index (map named_zone c.args.zones.now) end)) c.loop-zone.invariant.gathered in
-    on_err_weaker c.write_all.result (λ w. gathered_begun _ _ _ _ _ all (begun-same _ _ _ _ c.as_bytes.ensures w)) c.write_all.ensures.err
+    on_err_weaker c.write_gathered.result (λ w. gathered_begun _ _ _ _ _ all (begun-same _ _ _ _ c.as_bytes.ensures w)) c.write_gathered.ensures.err

@@ -41,9 +41,9 @@ loop-command-preserved g c =
 pub returns-clause-ok : goal.returns-clause-ok
 returns-clause-ok g c =
     let all = gathered-same _ _ _ _ _ (turns_end c.args.office.now c.args.commands.now c.loop-command.command-index (omega arith)) c.loop-command.invariant.text in
-    on_ok_weaker c.write_all.result (λ w. gathered_written _ _ _ _ _ all (written-same _ _ _ _ c.as_bytes.ensures w)) c.write_all.ensures.ok
+    on_ok_weaker c.write_gathered.result (λ w. gathered_written _ _ _ _ _ all (written-same _ _ _ _ c.as_bytes.ensures w)) c.write_gathered.ensures.ok
 
 pub returns-clause-err : goal.returns-clause-err
 returns-clause-err g c =
     let all = gathered-same _ _ _ _ _ (turns_end c.args.office.now c.args.commands.now c.loop-command.command-index (omega arith)) c.loop-command.invariant.text in
-    on_err_weaker c.write_all.result (λ w. gathered_begun _ _ _ _ _ all (begun-same _ _ _ _ c.as_bytes.ensures w)) c.write_all.ensures.err
+    on_err_weaker c.write_gathered.result (λ w. gathered_begun _ _ _ _ _ all (begun-same _ _ _ _ c.as_bytes.ensures w)) c.write_gathered.ensures.err

@@ -51,7 +51,7 @@ returns-clause-ok g c =
     let end : length (range_with_len 0 (length crew.zones)) ≤ c.loop-number.number =
     omega (arith, c.loop-number-test.false, c.len-number-end.ensures.value, many, ap (λ (x : CrewState). length x.zones) same, length-range_with_len 0 (length crew.zones)) in
     let all = gathered-same _ _ _ _ _ (ap (λ ns. flat_map (total_of crew) ns) (take_all c.loop-number.number (range_with_len 0 (length crew.zones)) end)) i.gathered in
-    on_ok_weaker c.write_all.result (λ w. gathered_written _ _ _ _ _ all (written-same _ _ _ _ c.as_bytes.ensures w)) c.write_all.ensures.ok
+    on_ok_weaker c.write_gathered.result (λ w. gathered_written _ _ _ _ _ all (written-same _ _ _ _ c.as_bytes.ensures w)) c.write_gathered.ensures.ok
 
 pub returns-clause-err : goal.returns-clause-err
 returns-clause-err g c =
@@ -62,7 +62,7 @@ returns-clause-err g c =
     let end : length (range_with_len 0 (length crew.zones)) ≤ c.loop-number.number =
     omega (arith, c.loop-number-test.false, c.len-number-end.ensures.value, many, ap (λ (x : CrewState). length x.zones) same, length-range_with_len 0 (length crew.zones)) in
     let all = gathered-same _ _ _ _ _ (ap (λ ns. flat_map (total_of crew) ns) (take_all c.loop-number.number (range_with_len 0 (length crew.zones)) end)) i.gathered in
-    on_err_weaker c.write_all.result (λ w. gathered_begun _ _ _ _ _ all (begun-same _ _ _ _ c.as_bytes.ensures w)) c.write_all.ensures.err
+    on_err_weaker c.write_gathered.result (λ w. gathered_begun _ _ _ _ _ all (begun-same _ _ _ _ c.as_bytes.ensures w)) c.write_gathered.ensures.err
 
 pub gather-totals-requires-clause-crew : goal.gather-totals-requires-clause-crew
 gather-totals-requires-clause-crew g c = crew_there c.args.zones.now c.args.shares.now c.requires
