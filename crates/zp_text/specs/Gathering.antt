@@ -13,10 +13,10 @@ pub record IsGathered (old new : Option (List ℕ)) (before after text : List �
 abbrev pub IsLineStart : List ℕ → ℕ → Type 0
 IsLineStart text k = 0 < k → slice_index text (k - 1) ≡ line_feed
 
--- a writer that had failed so often before, and so often after, took a beginning of a text: where that is whole lines and not all of
--- them, it failed twice at least, at the text and at the next line
+-- a writer that had failed so often before, and so often after, took a beginning of a text: where that is whole lines, and more than one
+-- is left, it failed twice at least, at what was left and at the next line
 pub record IsStopped (old new : Option (List ℕ)) (before after : ℕ) (text : List ℕ) : Type 0 where
   pub taken : ℕ
   pub within : taken ≤ length text
   pub written : IsWritten old new (take taken text)
-  pub refused : taken < length text → IsLineStart text taken → before + 1 < after
+  pub refused : IsLineStart text taken → (k : ℕ) → taken < k → k < length text → IsLineStart text k → before + 1 < after

@@ -1,5 +1,5 @@
 //! Text that is gathered before it is written, so that a writer is called once for many lines.
-ghost use Rattle.std.specs.Prelude.{◌≡◌, ◌<◌, ◌≤◌, ◌+◌, ◌↔◌, ℕ, [], length, take, IsTrue, OnOk, OnErr};
+ghost use Rattle.std.specs.Prelude.{◌≡◌, ◌<◌, ◌≤◌, ◌+◌, ◌↔◌, ℕ, [], length, take, true, false, IsTrue, OnOk, OnErr};
 ghost use Rattle.zp_text.specs.Streams.{IsWritten, IsBegun};
 ghost use Rattle.zp_text.specs.Gathering.{IsGathered, IsLineStart, IsStopped};
 
@@ -30,7 +30,8 @@ pub fn make_room<W: Writer, const CAP: usize>(
 }
 
 /// Writes a gathered text in one piece. A writer may refuse a piece that is too long for it, and take the lines in it: where it stops
-/// at the end of a line, the others go one by one, until one is refused. So a fault leaves as much written as if no text were gathered.
+/// at the end of a line, and more than one is left, they go one by one until one is refused. So a fault leaves as much written as if no
+/// text were gathered.
 pub fn write_gathered<W: Writer>(writer: &mut W, text: &[u8]) -> Result<(), WriteFault>
     ensures ok { OnOk result (IsWritten (W.contents writer.old) (W.contents writer.new) text.now) }
     ensures calm { OnOk result (W.failures writer.new ≡ W.failures writer.old) }
@@ -42,7 +43,7 @@ pub fn write_gathered<W: Writer>(writer: &mut W, text: &[u8]) -> Result<(), Writ
     if taken == text.len() {
         return Ok(());
     }
-    if is_line_start(text, taken) {
+    if has_lines(text, taken) {
         write_lines(writer, &text[taken..]);
     }
     Err(WriteFault)
@@ -66,6 +67,15 @@ fn write_lines<W: Writer>(writer: &mut W, text: &[u8]) -> usize
         }
     }
     at
+}
+
+/// Whether more than one line is left of a text, behind the end of one.
+fn has_lines(text: &[u8], at: usize) -> bool
+    requires { at < length text.now }
+    ensures start { result ≡ true → IsLineStart text.now at }
+    ensures one { result ≡ false → IsLineStart text.now at → (k : ℕ) → at < k → k < length text.now → IsLineStart text.now k → ⊥ }
+{
+    is_line_start(text, at) && next_line(text, at) < text.len()
 }
 
 /// Where the next line of a text begins, or the text ends.
