@@ -3,5 +3,6 @@
 #![tactic(auto)]
 
 pub mod memory;
+pub mod rooms;
 #[cfg(test)]
 mod tests;

@@ -1,6 +1,8 @@
 //! Small traces, serially and in threads, with devices that give and take small pieces or fail, and with gates.
 ghost use Rattle.std.specs.Prelude.{◌≡◌, ◌<◌};
 
+mod gathered;
+
 use super::memory::{Schedule, SliceReader, VecWriter};
 use crossbeam_utils::atomic::AtomicCell;
 use std::marker::Brand;
