@@ -1,11 +1,14 @@
 //! Workers in threads over one zone whose journal is cut when it is nearly full; the pieces are replayed at the end.
+ghost use Rattle.std.specs.Prelude.{◌≡◌, IfSome, true};
+ghost use Rattle.zp_model.specs.Zone.{zone_opening};
+ghost use Rattle.uses.specs.CutZones.{AreOfZone};
 
-use crate::replayed_pieces::replay_pieces;
+use crate::replayed_pieces::replayed_zone;
 use crate::row_worker::{RowOfOne, RowWorker};
 use std::alloc::Global;
 use std::sync::{Mutex, Wait};
 use std::thread::{Threads, map_vec};
-use zp_journal::Journal;
+use zp_journal::{Journal, Piece};
 use zp_model::Refused;
 use zp_shared::{CutJournal, Naming, SharedZone};
 use zp_zone::{Zone, ZoneConfig};
@@ -16,8 +19,8 @@ pub const PIECE: u32 = 200;
 /// With so many it is cut: nine tenths.
 const NEARLY_FULL: u32 = PIECE / 10 * 9;
 
-/// The journals that were handed over, in order.
-type Pieces = Mutex<Vec<Journal>>;
+/// The pieces that were handed over, in order.
+type Pieces = Mutex<Vec<Piece>>;
 
 /// What is left of a run.
 #[derive(Clone, Copy, PartialEq, Eq, Debug, Drop)]
@@ -26,7 +29,7 @@ pub struct CutRun {
     pub pieces: usize,
     /// How many pages are free when all have ended.
     pub free_pages: u32,
-    /// Whether a new zone that is asked the same, piece after piece, answers the same and has the same free blocks.
+    /// Whether the pieces adjoin, and a new zone that is asked the same answers the same and has the same free blocks.
     pub is_legal: bool,
 }
 
@@ -90,16 +93,18 @@ fn work<J: Naming + Send + Sync, R: Threads + Wait + Sync>(
     }
 }
 
-/// What is told of the zone and its journals. None where there is no memory for the replay.
+/// What is told of the zone and its pieces. None where there is no memory for the replay.
 fn outcome(
     alloc: Global,
     config: ZoneConfig<'_>,
     workers: u32,
     zone: &Zone,
-    pieces: &[Journal],
-) -> Option<CutRun> {
+    pieces: &[Piece],
+) -> Option<CutRun>
+    ensures { IfSome result (λ r. r.is_legal ≡ true → AreOfZone zone.now (zone_opening config.entry.largest config.entry.base config.entry.pages config.entry.min workers) pieces.now) }
+{
     let counts = zone.counts();
-    let replayed = replay_pieces(alloc, ZoneConfig { ..config }, workers, pieces).ok()?;
+    let replayed = replayed_zone(alloc, ZoneConfig { ..config }, workers, pieces).ok()?;
     let is_legal = match replayed {
         Some(replayed) => replayed.counts() == counts,
         None => false,
@@ -128,7 +133,7 @@ pub fn work_in_pieces<J: Naming + Send + Sync, R: Threads + Wait + Sync>(
     }
     let closed = row.into_zone()?.close(&mut []);
     let mut pieces = pieces.into_inner();
-    pieces.push(closed.journal.into_journal()).ok()?;
+    pieces.push(closed.journal.into_piece()).ok()?;
     outcome(
         alloc,
         ZoneConfig { ..config },

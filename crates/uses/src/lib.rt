@@ -31,7 +31,7 @@ pub use locked_page::touch_a_page;
 pub use low_block::take_below;
 pub use page_pool::PagePool;
 pub use reading_in_history::read_before_the_lock;
-pub use replayed_pieces::replay_pieces;
+pub use replayed_pieces::replayed_zone;
 pub use row_worker::{ReaderAt, RowOfOne, RowReader, RowWorker, WorkerAt};
 pub use shared_row::{SharedRun, share_a_zone};
 pub use two_pages::take_two;

@@ -2,3 +2,4 @@ pub mod SameReply
 pub mod Repeating
 pub mod Replayed
 pub mod FirstEntries
+pub mod Together

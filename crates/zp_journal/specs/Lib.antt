@@ -1,2 +1,3 @@
 pub mod Journals
 pub mod Asking
+pub mod Pieces

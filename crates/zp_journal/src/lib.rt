@@ -4,7 +4,9 @@
 
 mod asking;
 mod journal;
+mod pieces;
 mod replay;
 
 pub use journal::{Journal, LONGEST_JOURNAL};
+pub use pieces::{Piece, are_adjoining, replay_pieces};
 pub use replay::{JournalCheck, counts_after, replay_further, replay_journal, replay_opening};

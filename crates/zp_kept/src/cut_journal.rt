@@ -7,7 +7,7 @@ ghost use Rattle.zp_journal.specs.Journals.{JournalState};
 use crate::keeps::Keeps;
 use std::marker::Model;
 use std::mem;
-use zp_journal::Journal;
+use zp_journal::{Journal, Piece};
 use zp_model::Entry;
 
 /// The journal of what was asked of the zone since the last cut. When it is full, the zone is asked no more until it is cut. Contracts
@@ -49,23 +49,27 @@ impl CutJournal {
         self.handed
     }
 
-    /// The journal so far; the zone, which has made so many entries in all, goes on with the empty one.
-    pub fn cut(&mut self, empty: Journal, entries: u64) -> Journal
-        ensures journal { result ≡ self.old.journal }
+    /// The piece so far; the zone, which has made so many entries in all, goes on with the empty journal.
+    pub fn cut(&mut self, empty: Journal, entries: u64) -> Piece
+        ensures piece { result ≡ record { before = self.old.handed; journal = self.old.journal } }
         ensures cut { self.new ≡ record { handed = entries; journal = empty } }
     {
         let cut = CutJournal {
             journal: empty,
             handed: entries,
         };
-        mem::replace(self, cut).journal
+        mem::replace(self, cut).into_piece()
     }
 
-    /// The journal since the last cut, for good.
-    pub fn into_journal(self) -> Journal
-        ensures { result ≡ self.journal }
+    /// The piece since the last cut, for good.
+    pub fn into_piece(self) -> Piece
+        ensures { result ≡ record { before = self.handed; journal = self.journal } }
     {
-        self.journal
+        let CutJournal { journal, handed } = self;
+        Piece {
+            before: handed,
+            journal,
+        }
     }
 }
 

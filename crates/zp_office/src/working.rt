@@ -27,8 +27,8 @@ pub fn work_next<Z: Zones>(desk: &mut Desk, zones: &mut Z)
 }
 
 /// Carries out the whole script, with the gate called round each command. Each has one reply, and the count of the replies rises
-/// by the script's length: a desk whose script was carried out is not ready to be worked again. No reading of the zones after it is older
-/// than the worker's own sections.
+/// by the script's length: a desk whose script was carried out is not ready to be worked again. The readings of the zones cover the worker's
+/// own sections then.
 pub fn work<Z: Zones, G: Gate>(desk: &mut Desk, zones: &mut Z, gate: &G)
     requires { IsReady (Z.keys zones.old) desk.old }
     ensures keys { Z.keys zones.new ≡ Z.keys zones.old }

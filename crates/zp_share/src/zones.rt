@@ -21,8 +21,8 @@ use zp_model::{
 /// A row of zones. A section makes one request to the zone at a place of the row, and the same change in the share: one section
 /// more, of this request and this reply, or a refusal 20 or 30 with nothing changed. Where the row tells what its zones are, they and
 /// the answer are exactly those of one step of that zone. Each of the nine typed calls is the section of its request, and
-/// `fill` is that of a refill. What each of them leaves of the row's readings the row says (`reads`): after a section no reading of its zone
-/// is older than it.
+/// `fill` is that of a refill. What each of them leaves of the row's readings the row says (`reads`): after a section the readings of its zone
+/// cover it.
 pub trait Zones {
     // What ties each zone to its seats, its name, and how many workers it has; this never changes.
     ghost keys: { Self → List ZoneKey };
@@ -35,7 +35,7 @@ pub trait Zones {
     ghost reads: { Self → Self → ℕ → Reply → ShareState → Type 0 };
     // What a reading of the counts of the zone of a place leaves of the row's readings.
     ghost counted: { Self → Self → ℕ → Type 0 };
-    // No reading of the zone of a place is older, from here on, than so many of the worker's sections with it.
+    // The row's readings of the zone of a place cover so many of the worker's sections with it. How, the row says.
     ghost covers: { Self → ℕ → ℕ → Type 0 };
     // There is no room for a section more with the zone of a place, as far as the row and this share can know.
     ghost ended: { Self → ℕ → ShareState → Type 0 };

@@ -206,7 +206,7 @@ pub record HasReadAfter (bounds : ℕ → Type 0) (q : Reply) (h : GuardedZone) 
   pub left : is_not_lent q ≡ true → s ≡ r
   pub read : is_not_lent q ≡ false → IsReadWhole bounds h s.seen
 
--- the view's reader of a place has seen more counts than so many sections published: so no later reading is older than they are
+-- the view's reader of a place has seen more counts than this number, that of a worker's sections there
 abbrev pub HasCovered : ViewState → ℕ → ℕ → Type 0
 HasCovered v i n = n < length (seen_at (seen_by v.readers) i)
 
@@ -216,7 +216,7 @@ HasSeenAll bounds v i = (v.strayed ≡ true) ⊎ ((capacity : ℕ) × bounds cap
 
 -- what a worker's view has read when a request to the zone of place i was answered so, where the room for its entries is one of these
 pub record IsReadAfter (bounds : ℕ → Type 0) (i : ℕ) (q : Reply) (t : ShareState) (before after : ViewState) : Type 0 where
-  -- where it was a section, more than the share has made sections there: no later reading is older than they are
+  -- where it was a section, more than the share has made sections there
   pub own : is_section q ≡ true → HasCovered after i (sections_at t i)
   -- where there was no room, as much as there is room for, unless the zone lay under another's lock
   pub full : q ≡ Reply.Refused JournalFull → HasSeenAll bounds after i

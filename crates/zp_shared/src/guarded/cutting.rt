@@ -6,7 +6,7 @@ ghost use Rattle.zp_shared.specs.Rows.{board_at};
 
 use super::Guarded;
 use crate::naming::Naming;
-use zp_journal::Journal;
+use zp_journal::{Journal, Piece};
 use zp_kept::CutJournal;
 
 impl<J: Naming> Guarded<J, CutJournal> {
@@ -18,12 +18,14 @@ impl<J: Naming> Guarded<J, CutJournal> {
         self.journal.journal()
     }
 
-    /// The journal since the last cut, which is handed over: the zone goes on with the empty one. Put together, the journals handed over
-    /// and the one at hand have the zone's entries, in order; each is legal from where the one before it ended.
-    pub fn cut(&mut self, empty: Journal) -> Journal
+    /// The piece since the last cut, which is handed over: the zone goes on with the empty journal. Put together, the pieces handed over
+    /// and the one at hand have the zone's entries, in order; each begins, and is legal, where the one before it ended.
+    pub fn cut(&mut self, empty: Journal) -> Piece
         requires { empty.entries ≡ [] }
-        ensures entries { result.entries ≡ drop self.old.handed self.old.zone.entries }
-        ensures legal { IsLegal (run (opening_of self.old.zone.plain) (take self.old.handed self.old.zone.entries)) result.entries }
+        ensures begins { result.before ≡ self.old.handed }
+        ensures ends { result.before + length result.journal.entries ≡ self.new.handed }
+        ensures entries { result.journal.entries ≡ drop self.old.handed self.old.zone.entries }
+        ensures legal { IsLegal (run (opening_of self.old.zone.plain) (take self.old.handed self.old.zone.entries)) result.journal.entries }
         ensures cut { self.new ≡ record self.old { handed = length self.old.zone.entries; capacity = min (length self.old.zone.entries + empty.capacity) (board_at J.boards self.old.place).capacity } }
     {
         let entries = self.publisher.place();
