@@ -412,7 +412,8 @@ impl FreeArea {
     }
 
     /// The largest order of a block in a pageblock of another migrate type that has the free pages that a claim needs. A block of half of a
-    /// pageblock or more gives it these pages; whether there are smaller ones only, what is noted of the pageblocks tells. None is looked at.
+    /// pageblock or more gives it these pages; whether there are smaller ones only, what is noted of the pageblocks tells, when those that
+    /// have changed are noted anew.
     pub fn largest_claimable(&mut self, kind: MigrateType) -> Option<Order>
         ensures answer { IsLargestClaimable self.old.largest self.old kind result }
         ensures same { self.new ≡ self.old }
