@@ -21,8 +21,8 @@ use zp_model::Refused;
 use zp_shared::{Earlier, Keeps, LockedZones, Naming, SharedZone};
 
 /// Each worker carries out its script, in a thread of its own and all at the same time, with its row of readers, one of each zone.
-/// Where a thread cannot be started, refused 31, that desk and those after it are left as they were, and the workers before it go on
-/// to their end. Takes no memory but what a thread takes to be started.
+/// Where a thread cannot be started, refused 31: the desks of a beginning of the row, which is not all of it and may be none, were worked to
+/// their end, and those after it are as they were. Takes no memory but what a thread takes to be started.
 pub fn run_workers<
     J: Naming + Send + Sync,
     K: Keeps + Send,
