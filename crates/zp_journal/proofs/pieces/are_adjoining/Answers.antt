@@ -13,17 +13,19 @@ loop-piece-preserved c =
     c.loop-piece.invariant
 
 pub returns-then-piece-before : goal.returns-then-piece-before
-returns-then-piece-before c =
-    (λ e. absurd (let no : false ≡ true = e in cc),
-    λ x. absurd (not_adjoining c.args.pieces.now c.loop-piece.piece-index c.loop-piece.before c.piece-item.result c.loop-piece-test.true c.piece-item.is c.if-piece-before.true c.loop-piece.invariant x.0))
+returns-then-piece-before c = (
+  λ e. absurd (let no : false ≡ true = e in cc),
+  λ x. absurd (not_adjoining c.args.pieces.now c.loop-piece.piece-index c.loop-piece.before c.piece-item.result c.loop-piece-test.true c.piece-item.is c.if-piece-before.true c.loop-piece.invariant x.0),
+)
 
 pub returns-in_default : goal.returns-in_default
-returns-in_default c =
-    (λ e. absurd (let no : false ≡ true = e in cc),
-    λ x.
-    absurd
-    (let many : 2 ^ 64 ≤ c.loop-piece.before + length c.piece-item.result.journal.entries = omega (arith, c.in_default.ensures, c.from.ensures, c.len.ensures.entries) in
-    omega (arith, x.1, too_many c.args.pieces.now c.loop-piece.piece-index c.loop-piece.before (2 ^ 64) c.piece-item.result c.loop-piece-test.true c.piece-item.is many c.loop-piece.invariant)))
+returns-in_default c = (
+  λ e. absurd (let no : false ≡ true = e in cc),
+  λ x.
+      absurd
+      (let many : 2 ^ 64 ≤ c.loop-piece.before + length c.piece-item.result.journal.entries = omega (arith, c.in_default.ensures, c.from.ensures, c.len.ensures.entries) in
+      omega (arith, x.1, too_many c.args.pieces.now c.loop-piece.piece-index c.loop-piece.before (2 ^ 64) c.piece-item.result c.loop-piece-test.true c.piece-item.is many c.loop-piece.invariant)),
+)
 
 pub returns : goal.returns
 returns c =
