@@ -13,3 +13,4 @@ mod rows;
 mod schedules;
 mod sections;
 mod strayed;
+mod workers;
