@@ -1,4 +1,8 @@
 //! Workers in threads over one zone whose journal is cut when it is nearly full; the pieces are replayed at the end.
+ghost use Rattle.std.specs.Prelude.{◌≡◌, IfSome, Some};
+ghost use Rattle.zp_model.specs.Info.{counts_of};
+ghost use Rattle.zp_model.specs.Zone.{zone_opening};
+ghost use Rattle.zp_journal.specs.Pieces.{AreAdjoining, IsReplayedWhole, entries_of};
 
 use crate::replayed_pieces::replayed_zone;
 use crate::row_worker::{RowOfOne, RowWorker};
@@ -6,7 +10,7 @@ use std::alloc::Global;
 use std::sync::{Mutex, Wait};
 use std::thread::{Threads, map_vec};
 use zp_journal::{Journal, Piece};
-use zp_model::Refused;
+use zp_model::{Counts, Refused};
 use zp_shared::{CutJournal, Naming, SharedZone};
 use zp_zone::{Zone, ZoneConfig};
 
@@ -20,14 +24,15 @@ const NEARLY_FULL: u32 = PIECE / 10 * 9;
 type Pieces = Mutex<Vec<Piece>>;
 
 /// What is left of a run.
-#[derive(Clone, Copy, PartialEq, Eq, Debug, Drop)]
+#[derive(Drop)]
 pub struct CutRun {
-    /// How many journals there are, the last one too.
-    pub pieces: usize,
-    /// How many pages are free when all have ended.
-    pub free_pages: u32,
-    /// Whether the pieces adjoin, and a new zone that is asked the same answers the same and has the same free blocks.
-    pub is_legal: bool,
+    /// The zone when all have ended.
+    pub zone: Zone,
+    /// All journals in order, the last one too, each with its place.
+    pub pieces: Vec<Piece>,
+    /// The zone that the pieces lead to: where they adjoin, a new zone that is asked the same answers the same, and its free blocks are as
+    /// many as those of the zone.
+    pub replayed: Option<Zone>,
 }
 
 /// Where the zone's journal is nearly full, it goes to the pieces, and an empty one takes its place. The zone's lock is held meanwhile, so
@@ -90,24 +95,37 @@ fn work<J: Naming + Send + Sync, R: Threads + Wait + Sync>(
     }
 }
 
+/// A zone that has these counts, and no other.
+fn with_counts(zone: Option<Zone>, counts: Counts) -> Option<Zone>
+    ensures same { IfSome result (λ z. zone ≡ Some z) }
+    ensures counts { IfSome result (λ z. counts_of z.plain.area.largest z.plain.area.free ≡ counts) }
+{
+    let zone = zone?;
+    if zone.counts() == counts {
+        Some(zone)
+    } else {
+        None
+    }
+}
+
 /// What is told of the zone and its pieces. None where there is no memory for the replay.
 fn outcome(
     alloc: Global,
     config: ZoneConfig<'_>,
     workers: u32,
-    zone: &Zone,
-    pieces: &[Piece],
-) -> Option<CutRun> {
-    let counts = zone.counts();
-    let replayed = replayed_zone(alloc, ZoneConfig { ..config }, workers, pieces).ok()?;
-    let is_legal = match replayed {
-        Some(replayed) => replayed.counts() == counts,
-        None => false,
-    };
+    zone: Zone,
+    pieces: Vec<Piece>,
+) -> Option<CutRun>
+    ensures adjoin { IfSome result (λ run. IfSome run.replayed (λ z. AreAdjoining 0 run.pieces.items)) }
+    ensures replayed { IfSome result (λ run. IfSome run.replayed (λ z. IsReplayedWhole config.entry.name.now (zone_opening config.entry.largest config.entry.base config.entry.pages config.entry.min workers) (entries_of run.pieces.items) (Some z))) }
+    ensures same { IfSome result (λ run. IfSome run.replayed (λ z. counts_of z.plain.area.largest z.plain.area.free ≡ counts_of run.zone.plain.area.largest run.zone.plain.area.free)) }
+{
+    let replayed = replayed_zone(alloc, ZoneConfig { ..config }, workers, pieces.as_slice()).ok()?;
+    let replayed = with_counts(replayed, zone.counts());
     Some(CutRun {
-        pieces: pieces.len(),
-        free_pages: counts.free,
-        is_legal,
+        zone,
+        pieces,
+        replayed,
     })
 }
 
@@ -121,7 +139,11 @@ pub fn work_in_pieces<J: Naming + Send + Sync, R: Threads + Wait + Sync>(
     row: RowOfOne<J, CutJournal>,
     workers: Vec<RowWorker<J>>,
     many: u32,
-) -> Option<CutRun> {
+) -> Option<CutRun>
+    ensures adjoin { IfSome result (λ run. IfSome run.replayed (λ z. AreAdjoining 0 run.pieces.items)) }
+    ensures replayed { IfSome result (λ run. IfSome run.replayed (λ z. IsReplayedWhole config.entry.name.now (zone_opening config.entry.largest config.entry.base config.entry.pages config.entry.min crew) (entries_of run.pieces.items) (Some z))) }
+    ensures same { IfSome result (λ run. IfSome run.replayed (λ z. counts_of z.plain.area.largest z.plain.area.free ≡ counts_of run.zone.plain.area.largest run.zone.plain.area.free)) }
+{
     let pieces = Mutex::new(Vec::new(alloc));
     if !work(rt, alloc, &row, workers, &pieces, many) {
         return None;
@@ -129,11 +151,5 @@ pub fn work_in_pieces<J: Naming + Send + Sync, R: Threads + Wait + Sync>(
     let closed = row.into_zone()?.close(&mut []);
     let mut pieces = pieces.into_inner();
     pieces.push(closed.journal.into_piece()).ok()?;
-    outcome(
-        alloc,
-        ZoneConfig { ..config },
-        crew,
-        &closed.zone,
-        pieces.as_slice(),
-    )
+    outcome(alloc, ZoneConfig { ..config }, crew, closed.zone, pieces)
 }

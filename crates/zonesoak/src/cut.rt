@@ -61,13 +61,17 @@ pub fn print<R: Print + Threads + Wait + Sync>(rt: &R, alloc: Global) -> anyhow:
     let run = run(rt, alloc)?;
     println!(rt;
         "{WORKERS} workers, a journal in pieces: {} cuts, pieces {}, free pages {}",
-        if run.pieces > CUTS {
+        if run.pieces.len() > CUTS {
             "200 and more"
         } else {
             "TOO FEW"
         },
-        if run.is_legal { "legal" } else { "NOT LEGAL" },
-        run.free_pages
+        if run.replayed.is_some() {
+            "legal"
+        } else {
+            "NOT LEGAL"
+        },
+        run.zone.counts().free
     )?;
     Ok(())
 }
