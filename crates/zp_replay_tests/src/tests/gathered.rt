@@ -1,5 +1,4 @@
-//! Text that is gathered before it is written, beside the same text line by line, on writers with room for none of it, and up to the end
-//! of each line, a byte less and a byte more.
+//! Text that is gathered before it is written, beside the same text line by line, on writers with room for each number of its bytes.
 ghost use Rattle.std.specs.Prelude.{◌≡◌, ◌<◌};
 
 use super::*;
@@ -196,15 +195,9 @@ fn expect_all<R: Abort + AllocGlobal>(rt: &R, output: Output<'_>) -> Result<(), 
     let expected = expectation(rt, output)?;
     let pieces = expected.pieces.len();
     assert!(rt; 1 < pieces && pieces < expected.lines.len());
-    expect_lines(rt, output, &expected, 0);
-    expect_parts(rt, output, &expected, 0);
-    for (at, byte) in expected.text.iter().enumerate() {
-        if *byte == b'\n' {
-            for room in [at, at + 1, at + 2] {
-                expect_lines(rt, output, &expected, room);
-                expect_parts(rt, output, &expected, room);
-            }
-        }
+    for room in 0..expected.text.len() + 2 {
+        expect_lines(rt, output, &expected, room);
+        expect_parts(rt, output, &expected, room);
     }
     Ok(())
 }
