@@ -1,8 +1,10 @@
 //! Workers in threads over one zone whose journal is cut when it is nearly full; the pieces are replayed at the end.
-ghost use Rattle.std.specs.Prelude.{◌≡◌, IfSome, Some};
+ghost use Rattle.std.specs.Prelude.{◌≡◌, ◌++◌, ◌∷◌, [], IfSome, List, Some};
 ghost use Rattle.zp_model.specs.Info.{counts_of};
 ghost use Rattle.zp_model.specs.Zone.{zone_opening};
 ghost use Rattle.zp_journal.specs.Pieces.{AreAdjoining, IsReplayedWhole, entries_of};
+ghost use Rattle.zp_journal.specs.declared.pieces.Piece.{Piece};
+ghost use Rattle.zp_kept.specs.Cuts.{IsCutOf};
 
 use crate::replayed_pieces::replayed_zone;
 use crate::row_worker::{RowOfOne, RowWorker};
@@ -17,7 +19,7 @@ use zp_zone::{Zone, ZoneConfig};
 /// For how many entries each journal has room.
 pub const PIECE: u32 = 200;
 
-/// With so many it is cut: nine tenths.
+/// From so many on it is cut, after a worker's round: nine tenths. What is left is enough for the other workers' rounds, up to ten of them.
 const NEARLY_FULL: u32 = PIECE / 10 * 9;
 
 /// The pieces that were handed over, in order.
@@ -95,9 +97,10 @@ fn work<J: Naming + Send + Sync, R: Threads + Wait + Sync>(
     }
 }
 
-/// A zone that has these counts, and no other.
+/// The zone, where there is one and it has these counts.
 fn with_counts(zone: Option<Zone>, counts: Counts) -> Option<Zone>
     ensures same { IfSome result (λ z. zone ≡ Some z) }
+    ensures some { IfSome zone (λ z. counts_of z.plain.area.largest z.plain.area.free ≡ counts → result ≡ Some z) }
     ensures counts { IfSome result (λ z. counts_of z.plain.area.largest z.plain.area.free ≡ counts) }
 {
     let zone = zone?;
@@ -108,7 +111,7 @@ fn with_counts(zone: Option<Zone>, counts: Counts) -> Option<Zone>
     }
 }
 
-/// What is told of the zone and its pieces. None where there is no memory for the replay.
+/// What is told of the zone and its pieces. None where the config makes no zone, or there is no memory for the replay.
 fn outcome(
     alloc: Global,
     config: ZoneConfig<'_>,
@@ -116,6 +119,8 @@ fn outcome(
     zone: Zone,
     pieces: Vec<Piece>,
 ) -> Option<CutRun>
+    ensures zone { IfSome result (λ run. run.zone ≡ zone) }
+    ensures pieces { IfSome result (λ run. run.pieces ≡ pieces) }
     ensures adjoin { IfSome result (λ run. IfSome run.replayed (λ z. AreAdjoining 0 run.pieces.items)) }
     ensures replayed { IfSome result (λ run. IfSome run.replayed (λ z. IsReplayedWhole config.entry.name.now (zone_opening config.entry.largest config.entry.base config.entry.pages config.entry.min workers) (entries_of run.pieces.items) (Some z))) }
     ensures same { IfSome result (λ run. IfSome run.replayed (λ z. counts_of z.plain.area.largest z.plain.area.free ≡ counts_of run.zone.plain.area.largest run.zone.plain.area.free)) }
@@ -130,7 +135,8 @@ fn outcome(
 }
 
 /// So many workers of a zone of this config take a page and give it back, so many times, all at the same time; then all that was asked
-/// of the zone is replayed, piece by piece. None where there is no memory, or a worker was refused.
+/// of the zone is replayed, from the pieces put together. None where there is no memory, a thread is missing, a worker was refused, the config
+/// makes no zone, or the zone was found at another's place.
 pub fn work_in_pieces<J: Naming + Send + Sync, R: Threads + Wait + Sync>(
     rt: &R,
     alloc: Global,
@@ -140,6 +146,7 @@ pub fn work_in_pieces<J: Naming + Send + Sync, R: Threads + Wait + Sync>(
     workers: Vec<RowWorker<J>>,
     many: u32,
 ) -> Option<CutRun>
+    ensures last { IfSome result (λ run. (ps : List Piece) × (p : Piece) × (run.pieces.items ≡ ps ++ p ∷ []) × IsCutOf run.zone (record { handed = p.before; journal = p.journal })) }
     ensures adjoin { IfSome result (λ run. IfSome run.replayed (λ z. AreAdjoining 0 run.pieces.items)) }
     ensures replayed { IfSome result (λ run. IfSome run.replayed (λ z. IsReplayedWhole config.entry.name.now (zone_opening config.entry.largest config.entry.base config.entry.pages config.entry.min crew) (entries_of run.pieces.items) (Some z))) }
     ensures same { IfSome result (λ run. IfSome run.replayed (λ z. counts_of z.plain.area.largest z.plain.area.free ≡ counts_of run.zone.plain.area.largest run.zone.plain.area.free)) }
@@ -149,6 +156,9 @@ pub fn work_in_pieces<J: Naming + Send + Sync, R: Threads + Wait + Sync>(
         return None;
     }
     let closed = row.into_zone()?.close(&mut []);
+    if !closed.at_place {
+        return None;
+    }
     let mut pieces = pieces.into_inner();
     pieces.push(closed.journal.into_piece()).ok()?;
     outcome(alloc, ZoneConfig { ..config }, crew, closed.zone, pieces)
