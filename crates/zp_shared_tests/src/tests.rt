@@ -3,8 +3,10 @@
 
 mod case;
 mod full;
+mod full_lists;
 mod gates;
 mod histories;
+mod keepers;
 mod one_zone;
 mod places;
 mod plan;

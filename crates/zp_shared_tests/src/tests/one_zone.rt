@@ -17,7 +17,7 @@ use zp_zone::{Seat, Zone, ZoneConfig};
 /// More pages than the worker takes.
 const MOST_PAGES: u32 = 1024;
 
-fn config() -> ZoneConfig<'static> {
+pub(super) fn config() -> ZoneConfig<'static> {
     ZoneConfig {
         name: "DMA",
         base: 0,
@@ -27,28 +27,40 @@ fn config() -> ZoneConfig<'static> {
     }
 }
 
-/// The zone, opened with room for so many entries, and its worker's share.
+/// The zone, opened with room for so many entries, and its worker's share, without lists.
 pub(super) fn opened_zone(alloc: Global, capacity: u32) -> Option<(OpenedZone, Share)>
     ensures fits { IfSome result (λ o. IsShareOf (opened_key o.0 ∷ []) o.1) }
     ensures one { IfSome result (λ o. length o.1.zones ≡ 1) }
+{
+    opened_with_lists(alloc, capacity, ListConfig::new(0, 0)?)
+}
+
+/// The zone, opened with room for so many entries, and its worker's share.
+pub(super) fn opened_with_lists(
+    alloc: Global,
+    capacity: u32,
+    lists: ListConfig,
+) -> Option<(OpenedZone, Share)>
+    ensures fits { IfSome result (λ o. IsShareOf (opened_key o.0 ∷ []) o.1) }
+    ensures one { IfSome result (λ o. length o.1.zones ≡ 1) }
+    ensures alone { IfSome result (λ o. (opened_key o.0).workers ≡ 1) }
 {
     if capacity > LONGEST_JOURNAL {
         return None;
     }
     let (zone, mut seats) = Zone::new(alloc, config(), 1).ok()?;
-    let share = share_of(alloc, &zone, seats.pop()?)?;
+    let share = share_of(alloc, &zone, seats.pop()?, lists)?;
     let opened = OpenedZone::new(alloc, zone, capacity).ok()?;
     Some((opened, share))
 }
 
 /// The share of the worker of this seat.
-fn share_of(alloc: Global, zone: &Zone, seat: Seat) -> Option<Share>
+fn share_of(alloc: Global, zone: &Zone, seat: Seat, lists: ListConfig) -> Option<Share>
     requires seat { IsSeatOf zone.now seat }
     requires unused { IsUnused seat }
     ensures fits { IfSome result (IsShareOf (key_of zone.now ∷ [])) }
     ensures one { IfSome result (λ s. length s.zones ≡ 1) }
 {
-    let lists = ListConfig::new(0, 0)?;
     let mut seats = Vec::with_capacity(alloc, 1).ok()?;
     seats.push_reserved(seat);
     Share::new(alloc, seats, lists).ok()
@@ -124,7 +136,7 @@ fn run_as<J: Naming + Send + Sync, R: Sync + Threads + Wait>(
 }
 
 /// A vector of one.
-fn alone<T: Drop>(alloc: Global, one: T) -> Option<Vec<T>>
+pub(super) fn alone<T: Drop>(alloc: Global, one: T) -> Option<Vec<T>>
     ensures { IfSome result (λ all. all.items ≡ one ∷ []) }
 {
     let mut all = Vec::with_capacity(alloc, 1).ok()?;
@@ -134,9 +146,9 @@ fn alone<T: Drop>(alloc: Global, one: T) -> Option<Vec<T>>
 
 /// The one worker of a row of one zone, with its view of the row.
 #[derive(Drop)]
-struct OnlyWorker<'a, J: Naming, R> {
-    share: Share,
-    view: LockedZones<'a, J, (), R>,
+pub(super) struct OnlyWorker<'a, J: Naming, R> {
+    pub(super) share: Share,
+    pub(super) view: LockedZones<'a, J, (), R>,
     ghost fits: { IsShareOf J.zones share },
     ghost one: { length share.zones ≡ 1 },
     ghost row: { length J.zones ≡ 1 },

@@ -1,0 +1,267 @@
+//! A worker with lists over one zone whose journal has room for two entries, by the calls that desks make, and where the zone's pages are when
+//! it is closed.
+ghost use Rattle.std.specs.Prelude.{◌≡◌, ◌∷◌, [], length};
+ghost use Rattle.zp_model.specs.Zone.{workers_of};
+ghost use Rattle.zp_share.specs.Shares.{IsShareOf, key_of};
+ghost use Rattle.zp_shared.specs.Rows.{opened_board, opened_key};
+
+use super::case::Told::*;
+use super::case::{FULL, NOT_LENT, Told};
+use super::one_zone::{OnlyWorker, alone, config, opened_with_lists};
+use std::alloc::Global;
+use std::marker::Brand;
+use std::process::Abort;
+use std::sync::Wait;
+use std::test::*;
+use zp_journal::{Journal, JournalCheck, replay_journal};
+use zp_model::{Mark, MigrateType, Order, PageNo};
+use zp_share::{ListConfig, Share, Totals, alloc, drain_all, free, gather};
+use zp_shared::{LockedZones, Naming, OpenedZone, SharedZone};
+use zp_zone::Zone;
+
+/// What the worker asks for.
+#[derive(Clone, Copy, PartialEq, Eq, Debug, Drop)]
+enum Call {
+    /// A block of this order.
+    Take(u8),
+    /// That the block at this page, of this order, is taken back.
+    Give(u32, u8),
+    Drain,
+}
+
+use Call::*;
+
+/// The calls, what each is answered, and then the pages of the worker's list, the front first, and those that are lent.
+const CALLS: [(Call, Told, &[u32], &[u32]); 14] = [
+    (Take(0), Page(3072), &[3073, 3074, 3075], &[3072]),
+    (Take(0), Page(3073), &[3074, 3075], &[3072, 3073]),
+    (Take(0), Page(3074), &[3075], &[3072, 3073, 3074]),
+    (Take(0), Page(3075), &[], &[3072, 3073, 3074, 3075]),
+    (
+        Take(0),
+        Page(3076),
+        &[3077, 3078, 3079],
+        &[3072, 3073, 3074, 3075, 3076],
+    ),
+    (
+        Give(3072, 0),
+        Freed,
+        &[3072, 3077, 3078, 3079],
+        &[3073, 3074, 3075, 3076],
+    ),
+    (
+        Give(3073, 0),
+        Freed,
+        &[3073, 3072, 3077, 3078, 3079],
+        &[3074, 3075, 3076],
+    ),
+    (
+        Give(3074, 0),
+        Freed,
+        &[3074, 3073, 3072, 3077, 3078, 3079],
+        &[3075, 3076],
+    ),
+    (
+        Give(3075, 0),
+        FULL,
+        &[3074, 3073, 3072, 3077, 3078, 3079],
+        &[3075, 3076],
+    ),
+    (
+        Give(3075, 1),
+        NOT_LENT,
+        &[3074, 3073, 3072, 3077, 3078, 3079],
+        &[3075, 3076],
+    ),
+    (
+        Take(0),
+        Page(3074),
+        &[3073, 3072, 3077, 3078, 3079],
+        &[3074, 3075, 3076],
+    ),
+    (
+        Give(3075, 0),
+        Freed,
+        &[3075, 3073, 3072, 3077, 3078, 3079],
+        &[3074, 3076],
+    ),
+    (
+        Take(1),
+        FULL,
+        &[3075, 3073, 3072, 3077, 3078, 3079],
+        &[3074, 3076],
+    ),
+    (
+        Drain,
+        FULL,
+        &[3075, 3073, 3072, 3077, 3078, 3079],
+        &[3074, 3076],
+    ),
+];
+
+impl<'a, J: Naming, R: Wait> OnlyWorker<'a, J, R> {
+    /// What it is answered.
+    fn call(&mut self, call: Call) -> Told {
+        match call {
+            Take(order) => self.take_block(order),
+            Give(page, order) => self.give_block(page, order),
+            Drain => self.drain(),
+        }
+    }
+
+    fn take_block(&mut self, order: u8) -> Told {
+        let Some(order) = Order::new(order) else {
+            return Refused(0);
+        };
+        let OnlyWorker { share, view } = self;
+        match alloc(share, view, order, MigrateType::Movable, 0, Mark::Low) {
+            Ok(lent) => Page(lent.page.number()),
+            Err(refused) => Refused(refused.number()),
+        }
+    }
+
+    fn give_block(&mut self, page: u32, order: u8) -> Told {
+        let Some(order) = Order::new(order) else {
+            return Refused(0);
+        };
+        let OnlyWorker { share, view } = self;
+        match free(share, view, 0, PageNo::new(page), order) {
+            Ok(()) => Freed,
+            Err(refused) => Refused(refused.number()),
+        }
+    }
+
+    fn drain(&mut self) -> Told {
+        let OnlyWorker { share, view } = self;
+        match drain_all(share, view) {
+            Ok(pages) => Drained(pages as u32),
+            Err(refused) => Refused(refused.number()),
+        }
+    }
+}
+
+/// The list of movable pages has these pages, the front first.
+fn expect_list(rt: &impl Abort, share: &Share, expected: &[u32], call: usize)
+    requires { length share.now.zones ≡ 1 }
+{
+    let kind = MigrateType::Movable;
+    let back = share.back(0, kind, share.cached_len(0, kind));
+    let pages = back.as_slice();
+    assert_eq!(rt; pages.len(), expected.len(), "call {call}");
+    for (page, number) in pages.iter().rev().zip(expected) {
+        assert_eq!(rt; page.number(), *number, "call {call}");
+    }
+}
+
+/// Of the pages that the zone gave these are lent.
+fn expect_lent(rt: &impl Abort, share: &Share, expected: &[u32], call: usize)
+    requires { length share.now.zones ≡ 1 }
+{
+    for page in 3072..3080 {
+        let is_lent = share.is_lent(0, PageNo::new(page), Order::zero());
+        assert!(rt;
+            is_lent == expected.contains(&page),
+            "call {call}, page {page}"
+        );
+    }
+}
+
+/// What is left when the zone is closed: how many sections the worker made, where the zone's pages are, and its journal.
+#[derive(Drop)]
+struct Ended {
+    sections: u64,
+    totals: Option<Totals>,
+    journal: Journal,
+}
+
+/// The worker makes its calls: its share then.
+fn make_calls<J: Naming, R: Abort + Wait>(rt: &R, worker: OnlyWorker<'_, J, R>) -> Share
+    ensures fits { IsShareOf J.zones result }
+    ensures one { length result.zones ≡ 1 }
+{
+    let mut worker = worker;
+    for (place, (call, told, list, lent)) in CALLS.iter().enumerate() {
+        assert_eq!(rt; worker.call(*call), *told, "call {place}");
+        expect_list(rt, &worker.share, list, place);
+        expect_lent(rt, &worker.share, lent, place);
+    }
+    let OnlyWorker { share, .. } = worker;
+    share
+}
+
+/// The worker makes its calls, and the zone is closed. None where something could not be made.
+fn run_calls<J: Naming, R: Abort + Wait>(
+    rt: &R,
+    alloc: Global,
+    mut opened: OpenedZone,
+    share: Share,
+) -> Option<Ended>
+    requires zones { J.zones ≡ opened_key opened ∷ [] }
+    requires boards { J.boards ≡ opened_board opened ∷ [] }
+    requires fits { IsShareOf J.zones share }
+    requires one { length share.zones ≡ 1 }
+    requires single { (opened_key opened).workers ≡ 1 }
+{
+    let readers = alone(alloc, opened.reader())?;
+    let mut row = alone(alloc, SharedZone::<J>::new(0, opened))?;
+    let view = LockedZones::<J, (), R>::new(rt, row.as_slice(), readers);
+    let share = make_calls(rt, OnlyWorker { share, view });
+    let closed = row.remove(0).close(&mut []);
+    if !closed.at_place {
+        return None;
+    }
+    Some(Ended {
+        sections: share.sections(0),
+        totals: gather_one(closed.zone, share),
+        journal: closed.journal,
+    })
+}
+
+/// Where the pages of a zone are, with the share of its only worker.
+fn gather_one(mut zone: Zone, mut share: Share) -> Option<Totals>
+    requires fits { IsShareOf (key_of zone ∷ []) share }
+    requires one { length share.zones ≡ 1 }
+    requires single { workers_of zone.plain ≡ 1 }
+{
+    // a clause of this call says that the share's worker is one of the zone's
+    share.check(&mut zone, 0);
+    gather(&mut [zone], &mut [share]).first().copied()
+}
+
+/// A list that the page just put on fills up stays full; one that is full before takes no page, which stays lent, and none is drained. When
+/// the zone is closed, its pages are free, on the list, or lent.
+#[test]
+fn a_full_list_stays_by_calls(rt: HostRuntime) {
+    let Some(lists) = ListConfig::new(4, 6) else {
+        assert!(rt; false, "these are lists");
+        return;
+    };
+    let Some((opened, share)) = opened_with_lists(rt.alloc(), 2, lists) else {
+        assert!(rt; false, "the zone can be made");
+        return;
+    };
+    let Some(ended) = run_calls::<Brand, HostRuntime>(&rt, rt.alloc(), opened, share) else {
+        assert!(rt; false, "the worker runs");
+        return;
+    };
+    let Ended {
+        sections,
+        totals,
+        journal,
+    } = ended;
+    assert_eq!(rt; sections, 2);
+    let expected = Totals {
+        free: 4088,
+        posted: 0,
+        cached: 6,
+        lent: 2,
+    };
+    assert!(rt; totals == Some(expected));
+    assert_eq!(rt; journal.len(), 2);
+    let check = replay_journal(rt.alloc(), config(), 1, &journal);
+    let Ok(JournalCheck::Legal(zone)) = check else {
+        assert!(rt; false, "the journal is legal");
+        return;
+    };
+    assert_eq!(rt; zone.counts().free, 4088);
+}
