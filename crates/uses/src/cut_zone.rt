@@ -45,7 +45,7 @@ fn cut_where_nearly_full<J: Naming, R: Wait>(
     shared: &SharedZone<J, CutJournal>,
     pieces: &Pieces,
 ) -> Result<(), Refused> {
-    let mut guarded = shared.state.lock(rt);
+    let mut guarded = shared.lock(rt);
     if guarded.journal().len() < NEARLY_FULL {
         return Ok(());
     }

@@ -1,4 +1,5 @@
-//! Ten million requests of four workers over one zone of 65,536 pages that keeps nothing of them, and a reader beside them.
+//! Ten million requests of four workers over one zone of 65,536 pages that keeps nothing of them, and a reader beside them; and as many
+//! workers as a zone can have, which are more than a machine has processors for, at one lock.
 
 ghost use Rattle.std.specs.Prelude.{◌≡◌, ◌∷◌, [], All};
 ghost use Rattle.zp_shared.specs.Rows.{opened_board, opened_key};
@@ -12,12 +13,28 @@ use std::marker::Brand;
 use std::sync::Wait;
 use std::thread::{Threads, join, map_vec};
 use uses::RowOfOne;
-use zp_model::MAX_PAGES;
+use zp_model::{MAX_PAGES, MAX_WORKERS};
 use zp_shared::{Naming, NoJournal, OpenedZone};
 use zp_zone::{Seat, Zone};
 
-/// How many requests each worker makes.
-const REQUESTS: u32 = 2_500_000;
+/// How many workers a zone has, and how many requests each of them makes.
+#[derive(Clone, Copy, PartialEq, Eq, Debug, Drop)]
+struct Load {
+    workers: u32,
+    requests: u32,
+}
+
+/// What is asked of a zone, each load of a new one.
+const LOADS: [Load; 2] = [
+    Load {
+        workers: WORKERS,
+        requests: 2_500_000,
+    },
+    Load {
+        workers: MAX_WORKERS,
+        requests: 40_000,
+    },
+];
 
 /// What was seen at the end.
 #[derive(Clone, Copy, PartialEq, Eq, Debug, Drop)]
@@ -63,19 +80,20 @@ fn end_of<J: Naming>(
 }
 
 /// The workers make their requests, all at the same time, and the reader reads all the while.
-fn load_row<J: Naming + Send + Sync, R: Threads + Wait + Sync>(
+fn run_row<J: Naming + Send + Sync, R: Threads + Wait + Sync>(
     rt: &R,
     crew: RowCrew<J, NoJournal>,
+    load: Load,
 ) -> anyhow::Result<Soak> {
     let RowCrew {
         row,
         workers,
         reader,
     } = crew;
-    let requests = u64::from(REQUESTS) * u64::from(WORKERS);
+    let requests = u64::from(load.requests) * u64::from(load.workers);
     let (stints, watch) = join(
         rt,
-        || map_vec(rt, workers, &|worker| work(rt, worker, &row, REQUESTS)),
+        || map_vec(rt, workers, &|worker| work(rt, worker, &row, load.requests)),
         || read_all_the_while(rt, reader, &row, requests),
     );
     match stints {
@@ -84,12 +102,13 @@ fn load_row<J: Naming + Send + Sync, R: Threads + Wait + Sync>(
     }
 }
 
-/// As `load`, under the name of the opened zone.
-fn load_as<J: Naming + Send + Sync, R: Threads + Wait + Sync>(
+/// As `run`, under the name of the opened zone.
+fn run_as<J: Naming + Send + Sync, R: Threads + Wait + Sync>(
     rt: &R,
     alloc: Global,
     opened: OpenedZone<NoJournal>,
     seats: Vec<Seat>,
+    load: Load,
 ) -> anyhow::Result<Soak>
     requires named { J.zones ≡ opened_key opened ∷ [] }
     requires boards { J.boards ≡ opened_board opened ∷ [] }
@@ -97,33 +116,36 @@ fn load_as<J: Naming + Send + Sync, R: Threads + Wait + Sync>(
     requires unused { All IsUnused seats.items }
 {
     match crew_of::<J, NoJournal>(alloc, opened, seats) {
-        Ok(crew) => load_row(rt, crew),
+        Ok(crew) => run_row(rt, crew, load),
         Err(e) => Err(e.into()),
     }
 }
 
-/// Makes the zone, and all the requests of it.
-fn load<R: Threads + Wait + Sync>(rt: &R, alloc: Global) -> anyhow::Result<Soak> {
-    match Zone::new(alloc, config(MAX_PAGES), WORKERS) {
+/// Makes a zone, and all the requests of it.
+fn run<R: Threads + Wait + Sync>(rt: &R, alloc: Global, load: Load) -> anyhow::Result<Soak> {
+    match Zone::new(alloc, config(MAX_PAGES), load.workers) {
         Ok((zone, seats)) => {
             let opened = OpenedZone::without_journal(alloc, zone, u64::MAX).map_err(
                 OutOfMemory::from,
             )?;
-            load_as::<Brand, R>(rt, alloc, opened, seats)
+            run_as::<Brand, R>(rt, alloc, opened, seats, load)
         }
         Err(refused) => Err(OutOfMemory::from(refused).into()),
     }
 }
 
-/// Says how many requests were made, and whether the pages add up and the readings were good.
+/// Says how many requests were made, and whether the pages add up and the readings were good: a line for each load.
 pub fn print<R: Print + Threads + Wait + Sync>(rt: &R, alloc: Global) -> anyhow::Result<()> {
-    let soak = load(rt, alloc)?;
-    println!(rt;
-        "{WORKERS} workers, no journal: {} sections, free and lent pages {}, last place read {}, readings {}",
-        soak.sections,
-        soak.free_pages.saturating_add(soak.lent_pages),
-        soak.watch.place,
-        if soak.watch.are_good { "good" } else { "BAD" }
-    )?;
+    for load in LOADS {
+        let seen = run(rt, alloc, load)?;
+        println!(rt;
+            "{} workers, no journal: {} sections, free and lent pages {}, last place read {}, readings {}",
+            load.workers,
+            seen.sections,
+            seen.free_pages.saturating_add(seen.lent_pages),
+            seen.watch.place,
+            if seen.watch.are_good { "good" } else { "BAD" }
+        )?;
+    }
     Ok(())
 }

@@ -165,7 +165,7 @@ fn take_and_give<J: Naming, K: Keeps, R: Wait>(
 {
     let board = shared.board();
     let before = reader.read(board);
-    let mut guarded = shared.state.lock(rt);
+    let mut guarded = shared.lock(rt);
     if guarded.place() != 0 {
         return Err(Unmade::Other);
     }

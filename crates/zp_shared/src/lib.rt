@@ -4,6 +4,7 @@
 
 mod guarded;
 mod locked_zones;
+mod locking;
 mod naming;
 mod opened;
 mod row;

@@ -113,7 +113,7 @@ impl<'a, J: Naming, E: Earlier, R: Wait, K: Keeps> LockedZones<'a, J, E, R, K> {
         ensures board { IfSome result (λ g. g.1.now ≡ board_at J.boards zone) }
     {
         let shared = self.shared_at(zone);
-        let guarded = shared.state.lock(self.rt);
+        let guarded = shared.lock(self.rt);
         if guarded.place() == zone {
             Some((guarded, shared.board()))
         } else {

@@ -7,10 +7,11 @@ ghost use Rattle.zp_share.specs.Shares.{key_of};
 ghost use Rattle.zp_shared.specs.Rows.{board_at, key_at, opened_key, HaveReadAll, HaveReadZone, IsCountsOf, IsElsewhere};
 
 use crate::guarded::Guarded;
+use crate::locking::lock_soon;
 use crate::naming::Naming;
 use crate::opened::OpenedZone;
 use std::marker::Model;
-use std::sync::Mutex;
+use std::sync::{Mutex, MutexGuard, Wait};
 use zp_counts::{Board, BoardReader};
 use zp_kept::{Keeps, WholeJournal};
 use zp_zone::Zone;
@@ -70,6 +71,13 @@ impl<J: Naming, K: Keeps> SharedZone<J, K> {
         ensures { result.now ≡ board_at J.boards self.now }
     {
         &self.board
+    }
+
+    /// The lock, taken: what lies under it. A thread that finds it taken tries it for a while, and then sleeps until it is its turn. Who
+    /// means to make sections of the zone of this place asks what lies there for its place first.
+    #[inline(always)]
+    pub fn lock<R: Wait>(&self, rt: &R) -> MutexGuard<'_, Guarded<J, K>> {
+        lock_soon(&self.state, rt)
     }
 
     /// The zone and what is kept of it, out of their lock for good. Where the zone is the one of the lock's place, each of the readers has then
