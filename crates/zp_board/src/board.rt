@@ -184,13 +184,41 @@ impl<const W: usize> WordPublisher<W> {
         ensures place { result.place + 1 ≡ length self.old.published }
         ensures last { result.words ≡ last_of self.old.published }
     {
+        let place = self.show_place(board, reader);
+        let words = board.fetch(&mut reader.pin, place as usize);
+        WordReading { place, words }
+    }
+
+    /// The same with no answer: no word of an entry is fetched.
+    #[inline(always)]
+    pub fn show_board(&mut self, board: &WordBoard<W>, reader: &mut WordReader<W>)
+        requires tie { self.old.tie ≡ board.now.tie }
+        requires reader { reader.old.tie ≡ board.now.tie }
+        ensures same { self.new ≡ self.old }
+        ensures before { IsPrefix reader.old.seen self.old.published }
+        ensures reader { reader.new ≡ record { tie = reader.old.tie; seen = self.old.published; looks = [] } }
+    {
+        self.show_place(board, reader);
+    }
+
+    /// The place of the last entry that is published, which the reader has then seen with all before it.
+    #[inline(always)]
+    fn show_place(&mut self, board: &WordBoard<W>, reader: &mut WordReader<W>) -> u64
+        requires tie { self.old.tie ≡ board.now.tie }
+        requires reader { reader.old.tie ≡ board.now.tie }
+        ensures same { self.new ≡ self.old }
+        ensures before { IsPrefix reader.old.seen self.old.published }
+        ensures reader { reader.new ≡ record { tie = reader.old.tie; seen = self.old.published; looks = [] } }
+        ensures place { result + 1 ≡ length self.old.published }
+        ensures wide { AreWide W self.old.published }
+        ensures inside { W * length self.old.published + 1 ≤ board.now.tie.words }
+    {
         let row = &board.row.shared;
         let part = row.split_seat::<CutOff>(&mut reader.pin);
         row.join_seat::<Seen>(&mut self.pin, part);
         let place = row.load::<Look<W>>(&mut self.pin, 0);
         reader.pin = row.split_seat::<Seen>(&mut self.pin);
-        let words = board.fetch(&mut reader.pin, place as usize);
-        WordReading { place, words }
+        place
     }
 }
 

@@ -228,6 +228,30 @@ impl Publisher {
             _ => unreachable!(),
         }
     }
+
+    /// The same with no answer: no counts are unpacked.
+    #[inline(always)]
+    pub fn show_board(&mut self, board: &Board, reader: &mut BoardReader)
+        requires tie { self.old.tie ≡ board.now.tie }
+        requires reader { reader.old.tie ≡ board.now.tie }
+        ensures same { self.new ≡ self.old }
+        ensures before { IsPrefix reader.old.seen self.old.published }
+        ensures known { reader.old.known ≤ length self.old.published }
+        ensures reader { reader.new ≡ record { tie = reader.old.tie; seen = self.old.published; known = length self.old.published; looks = [] } }
+
+        // What was read before is of what is published.
+        ensures kept { (r : Reading) → IsReadingOf reader.old.seen r → IsReadingOf self.old.published r }
+    {
+        match (&mut self.kind, &mut reader.kind) {
+            (PublisherKind::Fixed(entries), ReaderKind::Fixed(seen)) => {
+                entries.show_board(board.fixed(), seen);
+            }
+            (PublisherKind::Turning(entries), ReaderKind::Turning(seen)) => {
+                entries.show_board(board.turning(), seen);
+            }
+            _ => unreachable!(),
+        }
+    }
 }
 
 impl BoardReader {

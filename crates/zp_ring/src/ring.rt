@@ -226,6 +226,20 @@ impl<const W: usize, const S: usize> RingPublisher<W, S> {
         ensures last { result.words ≡ last_of self.old.published }
         ensures place { result.place + 1 ≡ length self.old.published }
     {
+        self.show_board(board, reader);
+        reader.last
+    }
+
+    /// The same with no answer: the reader remembers it.
+    #[inline(always)]
+    pub fn show_board(&mut self, board: &Ring<W, S>, reader: &mut RingReader<W, S>)
+        requires tie { self.old.tie ≡ board.now.tie }
+        requires reader { reader.old.tie ≡ board.now.tie }
+        ensures same { self.new ≡ self.old }
+        ensures before { IsPrefix reader.old.seen self.old.published }
+        ensures known { reader.old.known ≤ length self.old.published }
+        ensures reader { reader.new ≡ record { tie = reader.old.tie; seen = self.old.published; known = length self.old.published; looks = [] } }
+    {
         let row = &board.row.shared;
         let part = row.split_seat::<WholeSide>(&mut reader.pin);
         row.join_seat::<SeenSide>(&mut self.pin, part);
@@ -233,7 +247,6 @@ impl<const W: usize, const S: usize> RingPublisher<W, S> {
         let words = board.find(&mut self.pin, place);
         reader.pin = row.split_seat::<SeenSide>(&mut self.pin);
         reader.last = RingReading { place, words };
-        reader.last
     }
 }
 

@@ -123,6 +123,24 @@ impl<J: Naming, K: Keeps> Guarded<J, K> {
         self.publisher.read_board(board, reader)
     }
 
+    /// The same with no answer: no counts are unpacked.
+    #[inline(always)]
+    pub fn show_board(&mut self, board: &Board, reader: &mut BoardReader)
+        requires board { board.now ≡ board_at J.boards self.old.place }
+        requires reader { reader.old.tie ≡ board.now.tie }
+        ensures same { self.new ≡ self.old }
+        ensures before { IsPrefix reader.old.seen self.old.published }
+        ensures known { reader.old.known ≤ length self.old.published }
+        ensures reader { reader.new ≡ record { tie = reader.old.tie; seen = self.old.published; known = length self.old.published; looks = [] } }
+        ensures published { IsPublished self.old.zone self.old.published }
+        ensures taken { (r : Reading) → IsReadingOf reader.old.seen r → IsCountsOf self.old.zone r }
+        ensures room { (length self.old.zone.entries ≤ self.old.capacity) × K.bounds (board_at J.boards self.old.place).capacity self.old.capacity }
+    {
+        // a clause of this call says that the zone is the run of its entries
+        self.zone.history();
+        self.publisher.show_board(board, reader);
+    }
+
     /// Nothing changes, and the share and the zone agree: what is out in the worker's name is what the share has.
     pub fn check(&mut self, share: &mut Share)
         requires fits { IsShareOf J.zones share.old }

@@ -187,7 +187,7 @@ fn section_and_reading<J: Naming, K: Keeps>(
     if is_not_lent(&reply) {
         return reply;
     }
-    guarded.read_board(board, reader);
+    guarded.show_board(board, reader);
     reply
 }
 

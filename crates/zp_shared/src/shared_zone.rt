@@ -136,6 +136,6 @@ fn read_all<J: Naming, K: Keeps>(
     let Some((first, rest)) = readers.split_first_mut() else {
         return;
     };
-    guarded.read_board(board, first);
+    guarded.show_board(board, first);
     read_all(guarded, board, rest);
 }

@@ -1,6 +1,6 @@
 use Rattle.std.proofs.Common.{◌≡◌, ◌<◌, length, true, subst, sym, ap, ◌∙◌, arith}
 use Rattle.zp_board.proofs.Steps.{empties, joins, looks, parts}
-use Rattle.zp_board.proofs.board.WordPublisher.read_board.Goals as goal
+use Rattle.zp_board.proofs.board.WordPublisher.show_place.Goals as goal
 
 pub split_seat-part-requires : goal.split_seat-part-requires
 split_seat-part-requires g c =

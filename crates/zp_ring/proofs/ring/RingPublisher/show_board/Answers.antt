@@ -2,7 +2,7 @@ use Rattle.std.proofs.Common.{◌≡◌, ℕ, ◌+◌, ◌<◌, List, true, subs
 use mathlib.Core.List.{IsPrefix}
 use Rattle.zp_ring.proofs.Words.{prefix_take}
 use Rattle.zp_ring.proofs.Steps.{empties, joins, looks, parts}
-use Rattle.zp_ring.proofs.ring.RingPublisher.read_board.Goals as goal
+use Rattle.zp_ring.proofs.ring.RingPublisher.show_board.Goals as goal
 
 pub split_seat-part-requires : goal.split_seat-part-requires
 split_seat-part-requires g c =
