@@ -282,18 +282,19 @@ impl Buddy {
     pub fn counts(&self) -> Counts
         ensures { result ≡ counts_of self.now.area.largest self.now.area.free }
     {
-        let mut by_order = [0u32; ORDERS];
+        // (filled where they are answered: a copy of what was just stored waits for it)
+        let mut counts = Counts {
+            by_order: [0; ORDERS],
+            free: self.free,
+        };
         let mut order = Order::zero();
         'orders: loop {
-            by_order[order.index()] = self.area.count(order);
+            counts.by_order[order.index()] = self.area.count(order);
             if order == self.area.largest().order() {
                 break;
             }
             order = order.higher();
         }
-        Counts {
-            by_order,
-            free: self.free,
-        }
+        counts
     }
 }

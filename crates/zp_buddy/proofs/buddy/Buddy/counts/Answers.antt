@@ -18,13 +18,13 @@ returns c =
     let n : ℕ = c.count.result in
     let last : c.orders.order ≡ c.self.inside.area.largest = eqb-true _ _ (sym c.eq.ensures ∙ c.if-eq.true) ∙ c.order.ensures ∙ c.largest.ensures in
     let at : c.index.result ≡ c.orders.order = c.index.ensures.same in
-    let each : (j : ℕ) → j < 11 → get_or (set c.orders.by_order c.orders.order n) j 0 ≡ blocks_of_order c.self.inside.area.largest u j = λ j below.
+    let each : (j : ℕ) → j < 11 → get_or (set c.orders.counts.by_order c.orders.order n) j 0 ≡ blocks_of_order c.self.inside.area.largest u j = λ j below.
     elim (cases_eq j c.orders.order) [
-      | inl same ↦ rw same (get_or-set_same c.orders.by_order c.orders.order n 0 (omega (arith, i.orders)) ∙ c.count.ensures ∙ count_maximal c.self.inside.area.largest a c.orders.order c.self.invariant.sound)
-      | inr ne ↦ get_or-set_other c.orders.by_order c.orders.order j n 0 ne ∙ elim (cases_lt j c.orders.order) [
+      | inl same ↦ rw same (get_or-set_same c.orders.counts.by_order c.orders.order n 0 (omega (arith, i.orders)) ∙ c.count.ensures ∙ count_maximal c.self.inside.area.largest a c.orders.order c.self.invariant.sound)
+      | inr ne ↦ get_or-set_other c.orders.counts.by_order c.orders.order j n 0 ne ∙ elim (cases_lt j c.orders.order) [
         | inl before ↦ i.counted j before
         | inr past ↦ i.above j past ∙ sym (count_above m a j (one_held m a c.self.inside.free c.self.invariant) (omega arith))
       ] ∙ count_maximal m a j c.self.invariant.sound
     ] in
-    let e = fill_by_all (blocks_of_order c.self.inside.area.largest u) (set c.orders.by_order c.orders.order n) 11 0 (length-set _ _ _ ∙ i.orders) each in
-    rw (← c.self.view_is, at, e, c.self.invariant.counted)
+    let e = fill_by_all (blocks_of_order c.self.inside.area.largest u) (set c.orders.counts.by_order c.orders.order n) 11 0 (length-set _ _ _ ∙ i.orders) each in
+    rw (← c.self.view_is, at, e, i.free, c.self.invariant.counted)
