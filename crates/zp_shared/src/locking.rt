@@ -12,7 +12,7 @@ use std::thread::yield_now;
 const FIRST_REST: u32 = 64;
 
 /// How many times as long as a rest the next one is.
-const GROWTH: u32 = 4;
+const GROWTH: u32 = 8;
 
 /// The longest rest, in hints to the processor.
 const LONGEST_REST: u32 = 4096;
@@ -21,7 +21,8 @@ const LONGEST_REST: u32 = 4096;
 const TRIES: u32 = 5;
 
 /// Takes a lock. Where nobody has it, nothing else is done.
-#[inline(always)]
+// (not in line: a section is, whole, and would be there twice)
+#[inline(never)]
 pub(crate) fn lock_soon<'a, T, R: Wait>(lock: &'a Mutex<T>, rt: &R) -> MutexGuard<'a, T> {
     match lock.try_lock() {
         Some(guard) => guard,
