@@ -18,7 +18,7 @@ use zp_model::{Counts, Refused, Reply, Request};
 use zp_share::{Share, Zones};
 
 /// A row of zones as one worker turns to them, with a reader of each zone's board: each request takes the lock of its zone, once, and
-/// counts are read with no lock. Each section that is not refused 20 ends with a reading of the zone's board, while the lock is held: so no
+/// counts are read with no lock. Each section that is not refused 20 ends with its reader shown the zone's board, while the lock is held: so no
 /// reading after it is older than it. Where the zone of another place lies under a lock, the request is refused 30, nothing is asked, and
 /// the view has strayed. It does not tell what its zones are. Contracts see its readers, which have seen all that `E` names, and whether it
 /// has strayed.
@@ -166,7 +166,7 @@ impl<'a, J: Naming, E: Earlier, R: Wait, K: Keeps> Zones for LockedZones<'a, J, 
     }
 }
 
-/// One request to the guarded zone, and then a reading of its board, unless it was refused as the block that it names is not lent.
+/// One request to the guarded zone, and then the reader is shown its board, unless it was refused as the block that it names is not lent.
 #[inline(always)]
 fn section_and_reading<J: Naming, K: Keeps>(
     guarded: &mut Guarded<J, K>,
