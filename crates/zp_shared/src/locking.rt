@@ -15,7 +15,7 @@ const FIRST_REST: u32 = 64;
 const GROWTH: u32 = 8;
 
 /// The longest rest, in hints to the processor.
-const LONGEST_REST: u32 = 4096;
+const LONGEST_REST: u32 = 8192;
 
 /// How often a lock is tried again before the thread sleeps.
 const TRIES: u32 = 5;
