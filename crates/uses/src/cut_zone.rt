@@ -4,16 +4,15 @@ ghost use Rattle.zp_model.specs.Info.{counts_of};
 ghost use Rattle.zp_model.specs.Zone.{zone_opening};
 ghost use Rattle.zp_journal.specs.Pieces.{AreAdjoining, IsReplayedWhole, entries_of};
 ghost use Rattle.zp_journal.specs.declared.pieces.Piece.{Piece};
-ghost use Rattle.zp_kept.specs.Cuts.{IsCutOf};
+ghost use Rattle.zp_journal.specs.Cuts.{IsCutOf};
 
 use crate::replayed_pieces::replayed_zone;
-use crate::row_worker::{RowOfOne, RowWorker};
 use std::alloc::Global;
 use std::sync::{Mutex, Wait};
 use std::thread::{Threads, map_vec};
 use zp_journal::{Journal, Piece};
-use zp_model::{Counts, Refused};
-use zp_shared::{CutJournal, Naming, SharedZone};
+use zp_model::{Counts, Order, Refused};
+use zp_shared::{CutJournal, Naming, OneZone, SharedZone, WorkerAt, ZoneWorker};
 use zp_zone::{Zone, ZoneConfig};
 
 /// For how many entries each journal has room.
@@ -57,23 +56,26 @@ fn cut_where_nearly_full<J: Naming, R: Wait>(
     }
 }
 
+/// A worker takes a page and gives it back: two sections.
+fn round<J: Naming, R: Wait>(worker: &mut WorkerAt<'_, J, R, CutJournal>) -> Result<(), Refused> {
+    let lent = worker.take(Order::zero())?;
+    worker.give(&lent)
+}
+
 /// One worker takes a page and gives it back, so many times, and looks after each round whether the journal is to be cut. Whether all of
 /// it was done.
 fn rounds<J: Naming, R: Wait>(
     rt: &R,
     alloc: Global,
-    worker: RowWorker<J>,
-    row: &RowOfOne<J, CutJournal>,
+    worker: ZoneWorker<J>,
+    zone: &OneZone<J, CutJournal>,
     pieces: &Pieces,
     rounds: u32,
 ) -> bool {
-    let mut worker = worker.at(rt, row);
+    let mut worker = worker.at(rt, zone);
     for _ in 0..rounds {
-        let done = worker.round();
-        let cut = match row.zones.first() {
-            Some(shared) => cut_where_nearly_full(rt, alloc, shared, pieces),
-            None => Ok(()),
-        };
+        let done = round(&mut worker);
+        let cut = cut_where_nearly_full(rt, alloc, zone.shared(), pieces);
         if done.is_err() || cut.is_err() {
             return false;
         }
@@ -85,12 +87,12 @@ fn rounds<J: Naming, R: Wait>(
 fn work<J: Naming + Send + Sync, R: Threads + Wait + Sync>(
     rt: &R,
     alloc: Global,
-    row: &RowOfOne<J, CutJournal>,
-    workers: Vec<RowWorker<J>>,
+    zone: &OneZone<J, CutJournal>,
+    workers: Vec<ZoneWorker<J>>,
     pieces: &Pieces,
     many: u32,
 ) -> bool {
-    let work = |worker| rounds(rt, alloc, worker, row, pieces, many);
+    let work = |worker| rounds(rt, alloc, worker, zone, pieces, many);
     match map_vec(rt, workers, &work) {
         Ok(done) => done.iter().all(|done| *done),
         Err(_) => false,
@@ -142,8 +144,8 @@ pub fn work_in_pieces<J: Naming + Send + Sync, R: Threads + Wait + Sync>(
     alloc: Global,
     config: ZoneConfig<'_>,
     crew: u32,
-    row: RowOfOne<J, CutJournal>,
-    workers: Vec<RowWorker<J>>,
+    zone: OneZone<J, CutJournal>,
+    workers: Vec<ZoneWorker<J>>,
     many: u32,
 ) -> Option<CutRun>
     ensures last { IfSome result (λ run. (ps : List Piece) × (p : Piece) × (run.pieces.items ≡ ps ++ p ∷ []) × IsCutOf run.zone (record { handed = p.before; journal = p.journal })) }
@@ -152,10 +154,10 @@ pub fn work_in_pieces<J: Naming + Send + Sync, R: Threads + Wait + Sync>(
     ensures same { IfSome result (λ run. IfSome run.replayed (λ z. counts_of z.plain.area.largest z.plain.area.free ≡ counts_of run.zone.plain.area.largest run.zone.plain.area.free)) }
 {
     let pieces = Mutex::new(Vec::new(alloc));
-    if !work(rt, alloc, &row, workers, &pieces, many) {
+    if !work(rt, alloc, &zone, workers, &pieces, many) {
         return None;
     }
-    let closed = row.into_zone()?.close(&mut []);
+    let closed = zone.into_zone()?.close(&mut []);
     if !closed.at_place {
         return None;
     }

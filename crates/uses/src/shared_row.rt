@@ -1,7 +1,10 @@
 //! Two workers, each in a thread of its own, over a zone that they share; and the zone's journal, replayed.
 ghost use Rattle.std.specs.Prelude.{◌≡◌, ◌∷◌, [], All, IfOk, IfSome};
 ghost use Rattle.zp_office.specs.Desks.{IsReady};
-ghost use Rattle.zp_share.specs.Shares.{key_of};
+ghost use Rattle.zp_model.specs.declared.mark.Mark.TheVariants.{Low};
+ghost use Rattle.zp_model.specs.declared.migrate_type.MigrateType.TheVariants.{Movable};
+ghost use Rattle.zp_office.specs.declared.command.Command.{Command};
+ghost use Rattle.zp_share.specs.Shares.{IsShareOf, key_of};
 ghost use Rattle.zp_zone.specs.Seats.{IsSeatOf, IsUnused};
 
 use std::alloc::Global;
@@ -27,20 +30,13 @@ pub struct SharedRun {
     pub is_legal: bool,
 }
 
-/// The desk of a worker of this zone, with no lists of its own. Its script: a page is taken and given back.
-fn desk(alloc: Global, zone: &Zone, seat: Seat) -> Result<Desk, Refused>
-    requires seat { IsSeatOf zone.now seat }
-    requires unused { IsUnused seat }
-    ensures { IfOk result (IsReady (key_of zone.now ∷ [])) }
+/// What each worker does: a page is taken and given back.
+fn script(alloc: Global) -> Result<Vec<Command>, Refused>
+    ensures { IfOk result (λ s. s.items ≡ Command.Alloc 0 0 Movable 0 Low ∷ Command.Free 0 ∷ []) }
 {
-    let lists = ListConfig::new(0, 0).ok_or(Refused::ListFull)?;
-    let (Ok(mut seats), Ok(mut script)) = (
-        Vec::with_capacity(alloc, 1),
-        Vec::with_capacity(alloc, 2),
-    ) else {
+    let Ok(mut script) = Vec::with_capacity(alloc, 2) else {
         return Err(Refused::Memory);
     };
-    seats.push_reserved(seat);
     script.push_reserved(Command::Alloc {
         slot: 0,
         order: Order::zero(),
@@ -49,8 +45,33 @@ fn desk(alloc: Global, zone: &Zone, seat: Seat) -> Result<Desk, Refused>
         mark: Mark::Low,
     });
     script.push_reserved(Command::Free { slot: 0 });
-    let share = Share::new(alloc, seats, lists)?;
-    Desk::new(alloc, share, script)
+    Ok(script)
+}
+
+/// The share of a worker of this zone, with no lists.
+fn share_of(alloc: Global, zone: &Zone, seat: Seat) -> Result<Share, Refused>
+    requires seat { IsSeatOf zone.now seat }
+    requires unused { IsUnused seat }
+    ensures { IfOk result (IsShareOf (key_of zone.now ∷ [])) }
+{
+    let Ok(mut seats) = Vec::with_capacity(alloc, 1) else {
+        return Err(Refused::Memory);
+    };
+    seats.push_reserved(seat);
+    Share::new(alloc, seats, ListConfig::none())
+}
+
+/// The desk of a worker of this zone, with its script.
+fn desk(alloc: Global, zone: &Zone, seat: Seat) -> Result<Desk, Refused>
+    requires seat { IsSeatOf zone.now seat }
+    requires unused { IsUnused seat }
+    ensures { IfOk result (IsReady (key_of zone.now ∷ [])) }
+{
+    let share = share_of(alloc, zone, seat)?;
+    match script(alloc) {
+        Ok(script) => Desk::new(alloc, share, script),
+        Err(refused) => Err(refused),
+    }
 }
 
 /// A zone, and the desks of its two workers. None where the config is refused, or there is no memory.

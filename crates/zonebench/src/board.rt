@@ -4,11 +4,11 @@ ghost use Rattle.std.specs.Prelude.{◌≡◌, ◌<◌};
 ghost use Rattle.zp_counts.specs.CountBoards.{ArePackable};
 ghost use Rattle.zonebench.specs.declared.board.TheConstants.{ROOM};
 
-use crate::bench::NoMemory;
 use std::alloc::Global;
 use std::rt::Clock;
 use std::time::{Duration, Instant};
 use zp_counts::{Board, BoardReader, Publisher, are_packable, new_board, new_turning_board};
+use zp_loads::Unmade;
 use zp_model::{Counts, ORDERS};
 
 /// How many counts are published, and so many a board that does not turn has room for.
@@ -28,7 +28,7 @@ pub struct BoardBench {
 
 impl BoardBench {
     /// A board with room for so many counts as a journal has entries at most.
-    pub fn fixed(alloc: Global) -> Result<BoardBench, NoMemory> {
+    pub fn fixed(alloc: Global) -> Result<BoardBench, Unmade> {
         let counts = no_free_pages();
         let (board, mut publisher) = new_board(alloc, ROOM, &counts)?;
         let reader = publisher.reader(&board);
@@ -41,7 +41,7 @@ impl BoardBench {
     }
 
     /// One that turns, and is never full.
-    pub fn turning(alloc: Global) -> Result<BoardBench, NoMemory> {
+    pub fn turning(alloc: Global) -> Result<BoardBench, Unmade> {
         let counts = no_free_pages();
         let (board, mut publisher) = new_turning_board(alloc, u64::MAX, &counts)?;
         let reader = publisher.reader(&board);

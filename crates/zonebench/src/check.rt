@@ -1,12 +1,9 @@
 //! The checksums of the workloads: what another allocator with the same rules answers too.
 
-use crate::bench::{Bench, NoMemory};
-use crate::cached::{Cached, PastLists};
-use crate::seated::{Largest1, Largest4, Largest9, Seated};
-use crate::source::BlockSource;
 use crate::workload::{SIZES, Workload};
 use crate::worst;
 use std::alloc::Global;
+use zp_loads::{BlockSource, Cached, Load, PastLists, Seated, Unmade};
 use zp_model::Order;
 
 /// The calls that were made, and the checksum of their answers and of those before them.
@@ -22,8 +19,8 @@ pub fn sum_of<S: BlockSource>(
     workload: &Workload,
     pages: u32,
     ops: u32,
-) -> Result<Sum, NoMemory> {
-    let mut bench = Bench::<S>::new(alloc, pages)?;
+) -> Result<Sum, Unmade> {
+    let mut bench = Load::<S>::new(alloc, pages)?;
     workload.prepare(&mut bench)?;
     let calls = workload.run(&mut bench, ops)?;
     bench.give_all();
@@ -51,7 +48,7 @@ fn print_sums<S: BlockSource>(
 /// Prints the checksums of pairs of an order.
 fn print_pairs(rt: &impl Print, alloc: Global, name: &str, order: u8) -> anyhow::Result<()> {
     if let Some(order) = Order::new(order) {
-        print_sums::<Seated>(rt, alloc, name, &Workload::Pairs(order), 1000)?;
+        print_sums::<Seated<10>>(rt, alloc, name, &Workload::Pairs(order), 1000)?;
     }
     Ok(())
 }
@@ -61,10 +58,10 @@ pub fn print_all(rt: &impl Print, alloc: Global) -> anyhow::Result<()> {
     let hot = Workload::Pairs(Order::zero());
     print_pairs(rt, alloc, "pairs 0", 0)?;
     print_pairs(rt, alloc, "pairs 4", 4)?;
-    print_sums::<Seated>(rt, alloc, "runs", &Workload::Runs, 12_800)?;
-    print_sums::<Seated>(rt, alloc, "churn", &Workload::Churn, 100_000)?;
-    print_sums::<Seated>(rt, alloc, "press", &Workload::Press, 100_000)?;
-    print_sums::<Seated>(rt, alloc, "burst", &Workload::Burst, 2)?;
+    print_sums::<Seated<10>>(rt, alloc, "runs", &Workload::Runs, 12_800)?;
+    print_sums::<Seated<10>>(rt, alloc, "churn", &Workload::Churn, 100_000)?;
+    print_sums::<Seated<10>>(rt, alloc, "press", &Workload::Press, 100_000)?;
+    print_sums::<Seated<10>>(rt, alloc, "burst", &Workload::Burst, 2)?;
     print_sums::<Cached>(rt, alloc, "cached pairs 0", &hot, 1000)?;
     print_pairs(rt, alloc, "pairs 9", 9)?;
     print_pairs(rt, alloc, "pairs 10", 10)?;
@@ -74,7 +71,7 @@ pub fn print_all(rt: &impl Print, alloc: Global) -> anyhow::Result<()> {
     print_sums::<Cached>(rt, alloc, "cached burst", &Workload::Burst, 2)?;
     print_sums::<PastLists>(rt, alloc, "past lists churn", &Workload::Churn, 100_000)?;
     worst::print_sums(rt, alloc)?;
-    print_sums::<Largest9>(rt, alloc, "largest 9 pairs 0", &hot, 1000)?;
-    print_sums::<Largest4>(rt, alloc, "largest 4 pairs 0", &hot, 1000)?;
-    print_sums::<Largest1>(rt, alloc, "largest 1 pairs 0", &hot, 1000)
+    print_sums::<Seated<9>>(rt, alloc, "largest 9 pairs 0", &hot, 1000)?;
+    print_sums::<Seated<4>>(rt, alloc, "largest 4 pairs 0", &hot, 1000)?;
+    print_sums::<Seated<1>>(rt, alloc, "largest 1 pairs 0", &hot, 1000)
 }

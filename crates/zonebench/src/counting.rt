@@ -2,17 +2,15 @@
 
 ghost use Rattle.std.specs.Prelude.{◌≤◌, IfOk};
 
-use crate::bench::NoMemory;
-use crate::cached::{Cached, PastLists};
 use crate::check::{Sum, sum_of};
-use crate::locked::{self, Kept, Plan};
-use crate::seated::{Largest1, Largest4, Largest9, Seated};
-use crate::threads::Pairs;
+use crate::locked::{self, Kept};
+use crate::threads::{Pairs, Plan};
 use crate::workload::Workload;
 use std::alloc::Global;
 use std::rt::Clock;
 use std::sync::Wait;
 use std::thread::Threads;
+use zp_loads::{Cached, PastLists, Seated, Unmade};
 use zp_model::MAX_PAGES;
 
 /// How instructions are counted, where the processor's own counters are not to be had.
@@ -56,23 +54,17 @@ impl Way {
     }
 
     /// About so many calls of a workload on this way.
-    fn sum(
-        self,
-        alloc: Global,
-        workload: &Workload,
-        pages: u32,
-        calls: u32,
-    ) -> Result<Sum, NoMemory>
+    fn sum(self, alloc: Global, workload: &Workload, pages: u32, calls: u32) -> Result<Sum, Unmade>
         requires { 1 ≤ pages }
     {
         let ops = workload.ops(pages, calls);
         match self {
-            Way::Seated => sum_of::<Seated>(alloc, workload, pages, ops),
+            Way::Seated => sum_of::<Seated<10>>(alloc, workload, pages, ops),
             Way::Cached => sum_of::<Cached>(alloc, workload, pages, ops),
             Way::PastLists => sum_of::<PastLists>(alloc, workload, pages, ops),
-            Way::Largest9 => sum_of::<Largest9>(alloc, workload, pages, ops),
-            Way::Largest4 => sum_of::<Largest4>(alloc, workload, pages, ops),
-            Way::Largest1 => sum_of::<Largest1>(alloc, workload, pages, ops),
+            Way::Largest9 => sum_of::<Seated<9>>(alloc, workload, pages, ops),
+            Way::Largest4 => sum_of::<Seated<4>>(alloc, workload, pages, ops),
+            Way::Largest1 => sum_of::<Seated<1>>(alloc, workload, pages, ops),
         }
     }
 }
@@ -133,7 +125,7 @@ fn locked_sum<R: Clock + Threads + Wait + Sync>(
     };
     match locked::time(rt, alloc, pages, kept, plan)?.sums.pop() {
         Some(sum) => Ok(sum),
-        None => Err(NoMemory.into()),
+        None => Err(Unmade::AllocError.into()),
     }
 }
 

@@ -1,18 +1,16 @@
 //! Sections on a zone behind its lock, by what the zone keeps of them.
 
-ghost use Rattle.std.specs.Prelude.{◌≡◌, [], All};
+ghost use Rattle.std.specs.Prelude.{◌≡◌, [], All, IfOk};
 ghost use Rattle.zp_zone.specs.Seats.{IsSeatOf, IsUnused};
 
-use crate::bench::NoMemory;
-use crate::source::config;
-use crate::threads::{Pairs, TimedWork, time_as};
+use crate::threads::{Plan, Stint, TimedWork, time_as};
 use std::alloc::Global;
 use std::marker::Brand;
 use std::rt::Clock;
 use std::sync::Wait;
 use std::thread::Threads;
 use zp_journal::Journal;
-use zp_model::Largest;
+use zp_loads::{Unmade, config};
 use zp_shared::{CutJournal, NoJournal, OpenedZone, WholeJournal};
 use zp_zone::{Seat, Zone};
 
@@ -53,30 +51,22 @@ impl Kept {
     }
 }
 
-/// What so many workers of a zone do, all at the same time: so many pairs each.
-#[derive(Clone, Copy, PartialEq, Eq, Debug, Drop)]
-pub struct Plan {
-    pub workers: u32,
-    pub pairs: Pairs,
-    pub each: u32,
-}
-
 /// Over a zone with a journal of all its sections.
 fn time_whole<R: Threads + Wait + Clock + Sync>(
     rt: &R,
     alloc: Global,
     zone: Zone,
     seats: Vec<Seat>,
-    plan: Plan,
+    stint: &Stint,
 ) -> anyhow::Result<TimedWork>
     requires new { zone.entries ≡ [] }
     requires fits { All (IsSeatOf zone) seats.items }
     requires unused { All IsUnused seats.items }
 {
-    let Ok(opened) = OpenedZone::new(alloc, zone, SECTIONS) else {
-        return Err(NoMemory.into());
-    };
-    time_as::<Brand, R, WholeJournal>(rt, alloc, opened, seats, plan.pairs, plan.each)
+    match OpenedZone::new(alloc, zone, SECTIONS) {
+        Ok(opened) => time_as::<Brand, R, WholeJournal>(rt, alloc, opened, seats, stint),
+        Err(refused) => Err(Unmade::from(refused).into()),
+    }
 }
 
 /// Over a zone with no journal.
@@ -85,37 +75,43 @@ fn time_nothing<R: Threads + Wait + Clock + Sync>(
     alloc: Global,
     zone: Zone,
     seats: Vec<Seat>,
-    plan: Plan,
+    stint: &Stint,
 ) -> anyhow::Result<TimedWork>
     requires new { zone.entries ≡ [] }
     requires fits { All (IsSeatOf zone) seats.items }
     requires unused { All IsUnused seats.items }
 {
-    let Ok(opened) = OpenedZone::without_journal(alloc, zone, u64::MAX) else {
-        return Err(NoMemory.into());
-    };
-    time_as::<Brand, R, NoJournal>(rt, alloc, opened, seats, plan.pairs, plan.each)
+    match OpenedZone::without_journal(alloc, zone, u64::MAX) {
+        Ok(opened) => time_as::<Brand, R, NoJournal>(rt, alloc, opened, seats, stint),
+        Err(refused) => Err(Unmade::from(refused).into()),
+    }
 }
 
-/// Over a zone with the first piece of its journal.
+/// The zone with the first piece of its journal.
+fn with_pieces(alloc: Global, zone: Zone) -> Result<OpenedZone<CutJournal>, Unmade>
+    requires new { zone.entries ≡ [] }
+    ensures zone { IfOk result (λ o. o.zone ≡ zone) }
+{
+    let journal = Journal::new(alloc, SECTIONS)?;
+    Ok(OpenedZone::with_pieces(alloc, zone, journal, u64::MAX)?)
+}
+
+/// Over such a zone.
 fn time_pieces<R: Threads + Wait + Clock + Sync>(
     rt: &R,
     alloc: Global,
     zone: Zone,
     seats: Vec<Seat>,
-    plan: Plan,
+    stint: &Stint,
 ) -> anyhow::Result<TimedWork>
     requires new { zone.entries ≡ [] }
     requires fits { All (IsSeatOf zone) seats.items }
     requires unused { All IsUnused seats.items }
 {
-    let Ok(journal) = Journal::new(alloc, SECTIONS) else {
-        return Err(NoMemory.into());
-    };
-    let Ok(opened) = OpenedZone::with_pieces(alloc, zone, journal, u64::MAX) else {
-        return Err(NoMemory.into());
-    };
-    time_as::<Brand, R, CutJournal>(rt, alloc, opened, seats, plan.pairs, plan.each)
+    match with_pieces(alloc, zone) {
+        Ok(opened) => time_as::<Brand, R, CutJournal>(rt, alloc, opened, seats, stint),
+        Err(unmade) => Err(unmade.into()),
+    }
 }
 
 /// The plan over a zone of so many pages that keeps this, marks 0. Past its room a section is refused.
@@ -126,12 +122,13 @@ pub fn time<R: Threads + Wait + Clock + Sync>(
     kept: Kept,
     plan: Plan,
 ) -> anyhow::Result<TimedWork> {
-    match Zone::new(alloc, config(pages, Largest::usual()), plan.workers) {
+    let stint = plan.stint()?;
+    match Zone::new(alloc, config(pages), plan.workers) {
         Ok((zone, seats)) => match kept {
-            Kept::Whole => time_whole(rt, alloc, zone, seats, plan),
-            Kept::Nothing => time_nothing(rt, alloc, zone, seats, plan),
-            Kept::Pieces => time_pieces(rt, alloc, zone, seats, plan),
+            Kept::Whole => time_whole(rt, alloc, zone, seats, &stint),
+            Kept::Nothing => time_nothing(rt, alloc, zone, seats, &stint),
+            Kept::Pieces => time_pieces(rt, alloc, zone, seats, &stint),
         },
-        Err(refused) => Err(NoMemory::from(refused).into()),
+        Err(refused) => Err(Unmade::from(refused).into()),
     }
 }

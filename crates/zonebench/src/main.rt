@@ -7,18 +7,13 @@
 //! that are known take. With `count` it makes so many calls of one workload, so that a tool can count their instructions.
 #![tactic(auto)]
 
-mod bench;
 mod board;
-mod cached;
 mod check;
 mod counting;
 mod grounds;
 mod locked;
-mod random;
 mod reading;
-mod seated;
 mod shapes;
-mod source;
 mod threads;
 mod times;
 mod timing;

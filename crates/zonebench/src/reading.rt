@@ -1,12 +1,10 @@
 //! Counts read off the board of a zone that goes on without end, while its sections are made.
 
-ghost use Rattle.std.specs.Prelude.{◌≡◌, ◌<◌, ◌∷◌, [], All, length};
-ghost use Rattle.zp_shared.specs.Rows.{AreReaders, opened_board, opened_key};
+ghost use Rattle.std.specs.Prelude.{◌≡◌, ◌∷◌, [], All, IfOk};
+ghost use Rattle.zp_shared.specs.Rows.{opened_board, opened_key};
 ghost use Rattle.zp_zone.specs.Seats.{IsSeatOf, IsUnused};
 
-use crate::bench::NoMemory;
-use crate::source::config;
-use crate::threads::{Row, crew};
+use crate::threads::work_until;
 use std::alloc::Global;
 use std::marker::Brand;
 use std::rt::Clock;
@@ -14,8 +12,10 @@ use std::sync::Wait;
 use std::sync::atomic::{AtomicBool, Ordering};
 use std::thread::{Threads, join};
 use std::time::{Duration, Instant};
-use zp_model::{Largest, Order};
-use zp_shared::{Keeps, LockedZones, Naming, NoJournal, OpenedZone};
+use zp_loads::{Unmade, config};
+use zp_model::Order;
+use zp_share::ListConfig;
+use zp_shared::{Crew, Keeps, Naming, NoJournal, OneZone, OpenedZone, ZoneReader};
 use zp_zone::{Seat, Zone};
 
 /// How many times the counts were read, how many sections were made meanwhile, and the time of both.
@@ -26,64 +26,49 @@ pub struct TimedReads {
     pub time: Duration,
 }
 
-/// Reads the counts of the row's zone so often: how many readings were not the one before.
-fn read_often<J: Naming, R, K: Keeps>(mut zones: LockedZones<'_, J, (), R, K>, reads: u32) -> u64
-    requires { 0 < length J.zones }
-{
+/// Reads the counts of the zone so often: how many readings were not the one before. Then it is over.
+fn read_to_the_end<J: Naming, R, K: Keeps>(
+    rt: &R,
+    reader: ZoneReader<J>,
+    zone: &OneZone<J, K>,
+    reads: u32,
+    is_over: &AtomicBool,
+) -> u64 {
+    let mut reader = reader.at(rt, zone);
     let mut changed = 0_u64;
-    let mut last = zones.read(0);
+    let mut last = reader.read();
     for _ in 0..reads {
-        let reading = zones.read(0);
+        let reading = reader.read();
         if reading != last {
             changed = changed.saturating_add(1);
         }
         last = reading;
     }
-    changed
-}
-
-/// The same; then it is over.
-fn read_to_the_end<J: Naming, R, K: Keeps>(
-    zones: LockedZones<'_, J, (), R, K>,
-    reads: u32,
-    is_over: &AtomicBool,
-) -> u64
-    requires { 0 < length J.zones }
-{
-    let changed = read_often(zones, reads);
     is_over.store(true, Ordering::SeqCst);
     changed
 }
 
-/// The worker of the first of these seats makes pairs past its lists, while this thread reads so often. Where no thread can be made, no
-/// section is made.
-fn time_as<J: Naming + Send + Sync, R: Threads + Wait + Clock + Sync>(
+/// The last worker of the crew makes pairs, while this thread reads so often. Where no thread can be made, no section is made.
+fn time_crew<J: Naming + Send + Sync, R: Threads + Wait + Clock + Sync>(
     rt: &R,
-    alloc: Global,
-    mut opened: OpenedZone<NoJournal>,
-    seats: Vec<Seat>,
+    crew: Crew<J, NoJournal>,
     order: Order,
     reads: u32,
-) -> anyhow::Result<TimedReads>
-    requires named { J.zones ≡ opened_key opened ∷ [] }
-    requires boards { J.boards ≡ opened_board opened ∷ [] }
-    requires fits { All (IsSeatOf opened.zone) seats.items }
-    requires unused { All IsUnused seats.items }
-{
-    let mut readers = Vec::with_capacity(alloc, 1)?;
-    readers.push_reserved(opened.reader());
-    let mut workers = crew::<J, NoJournal>(alloc, &mut opened, seats)?;
+) -> anyhow::Result<TimedReads> {
+    let Crew {
+        zone,
+        mut workers,
+        reader,
+    } = crew;
     let Some(worker) = workers.pop() else {
-        return Err(NoMemory.into());
+        return Err(Unmade::Other.into());
     };
-    let row = &Row::<J, NoJournal>::new(alloc, opened)?;
-    let zones = row.view(rt, readers);
-    let is_over = &AtomicBool::new(false);
+    let (zone, is_over) = (&zone, &AtomicBool::new(false));
     let start = Instant::now(rt)?;
     let (sum, changed) = join(
         rt,
-        move || worker.pairs_until(rt, row, order, is_over),
-        move || read_to_the_end(zones, reads, is_over),
+        move || work_until(rt, worker, zone, order, is_over),
+        move || read_to_the_end(rt, reader, zone, reads, is_over),
     );
     let time = start.elapsed(rt)?;
     if changed > sum.calls {
@@ -96,6 +81,26 @@ fn time_as<J: Naming + Send + Sync, R: Threads + Wait + Clock + Sync>(
     })
 }
 
+/// The crew of these seats, timed so.
+fn time_as<J: Naming + Send + Sync, R: Threads + Wait + Clock + Sync>(
+    rt: &R,
+    alloc: Global,
+    opened: OpenedZone<NoJournal>,
+    seats: Vec<Seat>,
+    order: Order,
+    reads: u32,
+) -> anyhow::Result<TimedReads>
+    requires named { J.zones ≡ opened_key opened ∷ [] }
+    requires boards { J.boards ≡ opened_board opened ∷ [] }
+    requires fits { All (IsSeatOf opened.zone) seats.items }
+    requires unused { All IsUnused seats.items }
+{
+    match Crew::<J, NoJournal>::new(alloc, opened, seats, ListConfig::none()) {
+        Ok(crew) => time_crew(rt, crew, order, reads),
+        Err(refused) => Err(Unmade::from(refused).into()),
+    }
+}
+
 /// The time of so many reads of the counts of a zone of so many pages, while another thread takes blocks of this order and gives them
 /// back.
 pub fn time<R: Threads + Wait + Clock + Sync>(
@@ -105,13 +110,17 @@ pub fn time<R: Threads + Wait + Clock + Sync>(
     order: Order,
     reads: u32,
 ) -> anyhow::Result<TimedReads> {
-    match Zone::new(alloc, config(pages, Largest::usual()), 1) {
-        Ok((zone, seats)) => {
-            let Ok(opened) = OpenedZone::without_journal(alloc, zone, u64::MAX) else {
-                return Err(NoMemory.into());
-            };
-            time_as::<Brand, R>(rt, alloc, opened, seats, order, reads)
-        }
-        Err(refused) => Err(NoMemory::from(refused).into()),
+    match opened(alloc, pages) {
+        Ok((opened, seats)) => time_as::<Brand, R>(rt, alloc, opened, seats, order, reads),
+        Err(unmade) => Err(unmade.into()),
     }
+}
+
+/// A zone of so many pages that is opened for threads and keeps nothing, and the seat of its worker.
+fn opened(alloc: Global, pages: u32) -> Result<(OpenedZone<NoJournal>, Vec<Seat>), Unmade>
+    ensures fits { IfOk result (λ o. All (IsSeatOf o.0.zone) o.1.items) }
+    ensures unused { IfOk result (λ o. All IsUnused o.1.items) }
+{
+    let (zone, seats) = Zone::new(alloc, config(pages), 1)?;
+    Ok((OpenedZone::without_journal(alloc, zone, u64::MAX)?, seats))
 }

@@ -1,20 +1,17 @@
 //! Requests in zones that make them dear, each by `docs/rules.md`.
 
-use crate::bench::{Bench, LentBlock, NoMemory};
-use crate::cached::PastLists;
 use crate::grounds::{Ground, PAGEBLOCK_PAGES, PAGEBLOCKS, PAGES};
-use crate::seated::Seated;
-use crate::source::BlockSource;
 use std::alloc::Global;
+use zp_loads::{BlockSource, LentBlock, Load, PastLists, Seated, Unmade};
 use zp_model::{MigrateType, Order, PageNo};
 
 /// A request in a zone of `PAGES` pages.
-pub trait Shape {
+pub trait Shape: Drop {
     /// Makes the request.
     fn ask(&mut self);
 
     /// Brings the zone back to where the request is dear.
-    fn restore(&mut self) -> Result<(), NoMemory>;
+    fn restore(&mut self) -> Result<(), Unmade>;
 
     /// The checksum of all pages answered, those of the preparation too.
     fn checksum(&self) -> u64;
@@ -27,7 +24,7 @@ pub struct Nothing;
 impl Shape for Nothing {
     fn ask(&mut self) {}
 
-    fn restore(&mut self) -> Result<(), NoMemory> {
+    fn restore(&mut self) -> Result<(), Unmade> {
         Ok(())
     }
 
@@ -87,14 +84,14 @@ pub fn wishes() -> [(&'static str, Wish); 6] {
 /// A wish, asked of a zone.
 #[derive(Drop)]
 pub struct Taking {
-    bench: Bench<Seated>,
+    bench: Load<Seated<10>>,
     wish: Wish,
     lent: Option<LentBlock>,
 }
 
 impl Taking {
-    pub fn new(alloc: Global, wish: Wish) -> Result<Taking, NoMemory> {
-        let mut bench = Bench::new(alloc, PAGES)?;
+    pub fn new(alloc: Global, wish: Wish) -> Result<Taking, Unmade> {
+        let mut bench = Load::new(alloc, PAGES)?;
         wish.ground.prepare(&mut bench)?;
         Ok(Taking {
             bench,
@@ -109,7 +106,7 @@ impl Shape for Taking {
         self.lent = self.bench.take(self.wish.order, self.wish.kinds[0]);
     }
 
-    fn restore(&mut self) -> Result<(), NoMemory> {
+    fn restore(&mut self) -> Result<(), Unmade> {
         if let Some(lent) = self.lent {
             self.bench.give(lent);
         }
@@ -130,13 +127,13 @@ impl Shape for Taking {
 /// A page that joins ten times as it is given back.
 #[derive(Drop)]
 pub struct Giving {
-    bench: Bench<Seated>,
+    bench: Load<Seated<10>>,
     lent: Option<LentBlock>,
 }
 
 impl Giving {
-    pub fn new(alloc: Global) -> Result<Giving, NoMemory> {
-        let mut bench = Bench::new(alloc, PAGES)?;
+    pub fn new(alloc: Global) -> Result<Giving, Unmade> {
+        let mut bench = Load::new(alloc, PAGES)?;
         let lent = bench.take(Order::zero(), MigrateType::Movable);
         Ok(Giving { bench, lent })
     }
@@ -149,7 +146,7 @@ impl Shape for Giving {
         }
     }
 
-    fn restore(&mut self) -> Result<(), NoMemory> {
+    fn restore(&mut self) -> Result<(), Unmade> {
         self.lent = self.bench.take(Order::zero(), MigrateType::Movable);
         Ok(())
     }
@@ -162,12 +159,12 @@ impl Shape for Giving {
 /// The first pageblock, isolated and released.
 #[derive(Drop)]
 pub struct Isolating {
-    bench: Bench<Seated>,
+    bench: Load<Seated<10>>,
 }
 
 impl Isolating {
-    pub fn new(alloc: Global, ground: Ground) -> Result<Isolating, NoMemory> {
-        let mut bench = Bench::new(alloc, PAGES)?;
+    pub fn new(alloc: Global, ground: Ground) -> Result<Isolating, Unmade> {
+        let mut bench = Load::new(alloc, PAGES)?;
         ground.prepare(&mut bench)?;
         Ok(Isolating { bench })
     }
@@ -179,7 +176,7 @@ impl Shape for Isolating {
         self.bench.count(usize::from(is_done));
     }
 
-    fn restore(&mut self) -> Result<(), NoMemory> {
+    fn restore(&mut self) -> Result<(), Unmade> {
         Ok(())
     }
 
@@ -191,12 +188,12 @@ impl Shape for Isolating {
 /// A refill each of whose pages is borrowed after a claim that fails beside 64 pageblocks.
 #[derive(Drop)]
 pub struct Refilling {
-    bench: Bench<PastLists>,
+    bench: Load<PastLists>,
 }
 
 impl Refilling {
-    pub fn new(alloc: Global) -> Result<Refilling, NoMemory> {
-        let mut bench = Bench::new(alloc, PAGES)?;
+    pub fn new(alloc: Global) -> Result<Refilling, Unmade> {
+        let mut bench = Load::new(alloc, PAGES)?;
         Ground::Halves(MigrateType::Unmovable).prepare(&mut bench)?;
         Ok(Refilling { bench })
     }
@@ -208,7 +205,7 @@ impl Shape for Refilling {
         self.bench.count(pages);
     }
 
-    fn restore(&mut self) -> Result<(), NoMemory> {
+    fn restore(&mut self) -> Result<(), Unmade> {
         self.bench.source.drain(MigrateType::Movable);
         Ok(())
     }
@@ -221,12 +218,12 @@ impl Shape for Refilling {
 /// A drain each of whose pages joins ten times: one page of each pageblock.
 #[derive(Drop)]
 pub struct Draining {
-    bench: Bench<PastLists>,
+    bench: Load<PastLists>,
 }
 
 impl Draining {
-    pub fn new(alloc: Global) -> Result<Draining, NoMemory> {
-        let mut bench = Bench::new(alloc, PAGES)?;
+    pub fn new(alloc: Global) -> Result<Draining, Unmade> {
+        let mut bench = Load::new(alloc, PAGES)?;
         list_first_pages(&mut bench);
         Ok(Draining { bench })
     }
@@ -238,7 +235,7 @@ impl Shape for Draining {
         self.bench.count(pages);
     }
 
-    fn restore(&mut self) -> Result<(), NoMemory> {
+    fn restore(&mut self) -> Result<(), Unmade> {
         list_first_pages(&mut self.bench);
         Ok(())
     }
@@ -249,7 +246,7 @@ impl Shape for Draining {
 }
 
 /// Puts the first page of each pageblock on the worker's list, where all pages are free.
-fn list_first_pages(bench: &mut Bench<PastLists>) {
+fn list_first_pages(bench: &mut Load<PastLists>) {
     for _ in 0..PAGEBLOCKS {
         // the blocks come back below
         let _ = bench.take(Order::largest(), MigrateType::Movable);

@@ -3,9 +3,9 @@
 ghost use Rattle.std.specs.Prelude.{◌≡◌, ◌<◌, ◌-◌, ◌/◌, length, slice_index_or, IsSorted, IsPermutation};
 ghost use Rattle.std.specs.Ordering.{nat_cmp};
 
-use crate::bench::NoMemory;
 use std::alloc::Global;
 use std::time::Duration;
+use zp_loads::Unmade;
 
 /// Of how many calls one takes longer than the high time that is printed.
 const CALLS_A_HIGH_TIME: usize = 1000;
@@ -41,16 +41,16 @@ pub struct Times {
 
 impl Times {
     /// None, with room for so many.
-    pub fn new(alloc: Global, calls: u32) -> Result<Times, NoMemory> {
+    pub fn new(alloc: Global, calls: u32) -> Result<Times, Unmade> {
         Ok(Times {
             nanos: Vec::with_capacity(alloc, calls as usize)?,
         })
     }
 
-    pub fn add(&mut self, time: Duration) -> Result<(), NoMemory> {
+    pub fn add(&mut self, time: Duration) -> Result<(), Unmade> {
         let nanos = u64::try_from(time.as_nanos()).unwrap_or(u64::MAX);
         if self.nanos.push(nanos).is_err() {
-            return Err(NoMemory);
+            return Err(Unmade::AllocError);
         }
         Ok(())
     }

@@ -2,21 +2,18 @@
 
 ghost use Rattle.std.specs.Prelude.{◌<◌};
 
-use crate::bench::Bench;
 use crate::board::BoardBench;
-use crate::cached::{Cached, PastLists};
 use crate::counting::HOW_TO_COUNT;
-use crate::locked::{self, Kept, Plan, SECTIONS};
+use crate::locked::{self, Kept, SECTIONS};
 use crate::reading;
-use crate::seated::{Largest4, Largest9, Seated};
-use crate::source::BlockSource;
-use crate::threads::Pairs;
+use crate::threads::{Pairs, Plan};
 use crate::workload::{SIZES, Workload};
 use std::alloc::Global;
 use std::rt::Clock;
 use std::sync::Wait;
 use std::thread::Threads;
 use std::time::{Duration, Instant};
+use zp_loads::{BlockSource, Cached, Load, PastLists, Seated};
 use zp_model::Order;
 
 /// The calls that are timed, about.
@@ -36,7 +33,7 @@ fn tenths_a_call<S: BlockSource>(
     pages: u32,
     ops: u32,
 ) -> anyhow::Result<u128> {
-    let mut bench = Bench::<S>::new(alloc, pages)?;
+    let mut bench = Load::<S>::new(alloc, pages)?;
     workload.prepare(&mut bench)?;
     tenths_of_run(rt, &mut bench, workload, ops)
 }
@@ -44,7 +41,7 @@ fn tenths_a_call<S: BlockSource>(
 /// Tenths of a nanosecond that a call of a workload takes where the zone is prepared for it.
 fn tenths_of_run<S: BlockSource>(
     rt: &impl Clock,
-    bench: &mut Bench<S>,
+    bench: &mut Load<S>,
     workload: &Workload,
     ops: u32,
 ) -> anyhow::Result<u128> {
@@ -309,7 +306,7 @@ fn print_table(rt: &(impl Print + Eprint + Clock), alloc: Global) -> anyhow::Res
         "{:<40}{:>12}{:>12}{:>12}",
         "nanoseconds a call", "1024 pages", "4096", "65536"
     )?;
-    print_pairs::<Seated>(
+    print_pairs::<Seated<10>>(
         rt,
         alloc,
         &[
@@ -319,15 +316,15 @@ fn print_table(rt: &(impl Print + Eprint + Clock), alloc: Global) -> anyhow::Res
             ("pairs of order 10", 10),
         ],
     )?;
-    print_mixed::<Seated>(rt, alloc)?;
-    print_times::<Seated>(
+    print_mixed::<Seated<10>>(rt, alloc)?;
+    print_times::<Seated<10>>(
         rt,
         alloc,
         "Unmovable among scattered Movable",
         &Workload::Scattered,
         [100_000, 20_000, 1000],
     )?;
-    print_times::<Seated>(
+    print_times::<Seated<10>>(
         rt,
         alloc,
         "claims of order 10",
@@ -341,11 +338,11 @@ fn print_table(rt: &(impl Print + Eprint + Clock), alloc: Global) -> anyhow::Res
 /// Prints the table's lines of zones of other largest orders.
 fn print_largest_lines(rt: &(impl Print + Eprint + Clock), alloc: Global) -> anyhow::Result<()> {
     println!(rt; "largest order 9")?;
-    print_pairs::<Largest9>(rt, alloc, &[("pairs of order 0", 0)])?;
-    print_mixed::<Largest9>(rt, alloc)?;
+    print_pairs::<Seated<9>>(rt, alloc, &[("pairs of order 0", 0)])?;
+    print_mixed::<Seated<9>>(rt, alloc)?;
     println!(rt; "largest order 4")?;
-    print_pairs::<Largest4>(rt, alloc, &[("pairs of order 0", 0)])?;
-    print_mixed::<Largest4>(rt, alloc)
+    print_pairs::<Seated<4>>(rt, alloc, &[("pairs of order 0", 0)])?;
+    print_mixed::<Seated<4>>(rt, alloc)
 }
 
 /// Prints the table's lines of a worker's share.

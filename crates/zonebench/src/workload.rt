@@ -3,9 +3,7 @@
 ghost use Rattle.std.specs.Prelude.{◌≡◌, ◌≤◌};
 ghost use Rattle.zonebench.specs.Calls.{ops};
 
-use crate::bench::{Bench, NoMemory};
-use crate::random::below;
-use crate::source::BlockSource;
+use zp_loads::{BlockSource, Load, Unmade, below};
 use zp_model::{MigrateType, Order};
 
 /// The sizes of the zones, in pages.
@@ -74,7 +72,7 @@ impl Workload {
     }
 
     /// What comes before the calls that count.
-    pub fn prepare<S: BlockSource>(&self, bench: &mut Bench<S>) -> Result<(), NoMemory> {
+    pub fn prepare<S: BlockSource>(&self, bench: &mut Load<S>) -> Result<(), Unmade> {
         match self {
             Workload::Churn => {
                 churn(bench, WARMING)?;
@@ -88,7 +86,7 @@ impl Workload {
     }
 
     /// The calls that count. Answers how many calls of the zone they were, a test and a giving back being one.
-    pub fn run<S: BlockSource>(&self, bench: &mut Bench<S>, ops: u32) -> Result<u64, NoMemory> {
+    pub fn run<S: BlockSource>(&self, bench: &mut Load<S>, ops: u32) -> Result<u64, Unmade> {
         match self {
             Workload::Pairs(order) => pairs(bench, *order, ops),
             Workload::Runs => runs(bench, ops),
@@ -101,14 +99,14 @@ impl Workload {
     }
 }
 
-fn pairs<S: BlockSource>(bench: &mut Bench<S>, order: Order, ops: u32) -> Result<u64, NoMemory> {
+fn pairs<S: BlockSource>(bench: &mut Load<S>, order: Order, ops: u32) -> Result<u64, Unmade> {
     for _ in 0..ops {
         bench.pair(order, MigrateType::Movable);
     }
     Ok(2 * u64::from(ops))
 }
 
-fn runs<S: BlockSource>(bench: &mut Bench<S>, ops: u32) -> Result<u64, NoMemory> {
+fn runs<S: BlockSource>(bench: &mut Load<S>, ops: u32) -> Result<u64, Unmade> {
     for _ in 0..ops / (2 * RUN) {
         run(bench)?;
     }
@@ -116,7 +114,7 @@ fn runs<S: BlockSource>(bench: &mut Bench<S>, ops: u32) -> Result<u64, NoMemory>
 }
 
 /// One run.
-fn run<S: BlockSource>(bench: &mut Bench<S>) -> Result<(), NoMemory> {
+fn run<S: BlockSource>(bench: &mut Load<S>) -> Result<(), Unmade> {
     for _ in 0..RUN {
         bench.lend(Order::zero(), MigrateType::Movable)?;
     }
@@ -124,7 +122,7 @@ fn run<S: BlockSource>(bench: &mut Bench<S>) -> Result<(), NoMemory> {
     Ok(())
 }
 
-fn churn<S: BlockSource>(bench: &mut Bench<S>, ops: u32) -> Result<u64, NoMemory> {
+fn churn<S: BlockSource>(bench: &mut Load<S>, ops: u32) -> Result<u64, Unmade> {
     for _ in 0..ops {
         churn_once(bench)?;
     }
@@ -132,7 +130,7 @@ fn churn<S: BlockSource>(bench: &mut Bench<S>, ops: u32) -> Result<u64, NoMemory
 }
 
 /// A block of a drawn order is taken where fewer than half of the pages are lent; else a drawn one is given back.
-fn churn_once<S: BlockSource>(bench: &mut Bench<S>) -> Result<(), NoMemory> {
+fn churn_once<S: BlockSource>(bench: &mut Load<S>) -> Result<(), Unmade> {
     let drawn = bench.random.draw();
     if bench.lent_pages() >= bench.pages() / 2 {
         bench.give_drawn(drawn);
@@ -146,12 +144,12 @@ fn churn_once<S: BlockSource>(bench: &mut Bench<S>) -> Result<(), NoMemory> {
 }
 
 /// Takes all pages one by one.
-fn fill<S: BlockSource>(bench: &mut Bench<S>) -> Result<(), NoMemory> {
+fn fill<S: BlockSource>(bench: &mut Load<S>) -> Result<(), Unmade> {
     bench.lend_all(Order::zero(), MigrateType::Movable)
 }
 
 /// Leaves nine tenths of the pages lent.
-fn press_down<S: BlockSource>(bench: &mut Bench<S>) -> Result<(), NoMemory> {
+fn press_down<S: BlockSource>(bench: &mut Load<S>) -> Result<(), Unmade> {
     fill(bench)?;
     let kept = bench.pages() / 10 * 9;
     for _ in 0..bench.pages() {
@@ -164,7 +162,7 @@ fn press_down<S: BlockSource>(bench: &mut Bench<S>) -> Result<(), NoMemory> {
     Ok(())
 }
 
-fn press<S: BlockSource>(bench: &mut Bench<S>, ops: u32) -> Result<u64, NoMemory> {
+fn press<S: BlockSource>(bench: &mut Load<S>, ops: u32) -> Result<u64, Unmade> {
     let mut calls: u64 = 0;
     for _ in 0..ops {
         if calls >= u64::from(ops) {
@@ -177,7 +175,7 @@ fn press<S: BlockSource>(bench: &mut Bench<S>, ops: u32) -> Result<u64, NoMemory
 }
 
 /// Gives back so many drawn pages, and takes as many. Answers how many calls these were.
-fn exchange<S: BlockSource>(bench: &mut Bench<S>, pages: usize) -> Result<u64, NoMemory>
+fn exchange<S: BlockSource>(bench: &mut Load<S>, pages: usize) -> Result<u64, Unmade>
     requires { pages ≤ 64 }
 {
     for _ in 0..pages {
@@ -191,7 +189,7 @@ fn exchange<S: BlockSource>(bench: &mut Bench<S>, pages: usize) -> Result<u64, N
 }
 
 /// Takes all pages, and gives them back at random.
-fn burst<S: BlockSource>(bench: &mut Bench<S>) -> Result<(), NoMemory> {
+fn burst<S: BlockSource>(bench: &mut Load<S>) -> Result<(), Unmade> {
     fill(bench)?;
     for _ in 0..bench.pages() {
         let drawn = bench.random.draw();
@@ -200,7 +198,7 @@ fn burst<S: BlockSource>(bench: &mut Bench<S>) -> Result<(), NoMemory> {
     Ok(())
 }
 
-fn bursts<S: BlockSource>(bench: &mut Bench<S>, ops: u32) -> Result<u64, NoMemory> {
+fn bursts<S: BlockSource>(bench: &mut Load<S>, ops: u32) -> Result<u64, Unmade> {
     for _ in 0..ops {
         burst(bench)?;
     }
@@ -208,20 +206,20 @@ fn bursts<S: BlockSource>(bench: &mut Bench<S>, ops: u32) -> Result<u64, NoMemor
 }
 
 /// Leaves a third of the pages free, each alone.
-fn scatter<S: BlockSource>(bench: &mut Bench<S>) -> Result<(), NoMemory> {
+fn scatter<S: BlockSource>(bench: &mut Load<S>) -> Result<(), Unmade> {
     fill(bench)?;
     bench.give_picked(|page| page % 3 == 0);
     Ok(())
 }
 
-fn scattered<S: BlockSource>(bench: &mut Bench<S>, ops: u32) -> Result<u64, NoMemory> {
+fn scattered<S: BlockSource>(bench: &mut Load<S>, ops: u32) -> Result<u64, Unmade> {
     for _ in 0..ops {
         bench.pair(Order::zero(), MigrateType::Unmovable);
     }
     Ok(2 * u64::from(ops))
 }
 
-fn claims<S: BlockSource>(bench: &mut Bench<S>, ops: u32) -> Result<u64, NoMemory> {
+fn claims<S: BlockSource>(bench: &mut Load<S>, ops: u32) -> Result<u64, Unmade> {
     for _ in 0..ops {
         bench.pair(Order::largest(), MigrateType::Unmovable);
         bench.pair(Order::largest(), MigrateType::Movable);

@@ -6,6 +6,7 @@ use crate::times::Times;
 use std::alloc::Global;
 use std::rt::Clock;
 use std::time::Instant;
+use zp_loads::Unmade;
 
 /// The calls of each request.
 const CALLS: u32 = 10_000;
@@ -45,8 +46,22 @@ fn times_of(
     Ok(times)
 }
 
+/// Prints a line of the table, where there is memory for the request's zone.
+fn print_times<S: Shape>(
+    rt: &(impl Print + Eprint + Clock),
+    alloc: Global,
+    name: &str,
+    made: Result<S, Unmade>,
+    calls: u32,
+) -> anyhow::Result<()> {
+    match made {
+        Ok(mut shape) => print_times_of(rt, alloc, name, &mut shape, calls),
+        Err(unmade) => Err(unmade.into()),
+    }
+}
+
 /// Prints a line of the table.
-fn print_times(
+fn print_times_of(
     rt: &(impl Print + Eprint + Clock),
     alloc: Global,
     name: &str,
@@ -67,25 +82,33 @@ pub fn print_all(rt: &(impl Print + Eprint + Clock), alloc: Global) -> anyhow::R
         "{:<36}{:>10}{:>14}",
         "nanoseconds of one call", "median", "99.9 per cent"
     )?;
-    print_times(rt, alloc, "the clock alone", &mut Nothing, CALLS)?;
+    print_times_of(rt, alloc, "the clock alone", &mut Nothing, CALLS)?;
     for (name, wish) in wishes() {
         let calls = if wish.ground.is_laid_anew() {
             CALLS_ANEW
         } else {
             CALLS
         };
-        print_times(rt, alloc, name, &mut Taking::new(alloc, wish)?, calls)?;
+        print_times(rt, alloc, name, Taking::new(alloc, wish), calls)?;
     }
-    print_times(rt, alloc, GIVING, &mut Giving::new(alloc)?, CALLS)?;
-    print_times(rt, alloc, REFILLING, &mut Refilling::new(alloc)?, CALLS)?;
+    print_times(rt, alloc, GIVING, Giving::new(alloc), CALLS)?;
+    print_times(rt, alloc, REFILLING, Refilling::new(alloc), CALLS)?;
     for (name, ground) in ISOLATING {
-        print_times(rt, alloc, name, &mut Isolating::new(alloc, ground)?, CALLS)?;
+        print_times(rt, alloc, name, Isolating::new(alloc, ground), CALLS)?;
     }
-    print_times(rt, alloc, DRAINING, &mut Draining::new(alloc)?, CALLS)
+    print_times(rt, alloc, DRAINING, Draining::new(alloc), CALLS)
+}
+
+/// Prints the checksum of the answers to a few calls, where there is memory for the request's zone.
+fn print_sum<S: Shape>(rt: &impl Print, name: &str, made: Result<S, Unmade>) -> anyhow::Result<()> {
+    match made {
+        Ok(mut shape) => print_sum_of(rt, name, &mut shape),
+        Err(unmade) => Err(unmade.into()),
+    }
 }
 
 /// Prints the checksum of the answers to a few calls.
-fn print_sum(rt: &impl Print, name: &str, shape: &mut impl Shape) -> anyhow::Result<()> {
+fn print_sum_of(rt: &impl Print, name: &str, shape: &mut impl Shape) -> anyhow::Result<()> {
     for _ in 0..CALLS_SUMMED {
         shape.ask();
         shape.restore()?;
@@ -100,12 +123,12 @@ fn print_sum(rt: &impl Print, name: &str, shape: &mut impl Shape) -> anyhow::Res
 /// Prints the checksums of all requests: the request, the pages of the zone, the calls, and the checksum of the answers.
 pub fn print_sums(rt: &impl Print, alloc: Global) -> anyhow::Result<()> {
     for (name, wish) in wishes() {
-        print_sum(rt, name, &mut Taking::new(alloc, wish)?)?;
+        print_sum(rt, name, Taking::new(alloc, wish))?;
     }
-    print_sum(rt, GIVING, &mut Giving::new(alloc)?)?;
-    print_sum(rt, REFILLING, &mut Refilling::new(alloc)?)?;
+    print_sum(rt, GIVING, Giving::new(alloc))?;
+    print_sum(rt, REFILLING, Refilling::new(alloc))?;
     for (name, ground) in ISOLATING {
-        print_sum(rt, name, &mut Isolating::new(alloc, ground)?)?;
+        print_sum(rt, name, Isolating::new(alloc, ground))?;
     }
-    print_sum(rt, DRAINING, &mut Draining::new(alloc)?)
+    print_sum(rt, DRAINING, Draining::new(alloc))
 }

@@ -1,17 +1,19 @@
 //! A zone whose journal is cut again and again while its workers work; at the end the pieces are replayed, one after another.
 
-ghost use Rattle.std.specs.Prelude.{◌≡◌, ◌∷◌, [], All};
+ghost use Rattle.std.specs.Prelude.{◌≡◌, ◌∷◌, [], All, IfOk};
 ghost use Rattle.zp_shared.specs.Rows.{opened_board, opened_key};
 ghost use Rattle.zp_zone.specs.Seats.{IsSeatOf, IsUnused};
 
-use crate::crew::{OutOfMemory, RowCrew, WORKERS, config, crew_of};
+use crate::WORKERS;
 use std::alloc::Global;
 use std::marker::Brand;
 use std::sync::Wait;
 use std::thread::Threads;
 use uses::{CutRun, PIECE, work_in_pieces};
 use zp_journal::Journal;
-use zp_shared::{CutJournal, Naming, OpenedZone};
+use zp_loads::{Unmade, config};
+use zp_share::ListConfig;
+use zp_shared::{Crew, CutJournal, Naming, OpenedZone};
 use zp_zone::{Seat, Zone};
 
 /// How many pages each worker takes and gives back: two sections each. There is a cut after 180 to 190 sections.
@@ -29,30 +31,35 @@ fn run_as<J: Naming + Send + Sync, R: Threads + Wait + Sync>(
     alloc: Global,
     opened: OpenedZone<CutJournal>,
     seats: Vec<Seat>,
-) -> anyhow::Result<CutRun>
+) -> Result<CutRun, Unmade>
     requires named { J.zones ≡ opened_key opened ∷ [] }
     requires boards { J.boards ≡ opened_board opened ∷ [] }
     requires fits { All (IsSeatOf opened.zone) seats.items }
     requires unused { All IsUnused seats.items }
 {
-    let RowCrew { row, workers, .. } = crew_of::<J, CutJournal>(alloc, opened, seats)?;
-    match work_in_pieces(rt, alloc, config(PAGES), WORKERS, row, workers, ROUNDS) {
-        Some(run) => Ok(run),
-        None => Err(OutOfMemory.into()),
-    }
+    let crew = Crew::<J, CutJournal>::new(alloc, opened, seats, ListConfig::none())?;
+    let Crew { zone, workers, .. } = crew;
+    work_in_pieces(rt, alloc, config(PAGES), WORKERS, zone, workers, ROUNDS).ok_or(Unmade::Other)
+}
+
+/// The zone with its first journal, opened for threads, and the seats of its workers.
+fn opened(alloc: Global) -> Result<(OpenedZone<CutJournal>, Vec<Seat>), Unmade>
+    ensures fits { IfOk result (λ o. All (IsSeatOf o.0.zone) o.1.items) }
+    ensures unused { IfOk result (λ o. All IsUnused o.1.items) }
+{
+    let journal = Journal::new(alloc, PIECE)?;
+    let (zone, seats) = Zone::new(alloc, config(PAGES), WORKERS)?;
+    Ok((
+        OpenedZone::with_pieces(alloc, zone, journal, u64::MAX)?,
+        seats,
+    ))
 }
 
 /// Makes the zone, and has it work.
-fn run<R: Threads + Wait + Sync>(rt: &R, alloc: Global) -> anyhow::Result<CutRun> {
-    let journal = Journal::new(alloc, PIECE).map_err(OutOfMemory::from)?;
-    match Zone::new(alloc, config(PAGES), WORKERS) {
-        Ok((zone, seats)) => {
-            let opened = OpenedZone::with_pieces(alloc, zone, journal, u64::MAX).map_err(
-                OutOfMemory::from,
-            )?;
-            run_as::<Brand, R>(rt, alloc, opened, seats)
-        }
-        Err(refused) => Err(OutOfMemory::from(refused).into()),
+fn run<R: Threads + Wait + Sync>(rt: &R, alloc: Global) -> Result<CutRun, Unmade> {
+    match opened(alloc) {
+        Ok((opened, seats)) => run_as::<Brand, R>(rt, alloc, opened, seats),
+        Err(unmade) => Err(unmade),
     }
 }
 

@@ -5,14 +5,17 @@ ghost use Rattle.std.specs.Prelude.{◌≡◌, ◌∷◌, [], All};
 ghost use Rattle.zp_shared.specs.Rows.{opened_board, opened_key};
 ghost use Rattle.zp_zone.specs.Seats.{IsSeatOf, IsUnused};
 
-use crate::crew::{OutOfMemory, RowCrew, WORKERS, config, crew_of};
+use crate::WORKERS;
+use crate::endless::endless;
 use std::alloc::Global;
 use std::marker::Brand;
 use std::sync::Wait;
 use std::thread::Threads;
 use uses::{EndlessRun, work_without_end};
-use zp_shared::{Naming, NoJournal, OpenedZone};
-use zp_zone::{Seat, Zone};
+use zp_loads::Unmade;
+use zp_share::ListConfig;
+use zp_shared::{Crew, Naming, NoJournal, OpenedZone};
+use zp_zone::Seat;
 
 /// How many sections the zone has numbers for.
 const SECTIONS: u64 = 1001;
@@ -26,29 +29,22 @@ fn run_as<J: Naming + Send + Sync, R: Threads + Wait + Sync>(
     alloc: Global,
     opened: OpenedZone<NoJournal>,
     seats: Vec<Seat>,
-) -> anyhow::Result<EndlessRun>
+) -> Result<EndlessRun, Unmade>
     requires named { J.zones ≡ opened_key opened ∷ [] }
     requires boards { J.boards ≡ opened_board opened ∷ [] }
     requires fits { All (IsSeatOf opened.zone) seats.items }
     requires unused { All IsUnused seats.items }
 {
-    let RowCrew { row, workers, .. } = crew_of::<J, NoJournal>(alloc, opened, seats)?;
-    match work_without_end(rt, row, workers, u32::MAX) {
-        Some(run) => Ok(run),
-        None => Err(OutOfMemory.into()),
-    }
+    let crew = Crew::<J, NoJournal>::new(alloc, opened, seats, ListConfig::none())?;
+    let Crew { zone, workers, .. } = crew;
+    work_without_end(rt, zone, workers, u32::MAX).ok_or(Unmade::Other)
 }
 
 /// Makes the zone, and has its numbers used up.
-fn run<R: Threads + Wait + Sync>(rt: &R, alloc: Global) -> anyhow::Result<EndlessRun> {
-    match Zone::new(alloc, config(PAGES), WORKERS) {
-        Ok((zone, seats)) => {
-            let opened = OpenedZone::without_journal(alloc, zone, SECTIONS).map_err(
-                OutOfMemory::from,
-            )?;
-            run_as::<Brand, R>(rt, alloc, opened, seats)
-        }
-        Err(refused) => Err(OutOfMemory::from(refused).into()),
+fn run<R: Threads + Wait + Sync>(rt: &R, alloc: Global) -> Result<EndlessRun, Unmade> {
+    match endless(alloc, PAGES, WORKERS, SECTIONS) {
+        Ok((opened, seats)) => run_as::<Brand, R>(rt, alloc, opened, seats),
+        Err(unmade) => Err(unmade),
     }
 }
 

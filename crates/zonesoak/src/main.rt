@@ -5,12 +5,15 @@
 //! the workers' requests meet in another order each time.
 #![tactic(auto)]
 
-mod crew;
 mod cut;
 mod ended;
+mod endless;
 mod soak;
 mod stint;
 mod watch;
+
+/// How many workers each zone has, where it is not said.
+const WORKERS: u32 = 4;
 
 fn main(rt: HostRuntime) -> anyhow::Result<()> {
     soak::print(&rt, rt.alloc())?;

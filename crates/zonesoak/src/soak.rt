@@ -5,17 +5,19 @@ ghost use Rattle.std.specs.Prelude.{◌≡◌, ◌∷◌, [], All};
 ghost use Rattle.zp_shared.specs.Rows.{opened_board, opened_key};
 ghost use Rattle.zp_zone.specs.Seats.{IsSeatOf, IsUnused};
 
-use crate::crew::{OutOfMemory, RowCrew, WORKERS, config, crew_of};
+use crate::WORKERS;
+use crate::endless::endless;
 use crate::stint::{Stint, work};
 use crate::watch::{Watch, read_all_the_while};
 use std::alloc::Global;
 use std::marker::Brand;
 use std::sync::Wait;
 use std::thread::{Threads, join, map_vec};
-use uses::RowOfOne;
+use zp_loads::Unmade;
 use zp_model::{MAX_PAGES, MAX_WORKERS};
-use zp_shared::{Naming, NoJournal, OpenedZone};
-use zp_zone::{Seat, Zone};
+use zp_share::ListConfig;
+use zp_shared::{Crew, Naming, NoJournal, OneZone, OpenedZone};
+use zp_zone::Seat;
 
 /// How many workers a zone has, and how many requests each of them makes.
 #[derive(Clone, Copy, PartialEq, Eq, Debug, Drop)]
@@ -58,14 +60,14 @@ fn all_of(stints: &[Stint]) -> Stint {
     all
 }
 
-/// What is seen of the row when all its workers have ended.
+/// What is seen of the zone when all its workers have ended.
 fn end_of<J: Naming>(
-    row: RowOfOne<J, NoJournal>,
+    zone: OneZone<J, NoJournal>,
     stints: &[Stint],
     watch: Watch,
-) -> anyhow::Result<Soak> {
-    let Some(zone) = row.into_zone() else {
-        return Err(OutOfMemory.into());
+) -> Result<Soak, Unmade> {
+    let Some(zone) = zone.into_zone() else {
+        return Err(Unmade::Other);
     };
     let Stint {
         sections,
@@ -80,25 +82,29 @@ fn end_of<J: Naming>(
 }
 
 /// The workers make their requests, all at the same time, and the reader reads all the while.
-fn run_row<J: Naming + Send + Sync, R: Threads + Wait + Sync>(
+fn run_crew<J: Naming + Send + Sync, R: Threads + Wait + Sync>(
     rt: &R,
-    crew: RowCrew<J, NoJournal>,
+    crew: Crew<J, NoJournal>,
     load: Load,
-) -> anyhow::Result<Soak> {
-    let RowCrew {
-        row,
+) -> Result<Soak, Unmade> {
+    let Crew {
+        zone,
         workers,
         reader,
     } = crew;
     let requests = u64::from(load.requests) * u64::from(load.workers);
     let (stints, watch) = join(
         rt,
-        || map_vec(rt, workers, &|worker| work(rt, worker, &row, load.requests)),
-        || read_all_the_while(rt, reader, &row, requests),
+        || map_vec(
+            rt,
+            workers,
+            &|worker| work(rt, worker, &zone, load.requests),
+        ),
+        || read_all_the_while(rt, reader, &zone, requests),
     );
     match stints {
-        Ok(stints) => end_of(row, stints.as_slice(), watch),
-        Err(e) => Err(OutOfMemory::from(e).into()),
+        Ok(stints) => end_of(zone, stints.as_slice(), watch),
+        Err(e) => Err(Unmade::from(e)),
     }
 }
 
@@ -109,28 +115,21 @@ fn run_as<J: Naming + Send + Sync, R: Threads + Wait + Sync>(
     opened: OpenedZone<NoJournal>,
     seats: Vec<Seat>,
     load: Load,
-) -> anyhow::Result<Soak>
+) -> Result<Soak, Unmade>
     requires named { J.zones ≡ opened_key opened ∷ [] }
     requires boards { J.boards ≡ opened_board opened ∷ [] }
     requires fits { All (IsSeatOf opened.zone) seats.items }
     requires unused { All IsUnused seats.items }
 {
-    match crew_of::<J, NoJournal>(alloc, opened, seats) {
-        Ok(crew) => run_row(rt, crew, load),
-        Err(e) => Err(e.into()),
-    }
+    let crew = Crew::<J, NoJournal>::new(alloc, opened, seats, ListConfig::none())?;
+    run_crew(rt, crew, load)
 }
 
 /// Makes a zone, and all the requests of it.
-fn run<R: Threads + Wait + Sync>(rt: &R, alloc: Global, load: Load) -> anyhow::Result<Soak> {
-    match Zone::new(alloc, config(MAX_PAGES), load.workers) {
-        Ok((zone, seats)) => {
-            let opened = OpenedZone::without_journal(alloc, zone, u64::MAX).map_err(
-                OutOfMemory::from,
-            )?;
-            run_as::<Brand, R>(rt, alloc, opened, seats, load)
-        }
-        Err(refused) => Err(OutOfMemory::from(refused).into()),
+fn run<R: Threads + Wait + Sync>(rt: &R, alloc: Global, load: Load) -> Result<Soak, Unmade> {
+    match endless(alloc, MAX_PAGES, load.workers, u64::MAX) {
+        Ok((opened, seats)) => run_as::<Brand, R>(rt, alloc, opened, seats, load),
+        Err(unmade) => Err(unmade),
     }
 }
 

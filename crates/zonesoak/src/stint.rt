@@ -3,10 +3,9 @@
 use rand_core::Rng;
 use rand_pcg::Pcg32;
 use std::sync::Wait;
-use uses::{RowOfOne, RowWorker, WorkerAt};
 use zp_model::Order;
 use zp_share::Lent;
-use zp_shared::{Keeps, Naming};
+use zp_shared::{Keeps, Naming, OneZone, WorkerAt, ZoneWorker};
 
 /// How many blocks a worker has at most. Of as many of all orders, four workers' together are more than any zone has, so requests are
 /// refused now and then.
@@ -60,11 +59,11 @@ fn pages_of(slots: &Slots) -> u64 {
 /// One worker makes so many requests, and keeps what it then has.
 pub fn work<J: Naming, R: Wait, K: Keeps>(
     rt: &R,
-    worker: RowWorker<J>,
-    row: &RowOfOne<J, K>,
+    worker: ZoneWorker<J>,
+    zone: &OneZone<J, K>,
     requests: u32,
 ) -> Stint {
-    let mut worker = worker.at(rt, row);
+    let mut worker = worker.at(rt, zone);
     let mut random = Pcg32::new(u64::from(requests), u64::from(worker.number()));
     let mut slots: Slots = [None; SLOTS];
     for _ in 0..requests {

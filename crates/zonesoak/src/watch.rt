@@ -1,8 +1,7 @@
 //! What a reader sees that reads a zone's board all the while: it has no seat, takes no lock, and stops nobody.
 
-use uses::{RowOfOne, RowReader};
 use zp_model::{Counts, ORDERS};
-use zp_shared::{Keeps, Naming, Reading};
+use zp_shared::{Keeps, Naming, OneZone, Reading, ZoneReader};
 
 /// How often it reads at most.
 const MOST_READINGS: u32 = 1_000_000_000;
@@ -33,11 +32,11 @@ fn is_good(reading: &Reading, place: u64) -> bool {
 /// Reads until so many requests were made of the zone.
 pub fn read_all_the_while<J: Naming, R, K: Keeps>(
     rt: &R,
-    reader: RowReader<J>,
-    row: &RowOfOne<J, K>,
+    reader: ZoneReader<J>,
+    zone: &OneZone<J, K>,
     requests: u64,
 ) -> Watch {
-    let mut reader = reader.at(rt, row);
+    let mut reader = reader.at(rt, zone);
     let mut watch = Watch {
         place: 0,
         are_good: true,

@@ -2,10 +2,10 @@
 
 ghost use Rattle.std.specs.Prelude.{◌≡◌};
 
-use crate::unmade::{Unmade, expect};
 use std::alloc::Global;
 use zp_counts::{Board, BoardReader, Publisher, are_packable, new_board, new_turning_board};
 use zp_journal::Journal;
+use zp_loads::{Unmade, expect};
 use zp_model::Counts;
 
 /// How many entries each has room for.

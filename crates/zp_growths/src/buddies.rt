@@ -1,10 +1,10 @@
 //! The parts below a zone.
 
-use crate::unmade::{Unmade, expect};
 use std::alloc::Global;
 use zp_area::FreeArea;
 use zp_buddy::Buddy;
 use zp_links::Lists;
+use zp_loads::{Unmade, expect};
 use zp_model::{Largest, MigrateType, Order};
 use zp_table::PageTable;
 use zp_tree::OrderTree;

@@ -2,8 +2,8 @@
 ghost use Rattle.std.specs.Prelude.{◌≡◌, length};
 ghost use Rattle.zp_share.specs.Shares.{IsShareOf};
 
-use crate::unmade::{Unmade, expect};
 use crate::zones::FRONT;
+use zp_loads::{Unmade, expect};
 use zp_model::{Mark, MigrateType, Order, PageNo};
 use zp_share::{ListConfig, Share, Zones, alloc, drain_all, free};
 

@@ -4,27 +4,27 @@ ghost use Rattle.zp_share.specs.Shares.{IsShareOf, key_of};
 ghost use Rattle.zp_shared.specs.Rows.{board_at, opened_board, opened_key};
 ghost use Rattle.zp_zone.specs.Seats.{IsSeatOf, IsUnused};
 
-use crate::hand::{RowHand, lists};
-use crate::unmade::{Unmade, expect};
-use crate::zones::{FRONT, config};
+use crate::hand::lists;
+use crate::zones::{FRONT, PAGES};
 use std::alloc::Global;
 use std::marker::Brand;
 use std::sync::Wait;
 use zp_journal::Journal;
+use zp_loads::{Unmade, config, expect};
 use zp_model::{Mark, MigrateType, Order};
 use zp_share::Share;
 use zp_shared::{
-    BoardReader, CutJournal, Keeps, LockedZones, Naming, NoJournal, OpenedZone, SharedZone,
-    WholeJournal, open_zones, reader_rows, readers_of, share_zones,
+    BoardReader, CutJournal, Keeps, Naming, NoJournal, OpenedZone, SharedZone, WholeJournal,
+    open_zones, reader_rows, readers_of, share_zones,
 };
 use zp_zone::{Seat, Zone};
 
 /// How many requests a journal has room for.
-const ENTRIES: u32 = 1024;
+pub const ENTRIES: u32 = 1024;
 
 /// A zone that is opened for threads.
 pub fn opened(alloc: Global) -> Result<(), Unmade> {
-    let (zone, _seats) = Zone::new(alloc, config(), 1)?;
+    let (zone, _seats) = Zone::new(alloc, config(PAGES), 1)?;
     let _opened = OpenedZone::new(alloc, zone, ENTRIES)?;
     Ok(())
 }
@@ -32,7 +32,7 @@ pub fn opened(alloc: Global) -> Result<(), Unmade> {
 /// Readers of a row of one zone, for one worker and for two.
 pub fn readers(alloc: Global) -> Result<(), Unmade> {
     let mut zones = Vec::with_capacity(alloc, 1)?;
-    let (zone, _seats) = Zone::new(alloc, config(), 1)?;
+    let (zone, _seats) = Zone::new(alloc, config(PAGES), 1)?;
     zones.push_reserved(zone);
     let mut opened = open_zones(alloc, zones, ENTRIES)?;
     let _readers = readers_of(alloc, &mut opened)?;
@@ -46,7 +46,7 @@ fn zone_and_share(alloc: Global) -> Result<(Zone, Share), Unmade>
     ensures fits { IfOk result (λ z. IsShareOf (key_of z.0 ∷ []) z.1) }
     ensures one { IfOk result (λ z. length z.1.zones ≡ 1) }
 {
-    let (zone, mut seats) = Zone::new(alloc, config(), 1)?;
+    let (zone, mut seats) = Zone::new(alloc, config(PAGES), 1)?;
     let Some(seat) = seats.pop() else {
         return Err(Unmade::Other);
     };
@@ -179,30 +179,19 @@ fn take_and_give<J: Naming, K: Keeps, R: Wait>(
     expect(before.counts.free == 4096 && taken.counts.free == 4095 && after.counts == before.counts)
 }
 
-/// A row of one zone, and so many rounds of commands of its worker over a view of it.
-pub fn row<R: Wait>(rt: &R, alloc: Global, calls: u32) -> Result<(), Unmade> {
-    let (opened, share) = opened_zone(alloc)?;
-    row_as::<Brand, R>(rt, alloc, opened, share, calls)
+/// A row of one zone.
+pub fn row(alloc: Global) -> Result<(), Unmade> {
+    let (opened, _share) = opened_zone(alloc)?;
+    row_as::<Brand>(alloc, opened)
 }
 
 /// As `row`, under the name of the opened zone.
-fn row_as<J: Naming, R: Wait>(
-    rt: &R,
-    alloc: Global,
-    mut opened: OpenedZone,
-    share: Share,
-    calls: u32,
-) -> Result<(), Unmade>
+fn row_as<J: Naming>(alloc: Global, opened: OpenedZone) -> Result<(), Unmade>
     requires zones { J.zones ≡ opened_key opened ∷ [] }
     requires boards { J.boards ≡ opened_board opened ∷ [] }
-    requires fits { IsShareOf J.zones share }
-    requires one { length share.zones ≡ 1 }
 {
-    let readers = alone(alloc, opened.reader())?;
-    let row = share_zones::<J, _>(alloc, alone(alloc, opened)?)?;
-    let zones = LockedZones::<J, (), R>::new(rt, row.as_slice(), readers);
-    let mut hand = RowHand { zones, share };
-    hand.rounds(calls)
+    let _row = share_zones::<J, _>(alloc, alone(alloc, opened)?)?;
+    Ok(())
 }
 
 /// A vector of one.

@@ -8,11 +8,11 @@
 
 mod boards;
 mod buddies;
+mod crews;
 mod hand;
 mod locked;
 mod offices;
 mod shares;
-mod unmade;
 mod words;
 mod zones;
 
@@ -21,8 +21,8 @@ use std::process::ExitCode;
 use std::rt::Env;
 use std::sync::Wait;
 use std::thread::Threads;
-use unmade::Unmade;
 use words::{WORDS, make, making_of};
+use zp_loads::Unmade;
 
 fn main(rt: HostRuntime) -> ExitCode {
     let words = match own_words(&rt) {

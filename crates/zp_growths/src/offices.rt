@@ -5,16 +5,16 @@ ghost use Rattle.zp_share.specs.Shares.{key_of};
 ghost use Rattle.zp_zone.specs.Seats.{ZoneState};
 
 use crate::hand::lists;
-use crate::unmade::{Unmade, expect};
-use crate::zones::{PAGES, config};
+use crate::zones::PAGES;
 use std::alloc::Global;
 use std::sync::Wait;
 use std::thread::Threads;
 use zp_journal::{Journal, JournalCheck, counts_after, replay_journal};
+use zp_loads::{Unmade, config, expect};
 use zp_model::Worker;
 use zp_office::{Command, Desk, Office, OpenGate, opened, opened_desks, run_zones, script_of};
 use zp_share::Share;
-use zp_trace::{Trace, parse_trace};
+use zp_trace::{Trace, TraceFault, parse_trace};
 use zp_zone::Zone;
 
 /// A zone of two workers, the same as `config` has, who take and give back blocks.
@@ -26,27 +26,35 @@ const ENTRIES: u32 = 64;
 
 /// The trace of a text.
 pub fn trace(alloc: Global) -> Result<(), Unmade> {
-    let _trace = parse_trace(alloc, TRACE.as_bytes())?;
+    let _trace = read_trace(alloc)?;
     Ok(())
+}
+
+fn read_trace(alloc: Global) -> Result<Trace, Unmade> {
+    match parse_trace(alloc, TRACE.as_bytes()) {
+        Ok(trace) => Ok(trace),
+        Err(TraceFault::Memory) => Err(Unmade::Fault),
+        Err(TraceFault::BadLine(_)) => Err(Unmade::Other),
+    }
 }
 
 /// The commands of one of its workers.
 pub fn script(alloc: Global) -> Result<(), Unmade> {
-    let trace = parse_trace(alloc, TRACE.as_bytes())?;
+    let trace = read_trace(alloc)?;
     let script = script_of(alloc, &trace, Worker::first())?;
     expect(script.len() == 3)
 }
 
 /// The zones that it declares, and the shares of their workers.
 pub fn shares(alloc: Global) -> Result<(), Unmade> {
-    let trace = parse_trace(alloc, TRACE.as_bytes())?;
+    let trace = read_trace(alloc)?;
     let (_zones, shares) = opened(alloc, &trace.header)?;
     expect(shares.len() == 2)
 }
 
 /// The desk of a share with a script of one command.
 pub fn desk(alloc: Global) -> Result<(), Unmade> {
-    let (_zone, seats) = Zone::new(alloc, config(), 1)?;
+    let (_zone, seats) = Zone::new(alloc, config(PAGES), 1)?;
     let share = Share::new(alloc, seats, lists()?)?;
     let mut script = Vec::with_capacity(alloc, 1)?;
     script.push_reserved(Command::Drain);
@@ -65,13 +73,13 @@ fn opened_trace(alloc: Global) -> Result<(Vec<Zone>, Vec<Desk>), Unmade>
     ensures new { IfOk result (λ r. All (λ (z : ZoneState). z.entries ≡ []) r.0.items) }
     ensures ready { IfOk result (λ r. All (IsReady (map key_of r.0.items)) r.1.items) }
 {
-    let trace = parse_trace(alloc, TRACE.as_bytes())?;
+    let trace = read_trace(alloc)?;
     Ok(opened_desks(alloc, &trace)?)
 }
 
 /// The office of the trace, whose workers carry out their commands where there are calls.
 pub fn office(alloc: Global, calls: u32) -> Result<(), Unmade> {
-    let trace = parse_trace(alloc, TRACE.as_bytes())?;
+    let trace = read_trace(alloc)?;
     let mut office = Office::open(alloc, &trace)?;
     if calls > 0 {
         office.carry_out_all(trace.commands.as_slice());
@@ -108,13 +116,13 @@ fn shared_by<R: Threads + Wait + Sync>(
 /// The journal is replayed, and found legal.
 pub fn replay<R: Threads + Wait + Sync>(rt: &R, alloc: Global) -> Result<(), Unmade> {
     let journal = journal(rt, alloc)?;
-    let check = replay_journal(alloc, config(), 2, &journal)?;
+    let check = replay_journal(alloc, config(PAGES), 2, &journal)?;
     expect(matches!(check, JournalCheck::Legal(_)))
 }
 
 /// The counts after the whole journal: all pages are free.
 pub fn counts<R: Threads + Wait + Sync>(rt: &R, alloc: Global) -> Result<(), Unmade> {
     let journal = journal(rt, alloc)?;
-    let counts = counts_after(alloc, config(), 2, &journal, u64::from(journal.len()))?;
+    let counts = counts_after(alloc, config(PAGES), 2, &journal, u64::from(journal.len()))?;
     expect(counts.is_some_and(|counts| counts.free == PAGES))
 }

@@ -1,10 +1,10 @@
 //! The words, and what is made of each.
 
-use crate::unmade::Unmade;
-use crate::{boards, buddies, locked, offices, shares, zones};
+use crate::{boards, buddies, crews, locked, offices, shares, zones};
 use std::alloc::Global;
 use std::sync::Wait;
 use std::thread::Threads;
+use zp_loads::Unmade;
 
 /// What can be made.
 #[derive(Clone, Copy, PartialEq, Eq, Debug, Drop)]
@@ -28,6 +28,7 @@ pub enum Making {
     WithoutJournal,
     WithPieces,
     Row,
+    Crew,
     Trace,
     Script,
     Shares,
@@ -49,7 +50,7 @@ pub struct MakingWord {
 }
 
 /// All words, the lower layers first.
-pub const WORDS: [MakingWord; 27] = [
+pub const WORDS: [MakingWord; 28] = [
     MakingWord {
         name: "nothing",
         making: Making::Nothing,
@@ -138,6 +139,11 @@ pub const WORDS: [MakingWord; 27] = [
     MakingWord {
         name: "share_zones",
         making: Making::Row,
+        has_calls: false,
+    },
+    MakingWord {
+        name: "Crew",
+        making: Making::Crew,
         has_calls: true,
     },
     MakingWord {
@@ -222,7 +228,8 @@ pub fn make<R: Threads + Wait + Sync>(
         Making::SharedZone => locked::shared(rt, alloc, calls),
         Making::WithoutJournal => locked::without_journal(rt, alloc, calls),
         Making::WithPieces => locked::with_pieces(rt, alloc, calls),
-        Making::Row => locked::row(rt, alloc, calls),
+        Making::Row => locked::row(alloc),
+        Making::Crew => crews::crew(rt, alloc, calls),
         Making::Trace => offices::trace(alloc),
         Making::Script => offices::script(alloc),
         Making::Shares => offices::shares(alloc),

@@ -2,10 +2,10 @@
 ghost use Rattle.std.specs.Prelude.{◌≡◌};
 ghost use Rattle.zp_zone.specs.Seats.{IsSeatOf};
 
-use crate::unmade::{Unmade, expect};
 use std::alloc::Global;
-use zp_model::{Largest, Mark, MigrateType, Order, PageNo};
-use zp_zone::{Seat, Zone, ZoneConfig};
+use zp_loads::{Unmade, config, expect};
+use zp_model::{Mark, MigrateType, Order, PageNo};
+use zp_zone::{Seat, Zone};
 
 /// How many pages the zone has.
 pub const PAGES: u32 = 4096;
@@ -19,20 +19,9 @@ const FRONT_PAGEBLOCK: u32 = 3;
 /// How many pages a refill asks for.
 const BATCH: u8 = 4;
 
-/// A zone of 4,096 pages from page 0 on, marks 0.
-pub fn config() -> ZoneConfig<'static> {
-    ZoneConfig {
-        name: "DMA",
-        base: 0,
-        pages: PAGES,
-        min: 0,
-        largest: Largest::usual(),
-    }
-}
-
 /// The zone with two workers, who make so many rounds of requests.
 pub fn zone(alloc: Global, calls: u32) -> Result<(), Unmade> {
-    let (zone, mut seats) = Zone::new(alloc, config(), 2)?;
+    let (zone, mut seats) = Zone::new(alloc, config(PAGES), 2)?;
     let (Some(second), Some(first)) = (seats.pop(), seats.pop()) else {
         return Err(Unmade::Other);
     };

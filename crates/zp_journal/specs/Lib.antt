@@ -1,3 +1,4 @@
 pub mod Journals
 pub mod Asking
 pub mod Pieces
+pub mod Cuts

@@ -2,6 +2,7 @@
 //! each in a thread.
 #![tactic(auto)]
 
+mod beside;
 mod carrying_out;
 mod command;
 mod counts_row;
@@ -19,6 +20,7 @@ mod sharing;
 mod workers;
 mod working;
 
+pub use beside::{join_or_neither, join_or_neither_on};
 pub use command::Command;
 pub use counts_row::CountsRow;
 pub use desk::{Desk, MAX_COMMANDS};

@@ -7,6 +7,7 @@ ghost use Rattle.zp_office.specs.Desks.{IsReady, IsWorked};
 ghost use Rattle.zp_shared.specs.Rows.{AreKept, AreReaders, IsRowOf, seen_by};
 ghost use Rattle.zp_office.specs.Runs.{IsLentTo, IsRun, IsStopped};
 
+use crate::beside::join_or_neither_on;
 use crate::desk::Desk;
 use crate::gate::Gate;
 use crate::working::work;
@@ -15,7 +16,6 @@ use std::marker::Brand;
 use std::mem;
 use std::sync::Wait;
 use std::thread::Threads;
-use zp_beside::join_or_neither_on;
 use zp_counts::BoardReader;
 use zp_model::Refused;
 use zp_shared::{Earlier, Keeps, LockedZones, Naming, SharedZone};

@@ -32,6 +32,16 @@ impl ListConfig {
         }
     }
 
+    /// No lists: each request is a section.
+    pub fn none() -> ListConfig
+        ensures { (result.batch ≡ 0) × (result.high_len ≡ 0) }
+    {
+        ListConfig {
+            batch: 0,
+            high_len: 0,
+        }
+    }
+
     /// How many pages a refill asks for, and a drain gives back.
     pub fn batch(&self) -> u8
         ensures same { result ≡ self.now.batch }

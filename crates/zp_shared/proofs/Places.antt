@@ -32,6 +32,10 @@ row_more row new place ys y places at pushed =
 pub row_length : (keys : List ZoneKey) (places : List ℕ) → IsRowOf keys places → length places ≡ length keys
 row_length keys places row = ap length row ∙ length-range_with_len 0 (length keys)
 
+-- the place of a row of one
+pub row_of_one : (keys : List ZoneKey) (places : List ℕ) → IsRowOf keys places → length keys ≡ 1 → places ≡ 0 ∷ []
+row_of_one keys places row one = row ∙ ap (range_with_len 0) one
+
 read_on : {X : Type 0} (d : X) (ps xs : List X) → map (λ i. get_or (ps ++ xs) i d) (range_with_len (length ps) (length xs)) ≡ xs
 read_on d ps [] = refl
 read_on d ps (x ∷ xs) =

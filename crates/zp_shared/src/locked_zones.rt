@@ -13,7 +13,7 @@ use crate::shared_zone::SharedZone;
 use std::marker::{Model, PhantomData};
 use std::sync::{MutexGuard, Wait};
 use zp_counts::{Board, BoardReader, Reading};
-use zp_kept::{Keeps, WholeJournal};
+use zp_journal::{Keeps, WholeJournal};
 use zp_model::{Counts, Refused, Reply, Request};
 use zp_share::{Share, Zones};
 

@@ -7,8 +7,7 @@ ghost use Rattle.zp_shared.specs.Rows.{OpenedState, IsPublished, opened_reader, 
 use std::alloc::Global;
 use std::marker::Model;
 use zp_counts::{Board, BoardReader, Publisher, new_board, new_turning_board};
-use zp_journal::Journal;
-use zp_kept::{CutJournal, Keeps, NoJournal, WholeJournal};
+use zp_journal::{CutJournal, Journal, Keeps, NoJournal, WholeJournal};
 use zp_model::Refused;
 use zp_zone::Zone;
 

@@ -16,8 +16,7 @@ use crate::opened::OpenedZone;
 use crate::shared_zone::SharedZone;
 use std::alloc::Global;
 use zp_counts::{Board, BoardReader};
-use zp_journal::Journal;
-use zp_kept::Keeps;
+use zp_journal::{Journal, Keeps};
 use zp_model::Refused;
 use zp_zone::Zone;
 

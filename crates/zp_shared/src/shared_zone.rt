@@ -13,7 +13,7 @@ use crate::opened::OpenedZone;
 use std::marker::Model;
 use std::sync::{Mutex, MutexGuard, Wait};
 use zp_counts::{Board, BoardReader};
-use zp_kept::{Keeps, WholeJournal};
+use zp_journal::{Keeps, WholeJournal};
 use zp_zone::Zone;
 
 /// The lock at one place of a row, and the board of that place beside it, which is read without the lock. All locks of a row have one

@@ -15,4 +15,5 @@ mod rows;
 mod schedules;
 mod sections;
 mod strayed;
+mod two_calls;
 mod workers;

@@ -6,8 +6,7 @@ ghost use Rattle.zp_shared.specs.Rows.{board_at};
 
 use super::Guarded;
 use crate::naming::Naming;
-use zp_journal::{Journal, Piece};
-use zp_kept::CutJournal;
+use zp_journal::{CutJournal, Journal, Piece};
 
 impl<J: Naming> Guarded<J, CutJournal> {
     /// What was asked of the zone since the last cut, in order.

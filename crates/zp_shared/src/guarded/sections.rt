@@ -14,7 +14,7 @@ ghost use Rattle.zp_shared.specs.Rows.{IsAskedUnderLock, board_at};
 use super::{Guarded, note};
 use crate::naming::Naming;
 use zp_counts::Board;
-use zp_kept::Keeps;
+use zp_journal::Keeps;
 use zp_model::{
     Block, Mark, MigrateType, Order, PageList, PageNo, Refused, Reply, Request, Worker,
 };

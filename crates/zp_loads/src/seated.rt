@@ -1,0 +1,49 @@
+//! A zone in one hand, with its one seat.
+
+ghost use Rattle.zp_zone.specs.Seats.{IsSeatOf, Agrees};
+
+use crate::source::{BlockSource, config_of};
+use crate::unmade::Unmade;
+use std::alloc::Global;
+use zp_model::{Largest, Mark, MigrateType, Order, PageNo};
+use zp_zone::{Seat, Zone};
+
+/// A zone's requests, by its seat. The zone is of this largest order: at 9 its largest blocks are of 2 MiB, where pages have 4 KiB.
+#[derive(Drop)]
+pub struct Seated<const LARGEST: u8> {
+    zone: Zone,
+    seat: Seat,
+    ghost fits: { IsSeatOf zone seat },
+    ghost agrees: { Agrees zone seat },
+}
+
+impl<const LARGEST: u8> Seated<LARGEST> {
+    /// Isolates the first pageblock, and releases it for Movable requests. Answers whether both were done.
+    pub fn isolate_and_release(&mut self) -> bool {
+        let isolated = self.zone.isolate(&mut self.seat, 0);
+        let released = self.zone.release(&mut self.seat, 0, MigrateType::Movable);
+        isolated.is_ok() && released.is_ok()
+    }
+}
+
+impl<const LARGEST: u8> BlockSource for Seated<LARGEST> {
+    fn new(alloc: Global, pages: u32) -> Result<Seated<LARGEST>, Unmade> {
+        let largest = Largest::new(LARGEST).ok_or(Unmade::Other)?;
+        let (mut zone, mut seats) = Zone::new(alloc, config_of(pages, largest), 1)?;
+        let Some(mut seat) = seats.pop() else {
+            return Err(Unmade::Other);
+        };
+        zone.check(&mut seat);
+        Ok(Seated { zone, seat })
+    }
+
+    fn take(&mut self, order: Order, kind: MigrateType) -> Option<PageNo> {
+        self.zone.alloc(&mut self.seat, order, kind, Mark::Any).ok()
+    }
+
+    fn give(&mut self, page: PageNo, order: Order) {
+        if self.zone.held_by(&self.seat, page, order) {
+            self.zone.free(&mut self.seat, page, order);
+        }
+    }
+}
