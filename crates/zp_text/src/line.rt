@@ -32,11 +32,11 @@ pub fn push_entry<const CAP: usize>(
     ensures len { length line.new ≤ length line.old + ENTRY_LINE }
 {
     line.push(name);
-    push_number(line, number);
-    push_number(line, u32::from(entry.worker().number()));
+    push_spaced_number(line, number);
+    push_spaced_number(line, u32::from(entry.worker().number()));
     let (asked, answered, pages) = entry.parts();
     push_request(line, &asked, pages);
-    push_reply(line, is_low(&asked), &answered, pages);
+    push_answer(line, is_low(&asked), &answered, pages);
     line.push("\n");
 }
 
@@ -57,30 +57,30 @@ fn push_request<const CAP: usize>(line: &mut TextBuffer<CAP>, asked: &Asked, giv
     match asked {
         Asked::Alloc(order, kind, mark) => {
             push_word(line, "alloc");
-            push_number(line, u32::from(order.number()));
+            push_spaced_number(line, u32::from(order.number()));
             push_word(line, kind_word(*kind));
             push_word(line, mark_word(*mark));
         }
         Asked::AllocLow(order) => {
             push_word(line, "low");
-            push_number(line, u32::from(order.number()));
+            push_spaced_number(line, u32::from(order.number()));
         }
         Asked::Free(page, order) => {
             push_word(line, "free");
-            push_number(line, page.number());
-            push_number(line, u32::from(order.number()));
+            push_spaced_number(line, page.number());
+            push_spaced_number(line, u32::from(order.number()));
         }
         Asked::Post(page, order, to) => {
             push_word(line, "post");
-            push_number(line, page.number());
-            push_number(line, u32::from(order.number()));
-            push_number(line, u32::from(to.number()));
+            push_spaced_number(line, page.number());
+            push_spaced_number(line, u32::from(order.number()));
+            push_spaced_number(line, u32::from(to.number()));
         }
         Asked::Collect => push_word(line, "collect"),
         Asked::Refill(kind, mark, count) => {
             push_word(line, "refill");
             push_word(line, kind_word(*kind));
-            push_number(line, u32::from(*count));
+            push_spaced_number(line, u32::from(*count));
             push_word(line, mark_word(*mark));
         }
         Asked::Drain(kind) => {
@@ -90,11 +90,11 @@ fn push_request<const CAP: usize>(line: &mut TextBuffer<CAP>, asked: &Asked, giv
         }
         Asked::Isolate(pageblock) => {
             push_word(line, "isolate");
-            push_number(line, *pageblock);
+            push_spaced_number(line, *pageblock);
         }
         Asked::Release(pageblock, kind) => {
             push_word(line, "release");
-            push_number(line, *pageblock);
+            push_spaced_number(line, *pageblock);
             push_word(line, kind_word(*kind));
         }
     }
@@ -102,7 +102,7 @@ fn push_request<const CAP: usize>(line: &mut TextBuffer<CAP>, asked: &Asked, giv
 
 /// Appends what was answered, to a request for the lowest block or to another one, with these pages where a list
 /// of pages was got.
-fn push_reply<const CAP: usize>(
+fn push_answer<const CAP: usize>(
     line: &mut TextBuffer<CAP>,
     low: bool,
     answered: &Answered,
@@ -118,9 +118,9 @@ fn push_reply<const CAP: usize>(
         Answered::Block(block) if low => push_page(line, block.page),
         Answered::Block(block) => {
             push_word(line, "block");
-            push_number(line, block.page.number());
+            push_spaced_number(line, block.page.number());
             push_word(line, "order");
-            push_number(line, u32::from(block.order.number()));
+            push_spaced_number(line, u32::from(block.order.number()));
         }
         Answered::Freed | Answered::Drained => push_word(line, "freed"),
         Answered::Posted => push_word(line, "posted"),
@@ -132,7 +132,7 @@ fn push_reply<const CAP: usize>(
         Answered::Released => push_word(line, "released"),
         Answered::Refused(refused) => {
             push_word(line, "refused");
-            push_number(line, u32::from(refused.number()));
+            push_spaced_number(line, u32::from(refused.number()));
         }
     }
 }
@@ -144,7 +144,7 @@ fn push_page<const CAP: usize>(line: &mut TextBuffer<CAP>, page: PageNo)
     ensures len { length line.new ≤ length line.old + 5 + NUMBER }
 {
     push_word(line, "page");
-    push_number(line, page.number());
+    push_spaced_number(line, page.number());
 }
 
 /// Appends pages, in their order.
@@ -155,12 +155,12 @@ fn push_pages<const CAP: usize>(line: &mut TextBuffer<CAP>, pages: &[PageNo])
     ensures len { length line.new ≤ length line.old + LONGEST_LIST * NUMBER }
 {
     for page in pages {
-        push_number(line, page.number());
+        push_spaced_number(line, page.number());
     }
 }
 
 /// Appends a space and a number.
-pub fn push_number<const CAP: usize>(line: &mut TextBuffer<CAP>, number: u32)
+pub fn push_spaced_number<const CAP: usize>(line: &mut TextBuffer<CAP>, number: u32)
     requires { length line.old + NUMBER ≤ CAP }
     ensures bytes { line.new ≡ line.old ++ space ∷ decimal number }
     ensures len { length line.new ≤ length line.old + NUMBER }

@@ -3,7 +3,7 @@ ghost use Rattle.std.specs.Prelude.{◌≡◌, ◌<◌, ◌≤◌, ◌+◌, ◌+
 ghost use Rattle.zp_text.specs.Streams.{IsWritten, IsBegun};
 ghost use Rattle.zp_text.specs.JournalText.{verdict_line};
 
-use crate::line::{push_number, push_word};
+use crate::line::{push_spaced_number, push_word};
 use crate::streams::{WriteFault, Writer, write_all};
 use crate::text_buffer::TextBuffer;
 use zp_model::LONGEST_NAME;
@@ -54,12 +54,12 @@ pub fn push_verdict<const CAP: usize>(
     push_word(text, name);
     match verdict {
         Verdict::Legal => {
-            push_number(text, entries);
+            push_spaced_number(text, entries);
             push_word(text, "legal");
         }
         Verdict::Differs(number) => {
             push_word(text, "differs");
-            push_number(text, number);
+            push_spaced_number(text, number);
         }
     }
     text.push("\n");

@@ -12,8 +12,8 @@ returns-clause-bytes g c =
     let answered = ap (λ (e : Entry). e.reply) c.parts-asked.ensures.same in
     line_is c.args.line.now c.args.name.now (decimal c.args.number) (decimal c.args.entry.now.worker) (request_words c.args.entry.now.request) _ _ _ _ _ _ _
     c.push.ensures.bytes
-    c.push_number.ensures.bytes
-    (c.push_number-2.ensures.bytes ∙ ap (λ w. c.push_number.new.line ++ space ∷ decimal w) (c.from.ensures ∙ c.number.ensures.same ∙ c.worker.ensures))
-    (c.push_request.ensures.bytes ∙ ap (λ r. c.push_number-2.new.line ++ spaced (request_words r)) asked)
-    (c.push_reply.ensures.bytes ∙ ap₂ (λ low q. c.push_request.new.line ++ spaced (reply_words low q)) (c.is_low.ensures _ ∙ ap is_low asked) answered)
+    c.push_spaced_number.ensures.bytes
+    (c.push_spaced_number-2.ensures.bytes ∙ ap (λ w. c.push_spaced_number.new.line ++ space ∷ decimal w) (c.from.ensures ∙ c.number.ensures.same ∙ c.worker.ensures))
+    (c.push_request.ensures.bytes ∙ ap (λ r. c.push_spaced_number-2.new.line ++ spaced (request_words r)) asked)
+    (c.push_answer.ensures.bytes ∙ ap₂ (λ low q. c.push_request.new.line ++ spaced (reply_words low q)) (c.is_low.ensures _ ∙ ap is_low asked) answered)
     c.push-2.ensures.bytes
