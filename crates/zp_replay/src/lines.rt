@@ -30,12 +30,12 @@ pub fn push_reply_line<const CAP: usize>(
 {
     text.push_number(u32::from(worker.number()));
     text.push(": ");
-    push_reply(text, reply);
+    push_reply_words(text, reply);
     text.push("\n");
 }
 
 /// Appends what a worker gets, or that it was done. An info has lines of its own.
-fn push_reply<const CAP: usize>(text: &mut TextBuffer<CAP>, reply: &CommandReply)
+fn push_reply_words<const CAP: usize>(text: &mut TextBuffer<CAP>, reply: &CommandReply)
     requires { length text.old + WORDS ≤ CAP }
     ensures bytes { text.new ≡ text.old ++ reply_words reply.now }
     ensures len { length text.new ≤ length text.old + WORDS }
