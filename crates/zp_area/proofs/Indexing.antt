@@ -22,10 +22,11 @@ use Rattle.zp_area.proofs.AvailableBlocks.{available-at, available-length, avail
 use Rattle.zp_area.proofs.IsolatedPages.{available_beside, sum_none}
 use Rattle.std.proofs.lemmas.List.Sums.{count_by-le-length}
 use Rattle.zp_model.proofs.Covers.{length-cover}
+use Rattle.zp_model.proofs.RowLists.{replicated}
 use Rattle.zp_area.proofs.Holding.{IsHolding, kept_noted, noted_set}
 use Rattle.zp_area.proofs.Keeping.{blocks_length, starts_inside, typed_there}
 use Rattle.zp_area.proofs.LargestInside.{inside_held}
-use Rattle.zp_area.proofs.NoBlocks.{kept_empty, replicate_at, tails_free}
+use Rattle.zp_area.proofs.NoBlocks.{kept_empty, tails_free}
 use Rattle.zp_area.proofs.Scattered.{IsChangedIn, claimed_but, size_in_same}
 
 -- a free area of these lists and types
@@ -82,7 +83,7 @@ none_choosable : (m n side : ℕ) → choosable m (no_blocks m n side) ≡ repli
 none_choosable m n side =
     ap (available_blocks m (no_blocks m n side).kinds) (tails_free n)
     ∙ ext_get_or None _ _ (available-length m (no_blocks m n side).kinds (replicate n None)) (λ h lt.
-    available-at m (no_blocks m n side).kinds (replicate n None) h ∙ none_either _ _ (replicate_at {A = Option ℕ} n h None) ∙ sym (replicate_at {A = Option ℕ} n h None))
+    available-at m (no_blocks m n side).kinds (replicate n None) h ∙ none_either _ _ (replicated {X = Option ℕ} n h None) ∙ sym (replicated {X = Option ℕ} n h None))
   where
     none_either : (b : Bool) (o : Option ℕ) → o ≡ None → cond b None o ≡ None
     none_either true o e = refl
@@ -93,11 +94,11 @@ pub indexed_empty : (m n side : ℕ) → n ≤ MAX_PAGES → side < 2 ^ 32 →
 indexed_empty m n side le lt = record {
   kept = kept_empty m n side le lt;
   told = sym (none_choosable m n side);
-  apart = sym (sum_none (no_blocks m n side).kinds (replicate (pageblocks_of m n) 0) (λ b. ap is_isolate (replicate_at (pageblocks_of m n) b Movable)));
+  apart = sym (sum_none (no_blocks m n side).kinds (replicate (pageblocks_of m n) 0) (λ b. ap is_isolate (replicated (pageblocks_of m n) b Movable)));
   claimed = record {
     blocks = length-replicate {A = Option Claim} (pageblocks_of m n) None ∙ sym (length-replicate (pageblocks_of m n) _);
     marked = length-replicate (pageblocks_of m n) false ∙ sym (length-replicate (pageblocks_of m n) _);
-    each = λ b fresh. replicate_at {A = Option Claim} (pageblocks_of m n) b None ∙ sym (rw (none_choosable m n side) (none_scattered m n b (no_blocks m n side).kinds));
+    each = λ b fresh. replicated {X = Option Claim} (pageblocks_of m n) b None ∙ sym (rw (none_choosable m n side) (none_scattered m n b (no_blocks m n side).kinds));
   };
 }
 

@@ -1,8 +1,8 @@
 -- What is kept beside a set of no block.
-use Rattle.std.proofs.Common.{ℕ, zero, suc, ◌+◌, ◌*◌, ◌/◌, ◌^◌, ◌≡◌, ◌≤◌, ◌<◌, inl, inr, refl, sym, ◌∙◌, ap, arith, true, List, [], ◌∷◌, length, replicate, get_or, Option, None}
+use Rattle.std.proofs.Common.{ℕ, zero, suc, ◌+◌, ◌*◌, ◌/◌, ◌^◌, ◌≡◌, ◌≤◌, ◌<◌, refl, sym, ◌∙◌, ap, arith, true, List, [], ◌∷◌, length, replicate, Option, None}
 use Rattle.std.specs.List.{IsDistinct}
-use Rattle.std.proofs.lemmas.Bool.{cases_lt, false≢true, false_from_ne_true}
-use Rattle.std.proofs.lemmas.List.{get_or-replicate, get_or_past, length-replicate}
+use Rattle.std.proofs.lemmas.Bool.{false≢true, false_from_ne_true}
+use Rattle.std.proofs.lemmas.List.{length-replicate}
 use Rattle.zp_model.specs.declared.constants.TheConstants.{MAX_PAGES}
 use Rattle.zp_model.specs.declared.pageblock_type.PageblockType.{PageblockType}
 use Rattle.zp_model.specs.declared.state.State.TheVariants.{Tail}
@@ -11,6 +11,7 @@ use Rattle.zp_model.specs.Block.{has}
 use Rattle.zp_model.specs.BlockSet.{cover}
 use Rattle.zp_model.specs.Rows.{Rows}
 use Rattle.zp_model.specs.Area.{pageblock_pages, lists_count, pageblocks_of, size_in}
+use Rattle.zp_model.proofs.RowLists.{replicated}
 use Rattle.zp_table.specs.declared.entry.PageEntry.{PageEntry}
 use Rattle.zp_table.specs.Entries.{blank}
 use Rattle.zp_tree.proofs.BlockSets.{no_start}
@@ -20,10 +21,6 @@ use Rattle.zp_laws.proofs.Counting.{count-none}
 use Rattle.zp_area.specs.Blocks.{Blocks, block_set, no_blocks}
 use Rattle.zp_area.specs.OneSet.{IsKept}
 use Rattle.zp_area.proofs.OneBlock.{covered_around}
-
--- each place of equal elements holds the element
-pub replicate_at : {A : Type 0} (n i : ℕ) (a : A) → get_or (replicate n a) i a ≡ a
-replicate_at n i a = elim (cases_lt i n) [ inl lt ↦ get_or-replicate n i a a lt | inr ge ↦ get_or_past (replicate n a) i a (omega (arith, length-replicate n a)) ]
 
 pub tails_free : (n : ℕ) → blocks_of (replicate n Tail) ≡ replicate n None
 tails_free zero = refl
@@ -41,14 +38,14 @@ kept_empty m n side le lt =
         table = omega arith;
         typed = length-replicate (pageblocks_of m n) _ ∙ ap (pageblocks_of m) (sym (length-replicate n Tail));
         blocks = rw e (record { block = λ h k st. absurd (no_start n h k st); apart = λ h k g j i st su u v. absurd (no_start n h k st) });
-        listed = λ r lt. rw (e, replicate_at {A = List ℕ} (lists_count m + side) r [])
+        listed = λ r lt. rw (e, replicated {X = List ℕ} (lists_count m + side) r [])
             (record { distinct = tt; to = λ h on. absurd (false≢true on); from = λ h w. absurd (no_start n h (r / pageblock_types) w.0) });
-        aside = λ r p ge on. absurd (false≢true (rw (replicate_at {A = List ℕ} (lists_count m + side) r []) at on));
+        aside = λ r p ge on. absurd (false≢true (rw (replicated {X = List ℕ} (lists_count m + side) r []) at on));
       };
       few = omega arith;
       each = record {
         blocks = length-replicate (pageblocks_of m n) 0 ∙ ap (pageblocks_of m) (sym (length-replicate n Tail));
-        each = λ b. replicate_at (pageblocks_of m n) b 0
+        each = λ b. replicated (pageblocks_of m n) b 0
             ∙ sym (rw e (count-none (has (cover (replicate n None))) (b * pageblock_pages m) (pageblock_pages m) (λ i lo hi. false_from_ne_true _ (none i))));
       };
     }

@@ -21,13 +21,13 @@ use Rattle.zp_model.proofs.Normal.{IsNormal}
 use Rattle.zp_model.proofs.Pages.{In, is_max-to, is_max-from}
 use Rattle.zp_model.proofs.Maximal.{Max, max-normal, maximal-apart}
 use Rattle.zp_model.proofs.Covers.{has_below, normal_cover, same_pages}
+use Rattle.zp_model.proofs.RowLists.{replicated}
 use Rattle.zp_laws.proofs.Counting.{one_if, same_tests}
 use Rattle.zp_laws.proofs.Settling.{distinct-falling}
 use Rattle.zp_area.specs.Blocks.{Blocks, added, no_blocks}
 use Rattle.zp_area.specs.Given.{IsClearRun}
 use Rattle.zp_area.specs.NotedBlocks.{free_order, blocks_of}
 use Rattle.zp_area.proofs.Filters.{filter_same}
-use Rattle.zp_area.proofs.NoBlocks.{replicate_at}
 use Rattle.zp_area.proofs.NotedBlocks.{free_none, starts-to, starts-from, tail_free}
 use Rattle.zp_buddy.specs.Held.{IsHeld}
 use Rattle.zp_buddy.specs.Opened.{all_pages, all_movable, IsOpenedTo}
@@ -78,7 +78,7 @@ filter_falling p a (suc d) pos f = gap d f
 belongs_head : (m n a k r : ℕ) → is_max m (all_pages n) a k ≡ true → belongs m (all_pages n) (all_movable m n) r a ≡ (r == list_number k Movable)
 unfolding belongs
 belongs_head m n a k r x =
-    let movable : pageblock_type_number (kind_at m (all_movable m n) a) ≡ 2 = ap pageblock_type_number (replicate_at (pageblocks_of m n) _ Movable) in
+    let movable : pageblock_type_number (kind_at m (all_movable m n) a) ≡ 2 = ap pageblock_type_number (replicated (pageblocks_of m n) _ Movable) in
     same_tests _ _
     (λ e.
     let b = and_parts _ _ e in
@@ -100,7 +100,7 @@ opened_added m n h k a x lt top table ek =
     let v : List ℕ = h ∷ list_at a.rows.lists r in
     let le : k ≤ m = (is_max-to m u h k top).order in
     let pos : 0 < 2 ^ k = pow_pos k in
-    let movable : kind_at m a.kinds h ≡ Movable = rw ek (replicate_at (pageblocks_of m n) _ Movable) in
+    let movable : kind_at m a.kinds h ≡ Movable = rw ek (replicated (pageblocks_of m n) _ Movable) in
     let now : state_at (added m a h k).rows.states h ≡ Free k = get_or-set_same a.rows.states h (Free k) Tail (omega (arith, x.pages)) in
     let other : (g : ℕ) → g ≢ h → state_at (added m a h k).rows.states g ≡ state_at a.rows.states g = λ g ne. get_or-set_other a.rows.states h g (Free k) Tail ne in
     rw movable (record {
@@ -132,10 +132,10 @@ opened_added m n h k a x lt top table ek =
 pub none_opened : (m n side : ℕ) → IsOpenedTo m (length (no_blocks m n side).rows.states) 0 (no_blocks m n side).rows.states (no_blocks m n side).rows.lists
 none_opened m n side = rw (length-replicate n Tail) (record {
   heads = λ g k lt. absurd (omega arith);
-  others = λ g. inr (replicate_at n g Tail);
-  tails = λ g le. replicate_at n g Tail;
-  listed = λ r lt. replicate_at (lists_count m + side) r [];
-  aside = λ r ge. replicate_at (lists_count m + side) r [];
+  others = λ g. inr (replicated n g Tail);
+  tails = λ g le. replicated n g Tail;
+  listed = λ r lt. replicated (lists_count m + side) r [];
+  aside = λ r ge. replicated (lists_count m + side) r [];
   pages = length-replicate n Tail;
 })
 
@@ -162,11 +162,11 @@ module _ {m n : ℕ} {s : List State} {l : List (List ℕ)} (x : IsOpenedTo m n 
   opened : (side : ℕ) → n ≤ MAX_PAGES → length l ≡ lists_count m + side → IsSettled m (all_pages n) (replicate n Tail) s (all_movable m n) (replicate (lists_count m + side) []) l
   unfolding settled
   opened side le len =
-      let none : (r : ℕ) → list_at (replicate (lists_count m + side) []) r ≡ [] = λ r. replicate_at (lists_count m + side) r [] in
+      let none : (r : ℕ) → list_at (replicate (lists_count m + side) []) r ≡ [] = λ r. replicated (lists_count m + side) r [] in
       record {
         normal = opened_cover.0;
         free = opened_cover.1;
-        restates = λ g. rw (replicate_at n g Tail) (elim (x.others g) [ inl y ↦ rw y.1 refl | inr y ↦ rw y refl ]);
+        restates = λ g. rw (replicated n g Tail) (elim (x.others g) [ inl y ↦ rw y.1 refl | inr y ↦ rw y refl ]);
         distinct = λ r lt. rw (none r) (distinct-falling 0);
         settles = λ r lt. rw (none r, opened_cover.1, x.listed r lt) (
             append-nil _

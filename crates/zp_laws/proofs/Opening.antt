@@ -1,9 +1,8 @@
 -- The opening is lawful: all its pages are free, and none is anywhere else.
-use Rattle.std.proofs.Common.{ℕ, ◌≡◌, inl, inr, refl, sym, ◌∙◌, ap, arith, true, List, [], length, replicate, false, get_or, Option, None}
+use Rattle.std.proofs.Common.{ℕ, ◌≡◌, refl, sym, ◌∙◌, ap, arith, true, List, [], length, replicate, false, Option, None}
 use Rattle.std.specs.List.{range_with_len}
-use Rattle.std.proofs.lemmas.Bool.{cases_lt}
 use Rattle.std.proofs.lemmas.Option.{none-some}
-use Rattle.std.proofs.lemmas.List.{length-replicate, get_or-replicate, get_or_past}
+use Rattle.std.proofs.lemmas.List.{length-replicate, get_or-replicate}
 use Rattle.std.proofs.lemmas.List.Elements.{All-nil}
 use Rattle.std.proofs.lemmas.List.Folds.{sum_by-replicate}
 use Rattle.zp_model.specs.declared.pageblock_type.PageblockType.TheVariants.{Movable}
@@ -11,16 +10,10 @@ use Rattle.zp_model.specs.Block.{has, IsBlock}
 use Rattle.zp_model.specs.Area.{opening, settle, pageblocks_of}
 use Rattle.zp_model.specs.Zone.{Holding, PostedBlock, holding_at, zone_opening}
 use Rattle.zp_model.specs.Lawful.{holding_has, times_out, times_posted, IsLawful}
+use Rattle.zp_model.proofs.RowLists.{replicated}
 use Rattle.zp_laws.proofs.Settling.{opening_lists}
 use Rattle.zp_laws.proofs.Counting.{one_if, sums_equal, zeros}
 use Rattle.zp_laws.proofs.HandedOut.{count_posted, times-parts}
-
-pub replicated : {X : Type 0} (n i : ℕ) (x : X) → get_or (replicate n x) i x ≡ x
-replicated n i x =
-    elim (cases_lt i n) [
-      | inl lt ↦ get_or-replicate n i x x lt
-      | inr ge ↦ get_or_past (replicate n x) i x (omega (arith, length-replicate n x))
-    ]
 
 none-out : (n i : ℕ) → times_out (replicate n None) i ≡ 0
 unfolding times_out

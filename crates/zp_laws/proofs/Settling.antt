@@ -14,7 +14,7 @@ use Rattle.zp_model.specs.Area.{Area, falling, belongs, settled, settle, opening
 use Rattle.zp_model.specs.Lawful.{IsListedArea}
 use Rattle.zp_model.proofs.Pages.{is_max-to}
 use Rattle.zp_model.proofs.Covers.{has_below}
-use Rattle.zp_model.proofs.RowLists.{empty_list}
+use Rattle.zp_model.proofs.RowLists.{replicated}
 use Rattle.zp_model.proofs.Settles.{stands_first, stands_later, distinct_first, distinct_more, distinct_rest}
 pub use Rattle.zp_model.proofs.RowLists.{stands_filter as stands-filter, distinct_filter as distinct-filter}
 
@@ -94,4 +94,4 @@ pub opening_lists : (m pages : ℕ) → IsListedArea (opening m pages)
 unfolding opening IsDistinct
 opening_lists m pages =
     settle_lists (record { largest = m; free = replicate pages true; kinds = replicate (pageblocks_of m pages) Movable; lists = replicate (lists_count m) [] })
-    (λ r lt. rw (empty_list (lists_count m) r) tt)
+    (λ r lt. rw (replicated {X = List ℕ} (lists_count m) r []) tt)

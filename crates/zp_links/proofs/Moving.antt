@@ -1,11 +1,11 @@
 -- Where pages stand when one list has changed by one page.
-use Rattle.std.proofs.Common.{ℕ, ◌≡◌, ◌<◌, ◌==◌, ◌≢◌, inl, inr, refl, sym, ◌∙◌, ap, arith, Bool, true, false, not, List, [], ◌∷◌, ◌++◌, length, replicate, eqb, eq-eqb, ne_eqb, get_or-set_same, get_or-set_other}
+use Rattle.std.proofs.Common.{ℕ, ◌≡◌, ◌<◌, ◌==◌, ◌≢◌, inl, inr, refl, sym, ◌∙◌, ap, Bool, true, false, not, List, [], ◌∷◌, ◌++◌, length, replicate, eqb, eq-eqb, ne_eqb, get_or-set_same, get_or-set_other}
 use Rattle.std.proofs.lemmas.Bool.{cases_lt, cases_eq, both_ways, false_from_ne_true, eqb-true}
-use Rattle.std.proofs.lemmas.List.{get_or_past, get_or-replicate, length-replicate}
+use Rattle.std.proofs.lemmas.List.{get_or_past}
 use Rattle.std.proofs.lemmas.Map.Views.{any-filter_same}
 use Rattle.zp_model.specs.Rows.{Rows, with_list, list_at, stands_in, IsOn, IsLoose, IsRow, without_page}
 use Rattle.zp_links.specs.Moved.{StandAsBefore}
-use Rattle.zp_model.proofs.RowLists.{stands_end}
+use Rattle.zp_model.proofs.RowLists.{replicated, stands_end}
 
 -- where the list changed by one page alone, each other page stands where it stood
 moved : (w y : Rows) (r p : ℕ) (ys : List ℕ) (b : Bool) → r < length w.lists → y ≡ with_list w r ys → stands_in p ys ≡ b →
@@ -45,7 +45,4 @@ taken_off w y n r p row o e =
     )
 
 pub empty_loose : (n p : ℕ) → IsLoose (replicate n []) p
-empty_loose n p r = ap (stands_in p) (elim (cases_lt r n) [
-  | inl lt ↦ get_or-replicate n r [] [] lt
-  | inr past ↦ get_or_past (replicate {A = List ℕ} n []) r [] (omega (arith, length-replicate {A = List ℕ} n []))
-])
+empty_loose n p r = ap (stands_in p) (replicated n r [])

@@ -2,10 +2,11 @@
 use Rattle.std.proofs.Common.{ℕ, zero, suc, ◌+◌, ◌≡◌, ◌≤◌, ◌<◌, ◌≢◌, inl, inr, refl, sym, ◌∙◌, ap, arith, List, [], ◌∷◌, replicate, length, set, get_or, get_or-set_same, get_or-set_other, length-set, ◌-◌, slice_get, Option, Some, None}
 use Rattle.std.proofs.lemmas.Bool.{cases_lt}
 use Rattle.std.proofs.lemmas.Option.{slice_get_within}
-use Rattle.std.proofs.lemmas.List.{get_or_default, get_or_past, get_or-replicate, length-replicate, length-map}
+use Rattle.std.proofs.lemmas.List.{get_or_default, get_or_past, length-replicate, length-map}
 use Rattle.zp_model.specs.declared.constants.TheConstants.{MAX_PAGES}
 use Rattle.zp_model.specs.declared.state.State.{State}
 use Rattle.zp_model.specs.Rows.{Rows, list_at, with_list, with_state, without_page, IsOn, IsLoose}
+use Rattle.zp_model.proofs.RowLists.{replicated}
 use Rattle.zp_table.specs.declared.entry.PageEntry.{PageEntry}
 use Rattle.zp_table.specs.Entries.{entry_at, blank, with_entry_at, with_links_at, with_state_at, IsUnlinked}
 use Rattle.zp_links.specs.declared.ends.Ends.{Ends}
@@ -230,14 +231,8 @@ removed_noted w r p s t t' es e d v x on read written first last count =
 -- empty lists
 pub opened : (t : List PageEntry) (es : List Ends) (n : ℕ) → length t ≤ MAX_PAGES → IsUnlinked t → es ≡ replicate n no_ends → Spell t es (record { lists = replicate n []; states = states_of t })
 opened t es n m b e =
-    let none : (r : ℕ) → list_at (replicate n []) r ≡ [] = λ r. elim (cases_lt r n) [
-      | inl lt ↦ get_or-replicate n r [] [] lt
-      | inr ge ↦ get_or_past (replicate n []) r [] (omega (arith, length-replicate {A = List ℕ} n []))
-    ] in
-    let ends : (r : ℕ) → ends_at (replicate n no_ends) r ≡ no_ends = λ r. elim (cases_lt r n) [
-      | inl lt ↦ get_or-replicate n r no_ends no_ends lt
-      | inr ge ↦ get_or_past (replicate n no_ends) r no_ends (omega (arith, length-replicate n no_ends))
-    ] in
+    let none : (r : ℕ) → list_at (replicate n []) r ≡ [] = λ r. replicated n r [] in
+    let ends : (r : ℕ) → ends_at (replicate n no_ends) r ≡ no_ends = λ r. replicated n r no_ends in
     let no : (r k p : ℕ) → At (replicate n []) r k p → ⊥ = λ r k p f. let bad = rw (none r) at f in cc in
     spell t es _ (rw e (record {
       rows = length-replicate n [] ∙ sym (length-replicate n no_ends);

@@ -1,17 +1,18 @@
--- Lists of pages: an empty one of a row, and what stands on a list with a page more at its end, or with fewer pages.
-use Rattle.std.proofs.Common.{ℕ, ◌≡◌, ◌≢◌, ◌==◌, ◌||◌, ◌&&◌, inl, inr, sym, ◌∙◌, ap, arith, Bool, true, List, [], ◌∷◌, ◌++◌, length, take, drop, replicate, Option, IfSome}
+-- What is the same at each place of a list; what stands on a list of pages with a page more at its end, or with fewer pages.
+use Rattle.std.proofs.Common.{ℕ, ◌≡◌, ◌≢◌, ◌==◌, ◌||◌, ◌&&◌, inl, inr, sym, ◌∙◌, ap, arith, Bool, true, List, [], ◌∷◌, ◌++◌, length, get_or, take, drop, replicate, Option, IfSome}
 use Rattle.std.specs.List.{filter, IsDistinct}
 use Rattle.std.proofs.Math.Bool.{or-true}
 use Rattle.std.proofs.lemmas.Bool.{and_parts, cases_lt, cases_Bool, eqb-true, ne_eqb}
 use Rattle.std.proofs.lemmas.List.{get_or-replicate, get_or_past, length-replicate, append-nil, take_all, drop_all}
 use Rattle.std.proofs.lemmas.Map.Views.{any-filter_same}
-use Rattle.zp_model.specs.Rows.{list_at, stands_in, front}
+use Rattle.zp_model.specs.Rows.{stands_in, front}
 use Rattle.zp_model.proofs.Settles.{stands_first, distinct_first, distinct_more, distinct_rest}
 
-pub empty_list : (n r : ℕ) → list_at (replicate n []) r ≡ []
-empty_list n r = elim (cases_lt r n) [
-  | inl lt ↦ get_or-replicate n r [] [] lt
-  | inr ge ↦ get_or_past (replicate n []) r [] (omega (arith, length-replicate {A = List ℕ} n []))
+-- a list of equal elements gives the element at each place, and past its end where that is the default
+pub replicated : {X : Type 0} (n i : ℕ) (x : X) → get_or (replicate n x) i x ≡ x
+replicated n i x = elim (cases_lt i n) [
+  | inl lt ↦ get_or-replicate n i x x lt
+  | inr ge ↦ get_or_past (replicate n x) i x (omega (arith, length-replicate n x))
 ]
 
 pub stands_end : (p : ℕ) (xs : List ℕ) → stands_in p (xs ++ p ∷ []) ≡ true

@@ -1,5 +1,5 @@
 -- Areas that are opened, changed and settled are sound.
-use Rattle.std.proofs.Common.{ℕ, ◌≡◌, ◌≤◌, refl, sym, ◌∙◌, ap, arith, Bool, List, length, length-set, ◌==◌, inl, inr, true, [], replicate}
+use Rattle.std.proofs.Common.{ℕ, ◌≡◌, ◌≤◌, refl, sym, ◌∙◌, ap, arith, Bool, List, length, length-set, ◌==◌, true, [], replicate}
 use Rattle.zp_model.specs.declared.constants.TheConstants.{MAX_PAGES}
 use Rattle.zp_model.specs.declared.pageblock_type.PageblockType.{PageblockType}
 use Rattle.zp_model.specs.Area.{Area, pageblocks_of, settle, lists_count, opening}
@@ -10,11 +10,12 @@ use Rattle.zp_laws.proofs.Settling.{belongs_below, opening_lists}
 use Rattle.zp_laws.proofs.Areas.{free-give, kinds-give, lists-give, free-leave, kinds-leave, lists-leave, free-retype, kinds-retype, lists-retype, largest-give, largest-leave, largest-retype}
 use Rattle.zp_plain.specs.Sound.{IsSoundArea, IsTable}
 use Rattle.std.specs.List.{IsDistinct}
-use Rattle.std.proofs.lemmas.Bool.{cases_lt, false≢true}
-use Rattle.std.proofs.lemmas.List.{get_or-replicate, get_or_past, length-replicate}
+use Rattle.std.proofs.lemmas.Bool.{false≢true}
+use Rattle.std.proofs.lemmas.List.{length-replicate}
 use Rattle.zp_model.specs.declared.pageblock_type.PageblockType.TheVariants.{Movable}
 use Rattle.zp_model.specs.declared.state.State.TheVariants.{Tail}
 use Rattle.zp_model.specs.Rows.{list_at, stands_in}
+use Rattle.zp_model.proofs.RowLists.{replicated}
 use Rattle.zp_model.specs.Frames.{IsFramed, with_area}
 use Rattle.zp_laws.proofs.Opening.{free-opening, largest-opening, kinds-opening}
 use Rattle.zp_plain.proofs.Framed.{framed_with}
@@ -50,14 +51,8 @@ pub sound_retype : (a : Area) (b : ℕ) (t : PageblockType) → IsSoundArea a �
 sound_retype a b t x =
     sound_as a (retype a b t) x (largest-retype a b t) (ap length (free-retype a b t)) (ap length (kinds-retype a b t) ∙ length-set a.kinds b t) (lists-retype a b t x.lists)
 
-none_at : (n r : ℕ) → list_at (replicate n []) r ≡ []
-none_at n r = elim (cases_lt r n) [
-  | inl lt ↦ get_or-replicate n r [] [] lt
-  | inr ge ↦ get_or_past (replicate n []) r [] (omega (arith, length-replicate {A = List ℕ} n []))
-]
-
 none_on : (n r p : ℕ) → stands_in p (list_at (replicate n []) r) ≡ true → ⊥
-none_on n r p e = false≢true (rw (none_at n r) at e)
+none_on n r p e = false≢true (rw (replicated {X = List ℕ} n r []) at e)
 
 distinct-nil : IsDistinct (λ x y. x == y) []
 unfolding IsDistinct
@@ -68,7 +63,7 @@ table_none m pages le = record {
   small = omega (arith, length-replicate pages true);
   typed = rw (length-replicate (pageblocks_of m pages) Movable, length-replicate pages true) refl;
   table = length-replicate {A = List ℕ} (lists_count m) [];
-  distinct = λ r lt. rw (none_at (lists_count m) r) distinct-nil;
+  distinct = λ r lt. rw (replicated {X = List ℕ} (lists_count m) r []) distinct-nil;
   inside = λ r p lt e. absurd (none_on (lists_count m) r p e);
 }
 

@@ -20,7 +20,7 @@ use Rattle.zp_model.specs.Books.{blocks_after}
 use Rattle.zp_model.specs.Step.{step}
 use Rattle.zp_model.specs.Run.{is_distinct}
 use Rattle.zp_model.proofs.Settles.{stands_cases, stands_first}
-use Rattle.zp_model.proofs.RowLists.{empty_list}
+use Rattle.zp_model.proofs.RowLists.{replicated}
 use Rattle.zp_laws.proofs.Sameness.{step-same}
 use Rattle.zp_zone.specs.Seats.{ZoneState, SeatState, IsSeatOf, Agrees, IsNewTo, HasPages, has, asked, replied, IsUnused}
 use Rattle.zp_share.specs.declared.page_use.PageUse.{PageUse}
@@ -342,8 +342,8 @@ opening_keeps : (s : SeatState) → IsUnused s → IsShare (opening_share s (len
 opening_keeps s e = record {
   blocks = e.blocks ∙ away_for s.worker (length s.part.blocks);
   lists = refl;
-  distinct = λ r. subst (λ l. IsDistinct (λ a b. a == b) l) (sym (empty_list types_count r)) distinct_nil;
-  cached = λ r p. ap (stands_in p) (empty_list types_count r) ∙ sym (ap (is_cached_as r) (nowhere (leb s.part.base p) (length s.part.blocks) (p - s.part.base)));
+  distinct = λ r. subst (λ l. IsDistinct (λ a b. a == b) l) (sym (replicated types_count r [])) distinct_nil;
+  cached = λ r p. ap (stands_in p) (replicated types_count r []) ∙ sym (ap (is_cached_as r) (nowhere (leb s.part.base p) (length s.part.blocks) (p - s.part.base)));
   sections = ap (λ (l : List Entry). length l) (sym e.entries);
   last = sym (ap last_of e.entries);
 }
@@ -375,7 +375,7 @@ opened_fit seats ys left zs w n e f few each =
 pub opened_short : (ys : List SeatState) (zs : List ZoneShareState) (n : ℕ) → zs ≡ map (λ (t : SeatState). opening_share t (length t.part.blocks)) ys → All (HasAtMost n) zs
 opened_short ys zs n e =
     let opened : SeatState → ZoneShareState = λ t. opening_share t (length t.part.blocks) in
-    subst (λ l. All (HasAtMost n) l) (sym e) (All-map (HasAtMost n) opened ys (λ k d lt t. omega (arith, ap (λ (l : List ℕ). length l) (empty_list types_count (type_number t)))))
+    subst (λ l. All (HasAtMost n) l) (sym e) (All-map (HasAtMost n) opened ys (λ k d lt t. omega (arith, ap (λ (l : List ℕ). length l) (replicated types_count (type_number t) []))))
 
 -- the first seat's worker, as the code reads it, is that of all
 pub first_worker : (seats : List SeatState) (first : SeatState) (w : ℕ) (d : SeatState) → 1 ≤ length seats → first ≡ get_or seats 0 first → w ≡ first.worker →

@@ -1,9 +1,10 @@
 -- Blocks of a set that have a page in common.
-use Rattle.std.proofs.Common.{ℕ, ◌+◌, ◌^◌, ◌≡◌, ◌≤◌, ◌<◌, inl, inr, arith, true, List, replicate, Option, None}
-use Rattle.std.proofs.lemmas.Bool.{and_from, le-leb, lt-ltb, cases_lt}
-use Rattle.std.proofs.lemmas.List.{get_or-replicate, length-replicate, get_or_past}
+use Rattle.std.proofs.Common.{ℕ, ◌+◌, ◌^◌, ◌≡◌, ◌≤◌, ◌<◌, sym, ◌∙◌, true, List, replicate, Option, None}
+use Rattle.std.proofs.lemmas.Bool.{and_from, le-leb, lt-ltb}
+use Rattle.std.proofs.lemmas.Option.{none-some}
 use Rattle.zp_model.specs.Block.{in_run}
 use Rattle.zp_model.specs.BlockSet.{Starts}
+use Rattle.zp_model.proofs.RowLists.{replicated}
 use Rattle.zp_tree.specs.Blocks.{IsBlockSet}
 
 -- they start at one page
@@ -14,7 +15,4 @@ same_page m s a k b j i x y z from to from_b to_b = x.apart a k b j i y z (in_ru
     in_run-from h k i lo hi = and_from _ _ (le-leb h i lo) (lt-ltb i (h + 2 ^ k) hi)
 
 pub no_start : (n i o : ℕ) → Starts (replicate n None) i o → ⊥
-no_start n i o e = elim (cases_lt i n) [
-  | inl lt ↦ let d = rw (get_or-replicate {A = Option ℕ} n i None None lt) at e in cc
-  | inr ge ↦ let d = rw (get_or_past {X = Option ℕ} (replicate n None) i None (omega (arith, length-replicate {A = Option ℕ} n None))) at e in cc
-]
+no_start n i o e = none-some o (sym (replicated {X = Option ℕ} n i None) ∙ e)

@@ -1,7 +1,8 @@
 -- The last row of a tree of ranks.
 use Rattle.std.proofs.Common.{ℕ, suc, zero, ◌+◌, ◌-◌, ◌*◌, ◌^◌, ◌≡◌, ◌≤◌, ◌<◌, inl, inr, refl, sym, ◌∙◌, ap, arith, drop, List, length, replicate, slice_index, Some, None}
 use Rattle.std.proofs.lemmas.Bool.{cases_lt}
-use Rattle.std.proofs.lemmas.List.{get_or-drop, get_or-replicate, get_or_past, length-drop, length-replicate}
+use Rattle.std.proofs.lemmas.List.{get_or-drop, get_or_past, length-drop, length-replicate}
+use Rattle.zp_model.proofs.RowLists.{replicated}
 use Rattle.zp_tree.specs.declared.constants.TheConstants.{FAN}
 use Rattle.zp_tree.specs.RankRows.{best_from, IsInRow, IsRanked, IsFirstRank, IsTopRank}
 use Rattle.zp_tree.proofs.RankNodes.{root_row}
@@ -52,9 +53,6 @@ row_first d j x v ns r pos w ge =
           omega (arith, row_read d g ns, w.before y (last_row d y g refl (omega (arith, w.row.to, f))) (omega (arith, self))),
     )
 
-no_rank : (n y : ℕ) → slice_index (replicate n 0) y ≡ 0
-no_rank n y = elim (cases_lt y n) [ inl lt ↦ get_or-replicate n y 0 0 lt | inr ge ↦ get_or_past (replicate n 0) y 0 (omega (arith, length-replicate {A = ℕ} n 0)) ]
-
 best_none : (ns : List ℕ) (x n : ℕ) → ((y : ℕ) → slice_index ns y ≡ 0) → best_from ns x n ≡ 0
 best_none ns x zero none = refl
 best_none ns x (suc n) none = omega (arith, none (x + n), best_none ns x n none)
@@ -63,8 +61,8 @@ best_none ns x (suc n) none = omega (arith, none (x + n), best_none ns x n none)
 pub no_ranks : (d n : ℕ) → n ≡ FAN ^ d + FAN ^ d → IsRanked d (replicate n 0)
 no_ranks d n e = record {
   size = length-replicate n 0 ∙ e;
-  best = λ j c lt lc _. no_rank n (FAN ^ j + c) ∙ sym (best_none (replicate n 0) (FAN * (FAN ^ j + c)) FAN (no_rank n));
+  best = λ j c lt lc _. replicated n (FAN ^ j + c) 0 ∙ sym (best_none (replicate n 0) (FAN * (FAN ^ j + c)) FAN (λ y. replicated n y 0));
 }
 
 pub no_ranks_row : (d n g : ℕ) → slice_index (drop d (replicate n 0)) g ≡ 0
-no_ranks_row d n g = get_or-drop d (replicate n 0) g 0 ∙ no_rank n (d + g)
+no_ranks_row d n g = get_or-drop d (replicate n 0) g 0 ∙ replicated n (d + g) 0
