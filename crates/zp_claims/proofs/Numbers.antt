@@ -10,6 +10,7 @@ use Rattle.zp_model.specs.declared.constants.TheConstants.{MAX_PAGES, ORDERS}
 use Rattle.zp_model.specs.declared.migrate_type.MigrateType.{MigrateType}
 use Rattle.zp_model.specs.declared.migrate_type.MigrateType.TheVariants.{Unmovable, Reclaimable, Movable}
 use Rattle.zp_model.specs.MigrateType.{type_number, types_count}
+use Rattle.zp_model.proofs.TypeNumbers.{type_number_below}
 use Rattle.zp_claims.specs.declared.claim.Claim.{Claim}
 use Rattle.zp_claims.specs.declared.code.TheConstants.{CODES}
 use Rattle.zp_claims.specs.Codes.{claim_number, IsNumbered, claim_of, code_of, type_of}
@@ -26,13 +27,10 @@ number-of_type zero lt = refl
 number-of_type (suc zero) lt = refl
 number-of_type (suc (suc n)) lt = omega arith
 
-number_below : (t : MigrateType) → type_number t < types_count
-number_below t = grind arith
-
 claim-of_number : (r o : ℕ) (t : MigrateType) → r ≡ claim_number o t → claim_of (suc r) ≡ Some (record { kind = t; order = o })
 claim-of_number r o t e =
-    let k : r % types_count ≡ type_number t = omega (arith, number_below t) in
-    let j : r / types_count ≡ o = omega (arith, number_below t) in
+    let k : r % types_count ≡ type_number t = omega (arith, type_number_below t) in
+    let j : r / types_count ≡ o = omega (arith, type_number_below t) in
     let f : type_of (r % types_count) ≡ t = ap type_of k ∙ type-of_number t in
     rw (f, j) refl
 

@@ -14,6 +14,7 @@ use Rattle.zp_model.specs.Run.{is_distinct}
 use Rattle.zp_model.specs.declared.migrate_type.MigrateType.{MigrateType}
 use Rattle.zp_model.specs.MigrateType.{type_number, types_count}
 use Rattle.zp_model.proofs.Settles.{stands_first, stands_later, stands_cases, distinct_first, distinct_more, distinct_rest}
+use Rattle.zp_model.proofs.TypeNumbers.{type_number_below}
 use Rattle.zp_laws.proofs.Settling.{stands-append, distinct-append}
 use Rattle.zp_share.specs.PlainShares.{back, without_back}
 use Rattle.zp_share.specs.declared.page_use.PageUse.{PageUse}
@@ -128,14 +129,11 @@ pub cached_there : (r : ℕ) (u : PageUse) → is_cached_as r u ≡ true → u �
 cached_there r u e f = grind arith
 
 -- each type has a list, and its number alone
-number_below : (t : MigrateType) → type_number t < types_count
-number_below t = grind arith
-
 number_one : (s t : MigrateType) → type_number s ≡ type_number t → s ≡ t
 number_one s t e = grind arith
 
 pub number_in : (base : ℕ) (us : List PageUse) (ls : List (List ℕ)) (t : MigrateType) → IsListing base us ls → type_number t < length ls
-number_in base us ls t x = subst (λ m. type_number t < m) (sym x.lists) (number_below t)
+number_in base us ls t x = subst (λ m. type_number t < m) (sym x.lists) (type_number_below t)
 
 pub cached-is : (t : MigrateType) (u : PageUse) → is_cached_as (type_number t) u ≡ true → u ≡ Cached t
 cached-is t u e = grind (arith, nat_tests, number_one)
