@@ -15,6 +15,7 @@ use Rattle.zp_model.specs.BlockSet.{Starts, cover, largest_in}
 use Rattle.zp_model.specs.MigrateType.{foreign}
 use Rattle.zp_model.specs.Rows.{IsOn, front, list_at, stands_in}
 use Rattle.zp_model.proofs.TypeNumbers.{list_number_below}
+use Rattle.zp_laws.proofs.Choosing.{asked-not_isolate}
 use Rattle.zp_claims.specs.declared.claim.Claim.{Claim}
 use Rattle.zp_claims.specs.Noted.{IsBeside, IsLargestBeside, noted_at}
 use Rattle.zp_area.specs.Blocks.{Blocks, block_set, free_list_of}
@@ -114,14 +115,9 @@ module _ (m : ℕ) (a : Blocks) (x : IsOneSet m a) (o : ℕ) (t : MigrateType) w
         | inr e ↦ inr (front_from m a x o w.0 (pageblock_type (get_or (foreign t) 1 Unmovable)) w.1 (other.1 ∙ ap pageblock_type e))
       ]
 
--- a pageblock of a migrate type is not isolated
-pub migrate_open : (f : MigrateType) → is_isolate (pageblock_type f) ≡ false
-migrate_open Unmovable = refl
-migrate_open Reclaimable = refl
-migrate_open Movable = refl
-
+-- a pageblock of another migrate type is not isolated
 other_open : (t : MigrateType) (s : PageblockType) → IsOtherType t s → is_isolate s ≡ false
-other_open t s w = ap is_isolate w.1 ∙ migrate_open w.0
+other_open t s w = ap is_isolate w.1 ∙ asked-not_isolate w.0
 
 -- its migrate type, and its type from that
 migrate_type-of : (f : MigrateType) → migrate_type (pageblock_type f) ≡ Some f

@@ -4,9 +4,9 @@ use Rattle.zp_area.specs.Blocks.{Blocks, block_set}
 use Rattle.zp_model.specs.declared.pageblock_type.PageblockType.TheVariants.{Movable}
 use Rattle.zp_model.specs.PageblockType.{is_isolate, pageblock_type}
 use Rattle.zp_model.specs.Area.{kind_at}
+use Rattle.zp_laws.proofs.Choosing.{asked-not_isolate}
 use Rattle.zp_area.specs.Available.{isolated_sum}
 use Rattle.zp_area.proofs.IsolatedPages.{sum_open}
-use Rattle.zp_area.proofs.Claimable.{migrate_open}
 use Rattle.zp_area.proofs.Indexing.{indexed_anew, others_stand, pageblock_kept, started_there}
 use Rattle.zp_area.proofs.OnePageblock.{changed_split}
 use Rattle.zp_area.proofs.area.FreeArea.split_down.Goals.{After-pageblock_of-pageblock}
@@ -38,12 +38,12 @@ pub split_off-requires-clause-typed : goal.split_off-requires-clause-typed
 split_off-requires-clause-typed c = c.pageblock_type.ensures ∙ kind (goal.at.split_off-requires-clause-typed c).After-pageblock_of-pageblock
 
 pub split_off-requires-clause-open : goal.split_off-requires-clause-open
-split_off-requires-clause-open c = ap is_isolate c.pageblock_type.ensures ∙ migrate_open c.args.kind
+split_off-requires-clause-open c = ap is_isolate c.pageblock_type.ensures ∙ asked-not_isolate c.args.kind
 
 pub invariant_of-self : goal.invariant_of-self
 invariant_of-self c =
     let before = (goal.at.invariant_of-self c).After-pageblock_of-pageblock in
-    let shown : is_isolate (kind_at c.self.inside.largest c.self.inside.kinds.items c.args.at) ≡ false = ap is_isolate (sym (kind before)) ∙ migrate_open c.args.kind in
+    let shown : is_isolate (kind_at c.self.inside.largest c.self.inside.kinds.items c.args.at) ≡ false = ap is_isolate (sym (kind before)) ∙ asked-not_isolate c.args.kind in
     let same = ap (λ q. is_isolate (slice_index_or c.self.inside.kinds.items q Movable)) c.pageblock_of-pageblock.ensures ∙ shown in
     indexed_anew c.self.inside.largest _ _ _ _ _ _ _ c.split_off.ensures.kept c.split_off.ensures.told
     (c.self.invariant.apart ∙ sym (ap (isolated_sum c.self.inside.kinds.items) c.split_off.ensures.numbers ∙ sum_open c.self.inside.kinds.items c.self.inside.free_in.items c.pageblock_of-pageblock.result _ same)) c.changed.ensures
