@@ -10,6 +10,7 @@ use Rattle.zp_model.specs.Block.{head, IsBlock, IsBuddy}
 use Rattle.zp_model.specs.BlockSet.{Starts}
 use Rattle.zp_model.specs.Area.{pageblock_pages, kind_at}
 use Rattle.zp_model.proofs.Heads.{two, head_le, lt_head, head_of, head_self, number_around}
+use Rattle.zp_model.proofs.Pages.{run_cases}
 use Rattle.zp_tree.specs.Blocks.{with_block, buddy, without_buddies, joined_set, HasBuddies}
 use Rattle.zp_tree.proofs.Apart.{clear-starts}
 use Rattle.zp_area.specs.Given.{IsClearRun}
@@ -154,9 +155,6 @@ module _ {m : ℕ} {a b : Blocks} {free_in : List ℕ} {h k g j : ℕ} (x : IsGr
       | inr w ↦ clear_removed m b c j x.kept.one buddy_starts i w.0 w.1
     ]
       where
-        run_cases : (e n i : ℕ) → ((e ≤ i) × (i < e + 2 ^ n)) ⊎ ((i < e) ⊎ (e + 2 ^ n ≤ i))
-        run_cases e n i = grind arith
-
         halves_cases : (i : ℕ) → d ≤ i → i < d + 2 ^ (j + 1) → ((g ≤ i) × (i < g + 2 ^ j)) ⊎ ((c ≤ i) × (i < c + 2 ^ j))
         halves_cases i lo hi = let q = y.buddy.halves in elim (run_cases g j i) [ inl w ↦ inl w | inr out ↦ inr (omega (arith, two j), omega (arith, two j)) ]
 

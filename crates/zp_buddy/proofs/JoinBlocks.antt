@@ -17,7 +17,7 @@ use Rattle.zp_model.specs.Area.{kind_at, lists_count, settled}
 use Rattle.zp_model.specs.Take.{give}
 use Rattle.zp_model.proofs.Heads.{two, head_le, lt_head, head_aligned, head_of, head_self}
 use Rattle.zp_model.proofs.Normal.{Filled, IsNormal}
-use Rattle.zp_model.proofs.Pages.{In}
+use Rattle.zp_model.proofs.Pages.{In, run_cases}
 use Rattle.zp_model.proofs.Join.{AfterJoin, IsGrown, Joined}
 use Rattle.zp_model.proofs.Covers.{cover-join, has_below, length-with, with-decides}
 use Rattle.zp_model.proofs.Settles.{filter_all}
@@ -32,10 +32,6 @@ use Rattle.zp_buddy.specs.Choices.{frames_in}
 use Rattle.zp_buddy.specs.Sound.{frames_of, IsSound}
 use Rattle.zp_buddy.proofs.Settled.{IsRestated, IsSettled, length-pages, noted_sound, removed_list, restated_none, restated_same, settled_filter, settled_frames, settled_front, settled_sound, start_in, starts_block, starts_row}
 use Rattle.zp_model.specs.Lawful.{Here}
-
--- a page lies in the run (b, j) or not
-run_cases : (b j i : ℕ) → ((b ≤ i) × (i < b + 2 ^ j)) ⊎ ((i < b) ⊎ (b + 2 ^ j ≤ i))
-run_cases b j i = grind arith
 
 past : (b j i : ℕ) → (b ≤ i → i < b + 2 ^ j → ⊥) → (i < b) ⊎ (b + 2 ^ j ≤ i)
 past b j i f = elim (run_cases b j i) [ inl w ↦ absurd (f w.0 w.1) | inr out ↦ out ]

@@ -1,5 +1,5 @@
 -- What the tests on page sets, on runs and on orders say.
-use Rattle.std.proofs.Common.{ℕ, ◌+◌, ◌-◌, ◌%◌, ◌^◌, ◌≡◌, ◌≤◌, ◌<◌, ◌==◌, inl, inr, refl, ap, arith, Bool, true, List, not, ◌||◌, Option, Some, None}
+use Rattle.std.proofs.Common.{ℕ, ◌+◌, ◌-◌, ◌%◌, ◌^◌, ◌≡◌, ◌≤◌, ◌<◌, ◌==◌, ◌⊎◌, inl, inr, refl, ap, arith, Bool, true, List, not, ◌||◌, Option, Some, None}
 use Rattle.std.specs.Bool.{Decides}
 use Rattle.std.proofs.Math.Bool.{or-true}
 use Rattle.std.proofs.lemmas.Bool.{and_parts, and_from, or_cases, not-true, both_ways, cases_lt, leb-true, le-leb, ltb-true, lt-ltb, eqb-true, eq-eqb, false≢true, false_from_ne_true}
@@ -15,6 +15,10 @@ In u i = has u i ≡ true
 all_below-decides : (test : ℕ → Bool) (n : ℕ) → Decides (all_below test n) ((k : ℕ) → k < n → test k ≡ true)
 all_below-decides test n =
     Decides-below_and test (λ k. test k ≡ true) (all_below test) (λ k. (λ e. e, λ e. e)) refl (λ _. refl) n
+
+-- a page lies in a run or not
+pub run_cases : (h k i : ℕ) → ((h ≤ i) × (i < h + 2 ^ k)) ⊎ ((i < h) ⊎ (h + 2 ^ k ≤ i))
+run_cases h k i = grind arith
 
 pub in_run-to : (h k i : ℕ) → in_run h k i ≡ true → (h ≤ i) × (i < h + 2 ^ k)
 in_run-to h k i e = let a = and_parts _ _ e in (leb-true h i a.0, ltb-true i (h + 2 ^ k) a.1)

@@ -1,17 +1,15 @@
 -- A block set after a block came, went or was split is one.
-use Rattle.std.proofs.Common.{ℕ, suc, zero, ◌+◌, ◌-◌, ◌%◌, ◌^◌, ◌≡◌, ◌≢◌, ◌≤◌, ◌<◌, inl, inr, refl, sym, ◌∙◌, ap, arith, true, List, length, get_or, Option, Some, None}
-use Rattle.std.proofs.lemmas.Bool.{and_parts, leb-true, ltb-true, cases_eq}
+use Rattle.std.proofs.Common.{ℕ, suc, zero, ◌+◌, ◌-◌, ◌%◌, ◌^◌, ◌≡◌, ◌≢◌, ◌≤◌, ◌<◌, inl, inr, refl, sym, ◌∙◌, ap, arith, List, length, get_or, Option, Some, None}
+use Rattle.std.proofs.lemmas.Bool.{cases_eq}
 use Rattle.std.proofs.lemmas.List.{length-set, get_or-set_same, get_or-set_other}
 use Rattle.std.proofs.lemmas.Nat.{pow_pos, pow_below}
 use Rattle.std.proofs.Math.Nat.{add-mod_right}
-use Rattle.zp_model.specs.Block.{IsBlock, in_run}
+use Rattle.zp_model.specs.Block.{IsBlock}
 use Rattle.zp_model.specs.BlockSet.{Starts}
 use Rattle.zp_model.proofs.Heads.{two, lt_pow, aligned_down, head_of}
+use Rattle.zp_model.proofs.Pages.{in_run-to}
 use Rattle.zp_tree.specs.Blocks.{IsBlockSet, IsApart, with_block, without_block, high_halves, split_set}
 use Rattle.zp_tree.proofs.Apart.{uncovered-to, set-starts, clear-starts, clear_apart, set_still_apart}
-
-in_run-to : (h k i : ℕ) → in_run h k i ≡ true → (h ≤ i) × (i < h + 2 ^ k)
-in_run-to h k i e = let a = and_parts _ _ e in (leb-true h i a.0, ltb-true i (h + 2 ^ k) a.1)
 
 -- no block has a page of a run that is apart
 pub none_in : (m : ℕ) (s : List (Option ℕ)) (p k g j i : ℕ) → IsBlockSet m s → IsApart s p k → Starts s g j → p ≤ i → i < p + 2 ^ k → g ≤ i → i < g + 2 ^ j → ⊥
