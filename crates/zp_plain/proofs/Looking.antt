@@ -1,5 +1,5 @@
 -- Looking through orders, pages and lists, and what is found.
-use Rattle.std.proofs.Common.{ℕ, suc, zero, ◌+◌, ◌-◌, ◌^◌, ◌≡◌, ◌≤◌, ◌<◌, refl, sym, ◌∙◌, ap, arith, inl, inr, Bool, true, cond, map, [], ◌∷◌, ◌++◌, reverse, Option, Some, None, List, length, get_or, IfSome}
+use Rattle.std.proofs.Common.{ℕ, suc, ◌+◌, ◌-◌, ◌^◌, ◌≡◌, ◌≤◌, ◌<◌, refl, sym, ◌∙◌, ap, arith, inl, inr, Bool, true, cond, map, [], ◌∷◌, reverse, Option, Some, None, List, length, get_or, IfSome}
 use Rattle.std.specs.List.{range_with_len, find, count_by}
 use Rattle.std.specs.Option.{option_or}
 use Rattle.std.proofs.lemmas.List.{reverse-append}
@@ -12,6 +12,7 @@ use Rattle.zp_model.specs.declared.pageblock_type.PageblockType.{PageblockType}
 use Rattle.zp_model.specs.Area.{Area, available_blocks, is_isolated}
 use Rattle.zp_model.specs.Take.{blocks_at_hand, leave, take_low_answer, take_low_after}
 use Rattle.zp_model.specs.Rows.{stands_in, front, after}
+use Rattle.zp_model.proofs.FirstFound.{range-snoc}
 use Rattle.zp_model.proofs.MaximalBlocks.{length-max, max_block}
 use Rattle.zp_model.proofs.Settles.{stands_first, stands_later}
 use Rattle.zp_laws.proofs.Choosing.{available_blocks-at, length-available_blocks}
@@ -22,11 +23,6 @@ range_here i e lt = let s : e - i ≡ suc (e - (i + 1)) = omega arith in rw s re
 
 pub range_none : (i e : ℕ) → e ≤ i → range_with_len i (e - i) ≡ []
 range_none i e le = let s : e - i ≡ 0 = omega arith in rw s refl
-
--- the numbers of a range, the last first
-range-snoc : (a n : ℕ) → range_with_len a (suc n) ≡ range_with_len a n ++ (a + n) ∷ []
-range-snoc a zero = let s : a ≡ a + 0 = omega arith in ap (λ q. q ∷ []) s
-range-snoc a (suc n) = let s : (a + 1) + n ≡ a + suc n = omega arith in rw (range-snoc (a + 1) n, s) refl
 
 -- the answers of those from k on below `left`, the last first
 pub back_left : (f : ℕ → Option ℕ) (k left m : ℕ) → m ≡ left - 1 → k < left →
