@@ -5,7 +5,7 @@ use Rattle.std.proofs.lemmas.Bool.{eq-eqb}
 use Rattle.zp_model.specs.declared.pageblock_type.PageblockType.{PageblockType}
 use Rattle.zp_model.specs.Block.{is_max}
 use Rattle.zp_model.specs.BlockSet.{Starts, cover, is_order}
-use Rattle.zp_model.specs.Frames.{Frames, IsClear, with_area}
+use Rattle.zp_model.specs.Frames.{with_area}
 use Rattle.zp_model.specs.PageblockType.{pageblock_type_number, pageblock_types}
 use Rattle.zp_model.specs.Rows.{stands_in}
 use Rattle.zp_model.specs.Area.{belongs, falling, kind_at, settled}
@@ -16,7 +16,6 @@ use Rattle.zp_laws.proofs.Counting.{same_tests}
 use Rattle.zp_area.specs.Blocks.{Blocks, block_set}
 use Rattle.zp_area.specs.Retyped.{is_to_stand, relisted, retyped}
 use Rattle.zp_area.proofs.Retyping.{free-relisted, aside-relisted, length-relisted}
-use Rattle.zp_laws.proofs.Areas.{free-retype, largest-retype}
 use Rattle.zp_buddy.specs.Choices.{frames_in}
 use Rattle.zp_buddy.specs.Held.{IsHeld}
 use Rattle.zp_buddy.specs.Sound.{IsSound}
@@ -70,12 +69,4 @@ held_retyped m a b t free x = record {
   sound = settled_sound (retyped_settles m a b t x.sound);
   typed = length-set a.kinds b t ∙ x.typed;
   counted = x.counted;
-}
-
--- and each block that may come back may do so
-pub clear_retyped : (f : Frames) (b : ℕ) (t : PageblockType) (h k : ℕ) → IsClear f h k → IsClear (with_area f (retype f.area b t)) h k
-clear_retyped f b t h k x = record {
-  block = rw (largest-retype f.area b t, free-retype f.area b t) x.block;
-  free = λ i lo hi. rw (free-retype f.area b t) (x.free i lo hi);
-  aside = x.aside;
 }

@@ -8,6 +8,7 @@ use Rattle.zp_model.specs.Block.{without, with_run}
 use Rattle.zp_model.specs.PageblockType.{pageblock_type}
 use Rattle.zp_model.specs.Area.{Area, pageblock_pages, settle}
 use Rattle.zp_model.specs.Choose.{Chosen}
+use Rattle.zp_model.specs.Frames.{Frames, IsClear, with_area}
 use Rattle.zp_model.specs.Take.{leave, give, retype, taken}
 use Rattle.zp_model.specs.Lawful.{IsListedArea}
 use Rattle.zp_laws.proofs.Settling.{settle_lists}
@@ -92,3 +93,11 @@ module _ (a : Area) (k : ℕ) (t : MigrateType) (c : Chosen) where
   pub lists-taken : IsListedArea a → IsListedArea (taken a k t (Some c))
   unfolding taken
   lists-taken l = lists-leave before c.head k ((claimed a (c.head / pageblock_pages a.largest) (pageblock_type t) c.claims).3 l)
+
+-- each block that may come back may do so still where a pageblock gets another type
+pub clear_retyped : (f : Frames) (b : ℕ) (t : PageblockType) (h k : ℕ) → IsClear f h k → IsClear (with_area f (retype f.area b t)) h k
+clear_retyped f b t h k x = record {
+  block = rw (largest-retype f.area b t, free-retype f.area b t) x.block;
+  free = λ i lo hi. rw (free-retype f.area b t) (x.free i lo hi);
+  aside = x.aside;
+}

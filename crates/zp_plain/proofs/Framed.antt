@@ -104,10 +104,6 @@ kept_retyped f b t x =
     framed_with f (retype f.area b t) (rw (free-retype f.area b t) x.pages)
     (rw (largest-retype f.area b t) (ap length (kinds-retype f.area b t) ∙ length-set f.area.kinds b t ∙ x.typed)) (λ r p e. rw (free-retype f.area b t) (x.beside r p e))
 
-pub clear_retyped : (f : Frames) (b : ℕ) (t : PageblockType) (h k : ℕ) → IsClear f h k → IsClear (with_area f (retype f.area b t)) h k
-clear_retyped f b t h k x =
-    record { block = rw (free-retype f.area b t, largest-retype f.area b t) x.block; free = λ i lo hi. rw (free-retype f.area b t) (x.free i lo hi); aside = x.aside }
-
 -- frames g are frames f without the free block of order k at h, which is clear now, as each block is that was
 pub record IsWithout (f g : Frames) (h k : ℕ) : Type 0 where
   pub framed : IsFramed g

@@ -1,4 +1,5 @@
-use Rattle.zp_buddy.proofs.Claiming.{clear_retyped, held_retyped, retyped_frames}
+use Rattle.zp_laws.proofs.Areas.{clear_retyped}
+use Rattle.zp_buddy.proofs.Claiming.{held_retyped, retyped_frames}
 use Rattle.zp_buddy.specs.Choices.{frames_in}
 use Rattle.zp_buddy.proofs.buddy.Buddy.retype.Goals as goal
 

@@ -3,7 +3,8 @@ use Rattle.zp_model.specs.Area.{Area}
 use Rattle.zp_model.specs.Frames.{Frames, IsClear, IsFramed, with_area}
 use Rattle.zp_model.specs.Take.{retype}
 use Rattle.zp_laws.proofs.Areas.{free-retype}
-use Rattle.zp_plain.proofs.Framed.{clear_retyped, kept_retyped, written}
+use Rattle.zp_laws.proofs.Areas.{clear_retyped}
+use Rattle.zp_plain.proofs.Framed.{kept_retyped, written}
 use Rattle.zp_plain.proofs.buddy.Buddy.retype.Goals as goal
 
 pub restate_all-requires-clause-pages : goal.restate_all-requires-clause-pages
