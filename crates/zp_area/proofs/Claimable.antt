@@ -3,7 +3,7 @@ use Rattle.std.proofs.Common.{ℕ, ◌+◌, ◌-◌, ◌*◌, ◌/◌, ◌^◌, 
 use Rattle.std.specs.List.{slice_index_or}
 use Rattle.std.specs.Option.{is_some}
 use Rattle.std.proofs.Math.Pow.{pow_mono}
-use Rattle.std.proofs.lemmas.Bool.{cases_lt, cases_Bool, eq-eqb, and_parts, le-leb, lt-ltb, false≢true}
+use Rattle.std.proofs.lemmas.Bool.{cases_lt, cases_Bool, and_parts, le-leb, lt-ltb, false≢true}
 use Rattle.std.proofs.lemmas.List.{get_or_past}
 use Rattle.zp_model.specs.declared.migrate_type.MigrateType.{MigrateType}
 use Rattle.zp_model.specs.declared.migrate_type.MigrateType.TheVariants.{Unmovable, Reclaimable, Movable}
@@ -14,6 +14,7 @@ use Rattle.zp_model.specs.Area.{is_isolated, kind_at, list_number, lists_count, 
 use Rattle.zp_model.specs.BlockSet.{Starts, cover, largest_in}
 use Rattle.zp_model.specs.MigrateType.{foreign}
 use Rattle.zp_model.specs.Rows.{IsOn, front, list_at, stands_in}
+use Rattle.zp_model.proofs.Settles.{stands_first}
 use Rattle.zp_model.proofs.TypeNumbers.{list_number_below}
 use Rattle.zp_laws.proofs.Choosing.{asked-not_isolate}
 use Rattle.zp_claims.specs.declared.claim.Claim.{Claim}
@@ -56,9 +57,6 @@ module _ (m : ℕ) (a : Blocks) (x : IsOneSet m a) where
           let here : IsOn a.rows.lists (list_number o t) h = rw (sym (list_within o t le) ∙ e) (stands_first h xs) in
           let w = listed_starts m a h o t x le here in
           (h, w.0, w.1)
-        where
-          stands_first : (h : ℕ) (xs : List ℕ) → stands_in h (h ∷ xs) ≡ true
-          stands_first h xs = rw (eq-eqb h h refl) refl
 
   front_from : (o h : ℕ) (t : PageblockType) → Starts (block_set a) h o → kind_at m a.kinds h ≡ t → is_some (front (free_list_of m a o t)) ≡ true
   front_from o h t st e =

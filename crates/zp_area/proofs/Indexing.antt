@@ -1,5 +1,5 @@
 -- What is kept beside a set of blocks and noted of its pageblocks: of no block, when one pageblock has changed, and what the code reads of it.
-use Rattle.std.proofs.Common.{ℕ, ◌+◌, ◌*◌, ◌/◌, ◌^◌, ◌≡◌, ◌≤◌, ◌<◌, refl, sym, ◌∙◌, ap, arith, Bool, true, false, cond, List, length, replicate, Option, Some, None}
+use Rattle.std.proofs.Common.{ℕ, ◌+◌, ◌*◌, ◌/◌, ◌^◌, ◌≡◌, ◌≤◌, ◌<◌, refl, sym, ◌∙◌, ap, arith, Bool, false, List, length, replicate, Option, Some, None}
 use Rattle.std.specs.List.{slice_index_or}
 use Rattle.std.proofs.lemmas.List.{ext_get_or, length-replicate}
 use Rattle.zp_model.specs.declared.constants.TheConstants.{MAX_PAGES}
@@ -12,6 +12,7 @@ use Rattle.zp_model.specs.BlockSet.{Starts, cover, largest_in}
 use Rattle.zp_model.specs.Block.{IsBlock, size}
 use Rattle.zp_model.specs.Rows.{Rows}
 use Rattle.zp_model.specs.Area.{available, available_blocks, pageblock_pages, pageblocks_of, size_in}
+use Rattle.zp_laws.proofs.Choosing.{none_either}
 use Rattle.zp_tree.proofs.BlockSets.{no_start}
 use Rattle.zp_claims.specs.declared.claim.Claim.{Claim}
 use Rattle.zp_area.specs.Blocks.{Blocks, block_set, no_blocks, noted}
@@ -84,10 +85,6 @@ none_choosable m n side =
     ap (available_blocks m (no_blocks m n side).kinds) (tails_free n)
     ∙ ext_get_or None _ _ (available-length m (no_blocks m n side).kinds (replicate n None)) (λ h lt.
     available-at m (no_blocks m n side).kinds (replicate n None) h ∙ none_either _ _ (replicated {X = Option ℕ} n h None) ∙ sym (replicated {X = Option ℕ} n h None))
-  where
-    none_either : (b : Bool) (o : Option ℕ) → o ≡ None → cond b None o ≡ None
-    none_either true o e = refl
-    none_either false o e = e
 
 pub indexed_empty : (m n side : ℕ) → n ≤ MAX_PAGES → side < 2 ^ 32 →
     IsIndexed (no_blocks m n side) (replicate n None) (replicate (pageblocks_of m n) 0) 0 (replicate (pageblocks_of m n) None) (replicate (pageblocks_of m n) false)

@@ -1,6 +1,7 @@
 -- The free pages of isolated pageblocks: their sum, when one number or one type changes, and beside the pages that are available.
 use Rattle.std.proofs.Common.{ℕ, zero, suc, ◌+◌, ◌-◌, ◌*◌, ◌^◌, ◌≡◌, ◌≤◌, ◌<◌, inl, inr, refl, sym, ◌∙◌, ap, arith, Bool, true, false, not, ◌&&◌, cond, List, [], ◌∷◌, length, set}
 use Rattle.std.specs.List.{range_with_len, count_by, slice_index, slice_index_or}
+use Rattle.std.proofs.Math.Bool.{and-false, and-true}
 use Rattle.std.proofs.Math.Nat.{suc-mul}
 use Rattle.std.proofs.lemmas.Bool.{cases_Bool, cases_lt}
 use Rattle.std.proofs.lemmas.Nat.{pow_pos, shr_split}
@@ -92,23 +93,15 @@ module _ (m : ℕ) (kinds : List PageblockType) (u : List Bool) where
     | inl is ↦ rw is (omega (
       arith,
       count-none (has (available m kinds u)) (b * pageblock_pages m) (pageblock_pages m) (λ i lo hi.
-          has-available i ∙ rw (there i lo hi is) (and_false (has u i))),
+          has-available i ∙ rw (there i lo hi is) (and-false (has u i))),
     ))
     | inr not ↦ rw not (omega (
       arith,
       sums-same (λ i. one_if (has (available m kinds u) i)) (λ i. one_if (has u i)) (b * pageblock_pages m) (pageblock_pages m) (λ i lo hi.
-          ap one_if (has-available i ∙ rw (there i lo hi not) (and_true (has u i)))),
+          ap one_if (has-available i ∙ rw (there i lo hi not) (and-true (has u i)))),
     ))
   ]
     where
-      and_false : (x : Bool) → (x && false) ≡ false
-      and_false true = refl
-      and_false false = refl
-
-      and_true : (x : Bool) → (x && true) ≡ x
-      and_true true = refl
-      and_true false = refl
-
       there : (i : ℕ) {c : Bool} → b * pageblock_pages m ≤ i → i < b * pageblock_pages m + pageblock_pages m → is_isolate (slice_index_or kinds b Movable) ≡ c → is_isolated m kinds i ≡ c
       there i lo hi e = ap (λ q. is_isolate (slice_index_or kinds q Movable)) (number_within b m i lo hi) ∙ e
 

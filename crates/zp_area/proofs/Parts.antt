@@ -8,6 +8,7 @@ use Rattle.std.proofs.lemmas.List.FromFn.{get_or-map-range_with_len, length-map-
 use Rattle.zp_model.specs.Block.{head}
 use Rattle.zp_model.specs.BlockSet.{Starts}
 use Rattle.zp_model.proofs.Heads.{head_le, lt_head}
+use Rattle.zp_laws.proofs.Choosing.{none_either}
 use Rattle.zp_tree.specs.Blocks.{IsApart, IsBlockSet, buddy, high_halves, joined_set, split_set, with_block, without_block, without_buddies}
 use Rattle.zp_tree.proofs.Apart.{uncovered-from, uncovered-to}
 use Rattle.zp_tree.proofs.BlockSets.{same_page}
@@ -17,10 +18,6 @@ part out s = map (λ h. cond (out h) None (get_or s h None)) (range_with_len 0 (
 
 pub part-length : (out : ℕ → Bool) (s : List (Option ℕ)) → length (part out s) ≡ length s
 part-length out s = length-map-range_with_len (λ h. cond (out h) None (get_or s h None)) 0 (length s)
-
-none_either : (b : Bool) (o : Option ℕ) → o ≡ None → cond b None o ≡ None
-none_either true o e = refl
-none_either false o e = e
 
 pub part-at : (out : ℕ → Bool) (s : List (Option ℕ)) (h : ℕ) → get_or (part out s) h None ≡ cond (out h) None (get_or s h None)
 part-at out s h = elim (cases_lt h (length s)) [

@@ -1,5 +1,5 @@
 -- A list made anew by a test of pages, and what the change of the test at one page does to it.
-use Rattle.std.proofs.Common.{ℕ, suc, zero, ◌≡◌, ◌≢◌, ◌<◌, ◌==◌, inl, inr, refl, sym, ◌∙◌, ap, arith, Bool, true, false, not, ◌&&◌, ◌||◌, ltb, List, [], ◌∷◌, ◌++◌}
+use Rattle.std.proofs.Common.{ℕ, suc, zero, ◌≡◌, ◌≢◌, ◌<◌, ◌==◌, inl, inr, refl, sym, ◌∙◌, ap, arith, Bool, true, false, not, ◌&&◌, ltb, List, [], ◌∷◌, ◌++◌}
 use Rattle.std.specs.List.{filter, IsDistinct}
 use Rattle.std.proofs.lemmas.Bool.{cases_eq, and_parts, not-true, ltb-true, lt-ltb, ne_eqb, both_ways, false_from_ne_true}
 use Rattle.std.proofs.Math.Bool.{or-true}
@@ -7,7 +7,7 @@ use Rattle.std.proofs.lemmas.List.Elements.{filter-append}
 use Rattle.zp_model.specs.Rows.{stands_in, without_page}
 use Rattle.zp_model.specs.Area.{falling}
 use Rattle.zp_model.proofs.Settles.{filter_all}
-use Rattle.zp_laws.proofs.Settling.{stands-append, stands-filter, stands-falling, distinct-filter, distinct-falling, distinct-append}
+use Rattle.zp_laws.proofs.Settling.{fresh_or_old, stands-append, stands-filter, stands-falling, distinct-filter, distinct-falling, distinct-append}
 use Rattle.zp_area.proofs.Filters.{filter_same, filter_twice, stands_filter-to, stands_filter-from}
 
 -- whether page h passes the test and was not on the list
@@ -38,10 +38,7 @@ relisted_held p n old to from = rw (falling_none (is_fresh p old) n (λ h. none 
 pub held-relisted : (p : ℕ → Bool) (n h : ℕ) (old : List ℕ) → (p h ≡ true → h < n) → stands_in h (relisted_by p n old) ≡ p h
 held-relisted p n h old below =
     stands-append h (filter (is_fresh p old) (falling n)) (filter p old)
-    ∙ rw (stands-filter (is_fresh p old) h (falling n), stands-filter p h old, stands-falling h n) (both (p h) (stands_in h old) (ltb h n) (λ e. lt-ltb h n (below e)))
-  where
-    both : (b s l : Bool) → (b ≡ true → l ≡ true) → (((b && not s) && l) || (b && s)) ≡ b
-    both b s l f = grind arith
+    ∙ rw (stands-filter (is_fresh p old) h (falling n), stands-filter p h old, stands-falling h n) (fresh_or_old (p h) (stands_in h old) (ltb h n) (λ e. lt-ltb h n (below e)))
 
 -- and nothing is on it twice
 pub distinct-relisted : (p : ℕ → Bool) (n : ℕ) (old : List ℕ) → IsDistinct (λ x y. x == y) old → IsDistinct (λ x y. x == y) (relisted_by p n old)

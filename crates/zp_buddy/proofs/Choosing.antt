@@ -15,6 +15,7 @@ use Rattle.zp_model.specs.Area.{Area, list_number, lists_count, free_list, kind_
 use Rattle.zp_model.specs.Choose.{own, claim, borrow, least_movable_claim, claim_pages, is_claimable}
 use Rattle.zp_model.specs.Frames.{Frames}
 use Rattle.zp_model.proofs.Settles.{stands_cases, stands_later}
+use Rattle.zp_laws.proofs.Choosing.{or_None}
 use Rattle.zp_area.specs.Blocks.{Blocks, block_set, free_list_of}
 use Rattle.zp_area.specs.Claims.{is_half_free, IsInClaimable, IsLargestClaimable}
 use Rattle.zp_area.specs.OneSet.{IsOneSet}
@@ -112,10 +113,7 @@ list_of_frames m a f o t e = ap (λ (g : Frames). free_list g.area o t) e
 
 pub own_fronts : (m : ℕ) (a : Blocks) (k : ℕ) (t : MigrateType) → first_of (front_of_order m a (t ∷ [])) (orders_from m k) ≡ own (area_in m a) k t
 unfolding own
-own_fronts m a k t = first_same _ _ k (m + 1 - k) (λ o p q. only (front (free_list_of m a o (pageblock_type t))))
-  where
-    only : (o : Option ℕ) → option_or o None ≡ o
-    only o = grind arith
+own_fronts m a k t = first_same _ _ k (m + 1 - k) (λ o p q. or_None (front (free_list_of m a o (pageblock_type t))))
 
 pub borrow_fronts : (m : ℕ) (a : Blocks) (k : ℕ) (t : MigrateType) → first_of (front_of_order m a (foreign t)) (orders_from m k) ≡ borrow (area_in m a) k t
 unfolding borrow

@@ -34,6 +34,15 @@ or_Some : {Y : Type 0} (o p : Option Y) (y : Y) → option_or o p ≡ Some y →
 or_Some None p y e = inr e
 or_Some (Some x) p y e = inl e
 
+pub or_None : (o : Option ℕ) → option_or o None ≡ o
+or_None None = refl
+or_None (Some y) = refl
+
+-- nothing, whether it is left out or not
+pub none_either : (b : Bool) (o : Option ℕ) → o ≡ None → cond b None o ≡ None
+none_either true o e = refl
+none_either false o e = e
+
 -- the first answer is given by some place
 first_of-gives : {X Y : Type 0} (at : X → Option Y) (xs : List X) (d : X) (y : Y) → first_of at xs ≡ Some y → (i : ℕ) × (i < length xs) × (at (get_or xs i d) ≡ Some y)
 first_of-gives at [] d y e = absurd (none-some y e)
@@ -183,12 +192,8 @@ available_blocks-at m kinds s h =
     let at : ℕ → Option ℕ = λ g. cond (is_isolated m kinds g) None (get_or s g None) in
     elim (cases_lt h (length s)) [
       | inl lt ↦ get_or-map-range_with_len at 0 (length s) h h None lt (omega arith)
-      | inr ge ↦ get_or_past (map at (range_with_len 0 (length s))) h None (omega (arith, length-available_blocks m kinds s)) ∙ sym (either (is_isolated m kinds h) (get_or s h None) (get_or_past s h None ge))
+      | inr ge ↦ get_or_past (map at (range_with_len 0 (length s))) h None (omega (arith, length-available_blocks m kinds s)) ∙ sym (none_either (is_isolated m kinds h) (get_or s h None) (get_or_past s h None ge))
     ]
-  where
-    either : (b : Bool) (o : Option ℕ) → o ≡ None → cond b None o ≡ None
-    either true o e = refl
-    either false o e = e
 
 pub available_blocks-to : (m : ℕ) (kinds : List PageblockType) (s : List (Option ℕ)) (h j : ℕ) → get_or (available_blocks m kinds s) h None ≡ Some j →
     (get_or s h None ≡ Some j) × (is_isolated m kinds h ≡ false)

@@ -49,6 +49,10 @@ belongs_below m free kinds r h e =
     let x = is_max-to m free h (r / pageblock_types) a.0 in
     has_below free h (x.inside h (omega arith) (omega (arith, pow_pos (r / pageblock_types))))
 
+-- what passes a test is on the old list or not; what is not is among the pages
+pub fresh_or_old : (b s l : Bool) → (b ≡ true → l ≡ true) → (((b && not s) && l) || (b && s)) ≡ b
+fresh_or_old b s l f = grind arith
+
 module _ (m : ℕ) (free : List Bool) (kinds : List PageblockType) (r : ℕ) where
   -- a settled list holds what belongs on it
   pub held-settled : (h : ℕ) (old : List ℕ) → stands_in h (settled m free kinds r old) ≡ belongs m free kinds r h
@@ -57,10 +61,7 @@ module _ (m : ℕ) (free : List Bool) (kinds : List PageblockType) (r : ℕ) whe
       let fresh : ℕ → Bool = λ x. belongs m free kinds r x && not (stands_in x old) in
       stands-append h (filter fresh (falling (length free))) (filter (belongs m free kinds r) old)
       ∙ rw (stands-filter fresh h (falling (length free)), stands-filter (belongs m free kinds r) h old, stands-falling h (length free))
-      (both (belongs m free kinds r h) (stands_in h old) (ltb h (length free)) (λ e. lt-ltb h (length free) (belongs_below m free kinds r h e)))
-    where
-      both : (b s l : Bool) → (b ≡ true → l ≡ true) → (((b && not s) && l) || (b && s)) ≡ b
-      both b s l f = grind arith
+      (fresh_or_old (belongs m free kinds r h) (stands_in h old) (ltb h (length free)) (λ e. lt-ltb h (length free) (belongs_below m free kinds r h e)))
 
   -- a settled list holds nothing twice
   pub distinct-settled : (old : List ℕ) → IsDistinct (λ x y. x == y) old → IsDistinct (λ x y. x == y) (settled m free kinds r old)

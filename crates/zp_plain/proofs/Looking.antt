@@ -32,10 +32,6 @@ back_left f k left m e lt =
     let t : k + (left - 1 - k) ≡ m = omega arith in
     rw (s, range-snoc k (left - 1 - k), reverse-append (range_with_len k (left - 1 - k)) ((k + (left - 1 - k)) ∷ []), t) refl
 
-pub first_only : (o : Option ℕ) → option_or o None ≡ o
-first_only None = refl
-first_only (Some y) = refl
-
 -- how many numbers of a range pass a test, one after another
 pub count_step : (p : ℕ → Bool) (i e : ℕ) (b : Bool) → i < e → p i ≡ b → count_by p (range_with_len i (e - i)) ≡ cond b 1 0 + count_by p (range_with_len (i + 1) (e - (i + 1)))
 count_step p i e b lt t = rw (range_here i e lt, ← t) (sum_by-cons (λ x. cond (p x) 1 0) i (range_with_len (i + 1) (e - (i + 1))))

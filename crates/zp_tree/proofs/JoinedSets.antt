@@ -1,7 +1,8 @@
 -- A block set after a run was joined with its buddies.
-use Rattle.std.proofs.Common.{ℕ, suc, zero, ◌+◌, ◌-◌, ◌%◌, ◌^◌, ◌≡◌, ◌≢◌, ◌≤◌, ◌<◌, ◌⊎◌, inl, inr, refl, subst, sym, ◌∙◌, ap, arith, List, length, get_or, Option, Some, None}
+use Rattle.std.proofs.Common.{ℕ, suc, zero, ◌+◌, ◌-◌, ◌%◌, ◌^◌, ◌≡◌, ◌≢◌, ◌≤◌, ◌<◌, ◌⊎◌, inl, inr, refl, subst, sym, ◌∙◌, ap, arith, List, length, get_or, Option, None}
 use Rattle.std.proofs.lemmas.Bool.{cases_eq, cases_lt}
 use Rattle.std.proofs.lemmas.List.{length-set, get_or-set_same, get_or-set_other}
+use Rattle.std.proofs.lemmas.Option.{same_Some}
 use Rattle.std.proofs.lemmas.Nat.{pow_pos}
 use Rattle.zp_model.specs.Block.{IsBlock, head}
 use Rattle.zp_model.specs.BlockSet.{Starts}
@@ -10,9 +11,6 @@ use Rattle.zp_tree.specs.Blocks.{IsBlockSet, IsApart, HasBuddies, buddy, without
 use Rattle.zp_tree.proofs.Apart.{clear_apart, clear_still_apart}
 use Rattle.zp_tree.proofs.ChangedSets.{none_in, set_block_set, clear_block_set}
 use Rattle.zp_tree.proofs.BuddyPlaces.{sides}
-
-same_order : (k j : ℕ) → Some k ≡ Some j → k ≡ j
-same_order k j e = cc
 
 pub buddies_length : (s : List (Option ℕ)) (h k d : ℕ) → length (without_buddies s h k d) ≡ length s
 buddies_length s h k zero = refl
@@ -38,7 +36,7 @@ buddy_or_not h k (suc d) i = elim (cases_eq i (buddy h (k + d))) [
 pub next_buddy : (s : List (Option ℕ)) (h k d : ℕ) → HasBuddies s h k (k + suc d) → Starts (without_buddies s h k d) (buddy h (k + d)) (k + d)
 next_buddy s h k d has =
     let here = has (k + d) (omega arith) (omega arith) in
-    buddies_other s h k d (buddy h (k + d)) (λ j lo hi e. let there = has j lo (omega arith) in let same = same_order (k + d) j (sym here ∙ rw (← e) at there) in omega (arith, same, hi)) ∙ here
+    buddies_other s h k d (buddy h (k + d)) (λ j lo hi e. let there = has j lo (omega arith) in let same = same_Some (k + d) j (sym here ∙ rw (← e) at there) in omega (arith, same, hi)) ∙ here
 
 pub fewer_buddies : (s : List (Option ℕ)) (h k d : ℕ) → HasBuddies s h k (k + suc d) → HasBuddies s h k (k + d)
 fewer_buddies s h k d has j lo hi = has j lo (omega arith)
@@ -109,7 +107,7 @@ buddies_gone s h k (suc d) j has lo hi room =
           let here : get_or (without_block c b) b None ≡ None = get_or-set_same c b None None (let e : buddy h j ≡ b = ap (λ n. buddy h n) same in omega (arith, room, e, buddies_length s h k d)) in
           ap (λ n. get_or (without_block c b) (buddy h n) None) same ∙ here
       | inr ne ↦
-          let apart : buddy h j ≢ b = λ e. let y = has j lo (omega arith) in let z = has (k + d) (omega arith) (omega arith) in let same = same_order (k + d) j (sym z ∙ rw e at y) in ne (sym same) in
+          let apart : buddy h j ≢ b = λ e. let y = has j lo (omega arith) in let z = has (k + d) (omega arith) (omega arith) in let same = same_Some (k + d) j (sym z ∙ rw e at y) in ne (sym same) in
           get_or-set_other c b (buddy h j) None None apart ∙ buddies_gone s h k d j (fewer_buddies s h k d has) lo (omega arith) room
     ]
 

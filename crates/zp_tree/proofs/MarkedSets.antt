@@ -2,6 +2,7 @@
 use Rattle.std.proofs.Common.{ℕ, suc, zero, ◌+◌, ◌-◌, ◌^◌, ◌≡◌, ◌≢◌, ◌≤◌, ◌<◌, ◌↔◌, ◌⊎◌, inl, inr, sym, ◌∙◌, ap, arith, List, length, get_or, Option, Some, None}
 use Rattle.std.proofs.lemmas.Bool.{cases_eq, cases_lt}
 use Rattle.std.proofs.lemmas.List.{length-set, get_or-set_same, get_or-set_other}
+use Rattle.std.proofs.lemmas.Option.{same_Some}
 use Rattle.std.proofs.lemmas.Nat.{pow_pos, pow_below}
 use Rattle.zp_model.specs.BlockSet.{Starts}
 use Rattle.zp_model.specs.Block.{head}
@@ -13,9 +14,6 @@ use Rattle.zp_tree.proofs.JoinedSets.{IsJoining, freed}
 abbrev pub IsMarkedBy : List ℕ → List ℕ → List (Option ℕ) → Type 0
 IsMarkedBy ls hs s = (i k : ℕ) → IsInGroups hs i k → (mark ls hs i k ≡ 1) ↔ Starts s i k
 
-pub some_same : (k j : ℕ) → Some k ≡ Some j → k ≡ j
-some_same k j e = cc
-
 pub marked_set : (ls hs ms gs : List ℕ) (s : List (Option ℕ)) (p k : ℕ) → IsMarkedBy ls hs s → IsRemarked ls hs ms gs p k 1 → p < length s → ((j : ℕ) → Starts s p j → ⊥) → IsMarkedBy ms gs (with_block s p k)
 marked_set ls hs ms gs s p k x r lt none i j y =
     let z : IsInGroups hs i j = rw (← r.size) y in
@@ -25,7 +23,7 @@ marked_set ls hs ms gs s p k x r lt none i j y =
         | inl f ↦ (λ _. rw (e, f) new, λ _. rw (e, f) r.here)
         | inr ne ↦ (
           λ one. absurd (let old = (x i j z).0 (sym (r.others i j z (λ _ f. ne f)) ∙ one) in none j (rw e at old)),
-          λ st. absurd (ne (sym (some_same k j (sym new ∙ rw e at st)))),
+          λ st. absurd (ne (sym (same_Some k j (sym new ∙ rw e at st)))),
         )
       ]
       | inr ne ↦
@@ -43,7 +41,7 @@ marked_clear ls hs ms gs s p k x r lt st i j y =
       | inl e ↦ (
         λ one. absurd (elim (cases_eq j k) [
           | inl f ↦ let zero : mark ms gs i j ≡ 0 = rw (e, f) r.here in omega (arith, zero, one)
-          | inr ne ↦ let old = (x i j z).0 (sym (r.others i j z (λ _ f. ne f)) ∙ one) in ne (sym (some_same k j (sym st ∙ rw e at old)))
+          | inr ne ↦ let old = (x i j z).0 (sym (r.others i j z (λ _ f. ne f)) ∙ one) in ne (sym (same_Some k j (sym st ∙ rw e at old)))
         ]),
         λ w. absurd (gone j (rw e at w)),
       )
@@ -85,7 +83,7 @@ marked_split ls hs ms gs s p f t x r room le st free i j y =
                   let not_it : i ≡ p → j ≡ f → ⊥ = λ e _. omega (arith, e, w.3, pow_pos l) in
                   let not_half : i ≡ p + 2 ^ j → t ≤ j → j < f → ⊥ = λ e lo hi. ne (pow_same j l (omega (arith, e, w.3))) in
                   let old = (x i j z).0 (sym (r.others i j z not_it not_half) ∙ one) in free l j w.1 lf (rw w.3 at old)),
-              λ v. absurd (ne (sym (some_same l j (sym new ∙ v)))),
+              λ v. absurd (ne (sym (same_Some l j (sym new ∙ v)))),
             )
           ]
       | inr none ↦
@@ -96,7 +94,7 @@ marked_split ls hs ms gs s p f t x r room le st free i j y =
                 let new : get_or (split_set s p f t) i None ≡ None = other ∙ rw e (get_or-set_same s p None None (omega (arith, room, pos))) in (
                   λ one. absurd (elim (cases_eq j f) [
                     | inl same ↦ let zero : mark ms gs i j ≡ 0 = rw (e, same) r.here in omega (arith, zero, one)
-                    | inr ne ↦ let old = (x i j z).0 (sym (r.others i j z (λ _ g. ne g) not_half) ∙ one) in ne (sym (some_same f j (sym st ∙ rw e at old)))
+                    | inr ne ↦ let old = (x i j z).0 (sym (r.others i j z (λ _ g. ne g) not_half) ∙ one) in ne (sym (same_Some f j (sym st ∙ rw e at old)))
                   ]),
                   λ v. absurd (let g : None ≡ Some j = sym new ∙ v in cc),
                 )
@@ -121,7 +119,7 @@ marked_joined m ls hs ms gs s p f t x r w i j y =
     let c = without_buddies s p f (t - f) in
     let lt : h < length c = omega (arith, a.block.inside, pow_pos t) in
     let here : get_or (joined_set s p f t) h None ≡ Some t = get_or-set_same c h (Some t) None lt in
-    let buddy_order : (l : ℕ) → f ≤ l → l < t → i ≡ buddy p l → Starts s i j → j ≡ l = λ l lo hi e st. sym (some_same l j (sym (w.buddies l lo hi) ∙ rw e at st)) in
+    let buddy_order : (l : ℕ) → f ≤ l → l < t → i ≡ buddy p l → Starts s i j → j ≡ l = λ l lo hi e st. sym (same_Some l j (sym (w.buddies l lo hi) ∙ rw e at st)) in
     -- a bit that is set and neither of the block nor of a buddy is of a block of the set that was there
     let old : (i ≡ h → j ≡ t → ⊥) → (i ≡ buddy p j → f ≤ j → j < t → ⊥) → mark ms gs i j ≡ 1 → Starts s i j = λ nh nb one. (x i j z).0 (sym (r.others i j z nh nb) ∙ one) in
     elim (cases_eq i h) [
@@ -135,7 +133,7 @@ marked_joined m ls hs ms gs s p f t x r w i j y =
                 | inl b ↦ let same = buddy_order b.0 b.1 b.2 b.3 st in free (b.3 ∙ ap (λ n. buddy p n) (sym same)) (omega (arith, same, b.1)) (omega (arith, same, b.2))
                 | inr none ↦ let kept : Starts c i j = a.other i none ∙ st in a.none j (rw e at kept)
               ]),
-          λ st. absurd (ne (sym (some_same t j (sym here ∙ rw e at st)))),
+          λ st. absurd (ne (sym (same_Some t j (sym here ∙ rw e at st)))),
         )
       ]
       | inr nh ↦

@@ -2,6 +2,7 @@
 use Rattle.std.proofs.Common.{ℕ, ◌+◌, ◌-◌, ◌/◌, ◌%◌, ◌^◌, ◌≡◌, ◌≢◌, ◌≤◌, ◌<◌, inl, inr, refl, sym, ◌∙◌, ap, arith, List, length, get_or, max, slice_index, slice_set, Option, Some, None}
 use Rattle.std.proofs.lemmas.Bool.{cases_eq}
 use Rattle.std.proofs.lemmas.List.{length-set, get_or-set_same, get_or-set_other}
+use Rattle.std.proofs.lemmas.Option.{same_Some}
 use Rattle.std.proofs.lemmas.Nat.{pow_pos, pow_below}
 use Rattle.zp_model.specs.Block.{IsBlock, head}
 use Rattle.zp_model.specs.BlockSet.{Starts}
@@ -13,7 +14,7 @@ use Rattle.zp_tree.specs.Spelled.{IsTreeOf}
 use Rattle.zp_tree.proofs.Apart.{set-starts, clear-starts}
 use Rattle.zp_tree.proofs.BlockSets.{same_page}
 use Rattle.zp_tree.proofs.ChangedSets.{none_in, set_block_set, clear_block_set, split_block_set, halves_other, halves_at, halves_length}
-use Rattle.zp_tree.proofs.MarkedSets.{IsMarkedBy, marked_set, marked_clear, marked_split, marked_joined, half_or_not, some_same}
+use Rattle.zp_tree.proofs.MarkedSets.{IsMarkedBy, marked_set, marked_clear, marked_split, marked_joined, half_or_not}
 use Rattle.zp_tree.proofs.BuddyPlaces.{buddy_around, head_around}
 use Rattle.zp_tree.proofs.JoinedSets.{IsJoining, IsFreed, freed, joined_block_set}
 use Rattle.zp_tree.proofs.Ranked.{IsRankedBy, IsChangedIn, rank_bound, ranks_raised, ranks_lowered}
@@ -55,7 +56,7 @@ changed_set s p k lt none = record {
 changed_clear : (s : List (Option ℕ)) (p k : ℕ) → p < length s → Starts s p k → IsChangedIn s (without_block s p) (p / GROUP_PAGES) k
 changed_clear s p k lt st = record {
   others = λ i ne. get_or-set_other s p i None None (λ e. ne (ap (λ n. n / GROUP_PAGES) e));
-  larger = λ i o more. (λ y. (clear-starts s p i o lt y).1, λ y. get_or-set_other s p i None None (λ e. let f = some_same k o (sym st ∙ rw e at y) in omega (arith, f)) ∙ y);
+  larger = λ i o more. (λ y. (clear-starts s p i o lt y).1, λ y. get_or-set_other s p i None None (λ e. let f = same_Some k o (sym st ∙ rw e at y) in omega (arith, f)) ∙ y);
 }
 
 pub set_tree : (m pages : ℕ) (ls hs rs ms gs ts : List ℕ) (s : List (Option ℕ)) (p k : ℕ) → IsTreeOf m pages ls hs rs s → IsBlock m (length s) p k → IsApart s p k → IsRemarked ls hs ms gs p k 1 →
@@ -114,13 +115,13 @@ changed_split m s p f t x few st le = record {
   larger = λ i o more. elim (half_or_not p t d i) [
     | inl w ↦
         let lf : w.0 < f = omega (arith, w.2) in (
-          λ y. absurd (let e = some_same w.0 o (sym (half w.0 w.1 lf) ∙ rw w.3 at y) in omega (arith, e, lf)),
+          λ y. absurd (let e = same_Some w.0 o (sym (half w.0 w.1 lf) ∙ rw w.3 at y) in omega (arith, e, lf)),
           λ y. absurd (free_inside m s p f i o x st (omega (arith, w.3, pow_pos w.0)) (omega (arith, w.3, inside w.0 lf)) y),
         )
     | inr none ↦ elim (cases_eq i p) [
       | inl e ↦ (
         λ y. absurd (let z = rw e at y in let g : None ≡ Some o = sym gone ∙ z in cc),
-        λ y. absurd (let g = some_same f o (sym st ∙ rw e at y) in omega (arith, g)),
+        λ y. absurd (let g = same_Some f o (sym st ∙ rw e at y) in omega (arith, g)),
       )
       | inr ne ↦ (λ y. sym (rest i none ne) ∙ y, λ y. rest i none ne ∙ y)
     ]
@@ -190,7 +191,7 @@ changed_joined m s p f t few x = record {
   ];
   larger = λ i o more. elim (cases_eq i h) [
     | inl e ↦ (
-      λ y. absurd (let z = some_same t o (sym here ∙ rw e at y) in omega (arith, z)),
+      λ y. absurd (let z = same_Some t o (sym here ∙ rw e at y) in omega (arith, z)),
       λ y. absurd (elim (a.which i) [
         | inl b ↦ let z = order b.0 b.1 b.2 o (rw b.3 at y) in omega (arith, z, b.2)
         | inr none ↦ let kept : Starts c i o = a.other i none ∙ y in a.none o (rw e at kept)
@@ -222,7 +223,7 @@ changed_joined m s p f t few x = record {
     rest i ne = get_or-set_other c h i (Some t) None ne
 
     order : (l : ℕ) → f ≤ l → l < t → (o : ℕ) → Starts s (buddy p l) o → l ≡ o
-    order l lo hi o y = some_same l o (sym (x.buddies l lo hi) ∙ y)
+    order l lo hi o y = same_Some l o (sym (x.buddies l lo hi) ∙ y)
 
 pub join_tree : (m pages : ℕ) (ls hs rs ms gs ts : List ℕ) (s : List (Option ℕ)) (p f t : ℕ) → IsTreeOf m pages ls hs rs s → IsJoining m s p f t → IsJoinedUp ls hs ms gs p f t →
     ts ≡ slice_set rs (p / GROUP_PAGES) (max (t + 1) (slice_index rs (p / GROUP_PAGES))) → IsTreeOf m pages ms gs ts (joined_set s p f t)
