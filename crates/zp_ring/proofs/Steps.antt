@@ -8,9 +8,11 @@ use mathlib.Core.List.{IsPrefix}
 use lib.ListN.{get_elem?}
 use Rattle.atomic_table.specs.Table.{Me, step, keeps, Allows, Splits, Joins}
 use Rattle.atomic_table.proofs.Lists.{at_set, at_snoc}
+use Rattle.zp_board.specs.Boards.{entry_at}
+use Rattle.zp_board.proofs.Words.{each_more, prefix_get, prefix_length, prefix_more, prefix_self, word_written}
 use Rattle.zp_ring.specs.declared.ring_row.RingView.{RingView}
-use Rattle.zp_ring.specs.Rings.{blank, both_of, emptied, entry_at, newcomer, reading, storing, word_at, Fetches, Finds, Heads, IsTurning, Lies, Looks, Opens, Posts, Sits, Writes}
-use Rattle.zp_ring.proofs.Words.{apart, each_more, heads_more, inside_row, prefix_get, prefix_length, prefix_more, prefix_self, turn, word_written}
+use Rattle.zp_ring.specs.Rings.{blank, both_of, emptied, newcomer, reading, storing, word_at, Fetches, Finds, Heads, IsTurning, Lies, Looks, Opens, Posts, Sits, Writes}
+use Rattle.zp_ring.proofs.Words.{apart, heads_more, inside_row, turn}
 
 off : false ≡ true → ⊥
 off e = true≢false (sym e)

@@ -1,10 +1,11 @@
 -- What the seats of a turning board's row know, and the rule over them: one seat stores, what a seat has seen is a beginning of what is published, and what it fetched is of the entry that it looks for, as long as that one has not been turned over.
-use Rattle.std.specs.Prelude.{◌≡◌, ℕ, ◌+◌, ◌-◌, ◌*◌, ◌%◌, ◌<◌, ◌≤◌, ◌⊎◌, true, false, List, [], ◌∷◌, ◌++◌, length, slice_index, slice_index_or}
+use Rattle.std.specs.Prelude.{◌≡◌, ℕ, ◌+◌, ◌-◌, ◌*◌, ◌%◌, ◌<◌, ◌≤◌, ◌⊎◌, true, false, List, [], ◌∷◌, ◌++◌, length, slice_index}
 use mathlib.Core.Option.{some}
 use mathlib.Core.List.{IsPrefix}
 use lib.ListN.{get_elem?}
 use Rattle.atomic_table.specs.Table.{State, Me, Step}
 use Rattle.atomic_table.specs.Seated.{TableId}
+use Rattle.zp_board.specs.Boards.{entry_at}
 use Rattle.zp_ring.specs.declared.ring.TheConstants.{TRIES}
 use Rattle.zp_ring.specs.declared.ring_row.RingView.{RingView}
 
@@ -54,14 +55,6 @@ pub record IsFresh (slots : ℕ) (before after : RingReaderState) : Type 0 where
   pub looked : after.looks ≡ before.looks ++ places
   pub order : AreLooks places before.known after.known
   pub fresh : WasMet slots places before.known (length after.seen) after.known ⊎ ((after.seen ≡ before.seen) × WerePassed slots places)
-
--- an entry of a list, counted from 0
-abbrev pub entry_at : List (List ℕ) → ℕ → List ℕ
-entry_at es n = slice_index_or es n []
-
--- the last one
-abbrev pub last_of : List (List ℕ) → List ℕ
-last_of es = entry_at es (length es - 1)
 
 abbrev pub blank : RingView
 blank = record { stores = true; entries = []; next = []; reads = false; seen = []; from = 0; got = []; looks = [] }

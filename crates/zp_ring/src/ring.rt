@@ -1,7 +1,8 @@
 //! The board, the publisher that writes it, and its readers.
 ghost use Rattle.std.specs.Prelude.{◌≡◌, ◌+◌, ◌-◌, ◌*◌, ◌<◌, ◌≤◌, ◌^◌, ◌↔◌, ◌⊎◌, ℕ, [], ◌∷◌, ◌++◌, true, length, IfOk, IsTrue};
 ghost use mathlib.Core.List.{IsPrefix};
-ghost use Rattle.zp_ring.specs.Rings.{AreWide, Heads, IsFresh, entry_at, last_of, word_at};
+ghost use Rattle.zp_board.specs.Boards.{entry_at, last_of};
+ghost use Rattle.zp_ring.specs.Rings.{AreWide, Heads, IsFresh, word_at};
 
 use crate::ring_row::{
     FetchWord, FindWord, LookAtPlace, NewReader, OpenEntry, Pin, Row, SeenSide, WholeSide,
@@ -65,7 +66,8 @@ pub struct RingReader<const W: usize, const S: usize> {
 
 impl<const W: usize, const S: usize> Model for RingReader<W, S> {
     ghost use Rattle.std.specs.Prelude.{◌≡◌, ◌+◌, ◌<◌, true, false, [], length, take};
-    ghost use Rattle.zp_ring.specs.Rings.{RingReaderState, entry_at};
+    ghost use Rattle.zp_board.specs.Boards.{entry_at};
+    ghost use Rattle.zp_ring.specs.Rings.{RingReaderState};
 
     ghost Value = { RingReaderState };
 

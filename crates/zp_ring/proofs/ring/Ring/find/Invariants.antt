@@ -1,5 +1,5 @@
 use Rattle.std.proofs.Common.{◌≡◌, ◌<◌, ◌≤◌, ℕ, length, get_or}
-use Rattle.zp_ring.specs.Rings.{last_of}
+use Rattle.zp_board.specs.Boards.{last_of}
 use Rattle.zp_ring.proofs.ring.Ring.find.Given as goal
 
 -- the words so far are those of the last entry

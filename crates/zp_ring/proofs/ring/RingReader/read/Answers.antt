@@ -2,10 +2,11 @@ use Rattle.std.proofs.Common.{◌≡◌, ℕ, ◌+◌, ◌-◌, ◌<◌, ◌≤�
 use Rattle.std.proofs.lemmas.List.{length-take-le}
 use mathlib.Core.List.{IsPrefix}
 use Rattle.zp_ring.specs.declared.ring.TheConstants.{TRIES}
-use Rattle.zp_ring.specs.Rings.{entry_at}
+use Rattle.zp_board.specs.Boards.{entry_at}
 use Rattle.zp_ring.proofs.Looking.{HaveTried, looked_again, met, met_looks, passed_looks}
 use Rattle.zp_ring.proofs.Steps.{looks}
-use Rattle.zp_ring.proofs.Words.{last_taken, prefix_length, prefix_takes, prefix_then, read_between, take_begun}
+use Rattle.zp_board.proofs.Words.{prefix_length}
+use Rattle.zp_ring.proofs.Words.{last_taken, prefix_takes, prefix_then, read_between, take_begun}
 use Rattle.zp_ring.proofs.ring.RingReader.read.Goals as goal
 
 pub load-place-requires : goal.load-place-requires
