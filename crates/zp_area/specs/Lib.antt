@@ -8,3 +8,4 @@ pub mod OneSet
 pub mod Chains
 pub mod Available
 pub mod Claims
+pub mod KeptSets

@@ -21,6 +21,7 @@ ghost use Rattle.zp_area.specs.Claims.{IsLargestClaimable, IsOtherType};
 
 use crate::available::{count_isolated, largest_seen, tell_added, tell_type};
 use crate::free_lists::list_of;
+use crate::kept_blocks::KeptBlocks;
 use crate::linked_page::LinkedPage;
 use crate::noting::Noted;
 use crate::retypes::retype;
@@ -37,13 +38,7 @@ use zp_tree::{Meter, OrderTree};
 /// Contracts see what is noted of each page, the lists and the types of the pageblocks; the set is what is noted as free.
 #[derive(Drop)]
 pub struct FreeArea {
-    largest: Largest,
-    lists: Lists,
-    kinds: Vec<PageblockType>,
-    /// The blocks outside isolated pageblocks.
-    tree: OrderTree,
-    /// How many pages of each pageblock are in blocks.
-    free_in: Vec<u32>,
+    blocks: KeptBlocks,
     /// How many pages of isolated pageblocks are in blocks.
     isolated: u32,
     /// What is noted of the pageblocks for a claim.
@@ -52,13 +47,14 @@ pub struct FreeArea {
 
 impl Model for FreeArea {
     ghost use Rattle.zp_area.specs.Blocks.{Blocks};
+    ghost use Rattle.zp_area.specs.KeptSets.{set_of};
     ghost use Rattle.zp_area.specs.Claims.{IsIndexed};
 
     ghost Value = { Blocks };
 
-    ghost view = { λ a. record { largest = a.largest; rows = a.lists; kinds = a.kinds.items } };
+    ghost view = { λ a. set_of a.blocks };
 
-    ghost invariant = { λ a. IsIndexed (record { largest = a.largest; rows = a.lists; kinds = a.kinds.items }) a.tree a.free_in.items a.isolated a.noted.claims a.noted.stale.marks };
+    ghost invariant = { λ a. IsIndexed (set_of a.blocks) a.blocks.tree a.blocks.free_in.items a.isolated a.noted.claims a.noted.stale.marks };
 }
 
 impl FreeArea {
@@ -83,11 +79,13 @@ impl FreeArea {
         let table = PageTable::new(alloc, pages)?;
         let lists = Lists::new(alloc, table, largest.lists() + side)?;
         Ok(FreeArea {
-            largest,
-            lists,
-            kinds,
-            tree,
-            free_in,
+            blocks: KeptBlocks {
+                largest,
+                lists,
+                kinds,
+                tree,
+                free_in,
+            },
             isolated: 0,
             noted: Noted { claims, stale },
         })
@@ -100,14 +98,14 @@ impl FreeArea {
         ensures one { IsOneSet self.now.largest self.now }
         ensures row { IsRow self.now.rows.lists (length self.now.rows.states) }
     {
-        self.lists.pages() as u32
+        self.blocks.lists.pages() as u32
     }
 
     /// The order of the largest block.
     pub fn largest(&self) -> Largest
         ensures { result ≡ self.now.largest }
     {
-        self.largest
+        self.blocks.largest
     }
 
     /// How many pageblocks there are. Each block lies in one of them.
@@ -115,7 +113,7 @@ impl FreeArea {
         ensures same { result ≡ length self.now.kinds }
         ensures blocks { (h k : ℕ) → Starts (block_set self.now) h k → h / pageblock_pages self.now.largest < result }
     {
-        self.kinds.len()
+        self.blocks.kinds.len()
     }
 
     /// Takes a block into the set. Its head comes in front of the list of its order and its pageblock's type.
@@ -129,21 +127,17 @@ impl FreeArea {
         ensures held { Starts (block_set self.new) at order }
         ensures still_clear { (h k : ℕ) → IsClearRun self.old.largest self.old.rows.states self.old.rows.lists h k → IsBeside h k at order → IsClearRun self.old.largest self.new.rows.states self.new.rows.lists h k }
     {
-        let pageblock = self.largest.pageblock_of(at);
-        let kind = self.kinds[pageblock];
+        // a clause of this call says how large it can be
+        let _number = self.blocks.largest.number();
+        let pageblock = self.blocks.largest.pageblock_of(at);
+        let kind = self.blocks.kinds[pageblock];
         let list = list_of(order, kind);
-        self.lists.push_front_noted(list, at, State::Free(order));
-        tell_added(&mut self.tree, kind, at, order);
+        let lists = &mut self.blocks.lists;
+        lists.push_front_noted(list, at, State::Free(order));
+        tell_added(&mut self.blocks.tree, kind, at, order);
         count_isolated(&mut self.isolated, kind, order);
-        self.free_in[pageblock] += order.pages();
-        noting::changed(
-            &mut self.noted,
-            self.largest,
-            &self.tree,
-            &self.kinds,
-            &self.free_in,
-            pageblock,
-        );
+        self.blocks.free_in[pageblock] += order.pages();
+        noting::changed(&mut self.noted, &self.blocks, pageblock);
     }
 
     /// Takes a block of order `from`, in a pageblock of this type, which is not isolated, out of the set, and its high halves down to order `to` into it, the
@@ -169,30 +163,19 @@ impl FreeArea {
         requires typed { pageblock_type kind ≡ kind_at self.old.largest self.old.kinds at }
         ensures { self.new ≡ removed self.old.largest self.old at order }
     {
-        let pageblock = self.largest.pageblock_of(at);
+        let pageblock = self.blocks.largest.pageblock_of(at);
         splits::take_whole(
-            &mut self.lists,
-            &self.kinds,
-            &mut self.tree,
-            &mut self.free_in,
-            self.largest,
+            &mut self.blocks,
             pageblock,
             kind.pageblock_type(),
             at,
             order,
         );
-        noting::changed(
-            &mut self.noted,
-            self.largest,
-            &self.tree,
-            &self.kinds,
-            &self.free_in,
-            pageblock,
-        );
+        noting::changed(&mut self.noted, &self.blocks, pageblock);
     }
 
     /// The same of a block that is split.
-    // (out of line: most blocks are taken whole, which is the shorter way; and a method, as one pointer in a loop is less than four)
+    // (out of line: most blocks are taken whole, which is the shorter way)
     #[inline(never)]
     fn split_down(&mut self, at: PageAt, from: Order, to: Order, kind: MigrateType)
         requires block { Starts (block_set self.old) at from }
@@ -200,27 +183,16 @@ impl FreeArea {
         requires down { to < from }
         ensures { self.new ≡ split_off self.old.largest self.old at from to }
     {
-        let pageblock = self.largest.pageblock_of(at);
+        let pageblock = self.blocks.largest.pageblock_of(at);
         splits::split_off(
-            &mut self.lists,
-            &self.kinds,
-            &mut self.tree,
-            &mut self.free_in,
-            self.largest,
+            &mut self.blocks,
             pageblock,
             kind.pageblock_type(),
             at,
             from,
             to,
         );
-        noting::changed(
-            &mut self.noted,
-            self.largest,
-            &self.tree,
-            &self.kinds,
-            &self.free_in,
-            pageblock,
-        );
+        noting::changed(&mut self.noted, &self.blocks, pageblock);
     }
 
     /// Takes a block into the set, joined with its buddies as long as they are in the set: each leaves it, and what the block has
@@ -231,7 +203,7 @@ impl FreeArea {
         requires clear { IsClearRun self.old.largest self.old.rows.states self.old.rows.lists at order }
         ensures { (d : ℕ) × IsJoinedUp d self.old.largest self.old at order self.new }
     {
-        if joins::has_free_buddy(&self.lists, self.largest, at, order) {
+        if joins::has_free_buddy(&self.blocks.lists, self.blocks.largest, at, order) {
             self.join_buddies(at, order);
         } else {
             self.add(at, order);
@@ -239,35 +211,18 @@ impl FreeArea {
     }
 
     /// The same of a block that is joined.
-    // (out of line, as most blocks have no free buddy, and a method)
+    // (out of line, as most blocks have no free buddy)
     #[inline(never)]
     fn join_buddies(&mut self, at: PageAt, order: Order)
         requires block { IsBlock self.old.largest (length self.old.rows.states) at order }
         requires clear { IsClearRun self.old.largest self.old.rows.states self.old.rows.lists at order }
         ensures { (d : ℕ) × IsJoinedUp d self.old.largest self.old at order self.new }
     {
-        let pageblock = self.largest.pageblock_of(at);
-        let kind = self.kinds[pageblock];
-        joins::join_up(
-            &mut self.lists,
-            &self.kinds,
-            &mut self.tree,
-            &mut self.free_in,
-            self.largest,
-            pageblock,
-            kind,
-            at,
-            order,
-        );
+        let pageblock = self.blocks.largest.pageblock_of(at);
+        let kind = self.blocks.kinds[pageblock];
+        joins::join_up(&mut self.blocks, pageblock, kind, at, order);
         count_isolated(&mut self.isolated, kind, order);
-        noting::changed(
-            &mut self.noted,
-            self.largest,
-            &self.tree,
-            &self.kinds,
-            &self.free_in,
-            pageblock,
-        );
+        noting::changed(&mut self.noted, &self.blocks, pageblock);
     }
 
     /// Gives a pageblock a type. Where it is another one, its blocks go to the lists of the type, the highest in front; from now on they are
@@ -277,32 +232,16 @@ impl FreeArea {
         ensures after { self.new ≡ retyped self.old.largest self.old pageblock kind }
         ensures same { kind ≡ slice_index_or self.old.kinds pageblock Movable → self.new ≡ self.old }
     {
-        if self.kinds[pageblock] != kind {
-            tell_type(
-                &self.lists,
-                &self.kinds,
-                &mut self.tree,
-                &mut self.isolated,
-                &self.free_in,
-                self.largest,
-                pageblock,
-                kind,
-            );
+        if self.blocks.kinds[pageblock] != kind {
+            tell_type(&mut self.blocks, &mut self.isolated, pageblock, kind);
             retype(
-                &mut self.lists,
-                &mut self.kinds,
-                self.largest,
+                &mut self.blocks.lists,
+                &mut self.blocks.kinds,
+                self.blocks.largest,
                 pageblock,
                 kind,
             );
-            noting::changed(
-                &mut self.noted,
-                self.largest,
-                &self.tree,
-                &self.kinds,
-                &self.free_in,
-                pageblock,
-            );
+            noting::changed(&mut self.noted, &self.blocks, pageblock);
         }
     }
 
@@ -310,20 +249,32 @@ impl FreeArea {
     pub fn is_free(&self, at: PageAt, order: Order) -> bool
         ensures { IsTrue result ↔ (state_at self.now.rows.states at ≡ Free order) }
     {
-        joins::is_free(&self.lists, at, order)
+        joins::is_free(&self.blocks.lists, at, order)
     }
 
     /// How many blocks of an order there are: those on its lists.
     pub fn count(&self, order: Order) -> u32
         ensures { result ≡ count_of (block_set self.now) order }
     {
-        if order.number() > self.largest.number() {
+        if order.number() > self.blocks.largest.number() {
             return 0;
         }
-        let unmovable = self.lists.len(list_of(order, PageblockType::Unmovable));
-        let reclaimable = self.lists.len(list_of(order, PageblockType::Reclaimable));
-        let movable = self.lists.len(list_of(order, PageblockType::Movable));
-        let isolated = self.lists.len(list_of(order, PageblockType::Isolate));
+        let unmovable = self
+            .blocks
+            .lists
+            .len(list_of(order, PageblockType::Unmovable));
+        let reclaimable = self
+            .blocks
+            .lists
+            .len(list_of(order, PageblockType::Reclaimable));
+        let movable = self
+            .blocks
+            .lists
+            .len(list_of(order, PageblockType::Movable));
+        let isolated = self
+            .blocks
+            .lists
+            .len(list_of(order, PageblockType::Isolate));
         unmovable + reclaimable + movable + isolated
     }
 
@@ -332,7 +283,7 @@ impl FreeArea {
         requires { pageblock < length self.now.kinds }
         ensures { result ≡ size_in self.now.largest (cover (block_set self.now)) pageblock }
     {
-        self.free_in[pageblock]
+        self.blocks.free_in[pageblock]
     }
 
     /// How many pages of isolated pageblocks are in blocks: those of all blocks, without what is available.
@@ -347,7 +298,7 @@ impl FreeArea {
         requires { pageblock < length self.now.kinds }
         ensures { result ≡ slice_index_or self.now.kinds pageblock Movable }
     {
-        self.kinds[pageblock]
+        self.blocks.kinds[pageblock]
     }
 
     /// The largest order of a block in a pageblock. One node of the tree is read; of an isolated one, each page.
@@ -359,11 +310,13 @@ impl FreeArea {
     {
         // a clause of this call says how many pageblocks there can be
         let _pages = self.pages();
-        if self.kinds[pageblock].is_isolate() {
-            return largest_seen(&self.lists, self.largest, pageblock);
+        if self.blocks.kinds[pageblock].is_isolate() {
+            return largest_seen(&self.blocks.lists, self.blocks.largest, pageblock);
         }
-        let first = PageAt::at(pageblock as u32 * self.largest.pageblock_pages());
-        self.tree.largest_in(first, self.largest.order())
+        let first = PageAt::at(pageblock as u32 * self.blocks.largest.pageblock_pages());
+        self.blocks
+            .tree
+            .largest_in(first, self.blocks.largest.order())
     }
 
     /// The block of this order or more with the least head, outside isolated pageblocks.
@@ -373,7 +326,7 @@ impl FreeArea {
         ensures open { IfSome result (λ b. is_isolated self.now.largest self.now.kinds b.0 ≡ false) }
     {
         let mut meter = Meter::new();
-        self.tree.lowest(order, &mut meter)
+        self.blocks.tree.lowest(order, &mut meter)
     }
 
     /// The head in front of the list of an order and a type.
@@ -383,10 +336,10 @@ impl FreeArea {
         ensures starts { IfSome result (λ at. Starts (block_set self.now) at order) }
         ensures typed { IfSome result (λ at. kind ≡ kind_at self.now.largest self.now.kinds at) }
     {
-        if order.number() > self.largest.number() {
+        if order.number() > self.blocks.largest.number() {
             return None;
         }
-        self.lists.front(list_of(order, kind))
+        self.blocks.lists.front(list_of(order, kind))
     }
 
     /// The head after this one on the list of an order and a type.
@@ -397,7 +350,7 @@ impl FreeArea {
         ensures starts { IfSome result (λ at. Starts (block_set self.now) at order) }
         ensures typed { IfSome result (λ at. kind ≡ kind_at self.now.largest self.now.kinds at) }
     {
-        self.lists.after(list_of(order, kind), at)
+        self.blocks.lists.after(list_of(order, kind), at)
     }
 
     /// Whether a block of this order lies in a pageblock of another migrate type.
@@ -418,21 +371,15 @@ impl FreeArea {
         ensures answer { IsLargestClaimable self.old.largest self.old kind result }
         ensures same { self.new ≡ self.old }
     {
-        let whole = self.largest.order();
+        let whole = self.blocks.largest.order();
         if self.is_beside(whole, kind) {
             return Some(whole);
         }
-        let half = Order::at(self.largest.number() - 1);
+        let half = Order::at(self.blocks.largest.number() - 1);
         if self.is_beside(half, kind) {
             return Some(half);
         }
-        noting::look_at_marked(
-            &mut self.noted,
-            self.largest,
-            &self.tree,
-            &self.kinds,
-            &self.free_in,
-        );
+        noting::look_at_marked(&mut self.noted, &self.blocks);
         self.noted.claims.largest_beside(kind)
     }
 
@@ -440,7 +387,7 @@ impl FreeArea {
     pub fn on_any(&self, at: PageAt) -> bool
         ensures { IsTrue result ↔ ((r : ℕ) × IsOn self.now.rows.lists r at) }
     {
-        self.lists.on_any(at)
+        self.blocks.lists.on_any(at)
     }
 
     /// Notes what a page that is in no block holds.
@@ -451,7 +398,7 @@ impl FreeArea {
         ensures after { self.new ≡ noted self.old at state }
         ensures still_clear { (h k : ℕ) → IsClearRun self.old.largest self.old.rows.states self.old.rows.lists h k → IsClearRun self.old.largest self.new.rows.states self.new.rows.lists h k }
     {
-        self.lists.set_state(at, state);
+        self.blocks.lists.set_state(at, state);
     }
 
     /// What is noted of a page.
@@ -459,7 +406,7 @@ impl FreeArea {
         requires { at < length self.now.rows.states }
         ensures { result ≡ state_at self.now.rows.states at }
     {
-        self.lists.state(at)
+        self.blocks.lists.state(at)
     }
 
     /// What is noted of a page, and its neighbours in its list.
@@ -469,9 +416,9 @@ impl FreeArea {
         ensures linked { IsLinkedAt self.now.rows.lists at result.back result.forward }
     {
         LinkedPage {
-            state: self.lists.state(at),
-            back: self.lists.back(at),
-            forward: self.lists.forward(at),
+            state: self.blocks.lists.state(at),
+            back: self.blocks.lists.back(at),
+            forward: self.blocks.lists.forward(at),
         }
     }
 
@@ -483,7 +430,9 @@ impl FreeArea {
         requires loose { IsLoose self.old.rows.lists at }
         ensures { self.new ≡ side_pushed self.old.largest self.old list at }
     {
-        self.lists.push_back(self.largest.lists() + list, at);
+        self.blocks
+            .lists
+            .push_back(self.blocks.largest.lists() + list, at);
     }
 
     /// Takes the page in front of a further list.
@@ -494,7 +443,9 @@ impl FreeArea {
         ensures page { IfSome result (λ at. at < length self.new.rows.states) }
         ensures loose { IfSome result (IsLoose self.new.rows.lists) }
     {
-        self.lists.pop_front(self.largest.lists() + list)
+        self.blocks
+            .lists
+            .pop_front(self.blocks.largest.lists() + list)
     }
 
     /// The page in front of a further list.
@@ -502,6 +453,6 @@ impl FreeArea {
         requires { lists_count self.now.largest + list < length self.now.rows.lists }
         ensures { result ≡ front (side_list_of self.now.largest self.now list) }
     {
-        self.lists.front(self.largest.lists() + list)
+        self.blocks.lists.front(self.blocks.largest.lists() + list)
     }
 }

@@ -14,9 +14,11 @@ ghost use Rattle.zp_model.specs.Area.{available_blocks, pageblock_pages};
 ghost use Rattle.zp_tree.specs.Blocks.{HasBuddies, IsApart, IsBlockSet, joined_set, with_block};
 ghost use Rattle.zp_area.specs.NotedBlocks.{blocks_of};
 ghost use Rattle.zp_area.specs.Available.{isolated_sum, retold};
+ghost use Rattle.zp_area.specs.KeptSets.{set_of};
 ghost use Rattle.zp_area.specs.Moved.{pages_seen};
 ghost use Rattle.zp_area.specs.OneSet.{IsOneSet};
 
+use crate::kept_blocks::KeptBlocks;
 use zp_links::Lists;
 use zp_model::{Largest, Order, PageAt, PageblockType, State};
 use zp_tree::{GROUP_PAGES, OrderTree};
@@ -132,34 +134,32 @@ fn tell_pageblock(
 }
 
 /// Tells the tree and the number of isolated pages of a pageblock that is about to get this type.
-pub fn tell_type(
-    lists: &Lists,
-    kinds: &Vec<PageblockType>,
-    tree: &mut OrderTree,
-    isolated: &mut u32,
-    free_in: &Vec<u32>,
-    largest: Largest,
-    pageblock: usize,
-    kind: PageblockType,
-)
-    requires one { IsOneSet largest (record { largest = largest; rows = lists.now; kinds = kinds.now.items }) }
-    requires told { tree.old ≡ available_blocks largest kinds.now.items (blocks_of lists.now.states) }
-    requires apart { isolated.old ≡ isolated_sum kinds.now.items free_in.now.items }
-    requires few { isolated_sum (slice_set kinds.now.items pageblock kind) free_in.now.items < 2 ^ 32 }
-    requires pageblock { pageblock < length kinds.now.items }
-    requires numbers { length free_in.now.items ≡ length kinds.now.items }
-    ensures told { tree.new ≡ available_blocks largest (slice_set kinds.now.items pageblock kind) (blocks_of lists.now.states) }
-    ensures apart { isolated.new ≡ isolated_sum (slice_set kinds.now.items pageblock kind) free_in.now.items }
+pub fn tell_type(blocks: &mut KeptBlocks, isolated: &mut u32, pageblock: usize, kind: PageblockType)
+    requires one { IsOneSet blocks.old.largest (set_of blocks.old) }
+    requires told { blocks.old.tree ≡ available_blocks blocks.old.largest blocks.old.kinds.items (blocks_of blocks.old.lists.states) }
+    requires apart { isolated.old ≡ isolated_sum blocks.old.kinds.items blocks.old.free_in.items }
+    requires few { isolated_sum (slice_set blocks.old.kinds.items pageblock kind) blocks.old.free_in.items < 2 ^ 32 }
+    requires pageblock { pageblock < length blocks.old.kinds.items }
+    requires numbers { length blocks.old.free_in.items ≡ length blocks.old.kinds.items }
+    ensures told { blocks.new ≡ record blocks.old { tree = available_blocks blocks.old.largest (slice_set blocks.old.kinds.items pageblock kind) (blocks_of blocks.old.lists.states) } }
+    ensures apart { isolated.new ≡ isolated_sum (slice_set blocks.old.kinds.items pageblock kind) blocks.old.free_in.items }
 {
     let isolates = kind.is_isolate();
-    if kinds[pageblock].is_isolate() == isolates {
+    if blocks.kinds[pageblock].is_isolate() == isolates {
         return;
     }
-    tell_pageblock(lists, kinds, tree, largest, pageblock, kind);
+    tell_pageblock(
+        &blocks.lists,
+        &blocks.kinds,
+        &mut blocks.tree,
+        blocks.largest,
+        pageblock,
+        kind,
+    );
     if isolates {
-        *isolated += free_in[pageblock];
+        *isolated += blocks.free_in[pageblock];
     } else {
-        *isolated -= free_in[pageblock];
+        *isolated -= blocks.free_in[pageblock];
     }
 }
 

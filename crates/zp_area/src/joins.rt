@@ -8,10 +8,12 @@ ghost use Rattle.zp_model.specs.Rows.{state_at};
 ghost use Rattle.zp_model.specs.Area.{kind_at, pageblock_pages};
 ghost use Rattle.zp_area.specs.Chains.{IsJoinedUp};
 ghost use Rattle.zp_area.specs.Given.{IsClearRun};
+ghost use Rattle.zp_area.specs.KeptSets.{set_of};
 ghost use Rattle.zp_area.specs.OneSet.{IsKept};
 ghost use Rattle.zp_area.specs.Available.{choosable};
 
 use crate::available::tell_joined;
+use crate::kept_blocks::KeptBlocks;
 use crate::splits::{put_in, take_out};
 use zp_links::Lists;
 use zp_model::{Largest, Order, PageAt, PageblockType, State};
@@ -37,27 +39,33 @@ pub fn has_free_buddy(lists: &Lists, largest: Largest, at: PageAt, order: Order)
 /// has grown to comes on a list last, and in the tree all is one change, where the pageblock, which has this type, is not isolated.
 #[inline(always)]
 pub fn join_up(
-    lists: &mut Lists,
-    kinds: &Vec<PageblockType>,
-    tree: &mut OrderTree,
-    free_in: &mut Vec<u32>,
-    largest: Largest,
+    blocks: &mut KeptBlocks,
     pageblock: usize,
     kind: PageblockType,
     at: PageAt,
     order: Order,
 )
-    requires kept { IsKept largest (record { largest = largest; rows = lists.old; kinds = kinds.now.items }) free_in.old.items }
-    requires told { tree.old ≡ choosable largest (record { largest = largest; rows = lists.old; kinds = kinds.now.items }) }
-    requires typed { kind ≡ kind_at largest kinds.now.items at }
-    requires here { pageblock ≡ at / pageblock_pages largest }
-    requires block { IsBlock largest (length lists.old.states) at order }
-    requires clear { IsClearRun largest lists.old.states lists.old.lists at order }
-    ensures kept { IsKept largest (record { largest = largest; rows = lists.new; kinds = kinds.now.items }) free_in.new.items }
-    ensures told { tree.new ≡ choosable largest (record { largest = largest; rows = lists.new; kinds = kinds.now.items }) }
-    ensures numbers { free_in.new.items ≡ slice_set free_in.old.items pageblock (slice_index free_in.old.items pageblock + 2 ^ order) }
-    ensures after { (d : ℕ) × IsJoinedUp d largest (record { largest = largest; rows = lists.old; kinds = kinds.now.items }) at order (record { largest = largest; rows = lists.new; kinds = kinds.now.items }) }
+    requires kept { IsKept blocks.old.largest (set_of blocks.old) blocks.old.free_in.items }
+    requires told { blocks.old.tree ≡ choosable blocks.old.largest (set_of blocks.old) }
+    requires typed { kind ≡ kind_at blocks.old.largest blocks.old.kinds.items at }
+    requires here { pageblock ≡ at / pageblock_pages blocks.old.largest }
+    requires block { IsBlock blocks.old.largest (length blocks.old.lists.states) at order }
+    requires clear { IsClearRun blocks.old.largest blocks.old.lists.states blocks.old.lists.lists at order }
+    ensures kept { IsKept blocks.old.largest (record (set_of blocks.old) { rows = blocks.new.lists }) blocks.new.free_in.items }
+    ensures told { blocks.new.tree ≡ choosable blocks.old.largest (record (set_of blocks.old) { rows = blocks.new.lists }) }
+    ensures stays { (blocks.new.largest ≡ blocks.old.largest) × (blocks.new.kinds ≡ blocks.old.kinds) }
+    ensures numbers { blocks.new.free_in.items ≡ slice_set blocks.old.free_in.items pageblock (slice_index blocks.old.free_in.items pageblock + 2 ^ order) }
+    ensures after { (d : ℕ) × IsJoinedUp d blocks.old.largest (set_of blocks.old) at order (record (set_of blocks.old) { rows = blocks.new.lists }) }
 {
+    let largest = blocks.largest;
+    // a clause of this call says how large it can be
+    let _number = largest.number();
+    let KeptBlocks {
+        lists,
+        tree,
+        free_in,
+        ..
+    } = blocks;
     free_in[pageblock] += order.pages();
     let mut head = at;
     let mut joined = order;

@@ -9,6 +9,7 @@ mod area;
 mod available;
 mod free_lists;
 mod joins;
+mod kept_blocks;
 mod linked_page;
 mod noting;
 mod retypes;

@@ -4,31 +4,25 @@ ghost use Rattle.std.specs.Prelude.{ℕ, ◌≡◌, ◌<◌, length, slice_set};
 ghost use Rattle.zp_claims.specs.Noted.{noted_at};
 ghost use Rattle.zp_area.specs.Claims.{claim_of, IsClaimed, IsClaimedBut, IsPageblock};
 
+use crate::kept_blocks::KeptBlocks;
 use zp_claims::{Claim, ClaimTable, StaleSet};
-use zp_model::{Largest, PageAt, PageblockType};
-use zp_tree::OrderTree;
+use zp_model::PageAt;
 
 /// What is to be noted of a pageblock: nothing, where it is isolated. Mostly its number of free pages or its largest block says so.
 #[inline(always)]
-fn claim_of(
-    largest: Largest,
-    tree: &OrderTree,
-    kinds: &Vec<PageblockType>,
-    free_in: &Vec<u32>,
-    pageblock: usize,
-) -> Option<Claim>
-    requires { IsPageblock largest tree.now kinds.now.items free_in.now.items pageblock }
-    ensures { result ≡ claim_of largest tree.now kinds.now.items pageblock }
+fn claim_of(blocks: &KeptBlocks, pageblock: usize) -> Option<Claim>
+    requires { IsPageblock blocks.now.largest blocks.now.tree blocks.now.kinds.items blocks.now.free_in.items pageblock }
+    ensures { result ≡ claim_of blocks.now.largest blocks.now.tree blocks.now.kinds.items pageblock }
 {
-    if free_in[pageblock] < largest.claim_pages() {
+    if blocks.free_in[pageblock] < blocks.largest.claim_pages() {
         return None;
     }
-    let first = PageAt::at(pageblock as u32 * largest.pageblock_pages());
-    let order = tree.largest_in(first, largest.order())?;
-    if order.number() + 1 >= largest.number() {
+    let first = PageAt::at(pageblock as u32 * blocks.largest.pageblock_pages());
+    let order = blocks.tree.largest_in(first, blocks.largest.order())?;
+    if order.number() + 1 >= blocks.largest.number() {
         return None;
     }
-    let kind = kinds[pageblock].migrate_type()?;
+    let kind = blocks.kinds[pageblock].migrate_type()?;
     Some(Claim { kind, order })
 }
 
@@ -40,19 +34,12 @@ pub struct Noted {
 }
 
 /// Notes anew what a pageblock is.
-fn note(
-    claims: &mut ClaimTable,
-    largest: Largest,
-    tree: &OrderTree,
-    kinds: &Vec<PageblockType>,
-    free_in: &Vec<u32>,
-    pageblock: usize,
-)
-    requires pageblock { IsPageblock largest tree.now kinds.now.items free_in.now.items pageblock }
+fn note(claims: &mut ClaimTable, blocks: &KeptBlocks, pageblock: usize)
+    requires pageblock { IsPageblock blocks.now.largest blocks.now.tree blocks.now.kinds.items blocks.now.free_in.items pageblock }
     requires room { pageblock < length claims.old }
-    ensures { claims.new ≡ slice_set claims.old pageblock (claim_of largest tree.now kinds.now.items pageblock) }
+    ensures { claims.new ≡ slice_set claims.old pageblock (claim_of blocks.now.largest blocks.now.tree blocks.now.kinds.items pageblock) }
 {
-    let claim = claim_of(largest, tree, kinds, free_in, pageblock);
+    let claim = claim_of(blocks, pageblock);
     claims.note(pageblock, claim);
 }
 
@@ -60,59 +47,39 @@ fn note(
 // (out of line: most changes are of a pageblock that is marked)
 #[cold]
 #[inline(never)]
-fn mark(
-    noted: &mut Noted,
-    largest: Largest,
-    tree: &OrderTree,
-    kinds: &Vec<PageblockType>,
-    free_in: &Vec<u32>,
-    pageblock: usize,
-)
-    requires pageblocks { (b : ℕ) → b < length kinds.now.items → IsPageblock largest tree.now kinds.now.items free_in.now.items b }
-    requires inside { pageblock < length kinds.now.items }
-    requires others { IsClaimedBut pageblock largest tree.now kinds.now.items noted.old.claims noted.old.stale.marks }
-    ensures { IsClaimed largest tree.now kinds.now.items noted.new.claims noted.new.stale.marks }
+fn mark(noted: &mut Noted, blocks: &KeptBlocks, pageblock: usize)
+    requires pageblocks { (b : ℕ) → b < length blocks.now.kinds.items → IsPageblock blocks.now.largest blocks.now.tree blocks.now.kinds.items blocks.now.free_in.items b }
+    requires inside { pageblock < length blocks.now.kinds.items }
+    requires others { IsClaimedBut pageblock blocks.now.largest blocks.now.tree blocks.now.kinds.items noted.old.claims noted.old.stale.marks }
+    ensures { IsClaimed blocks.now.largest blocks.now.tree blocks.now.kinds.items noted.new.claims noted.new.stale.marks }
 {
     if let Some(other) = noted.stale.mark(pageblock) {
-        note(&mut noted.claims, largest, tree, kinds, free_in, other);
+        note(&mut noted.claims, blocks, other);
     }
 }
 
 /// The same of a pageblock that may be marked already.
 #[inline(always)]
-pub fn changed(
-    noted: &mut Noted,
-    largest: Largest,
-    tree: &OrderTree,
-    kinds: &Vec<PageblockType>,
-    free_in: &Vec<u32>,
-    pageblock: usize,
-)
-    requires pageblocks { (b : ℕ) → b < length kinds.now.items → IsPageblock largest tree.now kinds.now.items free_in.now.items b }
-    requires inside { pageblock < length kinds.now.items }
-    requires others { IsClaimedBut pageblock largest tree.now kinds.now.items noted.old.claims noted.old.stale.marks }
-    ensures { IsClaimed largest tree.now kinds.now.items noted.new.claims noted.new.stale.marks }
+pub fn changed(noted: &mut Noted, blocks: &KeptBlocks, pageblock: usize)
+    requires pageblocks { (b : ℕ) → b < length blocks.now.kinds.items → IsPageblock blocks.now.largest blocks.now.tree blocks.now.kinds.items blocks.now.free_in.items b }
+    requires inside { pageblock < length blocks.now.kinds.items }
+    requires others { IsClaimedBut pageblock blocks.now.largest blocks.now.tree blocks.now.kinds.items noted.old.claims noted.old.stale.marks }
+    ensures { IsClaimed blocks.now.largest blocks.now.tree blocks.now.kinds.items noted.new.claims noted.new.stale.marks }
 {
     if !noted.stale.has(pageblock) {
-        mark(noted, largest, tree, kinds, free_in, pageblock);
+        mark(noted, blocks, pageblock);
     }
 }
 
 /// Looks at each pageblock that is marked, and notes anew what it is.
 #[inline(never)]
-pub fn look_at_marked(
-    noted: &mut Noted,
-    largest: Largest,
-    tree: &OrderTree,
-    kinds: &Vec<PageblockType>,
-    free_in: &Vec<u32>,
-)
-    requires pageblocks { (b : ℕ) → b < length kinds.now.items → IsPageblock largest tree.now kinds.now.items free_in.now.items b }
-    requires claimed { IsClaimed largest tree.now kinds.now.items noted.old.claims noted.old.stale.marks }
-    ensures claimed { IsClaimed largest tree.now kinds.now.items noted.new.claims noted.new.stale.marks }
-    ensures all { (b : ℕ) → noted_at noted.new.claims b ≡ claim_of largest tree.now kinds.now.items b }
+pub fn look_at_marked(noted: &mut Noted, blocks: &KeptBlocks)
+    requires pageblocks { (b : ℕ) → b < length blocks.now.kinds.items → IsPageblock blocks.now.largest blocks.now.tree blocks.now.kinds.items blocks.now.free_in.items b }
+    requires claimed { IsClaimed blocks.now.largest blocks.now.tree blocks.now.kinds.items noted.old.claims noted.old.stale.marks }
+    ensures claimed { IsClaimed blocks.now.largest blocks.now.tree blocks.now.kinds.items noted.new.claims noted.new.stale.marks }
+    ensures all { (b : ℕ) → noted_at noted.new.claims b ≡ claim_of blocks.now.largest blocks.now.tree blocks.now.kinds.items b }
 {
     'marked: while let Some(pageblock) = noted.stale.next() {
-        note(&mut noted.claims, largest, tree, kinds, free_in, pageblock);
+        note(&mut noted.claims, blocks, pageblock);
     }
 }

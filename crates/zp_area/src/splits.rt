@@ -8,11 +8,13 @@ ghost use Rattle.zp_model.specs.Rows.{IsLoose, IsOn, with_state};
 ghost use Rattle.zp_model.specs.Area.{kind_at, list_number, pageblock_pages};
 ghost use Rattle.zp_area.specs.Blocks.{block_set, put_in_front, removed, taken_off};
 ghost use Rattle.zp_area.specs.Chains.{split_off};
+ghost use Rattle.zp_area.specs.KeptSets.{set_of};
 ghost use Rattle.zp_area.specs.OneSet.{IsKept};
 ghost use Rattle.zp_area.specs.Available.{choosable};
 ghost use Rattle.zp_model.specs.PageblockType.{is_isolate};
 
 use crate::free_lists::list_of;
+use crate::kept_blocks::KeptBlocks;
 use zp_links::Lists;
 use zp_model::{Largest, Order, PAGEBLOCK_TYPES, PageAt, PageblockType, State};
 use zp_tree::OrderTree;
@@ -41,59 +43,59 @@ pub fn take_out(lists: &mut Lists, kind: PageblockType, at: PageAt, order: Order
 /// Takes the block of this order at a page, in a pageblock of this type, which is not isolated, out of the set whole.
 #[inline(always)]
 pub fn take_whole(
-    lists: &mut Lists,
-    kinds: &Vec<PageblockType>,
-    tree: &mut OrderTree,
-    free_in: &mut Vec<u32>,
-    largest: Largest,
+    blocks: &mut KeptBlocks,
     pageblock: usize,
     kind: PageblockType,
     at: PageAt,
     order: Order,
 )
-    requires kept { IsKept largest (record { largest = largest; rows = lists.old; kinds = kinds.now.items }) free_in.old.items }
-    requires here { pageblock ≡ at / pageblock_pages largest }
-    requires block { Starts (block_set (record { largest = largest; rows = lists.old; kinds = kinds.now.items })) at order }
-    requires typed { kind ≡ kind_at largest kinds.now.items at }
+    requires kept { IsKept blocks.old.largest (set_of blocks.old) blocks.old.free_in.items }
+    requires here { pageblock ≡ at / pageblock_pages blocks.old.largest }
+    requires block { Starts (block_set (set_of blocks.old)) at order }
+    requires typed { kind ≡ kind_at blocks.old.largest blocks.old.kinds.items at }
     requires open { is_isolate kind ≡ false }
-    requires told { tree.old ≡ choosable largest (record { largest = largest; rows = lists.old; kinds = kinds.now.items }) }
-    ensures kept { IsKept largest (record { largest = largest; rows = lists.new; kinds = kinds.now.items }) free_in.new.items }
-    ensures told { tree.new ≡ choosable largest (record { largest = largest; rows = lists.new; kinds = kinds.now.items }) }
-    ensures numbers { free_in.new.items ≡ slice_set free_in.old.items pageblock (slice_index free_in.old.items pageblock - 2 ^ order) }
-    ensures after { (record { largest = largest; rows = lists.new; kinds = kinds.now.items }) ≡ removed largest (record { largest = largest; rows = lists.old; kinds = kinds.now.items }) at order }
+    requires told { blocks.old.tree ≡ choosable blocks.old.largest (set_of blocks.old) }
+    ensures kept { IsKept blocks.old.largest (record (set_of blocks.old) { rows = blocks.new.lists }) blocks.new.free_in.items }
+    ensures told { blocks.new.tree ≡ choosable blocks.old.largest (record (set_of blocks.old) { rows = blocks.new.lists }) }
+    ensures stays { (blocks.new.largest ≡ blocks.old.largest) × (blocks.new.kinds ≡ blocks.old.kinds) }
+    ensures numbers { blocks.new.free_in.items ≡ slice_set blocks.old.free_in.items pageblock (slice_index blocks.old.free_in.items pageblock - 2 ^ order) }
+    ensures after { record (set_of blocks.old) { rows = blocks.new.lists } ≡ removed blocks.old.largest (set_of blocks.old) at order }
 {
-    take_out(lists, kind, at, order);
-    tree.clear(at, order);
-    free_in[pageblock] -= order.pages();
+    take_out(&mut blocks.lists, kind, at, order);
+    blocks.tree.clear(at, order);
+    blocks.free_in[pageblock] -= order.pages();
 }
 
 /// Takes the block of order `from` at `at`, in a pageblock of this type, which is not isolated, out of the set, and its high halves down to order `to` into it.
 /// The tree changes once, and so does the number of free pages of the pageblock.
 #[inline(always)]
 pub fn split_off(
-    lists: &mut Lists,
-    kinds: &Vec<PageblockType>,
-    tree: &mut OrderTree,
-    free_in: &mut Vec<u32>,
-    largest: Largest,
+    blocks: &mut KeptBlocks,
     pageblock: usize,
     kind: PageblockType,
     at: PageAt,
     from: Order,
     to: Order,
 )
-    requires kept { IsKept largest (record { largest = largest; rows = lists.old; kinds = kinds.now.items }) free_in.old.items }
-    requires here { pageblock ≡ at / pageblock_pages largest }
-    requires block { Starts (block_set (record { largest = largest; rows = lists.old; kinds = kinds.now.items })) at from }
-    requires typed { kind ≡ kind_at largest kinds.now.items at }
+    requires kept { IsKept blocks.old.largest (set_of blocks.old) blocks.old.free_in.items }
+    requires here { pageblock ≡ at / pageblock_pages blocks.old.largest }
+    requires block { Starts (block_set (set_of blocks.old)) at from }
+    requires typed { kind ≡ kind_at blocks.old.largest blocks.old.kinds.items at }
     requires open { is_isolate kind ≡ false }
-    requires told { tree.old ≡ choosable largest (record { largest = largest; rows = lists.old; kinds = kinds.now.items }) }
+    requires told { blocks.old.tree ≡ choosable blocks.old.largest (set_of blocks.old) }
     requires down { to < from }
-    ensures kept { IsKept largest (record { largest = largest; rows = lists.new; kinds = kinds.now.items }) free_in.new.items }
-    ensures told { tree.new ≡ choosable largest (record { largest = largest; rows = lists.new; kinds = kinds.now.items }) }
-    ensures numbers { free_in.new.items ≡ slice_set free_in.old.items pageblock (slice_index free_in.old.items pageblock - 2 ^ to) }
-    ensures after { (record { largest = largest; rows = lists.new; kinds = kinds.now.items }) ≡ split_off largest (record { largest = largest; rows = lists.old; kinds = kinds.now.items }) at from to }
+    ensures kept { IsKept blocks.old.largest (record (set_of blocks.old) { rows = blocks.new.lists }) blocks.new.free_in.items }
+    ensures told { blocks.new.tree ≡ choosable blocks.old.largest (record (set_of blocks.old) { rows = blocks.new.lists }) }
+    ensures stays { (blocks.new.largest ≡ blocks.old.largest) × (blocks.new.kinds ≡ blocks.old.kinds) }
+    ensures numbers { blocks.new.free_in.items ≡ slice_set blocks.old.free_in.items pageblock (slice_index blocks.old.free_in.items pageblock - 2 ^ to) }
+    ensures after { record (set_of blocks.old) { rows = blocks.new.lists } ≡ split_off blocks.old.largest (set_of blocks.old) at from to }
 {
+    let KeptBlocks {
+        lists,
+        tree,
+        free_in,
+        ..
+    } = blocks;
     take_out(lists, kind, at, from);
     tree.split(at, from, to);
     let mut order = from;

@@ -8,6 +8,7 @@ use Rattle.zp_area.specs.OneSet.{IsKept}
 use Rattle.zp_area.proofs.AvailableBlocks.{available-length, available_apart, available_buddies, told_joined}
 use Rattle.zp_area.specs.Blocks.{Blocks, added, block_set}
 use Rattle.zp_area.specs.Chains.{IsJoinable, IsJoinedUp}
+use Rattle.zp_area.specs.KeptSets.{set_of}
 use Rattle.zp_area.proofs.Keeping.{block_of_more, counted_there, read_at}
 use Rattle.zp_area.proofs.Adding.{IsComing, coming_apart, coming_loose, kept_added}
 use Rattle.zp_area.proofs.Splitting.{block_on}
@@ -15,67 +16,67 @@ use Rattle.zp_area.proofs.Growing.{buddy_kind, buddy_starts, buddy_unique, grow_
 use Rattle.zp_area.proofs.joins.join_up.Goals.{After-index_mut, After-at-head, After-put_in, else-joins-test, then-joins-test+then-not-is_free}
 use Rattle.zp_area.proofs.joins.join_up.Goals as goal
 
-coming : (c : After-index_mut) → IsComing c.args.largest (record { largest = c.args.largest; rows = c.args.lists.now; kinds = c.args.kinds.now.items }) c.args.at c.args.order
+coming : (c : After-index_mut) → IsComing c.args.blocks.now.largest (set_of c.args.blocks.now) c.args.at c.args.order
 coming c = record { one = c.requires.kept.one; block = c.requires.block; clear = c.requires.clear }
 
-read : (c : After-index_mut) → c.index_mut.result.now ≡ slice_index c.args.free_in.now.items (c.args.at / 2 ^ c.args.largest)
-read c = read_at c.args.largest _ _ c.args.at c.args.order _ _ c.requires.kept.each c.requires.block c.requires.here c.index_mut.ensures.value
+read : (c : After-index_mut) → c.index_mut.result.now ≡ slice_index c.args.blocks.now.free_in.items (c.args.at / 2 ^ c.args.blocks.now.largest)
+read c = read_at c.args.blocks.now.largest _ _ c.args.at c.args.order _ _ c.requires.kept.each c.requires.block c.requires.here c.index_mut.ensures.value
 
 pub overflow_add-index_mut : goal.overflow_add-index_mut
 overflow_add-index_mut c =
     let now = (goal.at.overflow_add-index_mut c).After-index_mut in
-    omega (arith, read now, c.pages.ensures.pages, (kept_added (coming now) _ c.requires.kept).fits, pow_mono {i = c.args.largest} {j = 10} (omega arith))
+    omega (arith, read now, c.pages.ensures.pages, (kept_added (coming now) _ c.requires.kept).fits, pow_mono {i = c.args.blocks.now.largest} {j = 10} (omega arith))
 
 pub joins-init : goal.joins-init
 joins-init c =
-    let a : Blocks = record { largest = c.args.largest; rows = c.args.lists.now; kinds = c.args.kinds.now.items } in
-    grow_begins c.args.largest a _ c.args.at c.args.order c.requires.kept c.requires.block c.requires.clear
+    let a : Blocks = set_of c.args.blocks.now in
+    grow_begins c.args.blocks.now.largest a _ c.args.at c.args.order c.requires.kept c.requires.block c.requires.clear
 
 -- the buddy is free, and the smaller of the two heads is the double's
-joinable : (c : After-at-head) → IsJoinable c.args.largest (record { largest = c.args.largest; rows = c.joins.lists; kinds = c.args.kinds.now.items }) c.joins.head c.joins.joined c.buddy-buddy.result c.at-head.result
+joinable : (c : After-at-head) → IsJoinable c.args.blocks.now.largest (record (set_of c.args.blocks.now) { rows = c.joins.lists }) c.joins.head c.joins.joined c.buddy-buddy.result c.at-head.result
 joinable c =
     let e : min c.joins.head c.buddy-buddy.result ≡ c.at-head.result = omega arith in
     record { order = omega arith; buddy = rw e at c.buddy-buddy.ensures; free = c.is_free.ensures.0 c.if-not-is_free.false }
 
 pub take_out-requires-clause-on : goal.take_out-requires-clause-on
 take_out-requires-clause-on c =
-    let b : Blocks = record { largest = c.args.largest; rows = c.joins.lists; kinds = c.args.kinds.now.items } in
-    let y : IsJoinable c.args.largest b c.joins.head c.joins.joined c.buddy-buddy.result (min c.joins.head c.buddy-buddy.result) = record { order = omega arith; buddy = c.buddy-buddy.ensures; free = c.is_free.ensures.0 c.if-not-is_free.false } in
-    rw (buddy_kind c.joins.invariant y c.args.kind c.requires.typed) (block_on c.args.largest b c.buddy-buddy.result c.joins.joined c.joins.invariant.kept.one (buddy_starts c.joins.invariant y))
+    let b : Blocks = record (set_of c.args.blocks.now) { rows = c.joins.lists } in
+    let y : IsJoinable c.args.blocks.now.largest b c.joins.head c.joins.joined c.buddy-buddy.result (min c.joins.head c.buddy-buddy.result) = record { order = omega arith; buddy = c.buddy-buddy.ensures; free = c.is_free.ensures.0 c.if-not-is_free.false } in
+    rw (buddy_kind c.joins.invariant y c.args.kind c.requires.typed) (block_on c.args.blocks.now.largest b c.buddy-buddy.result c.joins.joined c.joins.invariant.kept.one (buddy_starts c.joins.invariant y))
 
 pub joins-preserved : goal.joins-preserved
 joins-preserved c =
     let y = joinable (goal.at.joins-preserved c).After-at-head in
     rw (c.take_out.ensures, c.higher-joined.ensures, buddy_kind c.joins.invariant y c.args.kind c.requires.typed)
-    (grow_goes c.joins.invariant y (counted_there c.args.largest _ _ c.args.at c.args.order c.requires.kept.each c.requires.block))
+    (grow_goes c.joins.invariant y (counted_there c.args.blocks.now.largest _ _ c.args.at c.args.order c.requires.kept.each c.requires.block))
 
 -- the block's pageblock is not isolated, where its type is not
-shown : (c : After-index_mut) → is_isolate c.args.kind ≡ false → is_isolated c.args.largest c.args.kinds.now.items c.args.at ≡ false
+shown : (c : After-index_mut) → is_isolate c.args.kind ≡ false → is_isolated c.args.blocks.now.largest c.args.blocks.now.kinds.items c.args.at ≡ false
 shown c e = rw (← c.requires.typed) e
 
 pub tell_joined-requires-clause-block : goal.tell_joined-requires-clause-block
 tell_joined-requires-clause-block c = λ e.
-    let a : Blocks = record { largest = c.args.largest; rows = c.args.lists.now; kinds = c.args.kinds.now.items } in
-    rw (c.requires.told, available-length c.args.largest a.kinds (block_set a)) (block_of_more (omega arith) (grown_block c.joins.invariant))
+    let a : Blocks = set_of c.args.blocks.now in
+    rw (c.requires.told, available-length c.args.blocks.now.largest a.kinds (block_set a)) (block_of_more (omega arith) (grown_block c.joins.invariant))
 
 pub tell_joined-requires-clause-apart : goal.tell_joined-requires-clause-apart
 tell_joined-requires-clause-apart c = λ e.
-    let a : Blocks = record { largest = c.args.largest; rows = c.args.lists.now; kinds = c.args.kinds.now.items } in
-    rw c.requires.told (available_apart c.args.largest a.kinds (block_set a) c.args.at c.args.order (coming_apart (coming (goal.at.tell_joined-requires-clause-apart c).After-index_mut)))
+    let a : Blocks = set_of c.args.blocks.now in
+    rw c.requires.told (available_apart c.args.blocks.now.largest a.kinds (block_set a) c.args.at c.args.order (coming_apart (coming (goal.at.tell_joined-requires-clause-apart c).After-index_mut)))
 
 pub tell_joined-requires-clause-buddies : goal.tell_joined-requires-clause-buddies
 tell_joined-requires-clause-buddies c = λ e.
-    let a : Blocks = record { largest = c.args.largest; rows = c.args.lists.now; kinds = c.args.kinds.now.items } in
+    let a : Blocks = set_of c.args.blocks.now in
     let now = (goal.at.tell_joined-requires-clause-buddies c).After-index_mut in
-    rw c.requires.told (available_buddies c.args.largest a.kinds (block_set a) c.args.at c.args.order c.joins.joined (grown_block c.joins.invariant).order (shown now e) c.joins.invariant.buddies)
+    rw c.requires.told (available_buddies c.args.blocks.now.largest a.kinds (block_set a) c.args.at c.args.order c.joins.joined (grown_block c.joins.invariant).order (shown now e) c.joins.invariant.buddies)
 
 pub put_in-requires-clause-loose : goal.put_in-requires-clause-loose
 put_in-requires-clause-loose c = coming_loose (grown_coming c.joins.invariant)
 
 -- the loop has ended, as there is no free buddy more
-ended : (c : After-put_in) → IsKept c.args.largest (added c.args.largest (record { largest = c.args.largest; rows = c.joins.lists; kinds = c.args.kinds.now.items }) c.joins.head c.joins.joined) (set c.args.free_in.now.items (c.args.at / pageblock_pages c.args.largest) (slice_index c.args.free_in.now.items (c.args.at / pageblock_pages c.args.largest) + 2 ^ c.args.order)) ×
-    (joined_set (block_set (record { largest = c.args.largest; rows = c.args.lists.now; kinds = c.args.kinds.now.items })) c.args.at c.args.order c.joins.joined ≡ block_set (added c.args.largest (record { largest = c.args.largest; rows = c.joins.lists; kinds = c.args.kinds.now.items }) c.joins.head c.joins.joined)) ×
-    ((e : ℕ) × IsJoinedUp e c.args.largest (record { largest = c.args.largest; rows = c.args.lists.now; kinds = c.args.kinds.now.items }) c.args.at c.args.order (added c.args.largest (record { largest = c.args.largest; rows = c.joins.lists; kinds = c.args.kinds.now.items }) c.joins.head c.joins.joined))
+ended : (c : After-put_in) → IsKept c.args.blocks.now.largest (added c.args.blocks.now.largest (record (set_of c.args.blocks.now) { rows = c.joins.lists }) c.joins.head c.joins.joined) (set c.args.blocks.now.free_in.items (c.args.at / pageblock_pages c.args.blocks.now.largest) (slice_index c.args.blocks.now.free_in.items (c.args.at / pageblock_pages c.args.blocks.now.largest) + 2 ^ c.args.order)) ×
+    (joined_set (block_set (set_of c.args.blocks.now)) c.args.at c.args.order c.joins.joined ≡ block_set (added c.args.blocks.now.largest (record (set_of c.args.blocks.now) { rows = c.joins.lists }) c.joins.head c.joins.joined)) ×
+    ((e : ℕ) × IsJoinedUp e c.args.blocks.now.largest (set_of c.args.blocks.now) c.args.at c.args.order (added c.args.blocks.now.largest (record (set_of c.args.blocks.now) { rows = c.joins.lists }) c.joins.head c.joins.joined))
 ended c =
     grow_ends c.joins.invariant
     (elim c.joins-test.branch [
@@ -83,7 +84,7 @@ ended c =
       | then-joins-test+then-not-is_free w ↦ λ e d z.
           both_ways w.is_free.result w.if-not-is_free.true (w.is_free.ensures.1 (rw (buddy_unique _ _ _ _ _ _ w.buddy-buddy.ensures z.buddy) z.free))
     ])
-    (counted_there c.args.largest _ _ c.args.at c.args.order c.requires.kept.each c.requires.block)
+    (counted_there c.args.blocks.now.largest _ _ c.args.at c.args.order c.requires.kept.each c.requires.block)
 
 pub returns-clause-kept : goal.returns-clause-kept
 returns-clause-kept c =
@@ -92,11 +93,11 @@ returns-clause-kept c =
 
 pub returns-clause-told : goal.returns-clause-told
 returns-clause-told c =
-    let a : Blocks = record { largest = c.args.largest; rows = c.args.lists.now; kinds = c.args.kinds.now.items } in
+    let a : Blocks = set_of c.args.blocks.now in
     rw c.put_in.ensures
     (c.tell_joined.ensures ∙ ap (λ s. cond (is_isolate c.args.kind) s (joined_set s c.args.at c.args.order c.joins.joined)) c.requires.told
-    ∙ told_joined c.args.largest a.kinds (block_set a) c.args.at c.args.order c.joins.joined c.args.kind c.requires.typed (grown_block c.joins.invariant).order c.joins.invariant.up c.joins.invariant.buddies
-    ∙ ap (available_blocks c.args.largest a.kinds) (ended (goal.at.returns-clause-told c).After-put_in).1)
+    ∙ told_joined c.args.blocks.now.largest a.kinds (block_set a) c.args.at c.args.order c.joins.joined c.args.kind c.requires.typed (grown_block c.joins.invariant).order c.joins.invariant.up c.joins.invariant.buddies
+    ∙ ap (available_blocks c.args.blocks.now.largest a.kinds) (ended (goal.at.returns-clause-told c).After-put_in).1)
 
 pub returns-clause-numbers : goal.returns-clause-numbers
 returns-clause-numbers c = rw (c.requires.here, read (goal.at.returns-clause-numbers c).After-index_mut, c.pages.ensures.pages) refl

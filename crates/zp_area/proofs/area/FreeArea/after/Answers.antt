@@ -6,6 +6,7 @@ use Rattle.zp_model.specs.BlockSet.{Starts}
 use Rattle.zp_model.specs.Rows.{IsOn, stands_in}
 use Rattle.zp_area.specs.Blocks.{Blocks, block_set, free_lists}
 use Rattle.zp_area.specs.OneSet.{IsOneSet}
+use Rattle.zp_area.specs.KeptSets.{set_of}
 use Rattle.zp_area.proofs.Claimable.{list_past}
 use Rattle.zp_area.proofs.Listing.{listed_starts}
 use Rattle.zp_area.proofs.area.FreeArea.after.Goals.{After-after}
@@ -32,15 +33,15 @@ typed_of : (m : ℕ) (a : Blocks) (o : ℕ) (t : PageblockType) (r : Option ℕ)
 typed_of m a o t None w = tt
 typed_of m a o t (Some h) w = sym w.1
 
-found : (c : After-after) → IfSome c.after.result (λ h. Starts (block_set (record { largest = c.self.inside.largest; rows = c.self.inside.lists; kinds = c.self.inside.kinds.items })) h c.args.order × (kind_at c.self.inside.largest c.self.inside.kinds.items h ≡ c.args.kind))
+found : (c : After-after) → IfSome c.after.result (λ h. Starts (block_set (set_of c.self.inside.blocks)) h c.args.order × (kind_at c.self.inside.blocks.largest c.self.inside.blocks.kinds.items h ≡ c.args.kind))
 found c =
-    let a : Blocks = record { largest = c.self.inside.largest; rows = c.self.inside.lists; kinds = c.self.inside.kinds.items } in
-    held c.self.inside.largest a c.args.order c.args.kind c.after.result c.self.invariant.kept.one
-    (order_within c.self.inside.largest a c.args.order c.args.at c.args.kind c.self.invariant.kept.one (rw (← c.self.view_is) at c.requires))
+    let a : Blocks = set_of c.self.inside.blocks in
+    held c.self.inside.blocks.largest a c.args.order c.args.kind c.after.result c.self.invariant.kept.one
+    (order_within c.self.inside.blocks.largest a c.args.order c.args.at c.args.kind c.self.invariant.kept.one (rw (← c.self.view_is) at c.requires))
     (rw c.list_of.ensures.number at c.after.ensures.on)
 
 pub returns-clause-starts : goal.returns-clause-starts
-returns-clause-starts c = rw (← c.self.view_is) (starts_of c.self.inside.largest (record { largest = c.self.inside.largest; rows = c.self.inside.lists; kinds = c.self.inside.kinds.items }) c.args.order c.args.kind c.after.result (found (goal.at.returns-clause-starts c).After-after))
+returns-clause-starts c = rw (← c.self.view_is) (starts_of c.self.inside.blocks.largest (set_of c.self.inside.blocks) c.args.order c.args.kind c.after.result (found (goal.at.returns-clause-starts c).After-after))
 
 pub returns-clause-typed : goal.returns-clause-typed
-returns-clause-typed c = rw (← c.self.view_is) (typed_of c.self.inside.largest (record { largest = c.self.inside.largest; rows = c.self.inside.lists; kinds = c.self.inside.kinds.items }) c.args.order c.args.kind c.after.result (found (goal.at.returns-clause-typed c).After-after))
+returns-clause-typed c = rw (← c.self.view_is) (typed_of c.self.inside.blocks.largest (set_of c.self.inside.blocks) c.args.order c.args.kind c.after.result (found (goal.at.returns-clause-typed c).After-after))

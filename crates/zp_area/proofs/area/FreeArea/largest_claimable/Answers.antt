@@ -10,7 +10,7 @@ use Rattle.zp_area.proofs.area.FreeArea.largest_claimable.Goals as goal
 whole : (c : After-is_beside) → c.order-whole.result ≡ c.args.self.now.largest
 whole c = c.order-whole.ensures ∙ ap (λ (b : Blocks). b.largest) c.self.view_is
 
-kept : (c : After-is_beside) → IsKept c.args.self.now.largest c.args.self.now c.self.inside.free_in.items
+kept : (c : After-is_beside) → IsKept c.args.self.now.largest c.args.self.now c.self.inside.blocks.free_in.items
 kept c = rw (← c.self.view_is) c.self.invariant.kept
 
 pub returns-then-is_beside-clause-answer : goal.returns-then-is_beside-clause-answer
@@ -34,10 +34,10 @@ returns-clause-answer c =
     _ (rw (← c.self.view_is, ← c.self.invariant.told) c.look_at_marked.ensures.all) c.largest_beside.result c.largest_beside.ensures
 
 pub look_at_marked-requires-clause-pageblocks : goal.look_at_marked-requires-clause-pageblocks
-look_at_marked-requires-clause-pageblocks c = λ b lt. pageblock_kept c.self.inside.largest b _ _ _ c.self.invariant.kept c.self.invariant.told lt
+look_at_marked-requires-clause-pageblocks c = λ b lt. pageblock_kept c.self.inside.blocks.largest b _ _ _ c.self.invariant.kept c.self.invariant.told lt
 
 pub look_at_marked-requires-clause-claimed : goal.look_at_marked-requires-clause-claimed
 look_at_marked-requires-clause-claimed c = rw c.self.invariant.told c.self.invariant.claimed
 
 pub invariant_of-self : goal.invariant_of-self
-invariant_of-self c = indexed_anew c.self.inside.largest _ _ _ _ _ _ _ c.self.invariant.kept c.self.invariant.told c.self.invariant.apart c.look_at_marked.ensures.claimed
+invariant_of-self c = indexed_anew c.self.inside.blocks.largest _ _ _ _ _ _ _ c.self.invariant.kept c.self.invariant.told c.self.invariant.apart c.look_at_marked.ensures.claimed
