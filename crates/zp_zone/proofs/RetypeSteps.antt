@@ -6,8 +6,6 @@ use Rattle.zp_model.specs.declared.pageblock_type.PageblockType.{PageblockType}
 use Rattle.zp_model.specs.declared.pageblock_type.PageblockType.TheVariants.{Isolate}
 use Rattle.zp_model.specs.declared.request.Request.TheVariants as request
 use Rattle.zp_model.specs.declared.request.Reply.{Reply}
-use Rattle.zp_model.specs.Block.{has}
-use Rattle.zp_model.specs.Area.{Area}
 use Rattle.zp_model.specs.PageblockType.{is_isolate, pageblock_type}
 use Rattle.zp_model.specs.Take.{retype}
 use Rattle.zp_model.specs.Frames.{Frames, IsFramed, with_area}
@@ -21,7 +19,7 @@ use Rattle.zp_laws.proofs.Steps.{step_lawful}
 use Rattle.zp_model.specs.Run.{is_out}
 use Rattle.zp_zone.specs.Kept.{plain_of, IsKept}
 use Rattle.zp_zone.specs.NamedZone.{KeepsOut}
-use Rattle.zp_zone.proofs.BlockSteps.{IsAsked, not_out}
+use Rattle.zp_zone.proofs.BlockSteps.{not_out}
 use Rattle.zp_zone.proofs.Noted.{plain-with_area, IsBeside, pages_same, kept_by, aside_restated}
 
 -- a pageblock that the zone has, and that is isolated or is not

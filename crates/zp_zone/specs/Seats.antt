@@ -6,8 +6,10 @@ use Rattle.zp_model.specs.Entries.{Entry}
 use Rattle.zp_model.specs.declared.request.Request.{Request}
 use Rattle.zp_model.specs.declared.request.Reply.{Reply}
 use Rattle.zp_model.specs.Rows.{stands_in}
-use Rattle.zp_model.specs.Zone.{PlainZone}
+use Rattle.zp_model.specs.Zone.{PlainZone, workers_of}
+use Rattle.zp_model.specs.Run.{IsHistory}
 use Rattle.zp_model.specs.Books.{Books, Part, part, has_block, entered, noted}
+use Rattle.zp_tie.specs.Ties.{Kept}
 
 -- the zone's tie is what tells its seats from those of other zones; the entries are those of all requests made so far
 pub record ZoneState : Type 0 where
@@ -33,13 +35,13 @@ KeepsSeats before after = (s : SeatState) → IsSeatOf before s → IsSeatOf aft
 abbrev pub books : ZoneState → Books
 books z = record { plain = z.plain; entries = z.entries }
 
+-- the keeper has dealt a seat to each worker of the zone, and the entries are the zone's history
+abbrev pub KeepsBooks : Kept Books → Type 0
+KeepsBooks k = (k.dealt ≡ workers_of k.whole.plain) × IsHistory k.whole.plain k.whole.entries
+
 -- the zone after worker w's request
 abbrev pub asked : ℕ → Request → ZoneState → ZoneState
 asked w r z = let b : Books = entered w r (books z) in record { tie = z.tie; name = z.name; plain = b.plain; entries = b.entries }
-
--- the seat, with what is its worker's in these books
-abbrev pub seated : SeatState → Books → SeatState
-seated s b = record { tie = s.tie; worker = s.worker; part = part s.worker b }
 
 -- the seat, when its request is answered so
 abbrev pub replied : Request → Reply → SeatState → SeatState

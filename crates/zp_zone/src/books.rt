@@ -1,7 +1,6 @@
 //! What a zone and its seats agree about, and what each request makes of it. No value of it is made: it is in contracts alone.
 use crate::untied_zone::UntiedZone;
-use std::marker::Model;
-use zp_model::{Mark, MigrateType, Order, PageNo, Worker};
+use std::marker::{Brand, Model, PhantomData};
 use zp_tie::{Act, Parted};
 
 /// The plain zone, and the entries made so far.
@@ -50,92 +49,26 @@ impl Act<Books, UntiedZone> for Opens {
     ghost to = { λ w z b. opened z.plain };
 }
 
-/// A request for a block is entered.
-pub struct EntersAlloc;
+/// What a worker asks of the zone. Each call picks it.
+pub trait Asks {
+    ghost use Rattle.zp_model.specs.declared.request.Request.{Request};
 
-impl Act<Books, (Order, MigrateType, Mark)> for EntersAlloc {
-    ghost use Rattle.zp_model.specs.declared.request.Request.TheVariants.{Alloc};
-    ghost use Rattle.zp_model.specs.Books.{entered};
-
-    ghost to = { λ w a b. entered w (Alloc a.0 a.1 a.2) b };
+    ghost request: { Request };
 }
 
-/// A request for the lowest block is entered.
-pub struct EntersAllocLow;
-
-impl Act<Books, Order> for EntersAllocLow {
-    ghost use Rattle.zp_model.specs.declared.request.Request.TheVariants.{AllocLow};
-    ghost use Rattle.zp_model.specs.Books.{entered};
-
-    ghost to = { λ w k b. entered w (AllocLow k) b };
-}
-
-/// A block that is given back is entered.
-pub struct EntersFree;
-
-impl Act<Books, (PageNo, Order)> for EntersFree {
-    ghost use Rattle.zp_model.specs.declared.request.Request.TheVariants.{Free};
-    ghost use Rattle.zp_model.specs.Books.{entered};
-
-    ghost to = { λ w a b. entered w (Free a.0 a.1) b };
-}
-
-/// A block that is posted is entered.
-pub struct EntersPost;
-
-impl Act<Books, (PageNo, Order, Worker)> for EntersPost {
-    ghost use Rattle.zp_model.specs.declared.request.Request.TheVariants.{Post};
-    ghost use Rattle.zp_model.specs.Books.{entered};
-
-    ghost to = { λ w a b. entered w (Post a.0 a.1 a.2) b };
-}
-
-/// A request for the first posted block is entered.
-pub struct EntersCollect;
-
-impl Act<Books, ()> for EntersCollect {
+impl Asks for Brand {
     ghost use Rattle.zp_model.specs.declared.request.Request.TheVariants.{Collect};
-    ghost use Rattle.zp_model.specs.Books.{entered};
 
-    ghost to = { λ w a b. entered w Collect b };
+    ghost request = { Collect };
 }
 
-/// A request for several pages is entered.
-pub struct EntersRefill;
-
-impl Act<Books, (MigrateType, Mark, u8)> for EntersRefill {
-    ghost use Rattle.zp_model.specs.declared.request.Request.TheVariants.{Refill};
-    ghost use Rattle.zp_model.specs.Books.{entered};
-
-    ghost to = { λ w a b. entered w (Refill a.0 a.1 a.2) b };
+/// A request is entered, whatever is asked.
+pub struct Enters<Q> {
+    of: PhantomData<Q>,
 }
 
-/// Pages that are given back are entered.
-pub struct EntersDrain;
-
-impl<'a> Act<Books, (MigrateType, &'a [PageNo])> for EntersDrain {
-    ghost use Rattle.zp_model.specs.declared.request.Request.TheVariants.{Drain};
+impl<Q: Asks> Act<Books, ()> for Enters<Q> {
     ghost use Rattle.zp_model.specs.Books.{entered};
 
-    ghost to = { λ w a b. entered w (Drain a.0 a.1.now) b };
-}
-
-/// A pageblock that is to be isolated is entered.
-pub struct EntersIsolate;
-
-impl Act<Books, u32> for EntersIsolate {
-    ghost use Rattle.zp_model.specs.declared.request.Request.TheVariants.{Isolate};
-    ghost use Rattle.zp_model.specs.Books.{entered};
-
-    ghost to = { λ w pageblock b. entered w (Isolate pageblock) b };
-}
-
-/// A pageblock that is to be released is entered.
-pub struct EntersRelease;
-
-impl Act<Books, (u32, MigrateType)> for EntersRelease {
-    ghost use Rattle.zp_model.specs.declared.request.Request.TheVariants.{Release};
-    ghost use Rattle.zp_model.specs.Books.{entered};
-
-    ghost to = { λ w a b. entered w (Release a.0 a.1) b };
+    ghost to = { λ w a b. entered w Q.request b };
 }

@@ -1,14 +1,17 @@
 //! Seats.
-ghost use Rattle.std.specs.Prelude.{◌≡◌, ◌≢◌, ◌<◌, ◌≤◌, ℕ, length, IfOk, OnOk};
-ghost use Rattle.zp_model.specs.Books.{part};
-ghost use Rattle.zp_laws.specs.KeptBooks.{IsSamePlaces};
-ghost use Rattle.zp_zone.specs.Seats.{seated, seats_of};
+ghost use Rattle.std.specs.Prelude.{◌≡◌, ◌<◌, ◌≤◌, length, IfOk, OnOk};
+ghost use Rattle.zp_model.specs.Zone.{workers_of};
+ghost use Rattle.zp_model.specs.Step.{step};
+ghost use Rattle.zp_model.specs.Books.{entered, part};
+ghost use Rattle.zp_zone.specs.Asking.{MaySeatAsk};
+ghost use Rattle.zp_zone.specs.Seats.{KeepsBooks, replied, seats_of};
 
-use crate::books::{Books, Part, Parts};
+use crate::books::{Asks, Books, Enters, Part, Parts};
+use crate::untied_zone::UntiedZone;
 use std::alloc::{AllocError, Global};
 use std::marker::Model;
 use zp_model::{MAX_WORKERS, Worker};
-use zp_tie::{Act, Keeper, Token};
+use zp_tie::{Keeper, Token};
 
 /// One worker's right to act in one zone. It is made with the zone, and cannot be copied. Contracts see what is the worker's
 /// in the zone: its blocks out, and the entries of its requests.
@@ -52,21 +55,30 @@ impl Seat {
         self.pages
     }
 
-    /// What is the worker's and the books change in one step, by a request of the worker that leaves what is other workers'.
-    /// The seat and the books agreed before.
-    pub(crate) fn enter<T, C: Act<Books, T>>(
+    /// A request of the worker is entered: the books and what is the worker's change in one step, by what the request makes of the
+    /// zone, and what is other workers' stays. Seat and books agree before it and after it. The caller picks the request, by what it
+    /// is about. Answers the worker.
+    pub(crate) fn enter<Q: Asks, T>(
         &mut self,
         keeper: &mut Keeper<Books, Part, Parts>,
-        about: &T,
-    )
+        zone: &UntiedZone,
+        _about: &T,
+    ) -> Worker
         requires tie { self.old.tie ≡ keeper.old.tie }
-        requires others { self.old.worker < keeper.old.dealt → self.old.part ≡ part self.old.worker keeper.old.whole → (other : ℕ) → other ≢ self.old.worker → part other (C.to self.old.worker about.now keeper.old.whole) ≡ part other keeper.old.whole }
-        requires places { self.old.worker < keeper.old.dealt → self.old.part ≡ part self.old.worker keeper.old.whole → IsSamePlaces self.old.part (part self.old.worker (C.to self.old.worker about.now keeper.old.whole)) }
-        ensures keeper { keeper.new ≡ record keeper.old { whole = C.to self.old.worker about.now keeper.old.whole } }
-        ensures seat { self.new ≡ seated self.old (C.to self.old.worker about.now keeper.old.whole) }
-        ensures agreed { (self.old.worker < keeper.old.dealt) × (self.old.part ≡ part self.old.worker keeper.old.whole) }
+        requires zone { keeper.old.whole.plain ≡ zone.now.plain }
+        requires books { KeepsBooks keeper.old }
+        requires may { MaySeatAsk (workers_of zone.now.plain) Q.request self.old }
+        ensures worker { result ≡ self.old.worker }
+        ensures keeper { keeper.new ≡ record keeper.old { whole = entered self.old.worker Q.request keeper.old.whole } }
+        ensures zone { keeper.new.whole.plain ≡ (step zone.now.plain self.old.worker Q.request).zone }
+        ensures books { KeepsBooks keeper.new }
+        ensures seat { self.new ≡ replied Q.request (step zone.now.plain self.old.worker Q.request).reply self.old }
+        ensures known { self.old.worker < keeper.old.dealt }
+        ensures agrees { (self.old.part ≡ part self.old.worker keeper.old.whole) × (self.new.part ≡ part self.new.worker keeper.new.whole) }
     {
-        keeper.request::<T, C>(&mut self.token, about);
+        zone.lawful();
+        keeper.request::<(), Enters<Q>>(&mut self.token, &());
+        self.worker
     }
 
     /// Nothing changes, and the seat and the books agree.

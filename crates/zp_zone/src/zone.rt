@@ -41,15 +41,13 @@ pub struct Zone {
 
 impl Model for Zone {
     ghost use Rattle.std.specs.Prelude.{◌≡◌};
-    ghost use Rattle.zp_model.specs.Zone.{workers_of};
-    ghost use Rattle.zp_model.specs.Run.{IsHistory};
-    ghost use Rattle.zp_zone.specs.Seats.{ZoneState};
+    ghost use Rattle.zp_zone.specs.Seats.{ZoneState, KeepsBooks};
 
     ghost Value = { ZoneState };
 
     ghost view = { λ z. record { tie = z.keeper.tie; name = z.untied.name; plain = z.untied.plain; entries = z.keeper.whole.entries } };
 
-    ghost invariant = { λ z. (z.keeper.whole.plain ≡ z.untied.plain) × (z.keeper.dealt ≡ workers_of z.untied.plain) × IsHistory z.untied.plain z.keeper.whole.entries };
+    ghost invariant = { λ z. (z.keeper.whole.plain ≡ z.untied.plain) × KeepsBooks z.keeper };
 }
 
 impl Zone {

@@ -11,9 +11,9 @@ ghost use Rattle.zp_zone.specs.NamedZone.{pages_reply};
 ghost use Rattle.zp_zone.specs.Seats.{IsSeatOf, KeepsSeats, Agrees, KeepsBlocks, KeepsBlocksBeside, HasPages, IsNewTo, asked, replied};
 
 use super::Zone;
-use crate::books::{EntersDrain, EntersRefill};
 use crate::seat::Seat;
 use arrayvec::ArrayVec;
+use std::marker::Brand;
 use zp_model::{MAX_BATCH, Mark, MigrateType, PageNo, Refused};
 
 impl Zone {
@@ -46,9 +46,7 @@ impl Zone {
         ensures fresh { IfOk result (λ pages. All (IsNewTo seat.old) pages.items) }
         ensures kept { KeepsBlocks seat.old seat.new }
     {
-        let worker = seat.worker();
-        self.untied.lawful();
-        seat.enter::<(MigrateType, Mark, u8), EntersRefill>(&mut self.keeper, &(kind, mark, count));
+        let worker = seat.enter::<Brand, _>(&mut self.keeper, &self.untied, &(kind, mark, count));
         self.untied.refill(worker, kind, mark, count)
     }
 
@@ -70,9 +68,7 @@ impl Zone {
         ensures gone { All (IsNewTo seat.new) pages.now }
         ensures kept { KeepsBlocksBeside pages.now seat.old seat.new }
     {
-        let worker = seat.worker();
-        self.untied.lawful();
-        seat.enter::<(MigrateType, &[PageNo]), EntersDrain>(&mut self.keeper, &(kind, pages));
+        let worker = seat.enter::<Brand, _>(&mut self.keeper, &self.untied, &(kind, pages));
         self.untied.drain(worker, kind, pages);
     }
 }

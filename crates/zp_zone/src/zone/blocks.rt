@@ -9,8 +9,8 @@ ghost use Rattle.zp_zone.specs.NamedZone.{block_reply, page_reply};
 ghost use Rattle.zp_zone.specs.Seats.{IsSeatOf, KeepsSeats, Agrees, KeepsBlocks, KeepsBlocksBut, IsNewTo, asked, replied, has};
 
 use super::Zone;
-use crate::books::{EntersAlloc, EntersAllocLow, EntersCollect, EntersFree, EntersPost};
 use crate::seat::Seat;
+use std::marker::Brand;
 use zp_model::{Block, Mark, MigrateType, Order, PageNo, Refused, Worker};
 
 impl Zone {
@@ -37,12 +37,7 @@ impl Zone {
         ensures fresh { IfOk result (IsNewTo seat.old) }
         ensures kept { KeepsBlocks seat.old seat.new }
     {
-        let worker = seat.worker();
-        self.untied.lawful();
-        seat.enter::<(Order, MigrateType, Mark), EntersAlloc>(
-            &mut self.keeper,
-            &(order, kind, mark),
-        );
+        let worker = seat.enter::<Brand, _>(&mut self.keeper, &self.untied, &(order, kind, mark));
         self.untied.alloc(worker, order, kind, mark)
     }
 
@@ -64,9 +59,7 @@ impl Zone {
         ensures fresh { IfOk result (λ block. IsNewTo seat.old block.page) }
         ensures kept { KeepsBlocks seat.old seat.new }
     {
-        let worker = seat.worker();
-        self.untied.lawful();
-        seat.enter::<Order, EntersAllocLow>(&mut self.keeper, &order);
+        let worker = seat.enter::<Brand, _>(&mut self.keeper, &self.untied, &order);
         self.untied.alloc_low(worker, order)
     }
 
@@ -87,9 +80,7 @@ impl Zone {
         ensures gone { IsNewTo seat.new page }
         ensures kept { KeepsBlocksBut page seat.old seat.new }
     {
-        let worker = seat.worker();
-        self.untied.lawful();
-        seat.enter::<(PageNo, Order), EntersFree>(&mut self.keeper, &(page, order));
+        let worker = seat.enter::<Brand, _>(&mut self.keeper, &self.untied, &(page, order));
         self.untied.free(worker, page, order);
     }
 
@@ -111,9 +102,7 @@ impl Zone {
         ensures gone { IsNewTo seat.new page }
         ensures kept { KeepsBlocksBut page seat.old seat.new }
     {
-        let worker = seat.worker();
-        self.untied.lawful();
-        seat.enter::<(PageNo, Order, Worker), EntersPost>(&mut self.keeper, &(page, order, to));
+        let worker = seat.enter::<Brand, _>(&mut self.keeper, &self.untied, &(page, order, to));
         self.untied.post(worker, page, order, to);
     }
 
@@ -134,9 +123,7 @@ impl Zone {
         ensures fresh { IfOk result (λ block. IsNewTo seat.old block.page) }
         ensures kept { KeepsBlocks seat.old seat.new }
     {
-        let worker = seat.worker();
-        self.untied.lawful();
-        seat.enter::<(), EntersCollect>(&mut self.keeper, &());
+        let worker = seat.enter::<Brand, _>(&mut self.keeper, &self.untied, &());
         self.untied.collect(worker)
     }
 }

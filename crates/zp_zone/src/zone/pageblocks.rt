@@ -9,8 +9,8 @@ ghost use Rattle.zp_zone.specs.NamedZone.{isolate_reply, release_reply};
 ghost use Rattle.zp_zone.specs.Seats.{IsSeatOf, KeepsSeats, Agrees, KeepsBlocks, asked, replied};
 
 use super::Zone;
-use crate::books::{EntersIsolate, EntersRelease};
 use crate::seat::Seat;
+use std::marker::Brand;
 use zp_model::{MigrateType, Refused};
 
 impl Zone {
@@ -31,9 +31,7 @@ impl Zone {
         ensures seats { KeepsSeats self.old self.new }
         ensures kept { KeepsBlocks seat.old seat.new }
     {
-        let worker = seat.worker();
-        self.untied.lawful();
-        seat.enter::<u32, EntersIsolate>(&mut self.keeper, &pageblock);
+        let worker = seat.enter::<Brand, _>(&mut self.keeper, &self.untied, &pageblock);
         self.untied.isolate(worker, pageblock)
     }
 
@@ -58,9 +56,7 @@ impl Zone {
         ensures seats { KeepsSeats self.old self.new }
         ensures kept { KeepsBlocks seat.old seat.new }
     {
-        let worker = seat.worker();
-        self.untied.lawful();
-        seat.enter::<(u32, MigrateType), EntersRelease>(&mut self.keeper, &(pageblock, kind));
+        let worker = seat.enter::<Brand, _>(&mut self.keeper, &self.untied, &(pageblock, kind));
         self.untied.release(worker, pageblock, kind)
     }
 }

@@ -2,14 +2,14 @@ use Rattle.std.proofs.Common.{◌≡◌, ◌<◌, Some, ap, sym, subst, arith, �
 use Rattle.std.specs.Prelude.{slice_get}
 use Rattle.std.proofs.lemmas.Option.{slice_get-get_or}
 use Rattle.zp_model.specs.declared.pageblock_type.PageblockType.{PageblockType}
-use Rattle.zp_model.specs.declared.pageblock_type.PageblockType.TheVariants.{Isolate, Movable}
+use Rattle.zp_model.specs.declared.pageblock_type.PageblockType.TheVariants.{Movable}
 use Rattle.zp_model.specs.declared.request.Request.TheVariants as request
 use Rattle.zp_model.specs.Frames.{Frames}
 use Rattle.zp_model.specs.Step.{Outcome}
 use Rattle.zp_model.specs.Zone.{workers_of}
 use Rattle.zp_zone.specs.Kept.{plain_of}
 use Rattle.zp_zone.specs.NamedZone.{KeepsOut, NamedZone}
-use Rattle.zp_zone.proofs.RetypeSteps.{isolated_it, isolate-kept, isolated_left, isolated_kept, retyped}
+use Rattle.zp_zone.proofs.RetypeSteps.{isolated_it, isolate-kept, isolated_left, isolated_kept}
 use Rattle.zp_zone.proofs.Callers.{reply_in, after_in}
 use Rattle.zp_zone.proofs.untied_zone.UntiedZone.isolate.Goals.{After-retype}
 use Rattle.zp_zone.proofs.untied_zone.UntiedZone.isolate.Goals as goal

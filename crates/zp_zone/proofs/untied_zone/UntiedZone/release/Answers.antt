@@ -9,7 +9,7 @@ use Rattle.zp_model.specs.Step.{Outcome}
 use Rattle.zp_model.specs.Zone.{workers_of}
 use Rattle.zp_zone.specs.Kept.{plain_of}
 use Rattle.zp_zone.specs.NamedZone.{KeepsOut, NamedZone}
-use Rattle.zp_zone.proofs.RetypeSteps.{released_it, release-kept, released_left, released_kept, retyped}
+use Rattle.zp_zone.proofs.RetypeSteps.{released_it, release-kept, released_left, released_kept}
 use Rattle.zp_zone.proofs.Callers.{reply_in, after_in}
 use Rattle.zp_zone.proofs.untied_zone.UntiedZone.release.Goals.{After-retype}
 use Rattle.zp_zone.proofs.untied_zone.UntiedZone.release.Goals as goal

@@ -20,4 +20,4 @@ returns-clause-unused c =
 pub invariant_of-result : goal.invariant_of-result
 invariant_of-result c =
     rw (c.in-Ok-seats.ensures.dealt, c.begin.ensures, c.in_ok-untied.ensures.zone)
-    (refl, sym (length-replicate {A = List PostedBlock} c.args.workers []), opening_history c.args.config.largest c.args.config.base c.args.config.pages c.args.config.min c.args.workers)
+    (refl, (sym (length-replicate {A = List PostedBlock} c.args.workers []), opening_history c.args.config.largest c.args.config.base c.args.config.pages c.args.config.min c.args.workers))

@@ -1,23 +1,8 @@
 use Rattle.std.proofs.Common.{rules}
-use Rattle.zp_model.specs.declared.request.Request.TheVariants as request
-use Rattle.zp_zone.specs.NamedZone.{pages_reply}
-use Rattle.zp_zone.proofs.Tied.{entering, tied_after, seat_replied, moment, blocks_stay, may_refill}
+use Rattle.zp_zone.proofs.Tied.{blocks_stay}
 use Rattle.zp_zone.proofs.zone.Zone.refill.Goals as goal
 
-pub enter-requires : goal.enter-requires
-enter-requires c =
-    let e = entering c.self.inside.untied c.self.inside.keeper.whole _ c.args.seat.now (request.Refill c.args.kind c.args.mark c.args.count) c.self.invariant.0 c.self.invariant.1 c.lawful.ensures (λ agree. (may_refill c.self.inside.keeper.whole.plain c.args.seat.now.worker c.args.count c.args.kind c.args.mark c.requires.some c.requires.batch)) in
-    record { tie = search rules; others = e.0; places = e.1 }
-
-pub invariant_of-self : goal.invariant_of-self
-invariant_of-self c =
-    tied_after c.self.inside.keeper c.enter.new.keeper c.self.inside.untied c.refill.new.self c.args.seat.now.worker c.worker-worker.result (request.Refill c.args.kind c.args.mark c.args.count)
-    c.self.invariant.0 c.self.invariant.1 c.self.invariant.2 c.enter.ensures.agreed.0 (may_refill c.self.inside.keeper.whole.plain c.args.seat.now.worker c.args.count c.args.kind c.args.mark c.requires.some c.requires.batch) c.worker-worker.ensures c.enter.ensures.keeper c.refill.ensures.after
-
-pub returns-clause-seat : goal.returns-clause-seat
-returns-clause-seat c =
-    seat_replied c.args.seat.now c.enter.new.self c.self.inside.keeper.whole c.self.inside.untied c.worker-worker.result (request.Refill c.args.kind c.args.mark c.args.count) (pages_reply c.refill.result)
-    c.self.invariant.0 c.enter.ensures.agreed.1 (may_refill c.self.inside.keeper.whole.plain c.args.seat.now.worker c.args.count c.args.kind c.args.mark c.requires.some c.requires.batch) c.worker-worker.ensures c.refill.ensures.reply c.enter.ensures.seat
-
 pub returns-clause-kept : goal.returns-clause-kept
-returns-clause-kept c = blocks_stay _ _ _ _ _ _ (moment c.args.seat.now c.enter.new.self c.self.inside.keeper.whole c.self.inside.untied c.refill.new.self c.worker-worker.result (request.Refill c.args.kind c.args.mark c.args.count) c.self.invariant.0 c.enter.ensures.agreed.1 c.worker-worker.ensures c.enter.ensures.seat c.refill.ensures.after) c.refill.ensures.kept
+returns-clause-kept c =
+    let e = c.enter-worker in
+    blocks_stay c.args.seat.now e.new.self c.self.inside.keeper e.new.keeper c.self.inside.untied.plain c.refill.new.self.plain e.ensures.agrees (search rules) c.self.invariant.0 (search rules) c.refill.ensures.kept
