@@ -1,7 +1,6 @@
 -- Pages given back: a drain changes no lent block, and the lists of all zones are given back zone by zone.
 use Rattle.std.specs.List.{range_with_len}
-use Rattle.std.proofs.Common.{ℕ, arith, [], ◌-◌, suc, ◌+◌, ◌≡◌, ◌≢◌, ◌<◌, ◌≤◌, refl, sym, ◌∙◌, ap, subst, Option, List, length, Result, Ok, Err, Bool, true, cond, inl, inr, Some}
-use Rattle.std.proofs.lemmas.Bool.{cases_eq}
+use Rattle.std.proofs.Common.{ℕ, arith, ◌-◌, suc, ◌+◌, ◌≡◌, ◌≢◌, ◌<◌, ◌≤◌, refl, sym, ◌∙◌, ap, subst, Option, List, length, Result, Ok, Err, Bool, true, cond, Some}
 use Rattle.zp_model.specs.declared.migrate_type.MigrateType.{MigrateType}
 use Rattle.zp_model.specs.declared.refused.Refused.{Refused}
 use Rattle.zp_model.specs.declared.request.Request.TheVariants.{Drain}

@@ -21,7 +21,7 @@ use Rattle.zp_share.specs.PageUses.{is_lent_as, use_of, all_as}
 use Rattle.zp_share.specs.PlainShares.{lends, taken, taken_at, own_at, list_of}
 use Rattle.zp_share.specs.ZoneShares.{ZoneShareState, IsAllocRefusal, IsShare, IsNew, use_in, is_lent, cached_of, answered, plain_share}
 use Rattle.zp_share.specs.Sections.{IsReplyTo}
-use Rattle.zp_share.specs.Shares.{ShareState, AreAskedDown, AreAskedTo, IsAskedFor, IsGivenBy, IsGivenIn, IsSameShare, WasRefused, HasSameLent, is_section, noted, page_request, share_at, with_zone_share, noted_at, IsDone, plain, world}
+use Rattle.zp_share.specs.Shares.{ShareState, AreAskedDown, AreAskedTo, IsAskedFor, IsGivenBy, IsGivenIn, IsSameShare, HasSameLent, is_section, noted, page_request, share_at, with_zone_share, noted_at, IsDone, plain, world}
 use Rattle.zp_share.specs.declared.commands.Lent.{Lent as LentBlock}
 use Rattle.zp_share.specs.Commands.{World, Done, told_as, and_then, done_answer, section, is_listed, alloc_in, alloc_listed, alloc_down, goes_down, lent_in, take_front, front_answer}
 use Rattle.zp_share.proofs.Carrying.{here, elsewhere, noted_one, same_lent, same_lent_but, own-plain, moved, told_as_is, then_ok}

@@ -12,7 +12,7 @@ use Rattle.zp_laws.specs.FreePages.{IsSameZone}
 use Rattle.zp_laws.proofs.Sameness.{step-same}
 use Rattle.zp_zone.specs.NamedZone.{NamedZone}
 use Rattle.zp_zone.specs.Seats.{ZoneState, IsSeatOf}
-use Rattle.zp_share.specs.declared.sections.TheConstants.{LAST_SECTION}
+use Rattle.zp_share.specs.declared.sections_made.TheConstants.{LAST_SECTION}
 use Rattle.zp_share.specs.PlainShares.{PlainZoneShare, lends_for, refusal_of, share_after, own_at, with_own}
 use Rattle.zp_share.specs.ZoneShares.{ZoneShareState, plain_share, opening_share}
 use Rattle.zp_share.specs.Commands.{no_zone, zone_at, section, section_as}

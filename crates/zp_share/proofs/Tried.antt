@@ -15,7 +15,7 @@ use Rattle.zp_model.specs.Mark.{passes}
 use Rattle.zp_model.specs.Zone.{PlainZone, PostedBlock, posted_to}
 use Rattle.zp_model.specs.Step.{Outcome, alloc, alloc_chosen, alloc_low_at, refuse, collected, isolated, refill, refill_end, page_of, released, step}
 use Rattle.zp_zone.specs.Seats.{ZoneState}
-use Rattle.zp_share.specs.declared.sections.TheConstants.{LAST_SECTION}
+use Rattle.zp_share.specs.declared.sections_made.TheConstants.{LAST_SECTION}
 use Rattle.zp_share.specs.PlainShares.{lends_for, refusal, refusal_of}
 use Rattle.zp_share.specs.Sections.{ComesOf}
 use Rattle.zp_share.specs.ZoneShares.{ZoneShareState, IsLeft, answered, plain_share}

@@ -10,7 +10,7 @@ mod page_stack;
 mod page_use;
 mod page_uses;
 mod plain_zones;
-mod sections;
+mod sections_made;
 mod share;
 mod zone_share;
 mod zones;

@@ -66,7 +66,7 @@ impl Zones for PlainZones {
     ghost use Rattle.std.specs.Prelude.{map, Some, ◌≡◌};
     ghost use Rattle.zp_model.specs.declared.refused.Refused.TheVariants.{JournalFull};
     ghost use Rattle.zp_model.specs.declared.request.Reply.{Reply};
-    ghost use Rattle.zp_share.specs.declared.sections.TheConstants.{LAST_SECTION};
+    ghost use Rattle.zp_share.specs.declared.sections_made.TheConstants.{LAST_SECTION};
     ghost use Rattle.zp_share.specs.Commands.{counts_at};
     ghost use Rattle.zp_share.specs.Shares.{key_of, named_zone, sections_at};
 

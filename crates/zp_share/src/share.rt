@@ -23,7 +23,7 @@ use zp_model::{
 };
 use zp_zone::{Seat, Zone};
 
-mod sections;
+mod requests;
 
 /// What one worker has of each zone of a row: its lists of pages of order 0, the blocks lent to it, and its sections. Zones
 /// are named by their place in the row, the lowest first.

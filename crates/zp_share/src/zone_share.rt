@@ -14,13 +14,13 @@ ghost use Rattle.zp_share.specs.ZoneShares.{HasAtMost, use_in, is_lent, cached_o
 use crate::page_stack::PageStack;
 use crate::page_use::PageUse;
 use crate::page_uses::PageUses;
-use crate::sections::Sections;
+use crate::sections_made::SectionsMade;
 use std::alloc::Global;
 use std::marker::Model;
 use zp_model::{Entry, LONGEST_LIST, MigrateType, Order, PageList, PageNo, Refused, TYPES, Worker};
 use zp_zone::{Seat, Zone};
 
-mod section;
+mod asking;
 
 /// What one worker has of a zone: its lists of pages of order 0, one for each type, the blocks lent to it, and its sections.
 #[derive(Drop)]
@@ -28,7 +28,7 @@ pub struct ZoneShare {
     seat: Seat,
     uses: PageUses,
     cached: [PageStack; TYPES],
-    sections: Sections,
+    sections: SectionsMade,
 }
 
 impl Model for ZoneShare {
@@ -56,7 +56,7 @@ impl ZoneShare {
             seat,
             uses,
             cached: [PageStack::new(), PageStack::new(), PageStack::new()],
-            sections: Sections::new(),
+            sections: SectionsMade::new(),
         })
     }
 

@@ -22,7 +22,7 @@ use Rattle.zp_zone.specs.Seats.{ZoneState, IsSeatOf}
 use Rattle.zp_counts.specs.CountBoards.{BoardState}
 use Rattle.zp_counts.specs.CountBoards.{CountsPublished}
 use Rattle.zp_journal.specs.Journals.{counts_after}
-use Rattle.zp_share.specs.declared.sections.TheConstants.{LAST_SECTION}
+use Rattle.zp_share.specs.declared.sections_made.TheConstants.{LAST_SECTION}
 use Rattle.zp_share.specs.PlainShares.{lends, lends_for, refusal, refused_full}
 use Rattle.zp_share.specs.Sections.{ComesOf, IsAsked, IsReplyTo}
 use Rattle.zp_share.specs.ZoneShares.{ZoneShareState, SharesIn, IsLeft, IsSection, answered, opening_share, plain_share}

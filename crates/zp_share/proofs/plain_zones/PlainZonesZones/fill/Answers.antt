@@ -5,7 +5,7 @@ use Rattle.zp_model.specs.declared.request.Reply.{Reply}
 use Rattle.zp_model.specs.declared.request.Request.{Request}
 use Rattle.zp_model.specs.declared.request.Request.TheVariants as request
 use Rattle.zp_zone.specs.Seats.{ZoneState, IsSeatOf}
-use Rattle.zp_share.specs.declared.sections.TheConstants.{LAST_SECTION}
+use Rattle.zp_share.specs.declared.sections_made.TheConstants.{LAST_SECTION}
 use Rattle.zp_share.specs.Sections.{IsAsked}
 use Rattle.zp_share.specs.Shares.{IsShareOf, IsAskedAt, key_of, named_zone, sections_at, share_at}
 use Rattle.zp_share.proofs.Refilled.{refilled_so}

@@ -5,7 +5,7 @@ use Rattle.zp_model.specs.declared.request.Request.TheVariants as request
 use Rattle.zp_model.specs.declared.request.Reply.{Reply}
 use Rattle.zp_zone.specs.Asking.{IsGiven}
 use Rattle.zp_zone.specs.NamedZone.{page_reply}
-use Rattle.zp_share.specs.declared.sections.TheConstants.{LAST_SECTION}
+use Rattle.zp_share.specs.declared.sections_made.TheConstants.{LAST_SECTION}
 use Rattle.zp_share.specs.declared.zone_share.ZoneShare.TheInside.{Inside}
 use Rattle.zp_share.specs.PlainShares.{refusal}
 use Rattle.zp_share.specs.Sections.{ComesOf, IsReplyTo}

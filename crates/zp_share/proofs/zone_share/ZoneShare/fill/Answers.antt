@@ -7,7 +7,7 @@ use Rattle.zp_model.specs.declared.request.Reply.TheVariants as reply
 use Rattle.zp_model.specs.Step.{step}
 use Rattle.zp_zone.specs.Asking.{IsGiven}
 use Rattle.zp_zone.specs.Seats.{replied}
-use Rattle.zp_share.specs.declared.sections.TheConstants.{LAST_SECTION}
+use Rattle.zp_share.specs.declared.sections_made.TheConstants.{LAST_SECTION}
 use Rattle.zp_share.specs.declared.zone_share.ZoneShare.TheInside.{Inside}
 use Rattle.zp_share.specs.PlainShares.{refusal}
 use Rattle.zp_share.specs.Sections.{ComesOf, IsReplyTo, MayAsk}

@@ -1,5 +1,5 @@
-//! The sections of a share with the lent zone at a place of the row: each is one request on the zone, and the same change in the
-//! share.
+//! The requests of a share to the lent zone at a place of the row: each is one section, a request on the zone and the same change in
+//! the share.
 ghost use Rattle.std.specs.Prelude.{◌≡◌, ◌<◌, ◌≤◌, length, []};
 ghost use Rattle.zp_model.specs.Zone.{workers_of};
 ghost use Rattle.zp_model.specs.declared.request.Request.TheVariants as request;

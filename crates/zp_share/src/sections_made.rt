@@ -1,4 +1,4 @@
-//! The sections that a share makes with one zone.
+//! How many sections a share has made with one zone, and the last one.
 ghost use Rattle.std.specs.Prelude.{◌≡◌, ◌<◌, ◌+◌, ◌==◌, Some, None, false};
 ghost use Rattle.std.specs.Option.{option_copied};
 ghost use Rattle.zp_model.specs.Entries.{HasOneList};
@@ -11,12 +11,12 @@ pub const LAST_SECTION: u64 = u64::MAX;
 
 /// How many there were, and the last one. The entry of the last one is written over where it lies.
 #[derive(Drop)]
-pub struct Sections {
+pub struct SectionsMade {
     made: u64,
     last: Entry,
 }
 
-impl Model for Sections {
+impl Model for SectionsMade {
     ghost use Rattle.zp_share.specs.PlainShares.{SectionsState, last_made};
 
     ghost Value = { SectionsState };
@@ -24,11 +24,11 @@ impl Model for Sections {
     ghost view = { λ s. record { made = s.made; last = last_made s.made s.last } };
 }
 
-impl Sections {
-    pub fn new() -> Sections
+impl SectionsMade {
+    pub fn new() -> SectionsMade
         ensures { result ≡ record { made = 0; last = None } }
     {
-        Sections {
+        SectionsMade {
             made: 0,
             last: Entry::blank(),
         }
