@@ -19,41 +19,78 @@ fn listed(rt: &(impl Abort + AllocGlobal), pages: u32, list: &[u32]) -> Result<L
     Ok(lists)
 }
 
-fn largest_block() -> State {
-    State::Free(Order::largest())
+/// What is noted of a page: one of a block of the largest order, one of a block of one page, or one that the last worker has.
+#[derive(Clone, Copy, Drop)]
+enum Noted {
+    Tail,
+    Largest,
+    Single,
+    Out,
 }
 
-/// A page that the last worker has.
-fn page_out() -> State {
-    let last = Worker::new(31).unwrap_or(Worker::first());
-    State::Out(Order::zero(), MigrateType::Movable, last)
+fn state_of(noted: Noted) -> State {
+    match noted {
+        Noted::Tail => State::Tail,
+        Noted::Largest => State::Free(Order::largest()),
+        Noted::Single => State::Free(Order::zero()),
+        Noted::Out => {
+            let last = Worker::new(31).unwrap_or(Worker::first());
+            State::Out(Order::zero(), MigrateType::Movable, last)
+        }
+    }
+}
+
+/// How many pages there are, which of them stand on the one list, a page, what is noted of it, and the word of its entry.
+type Case = (u32, &'static [u32], u32, Noted, u64);
+
+const CASES: [Case; 6] = [
+    (8, &[], 5, Noted::Tail, 0x0000_4000_2000_0000),
+    (8, &[], 5, Noted::Largest, 0x0000_4000_2000_0029),
+    (8, &[], 5, Noted::Out, 0x0000_4000_2000_1F82),
+    (
+        65_536,
+        &[3, 5, 65_535],
+        5,
+        Noted::Single,
+        0x0000_0000_DFFF_E001,
+    ),
+    (
+        4096,
+        &[3072, 2048, 1024, 0],
+        0,
+        Noted::Largest,
+        0x0000_0100_2000_0029,
+    ),
+    (
+        4096,
+        &[3072, 2048, 1024, 0],
+        2048,
+        Noted::Largest,
+        0x0000_0300_0080_0029,
+    ),
+];
+
+/// The word of a page's entry, once this is noted of it. None where the page is not one of the lists'.
+fn word_of(lists: &mut Lists, page: u32, noted: Noted) -> Option<u64> {
+    let at = PageAt::new(page)?;
+    if at.index() >= lists.pages() {
+        return None;
+    }
+    lists.set_state(at, state_of(noted));
+    if at.index() >= lists.pages() {
+        return None;
+    }
+    Some(lists.word(at))
 }
 
 #[test]
 fn entries_are_packed_in_words(rt: HostRuntime) -> Result<(), Fail> {
-    let fresh: &[u32] = &[3072, 2048, 1024, 0];
-    let cases = [
-        (8, &[][..], 5, State::Tail, 0x0000_4000_2000_0000),
-        (8, &[], 5, largest_block(), 0x0000_4000_2000_0029),
-        (8, &[], 5, page_out(), 0x0000_4000_2000_1F82),
-        (
-            65_536,
-            &[3, 5, 65_535],
-            5,
-            State::Free(Order::zero()),
-            0x0000_0000_DFFF_E001,
-        ),
-        (4096, fresh, 0, largest_block(), 0x0000_0100_2000_0029),
-        (4096, fresh, 2048, largest_block(), 0x0000_0300_0080_0029),
-    ];
-    for (pages, list, page, state, word) in cases {
-        assert!(rt; page < zp_model::MAX_PAGES);
-        let at = PageAt::at(page);
+    for (pages, list, page, noted, word) in CASES {
         let mut lists = listed(&rt, pages, list)?;
-        assert!(rt; at.index() < lists.pages());
-        lists.set_state(at, state);
-        assert!(rt; at.index() < lists.pages());
-        assert_eq!(rt; lists.word(at), word, "page {page} of {pages}");
+        assert!(rt;
+            word_of(&mut lists, page, noted) == Some(word),
+            "page {page} of {pages}"
+        );
     }
     Ok(())
 }

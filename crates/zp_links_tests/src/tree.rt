@@ -30,14 +30,12 @@ fn expect_blocks(
     largest: u8,
     lowest: &[(u8, Option<(u32, u8)>)],
 ) {
-    assert_eq!(rt; tree.largest().map(|it| it.number()), Some(largest));
+    assert!(rt; tree.largest().map(Order::number) == Some(largest));
     for &(least, wanted) in lowest {
         let mut meter = Meter::new();
         let found = tree.lowest(order_from(rt, least), &mut meter);
-        assert_eq!(rt;
-            found.map(|(at, order)| (at.number(), order.number())),
-            wanted
-        );
+        let found = found.map(|(at, order)| (at.number(), order.number()));
+        assert!(rt; found == wanted);
         assert!(rt; meter.count() <= MOST_READS);
     }
 }
@@ -49,7 +47,7 @@ fn expect_largest_in(rt: &impl Abort, tree: &OrderTree, ranges: &[(u32, u8, Opti
         assert!(rt; page < MAX_PAGES);
         assert!(rt; page % order.pages() == 0);
         let found = tree.largest_in(PageAt::at(page), order);
-        assert_eq!(rt; found.map(|it| it.number()), wanted);
+        assert!(rt; found.map(Order::number) == wanted);
     }
 }
 
