@@ -2,11 +2,32 @@
 ghost use Rattle.std.specs.Prelude.{◌≡◌, ◌≤◌, IfSome};
 ghost use Rattle.zp_model.specs.declared.constants.TheConstants.{MAX_PAGES};
 
-use std::alloc::{AllocError, Global};
+use std::alloc::{AllocError, AllocGlobal, Global};
 use std::process::Abort;
 use zp_model::{
     Largest, MAX_PAGES, MigrateType, ORDERS, Order, PageAt, PageblockType, State, Worker,
 };
+
+/// The order of this number.
+pub fn order_of(rt: &impl Abort, number: u8) -> Order {
+    Order::new(number).expect(rt, "no order")
+}
+
+/// The page of this number.
+pub fn page_of(rt: &impl Abort, number: u32) -> PageAt {
+    PageAt::new(number).expect(rt, "no page")
+}
+
+/// Two new zones of so many pages, whose largest blocks have this order.
+pub fn new_pair(
+    rt: &(impl Abort + AllocGlobal),
+    largest: u8,
+    pages: u32,
+) -> Result<Pair, AllocError> {
+    let largest = Largest::new(largest).expect(rt, "no largest order");
+    assert!(rt; pages <= MAX_PAGES);
+    Pair::new(rt.alloc(), pages, largest)
+}
 
 /// How many further lists a pair has.
 const SIDES: usize = 2;
@@ -33,9 +54,9 @@ impl Pair {
     pub fn take(&mut self, rt: &impl Abort, order: Order, kind: MigrateType) -> Option<PageAt> {
         let head = self.buddy.take(order, kind);
         let plain_head = self.plain.take(order, kind);
-        assert_eq!(rt; head, plain_head);
+        assert!(rt; head == plain_head);
         if let (Some(at), Some(plain_at)) = (head, plain_head) {
-            let worker = Worker::new(0).expect(rt, "no worker");
+            let worker = Worker::first();
             self.buddy.hold(at, State::Out(order, kind, worker));
             self.plain.hold(plain_at, State::Out(order, kind, worker));
         }
@@ -46,12 +67,12 @@ impl Pair {
     pub fn take_low(&mut self, rt: &impl Abort, order: Order) -> Option<PageAt> {
         let head = self.buddy.take_low(order);
         let plain_head = self.plain.take_low(order);
-        assert_eq!(rt; head, plain_head);
+        assert!(rt; head == plain_head);
         if let (Some(at), Some(plain_at)) = (head, plain_head) {
             let kind = self.buddy.type_of(at);
             assert!(rt; kind == self.plain.type_of(plain_at));
             assert!(rt; !kind.is_isolate());
-            let worker = Worker::new(0).expect(rt, "no worker");
+            let worker = Worker::first();
             self.buddy.hold(at, State::Out(order, kind.noted(), worker));
             self.plain
                 .hold(plain_at, State::Out(order, kind.noted(), worker));
@@ -63,7 +84,7 @@ impl Pair {
     pub fn give(&mut self, rt: &impl Abort, at: PageAt, order: Order) -> bool {
         let clear = self.buddy.is_clear(at, order);
         let plain_clear = self.plain.is_clear(at, order);
-        assert_eq!(rt; clear, plain_clear);
+        assert!(rt; clear == plain_clear);
         if clear && plain_clear {
             self.buddy.give(at, order);
             self.plain.give(at, order);
@@ -78,7 +99,7 @@ impl Pair {
 
     /// Gives a pageblock a type in both, where they have it.
     pub fn retype(&mut self, rt: &impl Abort, pageblock: usize, kind: PageblockType) -> bool {
-        assert_eq!(rt; self.buddy.pageblocks(), self.plain.pageblocks());
+        assert!(rt; self.buddy.pageblocks() == self.plain.pageblocks());
         let known = pageblock < self.buddy.pageblocks() && pageblock < self.plain.pageblocks();
         if known {
             self.buddy.retype(pageblock, kind);
@@ -90,7 +111,7 @@ impl Pair {
     /// Asks both whether a block may come back.
     pub fn compare_clear(&self, rt: &impl Abort, at: PageAt, order: Order) {
         let clear = self.buddy.is_clear(at, order);
-        assert_eq!(rt; clear, self.plain.is_clear(at, order));
+        assert!(rt; clear == self.plain.is_clear(at, order));
     }
 
     /// Compares all that can be asked of the two, but which blocks may come back.
@@ -103,49 +124,53 @@ impl Pair {
 
     /// Compares the counts.
     pub fn compare_counts(&self, rt: &impl Abort) {
-        assert_eq!(rt; self.buddy.free_pages(), self.plain.free_pages());
-        assert_eq!(rt; self.buddy.available_pages(), self.plain.available_pages());
-        let counts = self.buddy.counts();
-        let plain_counts = self.plain.counts();
-        assert_eq!(rt; counts.free, plain_counts.free);
-        assert!(rt; counts.by_order.as_slice() == plain_counts.by_order.as_slice());
+        assert!(rt; self.has_same_counts());
+    }
+
+    fn has_same_counts(&self) -> bool {
+        self.buddy.free_pages() == self.plain.free_pages()
+            && self.buddy.available_pages() == self.plain.available_pages()
+            && self.buddy.counts() == self.plain.counts()
     }
 
     /// Compares the type of each pageblock, how many of its pages are free, and its largest free block.
     fn compare_pageblocks(&self, rt: &impl Abort) {
-        assert_eq!(rt; self.buddy.pageblocks(), self.plain.pageblocks());
-        for number in 0..self.buddy.pageblocks().min(self.plain.pageblocks()) {
-            let kind = self.buddy.pageblock_type(number);
-            assert!(rt;
-                kind == self.plain.pageblock_type(number),
-                "pageblock {number}"
-            );
-            let free = self.buddy.free_in(number);
-            assert!(rt; free == self.plain.free_in(number), "pageblock {number}");
-            let largest = self.buddy.largest_in(number);
-            assert!(rt;
-                largest == self.plain.largest_in(number),
-                "pageblock {number}"
-            );
+        assert!(rt; self.buddy.pageblocks() == self.plain.pageblocks());
+        for number in 0..self.buddy.pageblocks() {
+            assert!(rt; self.is_same_pageblock(number), "pageblock {number}");
         }
+    }
+
+    fn is_same_pageblock(&self, number: usize) -> bool {
+        number < self.buddy.pageblocks()
+            && number < self.plain.pageblocks()
+            && self.buddy.pageblock_type(number) == self.plain.pageblock_type(number)
+            && self.buddy.free_in(number) == self.plain.free_in(number)
+            && self.buddy.largest_in(number) == self.plain.largest_in(number)
     }
 
     /// Compares what is noted of each page, and the type of its pageblock.
     fn compare_notes(&self, rt: &impl Abort) {
-        assert_eq!(rt; self.buddy.pages(), self.plain.pages());
-        for number in 0..self.buddy.pages().min(self.plain.pages()) {
-            let at = PageAt::at(number);
-            let note = self.buddy.holding(at);
-            assert!(rt; note == self.plain.holding(at), "page {number}");
-            let kind = self.buddy.type_of(at);
-            assert!(rt; kind == self.plain.type_of(at), "page {number}");
+        assert!(rt; self.buddy.pages() == self.plain.pages());
+        for number in 0..self.buddy.pages() {
+            assert!(rt; self.is_same_page(number), "page {number}");
         }
+    }
+
+    fn is_same_page(&self, number: u32) -> bool {
+        let Some(at) = PageAt::new(number) else {
+            return false;
+        };
+        number < self.buddy.pages()
+            && number < self.plain.pages()
+            && self.buddy.holding(at) == self.plain.holding(at)
+            && self.buddy.type_of(at) == self.plain.type_of(at)
     }
 
     /// Compares each free list, block by block. Those of orders above the largest are empty.
     fn compare_lists(&self, rt: &impl Abort) {
         for number in 0..ORDERS as u8 {
-            let order = Order::new(number).expect(rt, "no order");
+            let order = order_of(rt, number);
             for kind in [
                 PageblockType::Unmovable,
                 PageblockType::Reclaimable,

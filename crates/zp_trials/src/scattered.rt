@@ -1,9 +1,9 @@
 //! Zones of four pageblocks whose free blocks are scattered, so that a request looks long for a pageblock that it may claim. Each
 //! stands for all largest orders from 2 on: where a pageblock has two pages, one free page is enough for a claim.
 
-use crate::pair::Pair;
+use crate::pair::{Pair, order_of, page_of};
 use crate::random::{Requests, ask_at_random};
-use std::alloc::AllocGlobal;
+use std::alloc::{AllocError, AllocGlobal};
 use std::process::Abort;
 use std::test::Fail;
 use zp_model::{LARGEST_ORDER, Largest, MigrateType, Order, PageAt};
@@ -18,52 +18,62 @@ const MOVABLE: MigrateType = MigrateType::Movable;
 #[derive(Clone, Copy, Drop)]
 struct Scattered(MigrateType, u8, u32);
 
-/// A zone of these pageblocks, the highest first, in each of which so many blocks of an order are free: every second one from
-/// its first page on. They came back in this order, so that the highest of the lowest pageblock stands in front.
-fn scatter(
-    rt: &(impl Abort + AllocGlobal),
-    largest: Largest,
-    pageblocks: &[Scattered],
-) -> Result<Pair, Fail> {
-    let mut pair = Pair::new(rt.alloc(), 4 * largest.order().pages(), largest)?;
-    let mut heads: Vec<(PageAt, u8, u32)> = Vec::new(rt.alloc());
-    for Scattered(kind, order, blocks) in pageblocks {
-        let head = pair.take(rt, largest.order(), *kind);
-        heads.push((head.expect(rt, "no pageblock"), *order, *blocks))?;
+/// Of a block so many blocks of an order come back: every second one from its first page on.
+fn give_every_second(rt: &impl Abort, pair: &mut Pair, head: PageAt, order: Order, blocks: u32) {
+    for block in 0..blocks.min(512) {
+        let page = head.number() + 2 * block * order.pages();
+        let is_given = pair.give(rt, page_of(rt, page), order);
+        assert!(rt; is_given, "page {page}");
     }
-    for (head, order, blocks) in &heads {
-        let order = Order::new(*order).expect(rt, "no order");
-        for block in 0..(*blocks).min(512) {
-            let page = head.number() + 2 * block * order.pages();
-            let at = PageAt::new(page).expect(rt, "no page");
-            assert!(rt; pair.give(rt, at, order), "page {page}");
-        }
-    }
-    pair.compare(rt);
-    Ok(pair)
 }
 
-/// Takes blocks of this order for these types, which are these, in turn; and then makes requests at random.
+/// Makes of a new zone one of these pageblocks, the highest first, in each of which so many blocks of an order are free: every second one
+/// from its first page on. They came back in this order, so that the highest of the lowest pageblock stands in front.
+fn scatter(rt: &impl Abort, pair: &mut Pair, largest: Largest, pageblocks: &[Scattered; 4]) {
+    let mut heads = [None; 4];
+    for (head, Scattered(kind, ..)) in heads.iter_mut().zip(pageblocks) {
+        *head = pair.take(rt, largest.order(), *kind);
+    }
+    for (head, Scattered(_, order, blocks)) in heads.iter().zip(pageblocks) {
+        let head = head.expect(rt, "no pageblock");
+        give_every_second(rt, pair, head, order_of(rt, *order), *blocks);
+    }
+    pair.compare(rt);
+}
+
+/// Takes blocks of this order for these types, which are these, in turn.
+fn take_in_turn(
+    rt: &impl Abort,
+    pair: &mut Pair,
+    order: u8,
+    requests: &[(MigrateType, Option<u32>)],
+) {
+    let order = order_of(rt, order);
+    for (kind, expected) in requests {
+        let page = pair.take(rt, order, *kind);
+        assert!(rt; page.map(PageAt::number) == *expected);
+        pair.compare(rt);
+    }
+}
+
+/// The same of a new zone of these pageblocks; and then makes requests at random.
 fn compare_scattered(
     rt: &(impl Abort + AllocGlobal),
     largest: Largest,
     order: u8,
-    pageblocks: &[Scattered],
+    pageblocks: &[Scattered; 4],
     requests: &[(MigrateType, Option<u32>)],
-) -> Result<(), Fail> {
-    let order = Order::new(order).expect(rt, "no order");
-    let mut pair = scatter(rt, largest, pageblocks)?;
-    for (kind, expected) in requests {
-        let page = pair.take(rt, order, *kind).map(|at| at.number());
-        assert_eq!(rt; page, *expected, "largest order {}", largest.number());
-        pair.compare(rt);
-    }
+) -> Result<(), AllocError> {
+    let pages = 4 * largest.order().pages();
+    let mut pair = Pair::new(rt.alloc(), pages, largest)?;
+    scatter(rt, &mut pair, largest, pageblocks);
+    take_in_turn(rt, &mut pair, order, requests);
     let at_random = Requests {
         count: 100,
         orders: largest.number() + 2,
         every: 5,
     };
-    ask_at_random(rt, &mut pair, 4 * largest.order().pages(), at_random)
+    ask_at_random(rt, &mut pair, pages, at_random)
 }
 
 /// With half of its pages free a pageblock may be claimed, with one fewer not. The blocks of those that may not stand in front.

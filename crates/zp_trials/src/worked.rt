@@ -1,10 +1,10 @@
 //! Requests whose answers follow by hand from the rules: both allocators give these, and agree after each.
 
-use crate::pair::Pair;
-use std::alloc::AllocGlobal;
+use crate::pair::{Pair, new_pair, order_of, page_of};
+use std::alloc::{AllocError, AllocGlobal};
 use std::process::Abort;
 use std::test::Fail;
-use zp_model::{Largest, MAX_PAGES, MigrateType, Order, PageAt, PageblockType};
+use zp_model::{MigrateType, PageAt, PageblockType};
 
 const UNMOVABLE: MigrateType = MigrateType::Unmovable;
 
@@ -31,24 +31,20 @@ enum Step {
 fn make_step(rt: &impl Abort, pair: &mut Pair, step: Step) {
     match step {
         Step::Take(order, kind, expected) => {
-            let order = Order::new(order).expect(rt, "no order");
-            let page = pair.take(rt, order, kind).map(|at| at.number());
-            assert_eq!(rt; page, expected);
+            let page = pair.take(rt, order_of(rt, order), kind);
+            assert!(rt; page.map(PageAt::number) == expected);
         }
         Step::Low(order, expected) => {
-            let order = Order::new(order).expect(rt, "no order");
-            let page = pair.take_low(rt, order).map(|at| at.number());
-            assert_eq!(rt; page, expected);
+            let page = pair.take_low(rt, order_of(rt, order));
+            assert!(rt; page.map(PageAt::number) == expected);
         }
         Step::Give(page, order) => {
-            let at = PageAt::new(page).expect(rt, "no page");
-            let order = Order::new(order).expect(rt, "no order");
-            assert!(rt; pair.give(rt, at, order), "page {page}");
+            let is_given = pair.give(rt, page_of(rt, page), order_of(rt, order));
+            assert!(rt; is_given, "page {page}");
         }
         Step::Keep(page, order) => {
-            let at = PageAt::new(page).expect(rt, "no page");
-            let order = Order::new(order).expect(rt, "no order");
-            assert!(rt; !pair.give(rt, at, order), "page {page}");
+            let is_given = pair.give(rt, page_of(rt, page), order_of(rt, order));
+            assert!(rt; !is_given, "page {page}");
         }
         Step::Retype(pageblock, kind) => {
             assert!(rt; pair.retype(rt, pageblock, kind), "pageblock {pageblock}");
@@ -56,33 +52,36 @@ fn make_step(rt: &impl Abort, pair: &mut Pair, step: Step) {
     }
 }
 
-/// Makes the steps in turn of a new zone of so many pages with this largest order, and compares the two after each.
+/// Makes the steps in turn, and compares the two after each.
+fn make_steps(rt: &impl Abort, pair: &mut Pair, steps: &[Step]) {
+    for step in steps {
+        make_step(rt, pair, *step);
+        pair.compare(rt);
+    }
+}
+
+/// The same of a new zone of so many pages with this largest order.
 fn compare_steps(
     rt: &(impl Abort + AllocGlobal),
     largest: u8,
     pages: u32,
     steps: &[Step],
-) -> Result<(), Fail> {
-    let largest = Largest::new(largest).expect(rt, "no largest order");
-    assert!(rt; pages <= MAX_PAGES);
-    let mut pair = Pair::new(rt.alloc(), pages, largest)?;
-    for step in steps {
-        make_step(rt, &mut pair, *step);
-        pair.compare(rt);
-    }
+) -> Result<(), AllocError> {
+    let mut pair = new_pair(rt, largest, pages)?;
+    make_steps(rt, &mut pair, steps);
     Ok(())
 }
 
-#[test]
-fn worked_requests_are_answered_alike(rt: HostRuntime) -> Result<(), Fail> {
-    compare_steps(
-        &rt,
+/// The largest order of a new zone, its pages, and what is asked of it.
+type Case = (u8, u32, &'static [Step]);
+
+const CASES: [Case; 17] = [
+    (
         10,
         4096,
         &[Step::Take(0, MOVABLE, Some(3072)), Step::Give(3072, 0)],
-    )?;
-    compare_steps(
-        &rt,
+    ),
+    (
         10,
         4096,
         &[
@@ -90,9 +89,8 @@ fn worked_requests_are_answered_alike(rt: HostRuntime) -> Result<(), Fail> {
             Step::Take(0, MOVABLE, Some(2048)),
             Step::Take(0, UNMOVABLE, Some(3073)),
         ],
-    )?;
-    compare_steps(
-        &rt,
+    ),
+    (
         10,
         8,
         &[
@@ -103,9 +101,8 @@ fn worked_requests_are_answered_alike(rt: HostRuntime) -> Result<(), Fail> {
             Step::Give(2, 1),
             Step::Give(1, 0),
         ],
-    )?;
-    compare_steps(
-        &rt,
+    ),
+    (
         10,
         1024,
         &[
@@ -115,9 +112,8 @@ fn worked_requests_are_answered_alike(rt: HostRuntime) -> Result<(), Fail> {
             Step::Give(0, 9),
             Step::Take(1, MOVABLE, Some(0)),
         ],
-    )?;
-    compare_steps(
-        &rt,
+    ),
+    (
         10,
         1023,
         &[
@@ -125,24 +121,18 @@ fn worked_requests_are_answered_alike(rt: HostRuntime) -> Result<(), Fail> {
             Step::Take(9, MOVABLE, Some(0)),
             Step::Take(9, MOVABLE, None),
         ],
-    )?;
-    compare_steps(&rt, 10, 13, &[Step::Take(2, MOVABLE, Some(8))])?;
-    compare_steps(
-        &rt,
+    ),
+    (10, 13, &[Step::Take(2, MOVABLE, Some(8))]),
+    (
         10,
         1,
         &[
             Step::Take(0, RECLAIMABLE, Some(0)),
             Step::Take(0, RECLAIMABLE, None),
         ],
-    )
-}
-
-/// The lowest block is split, though the block in front of a list would do; a smaller one does not stand in its way.
-#[test]
-fn the_lowest_blocks_are_taken(rt: HostRuntime) -> Result<(), Fail> {
-    compare_steps(
-        &rt,
+    ),
+    // The lowest block is split, though the block in front of a list would do; a smaller one does not stand in its way.
+    (
         10,
         4096,
         &[
@@ -154,9 +144,8 @@ fn the_lowest_blocks_are_taken(rt: HostRuntime) -> Result<(), Fail> {
             Step::Give(0, 0),
             Step::Low(0, Some(0)),
         ],
-    )?;
-    compare_steps(
-        &rt,
+    ),
+    (
         10,
         13,
         &[
@@ -167,9 +156,8 @@ fn the_lowest_blocks_are_taken(rt: HostRuntime) -> Result<(), Fail> {
             Step::Low(2, Some(8)),
             Step::Low(2, None),
         ],
-    )?;
-    compare_steps(
-        &rt,
+    ),
+    (
         2,
         11,
         &[
@@ -185,14 +173,9 @@ fn the_lowest_blocks_are_taken(rt: HostRuntime) -> Result<(), Fail> {
             Step::Low(0, Some(10)),
             Step::Low(0, None),
         ],
-    )
-}
-
-/// Nothing is taken of an isolated pageblock, whose free blocks stay free, and are joined, until it is released.
-#[test]
-fn isolated_pageblocks_are_passed_over(rt: HostRuntime) -> Result<(), Fail> {
-    compare_steps(
-        &rt,
+    ),
+    // Nothing is taken of an isolated pageblock, whose free blocks stay free, and are joined, until it is released.
+    (
         2,
         12,
         &[
@@ -208,9 +191,8 @@ fn isolated_pageblocks_are_passed_over(rt: HostRuntime) -> Result<(), Fail> {
             Step::Take(0, MOVABLE, Some(8)),
             Step::Low(1, Some(10)),
         ],
-    )?;
-    compare_steps(
-        &rt,
+    ),
+    (
         2,
         12,
         &[
@@ -233,14 +215,9 @@ fn isolated_pageblocks_are_passed_over(rt: HostRuntime) -> Result<(), Fail> {
             Step::Give(4, 2),
             Step::Low(2, Some(4)),
         ],
-    )
-}
-
-/// Pageblocks of two pages: the last one, which is short, has page 4. Any free page lets a type claim its pageblock.
-#[test]
-fn blocks_of_two_pages_are_the_largest(rt: HostRuntime) -> Result<(), Fail> {
-    compare_steps(
-        &rt,
+    ),
+    // Pageblocks of two pages: the last one, which is short, has page 4. Any free page lets a type claim its pageblock.
+    (
         1,
         5,
         &[
@@ -264,14 +241,9 @@ fn blocks_of_two_pages_are_the_largest(rt: HostRuntime) -> Result<(), Fail> {
             Step::Take(1, MOVABLE, Some(2)),
             Step::Keep(0, 2),
         ],
-    )
-}
-
-/// Pageblocks of four pages: of the last one there are pages 8 and 9.
-#[test]
-fn blocks_of_four_pages_are_the_largest(rt: HostRuntime) -> Result<(), Fail> {
-    compare_steps(
-        &rt,
+    ),
+    // Pageblocks of four pages: of the last one there are pages 8 and 9.
+    (
         2,
         10,
         &[
@@ -301,14 +273,9 @@ fn blocks_of_four_pages_are_the_largest(rt: HostRuntime) -> Result<(), Fail> {
             Step::Take(2, MOVABLE, Some(0)),
             Step::Keep(0, 3),
         ],
-    )
-}
-
-/// Pageblocks of eight pages: of the last one there are pages 16 to 20.
-#[test]
-fn blocks_of_eight_pages_are_the_largest(rt: HostRuntime) -> Result<(), Fail> {
-    compare_steps(
-        &rt,
+    ),
+    // Pageblocks of eight pages: of the last one there are pages 16 to 20.
+    (
         3,
         21,
         &[
@@ -336,14 +303,9 @@ fn blocks_of_eight_pages_are_the_largest(rt: HostRuntime) -> Result<(), Fail> {
             Step::Take(3, UNMOVABLE, Some(8)),
             Step::Keep(0, 4),
         ],
-    )
-}
-
-/// Pageblocks of 32 pages: of the last one there are 11.
-#[test]
-fn blocks_of_32_pages_are_the_largest(rt: HostRuntime) -> Result<(), Fail> {
-    compare_steps(
-        &rt,
+    ),
+    // Pageblocks of 32 pages: of the last one there are 11.
+    (
         5,
         75,
         &[
@@ -371,14 +333,9 @@ fn blocks_of_32_pages_are_the_largest(rt: HostRuntime) -> Result<(), Fail> {
             Step::Take(5, RECLAIMABLE, Some(32)),
             Step::Keep(0, 6),
         ],
-    )
-}
-
-/// Pageblocks of 512 pages: of the last one there are 76.
-#[test]
-fn blocks_of_512_pages_are_the_largest(rt: HostRuntime) -> Result<(), Fail> {
-    compare_steps(
-        &rt,
+    ),
+    // Pageblocks of 512 pages: of the last one there are 76.
+    (
         9,
         1100,
         &[
@@ -400,5 +357,13 @@ fn blocks_of_512_pages_are_the_largest(rt: HostRuntime) -> Result<(), Fail> {
             Step::Take(9, RECLAIMABLE, Some(512)),
             Step::Keep(0, 10),
         ],
-    )
+    ),
+];
+
+#[test]
+fn worked_requests_are_answered_alike(rt: HostRuntime) -> Result<(), Fail> {
+    for (largest, pages, steps) in CASES {
+        compare_steps(&rt, largest, pages, steps)?;
+    }
+    Ok(())
 }
