@@ -9,12 +9,12 @@ use std::test::*;
 use std::thread::Threads;
 use std::time::Clock;
 use zp_journal::Journal;
-use zp_office::CommandReply;
+use zp_office::{CommandReply, Desk};
 use zp_zone::Zone;
 
 /// What a worker is told: the page of a block, with its order where it was collected; the number of a refusal; the free pages of the
 /// first and the last zone of the row.
-#[derive(Clone, Copy, PartialEq, Eq, Debug, Drop)]
+#[derive(Clone, Copy, PartialEq, Eq, Drop)]
 pub(super) enum Told {
     Page(u32),
     Block(u32, u8),
@@ -51,8 +51,10 @@ fn in_short(reply: &CommandReply) -> Told {
     }
 }
 
-#[derive(Drop)]
+#[derive(Clone, Copy, Drop)]
 pub(super) struct Case<'a> {
+    /// What it shows.
+    pub(super) shows: &'a str,
     pub(super) trace: &'a str,
     pub(super) plan: Plan,
     /// For each worker, in order.
@@ -61,38 +63,57 @@ pub(super) struct Case<'a> {
     pub(super) zones: &'a [(u32, u32)],
 }
 
-pub(super) fn expect_case<R: Abort + Clock + Sync + Threads + Wait>(
+pub(super) fn expect_cases<R: Abort + Clock + Sync + Threads + Wait>(
     rt: &R,
     alloc: Global,
-    case: &Case<'_>,
+    cases: &[Case<'_>],
 ) {
+    for case in cases {
+        expect_case(rt, alloc, case);
+    }
+}
+
+fn expect_case<R: Abort + Clock + Sync + Threads + Wait>(rt: &R, alloc: Global, case: &Case<'_>) {
     let Some(ran) = run_trace(rt, alloc, case.trace, case.plan) else {
         assert!(rt; false, "the workers run");
         return;
     };
-    let Ran { desks, closed } = ran;
-    assert_eq!(rt; desks.len(), case.replies.len());
-    for (desk, expected) in desks.iter().zip(case.replies) {
-        expect_replies(rt, desk.replies(), expected);
-    }
-    match closed {
-        Some((zones, journals)) => expect_zones(rt, &zones, &journals, case.zones),
-        None => assert!(rt; case.zones.is_empty(), "each zone lies at its place"),
-    }
+    assert!(rt; has_come(&ran, case), "{}", case.shows);
 }
 
-fn expect_replies(rt: &impl Abort, replies: &[CommandReply], expected: &[Told]) {
-    assert_eq!(rt; replies.len(), expected.len());
-    for (place, (reply, expected)) in replies.iter().zip(expected).enumerate() {
-        assert_eq!(rt; in_short(reply), *expected, "command {place}");
-    }
+/// Whether the workers were answered so, and left their zones so.
+fn has_come(ran: &Ran, case: &Case<'_>) -> bool {
+    are_answered(ran.desks.as_slice(), case.replies)
+        && match &ran.closed {
+            Some((zones, journals)) => are_left(zones, journals, case.zones),
+            None => case.zones.is_empty(),
+        }
 }
 
-fn expect_zones(rt: &impl Abort, zones: &[Zone], journals: &[Journal], expected: &[(u32, u32)]) {
-    assert_eq!(rt; zones.len(), expected.len());
-    assert_eq!(rt; journals.len(), expected.len());
-    for (place, (entries, free)) in expected.iter().enumerate() {
-        assert_eq!(rt; journals[place].len(), *entries, "zone {place}");
-        assert_eq!(rt; zones[place].counts().free, *free, "zone {place}");
+fn are_answered(desks: &[Desk], expected: &[&[Told]]) -> bool {
+    for (desk, expected) in desks.iter().zip(expected) {
+        if !are_replies(desk.replies(), expected) {
+            return false;
+        }
     }
+    desks.len() == expected.len()
+}
+
+fn are_replies(replies: &[CommandReply], expected: &[Told]) -> bool {
+    for (reply, expected) in replies.iter().zip(expected) {
+        if in_short(reply) != *expected {
+            return false;
+        }
+    }
+    replies.len() == expected.len()
+}
+
+/// Whether these are the zones, each with so many entries and free pages.
+fn are_left(zones: &[Zone], journals: &[Journal], expected: &[(u32, u32)]) -> bool {
+    for ((zone, journal), (entries, free)) in zones.iter().zip(journals).zip(expected) {
+        if journal.len() != *entries || zone.counts().free != *free {
+            return false;
+        }
+    }
+    zones.len() == expected.len() && journals.len() == expected.len() && !expected.is_empty()
 }

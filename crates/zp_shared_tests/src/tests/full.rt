@@ -1,13 +1,13 @@
 //! What a worker's commands are answered where the journals of their zones are full.
 
 use super::case::Told::*;
-use super::case::{Case, FULL, NOT_LENT, expect_case};
+use super::case::{Case, FULL, NOT_LENT, expect_cases};
 use super::plan::{AT_ONCE, Plan};
 use std::test::*;
 
-#[test]
-fn a_journal_may_have_no_room(rt: HostRuntime) {
-    let case = Case {
+const CASES: [Case<'static>; 5] = [
+    Case {
+        shows: "a journal may have no room",
         trace: "zone DMA 0 4096 0\nworkers 1\nlists 0 0\n0 low a 0 DMA\n0 info\n",
         plan: Plan {
             capacity: 0,
@@ -15,14 +15,10 @@ fn a_journal_may_have_no_room(rt: HostRuntime) {
         },
         replies: &[&[FULL, Free(4096, 4096)]],
         zones: &[(0, 4096)],
-    };
-    expect_case(&rt, rt.alloc(), &case);
-}
-
-/// The zone below is not asked where the journal of the zone named is full.
-#[test]
-fn a_full_journal_ends_the_walk_through_the_zones(rt: HostRuntime) {
-    let case = Case {
+    },
+    // The zone below is not asked where the journal of the zone named is full.
+    Case {
+        shows: "a full journal ends the walk through the zones",
         trace: "zone DMA 0 4096 0\nzone Normal 4096 4096 0\nworkers 1\nlists 0 0\n\
             0 alloc a 3 M Normal low\n0 alloc b 3 M Normal low\n0 info\n0 alloc b 3 M DMA low\n",
         plan: Plan {
@@ -31,14 +27,10 @@ fn a_full_journal_ends_the_walk_through_the_zones(rt: HostRuntime) {
         },
         replies: &[&[Page(7168), FULL, Free(4096, 4088), Page(3072)]],
         zones: &[(1, 4088), (1, 4088)],
-    };
-    expect_case(&rt, rt.alloc(), &case);
-}
-
-/// A list that the page just put on fills up stays full; one that is full before takes no page, which stays lent, and none is drained.
-#[test]
-fn a_full_list_stays_where_the_journal_is_full(rt: HostRuntime) {
-    let case = Case {
+    },
+    // A list that the page just put on fills up stays full; one that is full before takes no page, which stays lent, and none is drained.
+    Case {
+        shows: "a full list stays where the journal is full",
         trace: "zone DMA 0 4096 0\nworkers 1\nlists 4 6\n\
             0 alloc a 0 M DMA low\n0 alloc b 0 M DMA low\n0 alloc c 0 M DMA low\n0 alloc d 0 M DMA low\n\
             0 alloc e 0 M DMA low\n0 alloc f 0 M DMA low\n0 alloc g 0 M DMA low\n0 alloc h 0 M DMA low\n\
@@ -71,14 +63,10 @@ fn a_full_list_stays_where_the_journal_is_full(rt: HostRuntime) {
             Free(4088, 4088),
         ]],
         zones: &[(2, 4088)],
-    };
-    expect_case(&rt, rt.alloc(), &case);
-}
-
-/// A page put on a list goes on being handed out from it, and makes room on it; a block that lies on no list is refused.
-#[test]
-fn a_list_lends_its_pages_where_the_journal_is_full(rt: HostRuntime) {
-    let case = Case {
+    },
+    // A page put on a list goes on being handed out from it, and makes room on it; a block that lies on no list is refused.
+    Case {
+        shows: "a list lends its pages where the journal is full",
         trace: "zone DMA 0 4096 0\nworkers 1\nlists 4 6\n\
             0 alloc a 0 M DMA low\n0 alloc b 0 M DMA low\n0 alloc c 0 M DMA low\n0 alloc d 0 M DMA low\n\
             0 alloc e 0 M DMA low\n0 free a\n0 free b\n0 free c\n0 free d\n0 alloc f 0 M DMA low\n0 free d\n\
@@ -104,14 +92,10 @@ fn a_list_lends_its_pages_where_the_journal_is_full(rt: HostRuntime) {
             Free(4088, 4088),
         ]],
         zones: &[(2, 4088)],
-    };
-    expect_case(&rt, rt.alloc(), &case);
-}
-
-/// What was drained before the refusal stays drained: the list of `DMA` is empty, and that of `Normal` has its pages.
-#[test]
-fn what_was_drained_before_a_full_journal_stays_drained(rt: HostRuntime) {
-    let case = Case {
+    },
+    // What was drained before the refusal stays drained: the list of `DMA` is empty, and that of `Normal` has its pages.
+    Case {
+        shows: "what was drained before a full journal stays drained",
         trace: "zone DMA 0 4096 0\nzone Normal 4096 4096 0\nworkers 1\nlists 4 6\n\
             0 alloc a 0 M DMA low\n0 alloc b 0 M Normal low\n0 alloc c 3 M Normal low\n0 drain\n0 info\n\
             0 alloc d 0 M DMA low\n0 alloc e 0 M Normal low\n",
@@ -129,6 +113,10 @@ fn what_was_drained_before_a_full_journal_stays_drained(rt: HostRuntime) {
             Page(7169),
         ]],
         zones: &[(2, 4095), (2, 4084)],
-    };
-    expect_case(&rt, rt.alloc(), &case);
+    },
+];
+
+#[test]
+fn commands_are_answered_so_where_journals_are_full(rt: HostRuntime) {
+    expect_cases(&rt, rt.alloc(), &CASES);
 }

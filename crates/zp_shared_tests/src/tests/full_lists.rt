@@ -20,7 +20,7 @@ use zp_shared::{LockedZones, Naming, OpenedZone, SharedZone};
 use zp_zone::Zone;
 
 /// What the worker asks for.
-#[derive(Clone, Copy, PartialEq, Eq, Debug, Drop)]
+#[derive(Clone, Copy, Drop)]
 enum Call {
     /// A block of this order.
     Take(u8),
@@ -140,30 +140,32 @@ impl<'a, J: Naming, R: Wait> OnlyWorker<'a, J, R> {
     }
 }
 
-/// The list of movable pages has these pages, the front first.
-fn expect_list(rt: &impl Abort, share: &Share, expected: &[u32], call: usize)
+/// Whether the list of movable pages has these pages, the front first.
+fn has_list(share: &Share, expected: &[u32]) -> bool
     requires { length share.now.zones ≡ 1 }
 {
     let kind = MigrateType::Movable;
     let back = share.back(0, kind, share.cached_len(0, kind));
     let pages = back.as_slice();
-    assert_eq!(rt; pages.len(), expected.len(), "call {call}");
     for (page, number) in pages.iter().rev().zip(expected) {
-        assert_eq!(rt; page.number(), *number, "call {call}");
+        if page.number() != *number {
+            return false;
+        }
     }
+    pages.len() == expected.len()
 }
 
-/// Of the pages that the zone gave these are lent.
-fn expect_lent(rt: &impl Abort, share: &Share, expected: &[u32], call: usize)
+/// Whether of the pages that the zone gave these are lent.
+fn has_lent(share: &Share, expected: &[u32]) -> bool
     requires { length share.now.zones ≡ 1 }
 {
     for page in 3072..3080 {
         let is_lent = share.is_lent(0, PageNo::new(page), Order::zero());
-        assert!(rt;
-            is_lent == expected.contains(&page),
-            "call {call}, page {page}"
-        );
+        if is_lent != expected.contains(&page) {
+            return false;
+        }
     }
+    true
 }
 
 /// What is left when the zone is closed: how many sections the worker made, where the zone's pages are, and its journal.
@@ -181,9 +183,9 @@ fn make_calls<J: Naming, R: Abort + Wait>(rt: &R, worker: OnlyWorker<'_, J, R>) 
 {
     let mut worker = worker;
     for (place, (call, told, list, lent)) in CALLS.iter().enumerate() {
-        assert_eq!(rt; worker.call(*call), *told, "call {place}");
-        expect_list(rt, &worker.share, list, place);
-        expect_lent(rt, &worker.share, lent, place);
+        assert!(rt; worker.call(*call) == *told, "call {place}");
+        assert!(rt; has_list(&worker.share, list), "call {place}: the list");
+        assert!(rt; has_lent(&worker.share, lent), "call {place}: lent pages");
     }
     let OnlyWorker { share, .. } = worker;
     share
@@ -228,40 +230,36 @@ fn gather_one(mut zone: Zone, mut share: Share) -> Option<Totals>
     gather(&mut [zone], &mut [share]).first().copied()
 }
 
+/// What the worker's calls leave of the zone. None where something could not be made.
+fn left_by_calls<R: Abort + Wait>(rt: &R, alloc: Global) -> Option<Ended> {
+    let (opened, share) = opened_with_lists(alloc, 2, ListConfig::new(4, 6)?)?;
+    run_calls::<Brand, R>(rt, alloc, opened, share)
+}
+
+/// How many pages are free after the journal. None where it is not legal.
+fn free_after(alloc: Global, journal: &Journal) -> Option<u32> {
+    match replay_journal(alloc, config(), 1, journal).ok()? {
+        JournalCheck::Legal(zone) => Some(zone.counts().free),
+        JournalCheck::Differs(_) => None,
+    }
+}
+
+const TOTALS: Totals = Totals {
+    free: 4088,
+    posted: 0,
+    cached: 6,
+    lent: 2,
+};
+
 /// A list that the page just put on fills up stays full; one that is full before takes no page, which stays lent, and none is drained. When
 /// the zone is closed, its pages are free, on the list, or lent.
 #[test]
 fn a_full_list_stays_by_calls(rt: HostRuntime) {
-    let Some(lists) = ListConfig::new(4, 6) else {
-        assert!(rt; false, "these are lists");
-        return;
-    };
-    let Some((opened, share)) = opened_with_lists(rt.alloc(), 2, lists) else {
-        assert!(rt; false, "the zone can be made");
-        return;
-    };
-    let Some(ended) = run_calls::<Brand, HostRuntime>(&rt, rt.alloc(), opened, share) else {
+    let Some(ended) = left_by_calls(&rt, rt.alloc()) else {
         assert!(rt; false, "the worker runs");
         return;
     };
-    let Ended {
-        sections,
-        totals,
-        journal,
-    } = ended;
-    assert_eq!(rt; sections, 2);
-    let expected = Totals {
-        free: 4088,
-        posted: 0,
-        cached: 6,
-        lent: 2,
-    };
-    assert!(rt; totals == Some(expected));
-    assert_eq!(rt; journal.len(), 2);
-    let check = replay_journal(rt.alloc(), config(), 1, &journal);
-    let Ok(JournalCheck::Legal(zone)) = check else {
-        assert!(rt; false, "the journal is legal");
-        return;
-    };
-    assert_eq!(rt; zone.counts().free, 4088);
+    assert!(rt; ended.sections == 2 && ended.totals == Some(TOTALS));
+    assert!(rt; ended.journal.len() == 2);
+    assert!(rt; free_after(rt.alloc(), &ended.journal) == Some(4088));
 }

@@ -12,7 +12,7 @@ use zp_model::Largest;
 use zp_zone::ZoneConfig;
 
 /// What a replay comes to: how many pages are free at the end, the number of the entry that differs, or that of the refusal.
-#[derive(Clone, Copy, PartialEq, Eq, Debug)]
+#[derive(Clone, Copy, PartialEq, Eq, Drop)]
 enum Found {
     Legal(u32),
     Differs(u32),
@@ -50,29 +50,31 @@ fn journal_of<R: Clock + Sync + Threads + Wait>(
     journals.pop()
 }
 
+const TEXT: &str =
+    "zone DMA 0 4096 0\nworkers 2\nlists 0 0\n1 alloc a 0 M DMA any\n1 alloc b 0 M DMA low\n";
+
 /// Worker 1 takes two single pages, from the highest block down, the second held to the low mark. Another zone would have answered
 /// otherwise: with a least mark of 4096 pages the low mark is 5120, another base moves all pages, of 2048 pages the highest block is 1024,
 /// with a largest order of 9 it is 3584 and with one of 1 it is 4094, and a zone of one worker has no worker 1.
+const CASES: [(Making, u32, Found); 8] = [
+    ((0, 4096, 0, 10), 2, Found::Legal(4094)),
+    ((0, 4096, 4096, 10), 2, Found::Differs(2)),
+    ((4096, 4096, 0, 10), 2, Found::Differs(1)),
+    ((0, 2048, 0, 10), 2, Found::Differs(1)),
+    ((0, 4096, 0, 9), 2, Found::Differs(1)),
+    ((0, 4096, 0, 1), 2, Found::Differs(1)),
+    ((0, 4096, 0, 10), 1, Found::Differs(1)),
+    ((0, 4096, 0, 10), 33, Found::Refused(5)),
+];
+
 #[test]
 fn a_journal_is_of_its_zone(rt: HostRuntime) {
-    let text =
-        "zone DMA 0 4096 0\nworkers 2\nlists 0 0\n1 alloc a 0 M DMA any\n1 alloc b 0 M DMA low\n";
-    let Some(journal) = journal_of(&rt, rt.alloc(), text) else {
+    let Some(journal) = journal_of(&rt, rt.alloc(), TEXT) else {
         assert!(rt; false, "the workers run");
         return;
     };
-    let cases = [
-        ((0, 4096, 0, 10), 2, Found::Legal(4094)),
-        ((0, 4096, 4096, 10), 2, Found::Differs(2)),
-        ((4096, 4096, 0, 10), 2, Found::Differs(1)),
-        ((0, 2048, 0, 10), 2, Found::Differs(1)),
-        ((0, 4096, 0, 9), 2, Found::Differs(1)),
-        ((0, 4096, 0, 1), 2, Found::Differs(1)),
-        ((0, 4096, 0, 10), 1, Found::Differs(1)),
-        ((0, 4096, 0, 10), 33, Found::Refused(5)),
-    ];
-    for (number, (making, workers, expected)) in cases.into_iter().enumerate() {
-        let found = replayed(rt.alloc(), making, workers, &journal);
-        assert!(rt; found == Some(expected), "case {number}");
+    for (number, (making, workers, expected)) in CASES.iter().enumerate() {
+        let found = replayed(rt.alloc(), *making, *workers, &journal);
+        assert!(rt; found == Some(*expected), "case {number}");
     }
 }

@@ -10,7 +10,6 @@ use super::one_zone::alone;
 use super::rows::opened_trace;
 use std::alloc::Global;
 use std::marker::Brand;
-use std::process::Abort;
 use std::sync::Wait;
 use std::test::*;
 use std::thread::Threads;
@@ -18,7 +17,8 @@ use zp_journal::Journal;
 use zp_model::Refused;
 use zp_office::{CommandReply, Desk, OpenGate, run_workers};
 use zp_shared::{
-    BoardReader, Closed, Keeps, Naming, OpenedZone, SharedZone, reader_rows, share_zones,
+    BoardReader, Closed, CutJournal, Keeps, Naming, NoJournal, OpenedZone, SharedZone, reader_rows,
+    share_zones,
 };
 use zp_zone::Zone;
 
@@ -108,55 +108,48 @@ fn close<J: Naming, K: Keeps>(row: Vec<SharedZone<J, K>>) -> Result<Closed<K>, R
     }
 }
 
-/// All was done.
-fn expect_done(rt: &impl Abort, desks: &[Desk], zone: &Zone) {
-    assert_eq!(rt; desks.len(), 2);
+/// Whether each worker got a page and gave it back, and the zone is whole.
+fn have_worked(desks: &[Desk], zone: &Zone) -> bool {
     for desk in desks {
-        let replies = desk.replies();
-        assert_eq!(rt; replies.len(), 2);
-        assert!(rt; matches!(replies[0], CommandReply::Page(_)));
-        assert!(rt; replies[1] == CommandReply::Freed);
+        if !matches!(desk.replies(), [CommandReply::Page(_), CommandReply::Freed]) {
+            return false;
+        }
     }
-    assert_eq!(rt; zone.counts().free, 4096);
+    desks.len() == 2 && zone.counts().free == 4096
+}
+
+/// The workers run over a zone that keeps nothing. None where something could not be made.
+fn run_without_journal<R: Sync + Threads + Wait>(rt: &R, alloc: Global) -> Option<Ran<NoJournal>> {
+    let (zone, desks) = opened_one(alloc)?;
+    let opened = OpenedZone::without_journal(alloc, zone, u64::from(SECTIONS)).ok()?;
+    run_over(rt, alloc, opened, desks).ok()
+}
+
+/// The same over one with a journal that their sections just fit into, cut by nobody.
+fn run_with_pieces<R: Sync + Threads + Wait>(rt: &R, alloc: Global) -> Option<Ran<CutJournal>> {
+    let journal = Journal::new(alloc, SECTIONS).ok()?;
+    let (zone, desks) = opened_one(alloc)?;
+    let opened = OpenedZone::with_pieces(alloc, zone, journal, u64::MAX).ok()?;
+    run_over(rt, alloc, opened, desks).ok()
 }
 
 #[test]
 fn desks_work_over_a_zone_without_a_journal(rt: HostRuntime) {
-    let Some((zone, desks)) = opened_one(rt.alloc()) else {
-        assert!(rt; false, "there is memory");
-        return;
-    };
-    let Ok(opened) = OpenedZone::without_journal(rt.alloc(), zone, u64::from(SECTIONS)) else {
-        assert!(rt; false, "there is memory");
-        return;
-    };
-    let Ok(Ran { desks, closed }) = run_over(&rt, rt.alloc(), opened, desks) else {
+    let Some(Ran { desks, closed }) = run_without_journal(&rt, rt.alloc()) else {
         assert!(rt; false, "the workers run");
         return;
     };
-    expect_done(&rt, desks.as_slice(), &closed.zone);
+    assert!(rt; have_worked(desks.as_slice(), &closed.zone));
 }
 
-/// The journal of a zone whose workers' sections just fit into it, cut by nobody: it is the one piece, and begins with the first entry.
+/// The journal is the one piece, and begins with the first entry.
 #[test]
 fn desks_work_over_a_zone_whose_journal_is_cut(rt: HostRuntime) {
-    let Some((zone, desks)) = opened_one(rt.alloc()) else {
-        assert!(rt; false, "there is memory");
-        return;
-    };
-    let Ok(journal) = Journal::new(rt.alloc(), SECTIONS) else {
-        assert!(rt; false, "there is memory");
-        return;
-    };
-    let Ok(opened) = OpenedZone::with_pieces(rt.alloc(), zone, journal, u64::MAX) else {
-        assert!(rt; false, "there is memory");
-        return;
-    };
-    let Ok(Ran { desks, closed }) = run_over(&rt, rt.alloc(), opened, desks) else {
+    let Some(Ran { desks, closed }) = run_with_pieces(&rt, rt.alloc()) else {
         assert!(rt; false, "the workers run");
         return;
     };
-    expect_done(&rt, desks.as_slice(), &closed.zone);
+    assert!(rt; have_worked(desks.as_slice(), &closed.zone));
     let piece = closed.journal.into_piece();
-    assert_eq!(rt; (piece.before, piece.journal.len()), (0, SECTIONS));
+    assert!(rt; piece.before == 0 && piece.journal.len() == SECTIONS);
 }

@@ -14,21 +14,25 @@ use zp_model::{Counts, Mark, MigrateType, Order};
 use zp_share::Share;
 use zp_shared::{BoardReader, Naming, OpenedZone, Reading, SharedZone};
 
-/// All pages are free.
-const WHOLE: Reading = Reading {
-    counts: Counts {
-        by_order: [0, 0, 0, 0, 0, 0, 0, 0, 0, 0, 4],
-        free: 4096,
-    },
+/// The counts where all pages are free, and where one was taken.
+const WHOLE: Counts = Counts {
+    by_order: [0, 0, 0, 0, 0, 0, 0, 0, 0, 0, 4],
+    free: 4096,
+};
+
+const ONE_TAKEN: Counts = Counts {
+    by_order: [1, 1, 1, 1, 1, 1, 1, 1, 1, 1, 3],
+    free: 4095,
+};
+
+/// What is read at the first place, and at the one after it.
+const BEFORE: Reading = Reading {
+    counts: WHOLE,
     place: 0,
 };
 
-/// One page was taken.
-const ONE_TAKEN: Reading = Reading {
-    counts: Counts {
-        by_order: [1, 1, 1, 1, 1, 1, 1, 1, 1, 1, 3],
-        free: 4095,
-    },
+const AFTER: Reading = Reading {
+    counts: ONE_TAKEN,
     place: 1,
 };
 
@@ -91,28 +95,24 @@ fn take_and_read<J: Naming, R: Wait>(
     Some((page.number(), guarded.read_board(board, reader)))
 }
 
+/// The same of a new zone. None where something could not be made.
+fn read_once<R: Wait>(rt: &R, alloc: Global) -> Option<Read> {
+    let (opened, share) = opened_zone(alloc, 10)?;
+    read_and_take::<Brand, R>(rt, opened, share)
+}
+
+/// What the journal tells of its places, from 0 on.
+const TOLD: [Option<Counts>; 3] = [Some(WHOLE), Some(ONE_TAKEN), None];
+
 #[test]
 fn a_reading_is_at_its_place_of_the_journal(rt: HostRuntime) {
-    let Some((opened, share)) = opened_zone(rt.alloc(), 10) else {
-        assert!(rt; false, "the zone can be made");
-        return;
-    };
-    let Some(read) = read_and_take::<Brand, HostRuntime>(&rt, opened, share) else {
+    let Some(read) = read_once(&rt, rt.alloc()) else {
         assert!(rt; false, "a page can be taken");
         return;
     };
-    let Read {
-        before,
-        page,
-        after,
-        journal,
-    } = read;
-    assert_eq!(rt; before, WHOLE);
-    assert_eq!(rt; page, 3072);
-    assert_eq!(rt; after, ONE_TAKEN);
-    let told = [Some(WHOLE.counts), Some(ONE_TAKEN.counts), None];
-    for (place, counts) in told.iter().enumerate() {
-        let found = counts_at(rt.alloc(), &journal, place as u64);
+    assert!(rt; read.before == BEFORE && read.page == 3072 && read.after == AFTER);
+    for (place, counts) in TOLD.iter().enumerate() {
+        let found = counts_at(rt.alloc(), &read.journal, place as u64);
         assert!(rt; found == *counts, "place {place}");
     }
 }
@@ -120,15 +120,15 @@ fn a_reading_is_at_its_place_of_the_journal(rt: HostRuntime) {
 /// The view has not strayed: the zone's journal is full.
 #[test]
 fn the_board_of_a_full_journal_is_read_whole(rt: HostRuntime) {
-    let Some(ran) = run(&rt, rt.alloc(), 1, 0) else {
-        assert!(rt; false, "the worker runs");
-        return;
-    };
     let expected = Taken {
         pages: 1,
         refused: 30,
         strayed: false,
-        last: ONE_TAKEN,
+        last: AFTER,
     };
-    assert_eq!(rt; ran.taken, expected);
+    let Some(ran) = run(&rt, rt.alloc(), 1, 0) else {
+        assert!(rt; false, "the worker runs");
+        return;
+    };
+    assert!(rt; ran.taken == expected);
 }

@@ -1,18 +1,20 @@
 //! Boards: what readers read after a section, while a zone is locked, and while another worker takes pages.
 
 use super::case::Told::*;
-use super::case::{Case, expect_case};
-use super::one_zone::{Ran, counts_at, run};
+use super::case::{Case, expect_cases};
+use super::one_zone::{counts_at, run};
 use super::plan::{AT_ONCE, Plan};
+use std::alloc::Global;
 use std::test::*;
+use zp_journal::Journal;
 use zp_model::Counts;
 use zp_shared::Reading;
 
-/// A reader reads before and after a section of its worker; the other's first reading comes after that. The section is of one zone,
-/// whose board alone has new counts.
-#[test]
-fn a_reading_after_a_section_is_of_its_counts(rt: HostRuntime) {
-    let case = Case {
+const CASES: [Case<'static>; 2] = [
+    // A reader reads before and after a section of its worker; the other's first reading comes after that. The section is of one zone,
+    // whose board alone has new counts.
+    Case {
+        shows: "a reading after a section is of its counts",
         trace: "zone DMA 0 4096 0\nzone Normal 4096 4096 0\nworkers 2\nlists 0 0\n\
             0 info\n0 alloc a 0 M Normal any\n0 info\n1 info\n",
         plan: Plan {
@@ -25,13 +27,9 @@ fn a_reading_after_a_section_is_of_its_counts(rt: HostRuntime) {
             &[Free(4096, 4095)],
         ],
         zones: &[(0, 4096), (1, 4095)],
-    };
-    expect_case(&rt, rt.alloc(), &case);
-}
-
-#[test]
-fn counts_are_read_while_another_has_the_lock(rt: HostRuntime) {
-    let case = Case {
+    },
+    Case {
+        shows: "counts are read while another has the lock",
         trace: "zone DMA 0 4096 0\nworkers 2\nlists 0 0\n0 alloc a 0 M DMA low\n1 info\n",
         plan: Plan {
             late: 0,
@@ -41,8 +39,12 @@ fn counts_are_read_while_another_has_the_lock(rt: HostRuntime) {
         },
         replies: &[&[Page(3072)], &[Free(4096, 4096)]],
         zones: &[(1, 4095)],
-    };
-    expect_case(&rt, rt.alloc(), &case);
+    },
+];
+
+#[test]
+fn counts_are_read_off_boards(rt: HostRuntime) {
+    expect_cases(&rt, rt.alloc(), &CASES);
 }
 
 /// The counts of the zone when so many pages of its highest 1,024 are taken, from the lowest on.
@@ -74,26 +76,24 @@ fn are_in_order(readings: &[Reading]) -> bool {
     true
 }
 
-/// A worker takes 100 pages, which fills the journal, while another thread reads 1,000 times. The journal tells the same counts at a place
-/// as the zone had there, and none past its end.
+/// The journal tells the same counts at a place as the zone had there, and none past its end.
+fn tells_each_place(alloc: Global, journal: &Journal) -> bool {
+    for place in 0..101 {
+        if counts_at(alloc, journal, u64::from(place)) != Some(counts_without(place)) {
+            return false;
+        }
+    }
+    counts_at(alloc, journal, 101).is_none()
+}
+
+/// A worker takes 100 pages, which fills the journal, while another thread reads 1,000 times.
 #[test]
 fn readings_never_go_back(rt: HostRuntime) {
     let Some(ran) = run(&rt, rt.alloc(), 100, 1000) else {
         assert!(rt; false, "the workers run");
         return;
     };
-    let Ran {
-        taken,
-        readings,
-        journal,
-    } = ran;
-    assert_eq!(rt; taken.pages, 100);
-    assert_eq!(rt; taken.last.place, 100);
-    assert_eq!(rt; readings.len(), 1000);
-    assert!(rt; are_in_order(readings.as_slice()));
-    for place in 0..101 {
-        let told = counts_at(rt.alloc(), &journal, u64::from(place));
-        assert!(rt; told == Some(counts_without(place)), "place {place}");
-    }
-    assert!(rt; counts_at(rt.alloc(), &journal, 101).is_none());
+    assert!(rt; ran.taken.pages == 100 && ran.taken.last.place == 100);
+    assert!(rt; ran.readings.len() == 1000 && are_in_order(ran.readings.as_slice()));
+    assert!(rt; tells_each_place(rt.alloc(), &ran.journal));
 }

@@ -1,15 +1,15 @@
 //! Each section once, through the locks, with ample memory, and then each with a full journal.
 
 use super::case::Told::*;
-use super::case::{Case, FULL, NOT_LENT, expect_case};
+use super::case::{Case, FULL, NOT_LENT, expect_cases};
 use super::plan::{AT_ONCE, Plan};
 use std::test::*;
 
-/// Twelve sections with the zone `DMA` fill its journal: each of the nine is made, and one of them refused by the zone. What comes then is
-/// refused, and the zone `Normal` has a journal of its own.
-#[test]
-fn each_section_is_made_until_the_journal_is_full(rt: HostRuntime) {
-    let case = Case {
+const CASES: [Case<'static>; 1] = [
+    // Twelve sections with the zone `DMA` fill its journal: each of the nine is made, and one of them refused by the zone. What comes then is
+    // refused, and the zone `Normal` has a journal of its own.
+    Case {
+        shows: "each section is made until the journal is full",
         trace: "zone DMA 0 4096 0\nzone Normal 4096 4096 0\nworkers 1\nlists 4 6\n\
             0 alloc a 1 M DMA low\n0 info\n0 free a\n0 free a\n\
             0 alloc b 1 M DMA low\n0 post b 0\n0 free b\n0 collect c DMA\n0 collect d DMA\n0 free c\n\
@@ -53,6 +53,10 @@ fn each_section_is_made_until_the_journal_is_full(rt: HostRuntime) {
             Free(3072, 4094),
         ]],
         zones: &[(12, 3072), (1, 4094)],
-    };
-    expect_case(&rt, rt.alloc(), &case);
+    },
+];
+
+#[test]
+fn sections_are_made_until_the_journal_is_full(rt: HostRuntime) {
+    expect_cases(&rt, rt.alloc(), &CASES);
 }

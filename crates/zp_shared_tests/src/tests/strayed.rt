@@ -1,15 +1,15 @@
 //! Two zones that lie under each other's locks.
 
 use super::case::Told::*;
-use super::case::{Case, FULL, expect_case};
+use super::case::{Case, FULL, expect_cases};
 use super::plan::{AT_ONCE, Plan};
 use std::test::*;
 
-/// From the third call to the tenth the zones lie under each other's locks: each section is refused, and the counts are read off the
-/// boards. Then they lie at their places again, and all is as it was.
-#[test]
-fn a_zone_under_another_lock_is_asked_nothing(rt: HostRuntime) {
-    let case = Case {
+const CASES: [Case<'static>; 2] = [
+    // From the third call to the tenth the zones lie under each other's locks: each section is refused, and the counts are read off the
+    // boards. Then they lie at their places again, and all is as it was.
+    Case {
+        shows: "a zone under another lock is asked nothing",
         trace: "zone DMA 0 4096 0\nzone Normal 4096 4096 0\nworkers 1\nlists 4 6\n\
             0 alloc a 1 M DMA low\n0 alloc b 0 M DMA low\n\
             0 alloc c 1 M DMA low\n0 low d 0 DMA\n0 collect e DMA\n0 alloc f 0 R DMA low\n0 free a\n0 post a 0\n0 drain\n0 info\n\
@@ -34,13 +34,9 @@ fn a_zone_under_another_lock_is_asked_nothing(rt: HostRuntime) {
             Free(4095, 4096),
         ]],
         zones: &[(4, 4095), (0, 4096)],
-    };
-    expect_case(&rt, rt.alloc(), &case);
-}
-
-#[test]
-fn a_row_is_not_closed_where_its_zones_strayed(rt: HostRuntime) {
-    let case = Case {
+    },
+    Case {
+        shows: "a row is not closed where its zones strayed",
         trace: "zone DMA 0 4096 0\nzone Normal 4096 4096 0\nworkers 1\nlists 0 0\n0 info\n",
         plan: Plan {
             exchanges: [1, 0],
@@ -48,6 +44,10 @@ fn a_row_is_not_closed_where_its_zones_strayed(rt: HostRuntime) {
         },
         replies: &[&[Free(4096, 4096)]],
         zones: &[],
-    };
-    expect_case(&rt, rt.alloc(), &case);
+    },
+];
+
+#[test]
+fn zones_that_strayed_are_asked_nothing(rt: HostRuntime) {
+    expect_cases(&rt, rt.alloc(), &CASES);
 }

@@ -1,6 +1,6 @@
 use Rattle.std.proofs.Common.{◌∷◌, []}
 use Rattle.zp_shared.specs.Rows.{opened_board, opened_key}
-use Rattle.zp_shared_tests.proofs.tests.places.a_reading_is_at_its_place_of_the_journal.Given as goal
+use Rattle.zp_shared_tests.proofs.tests.places.read_once.Given as goal
 
 -- the name of the opened zone
 abbrev pub ghosts-read_and_take : goal.ghosts-read_and_take
