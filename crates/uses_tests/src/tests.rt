@@ -1,15 +1,17 @@
-//! The callers, run.
+//! The callers, run. What they are answered is told in numbers, by a small function for each, and compared here.
 ghost use Rattle.std.specs.Prelude.{ℕ, None};
+ghost use Rattle.zp_zone.specs.Seats.{IsSeatOf};
 
 use arrayvec::ArrayVec;
+use std::alloc::Global;
 use std::test::*;
 use uses::{
-    Emptying, HugePool, PagePool, empty_a_pageblock, give_run, one_page, relay, share_a_zone, show,
-    take_below, take_huge_page, take_two,
+    Emptying, HugePool, Memory, PagePool, SharedRun, empty_a_pageblock, give_run, one_page, relay,
+    share_a_zone, show, take_below, take_huge_page, take_two,
 };
 use zp_model::{Largest, Level, Order, PageNo};
 use zp_text::{WriteFault, Writer};
-use zp_zone::{Zone, ZoneConfig};
+use zp_zone::{Seat, Zone, ZoneConfig};
 
 /// A zone of one pageblock, with this least mark.
 fn dma(min: u32) -> ZoneConfig<'static> {
@@ -23,15 +25,16 @@ fn dma(min: u32) -> ZoneConfig<'static> {
 }
 
 /// Of the 1,024 pages one is out and four are kept; they come back in turn.
+const EMPTIED: Emptying = Emptying {
+    isolated: 1019,
+    given_back: 1020,
+    drained: 1024,
+    is_whole: true,
+};
+
 #[test]
 fn a_pageblock_is_emptied(rt: HostRuntime) {
-    let told = Emptying {
-        isolated: 1019,
-        given_back: 1020,
-        drained: 1024,
-        is_whole: true,
-    };
-    assert!(rt; empty_a_pageblock(rt.alloc(), dma(0)) == Some(told));
+    assert!(rt; empty_a_pageblock(rt.alloc(), dma(0)) == Some(EMPTIED));
 }
 
 #[test]
@@ -39,96 +42,158 @@ fn one_page_is_taken_and_given_back(rt: HostRuntime) {
     assert!(rt; one_page(rt.alloc()) == Ok(4096));
 }
 
-#[test]
-fn a_pool_gives_pages_and_takes_its_own_back(rt: HostRuntime) -> Result<(), Fail> {
-    let made = PagePool::new(rt.alloc(), dma(511));
-    let mut pool = made.ok().ok_or("the pool can be made")?;
-    let page = pool.take().ok_or("there is a page")?;
-    assert!(rt; page == PageNo::new(0));
-    assert_eq!(rt; pool.free_pages(), 1023);
-    assert!(rt; !pool.put(PageNo::new(1)));
-    assert!(rt; pool.put(page));
-    assert!(rt; !pool.put(page));
-    assert_eq!(rt; pool.free_pages(), 1024);
-    Ok(())
+/// A page of the pool, how many are free then, whether another page is taken back, and whether this one is, once and again; and how many
+/// are free at the end.
+fn pooled(pool: &mut PagePool) -> Option<(u32, u32, [bool; 3], u32)> {
+    let page = pool.take()?;
+    let free = pool.free_pages();
+    let put = [pool.put(PageNo::new(1)), pool.put(page), pool.put(page)];
+    Some((page.number(), free, put, pool.free_pages()))
 }
 
 #[test]
-fn a_pool_of_huge_blocks_has_no_larger_ones(rt: HostRuntime) -> Result<(), Fail> {
-    let made = HugePool::new(rt.alloc(), 4);
-    let mut pool = made.ok().ok_or("the pool can be made")?;
-    assert_eq!(rt; pool.free_blocks(), 4);
-    for page in [1536, 1024, 512, 0] {
-        assert!(rt; pool.take() == Some(PageNo::new(page)));
+fn a_pool_gives_pages_and_takes_its_own_back(rt: HostRuntime) {
+    let Ok(mut pool) = PagePool::new(rt.alloc(), dma(511)) else {
+        assert!(rt; false, "the pool can be made");
+        return;
+    };
+    assert!(rt; pooled(&mut pool) == Some((0, 1023, [false, true, false], 1024)));
+}
+
+/// The blocks that a pool of four gives in turn, and then none.
+const TAKEN: [Option<u32>; 5] = [Some(1536), Some(1024), Some(512), Some(0), None];
+
+/// Pages, and whether a block is taken back there.
+const PUT: [(u32, bool); 4] = [(0, true), (512, true), (512, false), (1025, false)];
+
+/// Whether all blocks are taken and put so, of which two are free at the end.
+fn is_pooled(pool: &mut HugePool) -> bool {
+    for page in TAKEN {
+        if pool.take().map(PageNo::number) != page {
+            return false;
+        }
     }
-    assert!(rt; pool.take().is_none());
-    assert!(rt; pool.put(PageNo::new(0)));
-    assert!(rt; pool.put(PageNo::new(512)));
-    assert!(rt; !pool.put(PageNo::new(512)));
-    assert!(rt; !pool.put(PageNo::new(1025)));
-    assert_eq!(rt; pool.free_blocks(), 2);
-    assert!(rt; HugePool::new(rt.alloc(), 0).is_err());
-    assert!(rt; HugePool::new(rt.alloc(), 128).is_ok());
-    assert!(rt; HugePool::new(rt.alloc(), 129).is_err());
-    Ok(())
+    for (page, taken_back) in PUT {
+        if pool.put(PageNo::new(page)) != taken_back {
+            return false;
+        }
+    }
+    pool.free_blocks() == 2
 }
 
 #[test]
-fn a_huge_page_is_whole_or_single(rt: HostRuntime) -> Result<(), Fail> {
-    let made = Zone::new(rt.alloc(), dma(200), 1);
-    let (mut zone, mut seats) = made.ok().ok_or("the zone can be made")?;
-    let huge = Order::new(9).ok_or("9 is an order")?;
-    let seat = &mut seats[0];
-    let whole = take_huge_page(&mut zone, seat, huge)
-        .ok()
-        .ok_or("a run is free")?;
-    assert!(rt; whole.order == huge);
-    let single = take_huge_page(&mut zone, seat, huge)
-        .ok()
-        .ok_or("a page is free")?;
-    assert!(rt; single.order == Order::zero());
-    assert_eq!(rt; zone.counts().free, 511);
-    give_run(&mut zone, seat, single);
-    assert_eq!(rt; zone.counts().free, 512);
-    assert!(rt; take_two(&mut zone, seat).is_ok());
-    assert_eq!(rt; zone.counts().free, 512);
-    Ok(())
+fn a_pool_of_huge_blocks_has_no_larger_ones(rt: HostRuntime) {
+    let Ok(mut pool) = HugePool::new(rt.alloc(), 4) else {
+        assert!(rt; false, "the pool can be made");
+        return;
+    };
+    assert!(rt; pool.free_blocks() == 4);
+    assert!(rt; is_pooled(&mut pool));
+}
+
+#[test]
+fn a_pool_has_one_block_to_128(rt: HostRuntime) {
+    for (blocks, is_made) in [(0, false), (128, true), (129, false)] {
+        assert!(rt;
+            HugePool::new(rt.alloc(), blocks).is_ok() == is_made,
+            "{blocks} blocks"
+        );
+    }
+}
+
+/// A zone of one pageblock, and its one seat.
+#[derive(Drop)]
+struct Hand {
+    zone: Zone,
+    seat: Seat,
+    ghost fits: { IsSeatOf zone seat },
+}
+
+impl Hand {
+    fn new(alloc: Global, min: u32) -> Option<Hand> {
+        let (zone, mut seats) = Zone::new(alloc, dma(min), 1).ok()?;
+        match seats.pop() {
+            Some(seat) => Some(Hand { zone, seat }),
+            None => None,
+        }
+    }
+}
+
+/// The orders of a run and of the page in place of the next one, which is given back; and how many pages are free before that and after.
+fn taken_runs(zone: &mut Zone, seat: &mut Seat) -> Option<(u8, u8, u32, u32)>
+    requires { IsSeatOf zone.old seat.old }
+    ensures { IsSeatOf zone.new seat.new }
+{
+    let huge = Order::new(9)?;
+    let whole = take_huge_page(zone, seat, huge).ok()?;
+    let single = take_huge_page(zone, seat, huge).ok()?;
+    let free = zone.counts().free;
+    give_run(zone, seat, single);
+    let after = zone.counts().free;
+    Some((whole.order.number(), single.order.number(), free, after))
+}
+
+#[test]
+fn a_huge_page_is_whole_or_single(rt: HostRuntime) {
+    let Some(mut hand) = Hand::new(rt.alloc(), 200) else {
+        assert!(rt; false, "the zone can be made");
+        return;
+    };
+    let Hand { zone, seat, .. } = &mut hand;
+    assert!(rt; taken_runs(zone, seat) == Some((9, 0, 511, 512)));
+    assert!(rt; take_two(zone, seat).is_ok());
+    assert!(rt; zone.counts().free == 512);
+}
+
+/// How many pages are free when a block of four pages has gone from worker to worker and back.
+fn relayed(alloc: Global) -> Option<u32> {
+    relay(alloc, dma(511), Order::new(2)?)
 }
 
 #[test]
 fn a_block_goes_from_worker_to_worker(rt: HostRuntime) {
-    let Some(two) = Order::new(2) else {
-        assert!(rt; false, "2 is an order");
+    assert!(rt; relayed(rt.alloc()) == Some(1024));
+}
+
+/// The page of a block of 16 pages below page 20.
+fn low_page(zone: &mut Zone, seat: &mut Seat) -> Option<u32>
+    requires { IsSeatOf zone.old seat.old }
+    ensures { IsSeatOf zone.new seat.new }
+{
+    let block = take_below(zone, seat, Order::new(4)?, PageNo::new(20))?;
+    Some(block.page.number())
+}
+
+/// The pages of the lowest blocks, one after another, and how many pages are free then.
+fn low_pages(zone: &mut Zone, seat: &mut Seat) -> ([Option<u32>; 3], u32)
+    requires { IsSeatOf zone.old seat.old }
+    ensures { IsSeatOf zone.new seat.new }
+{
+    let first = low_page(zone, seat);
+    let second = low_page(zone, seat);
+    let third = low_page(zone, seat);
+    ([first, second, third], zone.counts().free)
+}
+
+#[test]
+fn a_block_below_a_limit_is_kept(rt: HostRuntime) {
+    let Some(mut hand) = Hand::new(rt.alloc(), 511) else {
+        assert!(rt; false, "the zone can be made");
         return;
     };
-    let free = relay(rt.alloc(), dma(511), two);
-    assert!(rt; free == Some(1024));
+    let Hand { zone, seat, .. } = &mut hand;
+    assert!(rt; low_pages(zone, seat) == ([Some(0), Some(16), None], 1024 - 32));
 }
 
-#[test]
-fn a_block_below_a_limit_is_kept(rt: HostRuntime) -> Result<(), Fail> {
-    let made = Zone::new(rt.alloc(), dma(511), 1);
-    let (mut zone, mut seats) = made.ok().ok_or("the zone can be made")?;
-    let order = Order::new(4).ok_or("4 is an order")?;
-    let seat = &mut seats[0];
-    let limit = PageNo::new(20);
-    let low = take_below(&mut zone, seat, order, limit).ok_or("a block is low")?;
-    assert!(rt; low.page == PageNo::new(0));
-    let next = take_below(&mut zone, seat, order, limit).ok_or("so is the next")?;
-    assert!(rt; next.page == PageNo::new(16));
-    assert!(rt; take_below(&mut zone, seat, order, limit).is_none());
-    assert_eq!(rt; zone.counts().free, 1024 - 32);
-    Ok(())
-}
+const SHARED: SharedRun = SharedRun {
+    free_pages: 1024,
+    requests: 4,
+    is_legal: true,
+};
 
 #[test]
-fn two_workers_share_a_zone(rt: HostRuntime) -> Result<(), Fail> {
-    let config = dma(0);
-    let run = share_a_zone(&rt, rt.alloc(), config).ok_or("the zone can be shared")?;
-    assert_eq!(rt; run.free_pages, 1024);
-    assert_eq!(rt; run.requests, 4);
-    assert!(rt; run.is_legal);
-    Ok(())
+fn two_workers_share_a_zone(rt: HostRuntime) {
+    assert!(rt; share_a_zone(&rt, rt.alloc(), dma(0)) == Some(SHARED));
 }
 
 /// Keeps the bytes that it is given.
@@ -150,19 +215,29 @@ impl Writer for Kept {
     }
 }
 
-#[test]
-fn a_zone_is_shown(rt: HostRuntime) -> Result<(), Fail> {
-    let made = Zone::new(rt.alloc(), dma(511), 1);
-    let (zone, _seats) = made.ok().ok_or("the zone can be made")?;
+const MEMORY: Memory = Memory {
+    free_pages: 1024,
+    largest_blocks: 1,
+    level: Level::High,
+};
+
+const LINE: &str =
+    "Node 0, zone      DMA      0      0      0      0      0      0      0      0      0      0      1 \n";
+
+/// Whether this is told of the zone.
+fn is_shown(zone: &Zone, line: &str) -> bool {
     let mut writer = Kept {
         bytes: ArrayVec::new(),
     };
-    let memory = show(&zone, &mut writer).ok().ok_or("the writer takes all")?;
-    assert_eq!(rt; memory.free_pages, 1024);
-    assert_eq!(rt; memory.largest_blocks, 1);
-    assert!(rt; memory.level == Level::High);
-    let line =
-        "Node 0, zone      DMA      0      0      0      0      0      0      0      0      0      0      1 \n";
-    assert!(rt; writer.bytes.as_slice() == line.as_bytes());
-    Ok(())
+    let memory = show(zone, &mut writer);
+    memory == Ok(MEMORY) && writer.bytes.as_slice() == line.as_bytes()
+}
+
+#[test]
+fn a_zone_is_shown(rt: HostRuntime) {
+    let Some(hand) = Hand::new(rt.alloc(), 511) else {
+        assert!(rt; false, "the zone can be made");
+        return;
+    };
+    assert!(rt; is_shown(&hand.zone, LINE));
 }
