@@ -16,6 +16,9 @@ pub(super) enum Step {
     Alloc(u8, MigrateType, Mark),
     Low(u8),
     Free(u32, u8),
+    /// Takes so many single Movable pages, which are these, from this one on; gives so many back.
+    AllocRun(u32, u32),
+    FreeRun(u32, u32),
     /// Puts a page on its list by hand.
     Put(u32),
     /// Takes a page from its list by hand.
@@ -25,7 +28,7 @@ pub(super) enum Step {
 }
 
 /// What is answered, in numbers.
-#[derive(Clone, Copy, PartialEq, Eq, Debug, Drop)]
+#[derive(Clone, Copy, PartialEq, Eq, Drop)]
 pub(super) enum Replied {
     Page(u32),
     Done,
@@ -38,6 +41,16 @@ pub(super) enum Replied {
 
 /// A step and its answer.
 pub(super) type Told = (Step, Replied);
+
+/// What is asked of a new zone of so many pages with such a least mark, and of its worker's lists of such a batch and such a room.
+#[derive(Clone, Copy, Drop)]
+pub(super) struct Sequence<'a> {
+    /// What it shows.
+    pub(super) shows: &'a str,
+    pub(super) zone: (u32, u32),
+    pub(super) lists: (u8, u8),
+    pub(super) steps: &'a [Told],
+}
 
 /// A row of one zone, and the share of its one worker.
 #[derive(Drop)]
@@ -90,6 +103,26 @@ fn freed(hand: &mut Hand, page: PageNo, order: Order) -> Replied {
     }
 }
 
+fn allocated_run(hand: &mut Hand, first: u32, pages: u32) -> Replied {
+    for page in first..first.saturating_add(pages) {
+        let said = allocated(hand, Order::zero(), MigrateType::Movable, Mark::Low);
+        if said != Replied::Page(page) {
+            return said;
+        }
+    }
+    Replied::Done
+}
+
+fn freed_run(hand: &mut Hand, first: u32, pages: u32) -> Replied {
+    for page in first..first.saturating_add(pages) {
+        let said = freed(hand, PageNo::new(page), Order::zero());
+        if said != Replied::Done {
+            return said;
+        }
+    }
+    Replied::Done
+}
+
 fn put(hand: &mut Hand, page: PageNo) -> Replied {
     match hand.share.put_cached(0, page) {
         Ok(()) => Replied::Done,
@@ -130,6 +163,8 @@ fn carry_out(hand: &mut Hand, step: Step) -> Option<Replied> {
         Step::Alloc(order, kind, mark) => allocated(hand, Order::new(order)?, kind, mark),
         Step::Low(order) => lowest(hand, Order::new(order)?),
         Step::Free(page, order) => freed(hand, PageNo::new(page), Order::new(order)?),
+        Step::AllocRun(first, pages) => allocated_run(hand, first, pages),
+        Step::FreeRun(first, pages) => freed_run(hand, first, pages),
         Step::Put(page) => put(hand, PageNo::new(page)),
         Step::Take(kind) => taken(hand, kind),
         Step::DrainAll => drained(hand),
@@ -138,18 +173,19 @@ fn carry_out(hand: &mut Hand, step: Step) -> Option<Replied> {
     Some(said)
 }
 
-/// A new zone of so many pages and its worker's lists answer each step so.
-pub(super) fn expect(
-    rt: &(impl Abort + AllocGlobal),
-    (pages, min): (u32, u32),
-    (batch, high_len): (u8, u8),
-    steps: &[Told],
-) -> Result<(), Fail> {
-    let lists = ListConfig::new(batch, high_len).ok_or("there are such lists")?;
-    let mut hand = hand_with(rt.alloc(), pages, min, lists)?;
+/// A new zone and its worker's lists answer each step so.
+pub(super) fn expect(rt: &(impl Abort + AllocGlobal), sequence: &Sequence<'_>) -> Result<(), Fail> {
+    let Sequence {
+        shows,
+        zone,
+        lists,
+        steps,
+    } = sequence;
+    let lists = ListConfig::new(lists.0, lists.1).ok_or("there are such lists")?;
+    let mut hand = hand_with(rt.alloc(), zone.0, zone.1, lists)?;
     for (number, (step, said)) in steps.iter().enumerate() {
         let answer = carry_out(&mut hand, *step);
-        assert!(rt; answer == Some(*said), "step {number}");
+        assert!(rt; answer == Some(*said), "{shows}: step {number}");
     }
     Ok(())
 }
