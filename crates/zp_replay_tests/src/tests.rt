@@ -89,11 +89,6 @@ journal DMA 0 legal\n",
     ),
 ];
 
-fn expect(rt: &impl Abort, outcome: &Outcome, ending: Result<Ending, ReplayFault>, written: &[u8]) {
-    assert!(rt; outcome.ending == ending);
-    assert!(rt; outcome.written.as_slice() == written);
-}
-
 /// The replay, with none of its clauses: what is expected of it is compared when it runs.
 fn ended<T: AllocGlobal + Threads + Wait + Sync, R: Reader, W: Writer, G: Gate + Sync>(
     rt: &T,
@@ -145,12 +140,25 @@ fn replayed_on<K: Ledger, L: Ledger, T: AllocGlobal + Threads + Wait + Sync, G: 
     }
 }
 
+/// The replay of a text ends so, and so much was written.
+fn expect<R: Abort + AllocGlobal + Threads + Wait + Sync>(
+    rt: &R,
+    replay: Replay,
+    text: &[u8],
+    devices: Devices,
+    (ending, written): (Result<Ending, ReplayFault>, &[u8]),
+) {
+    let outcome = replayed(rt, replay, text, devices, &OpenGate);
+    let is_so = outcome.ending == ending && outcome.written.as_slice() == written;
+    assert!(rt; is_so);
+}
+
 #[test]
 fn a_bad_line_is_told(rt: HostRuntime) {
     let text = b"zone DMA 0 4096 0\nworkers 33\n";
-    for replay in [Replay::Serial, Replay::Threads] {
-        let outcome = replayed(&rt, replay, text, sound(7), &OpenGate);
-        expect(&rt, &outcome, Ok(Ending::BadLine(2)), b"bad line 2\n");
+    for (replay, _) in OUTPUTS {
+        let told = (Ok(Ending::BadLine(2)), b"bad line 2\n".as_slice());
+        expect(&rt, replay, text, sound(7), told);
     }
 }
 
@@ -158,56 +166,56 @@ fn a_bad_line_is_told(rt: HostRuntime) {
 fn pieces_of_each_size_make_one_text(rt: HostRuntime) {
     for (replay, output) in OUTPUTS {
         for piece in 1..=TRACE.len() {
-            let outcome = replayed(&rt, replay, TRACE.as_bytes(), sound(piece), &OpenGate);
-            expect(&rt, &outcome, Ok(Ending::Good), output.as_bytes());
+            let whole = (Ok(Ending::Good), output.as_bytes());
+            expect(&rt, replay, TRACE.as_bytes(), sound(piece), whole);
         }
     }
 }
 
 #[test]
 fn failing_reads_write_nothing(rt: HostRuntime) {
-    for replay in [Replay::Serial, Replay::Threads] {
+    for (replay, _) in OUTPUTS {
         for calls in 0..=TRACE.len() {
-            let outcome = replayed(&rt, replay, TRACE.as_bytes(), deaf_after(calls), &OpenGate);
-            expect(&rt, &outcome, Err(ReplayFault::Read), &[]);
+            let nothing = (Err(ReplayFault::Read), [].as_slice());
+            expect(&rt, replay, TRACE.as_bytes(), deaf_after(calls), nothing);
         }
     }
 }
 
+/// What came of a replay of which `calls` bytes are written before a call fails: the whole, where there are no more.
+fn begun(output: &str, calls: usize) -> (Result<Ending, ReplayFault>, &[u8]) {
+    match output.as_bytes().get(..calls) {
+        Some(begun) if calls < output.len() => (Err(ReplayFault::Write), begun),
+        _ => (Ok(Ending::Good), output.as_bytes()),
+    }
+}
+
+/// The last of the calls that would fail comes after the last write.
 #[test]
 fn failing_writes_leave_a_beginning(rt: HostRuntime) {
     for (replay, output) in OUTPUTS {
-        for calls in 0..output.len() {
-            let outcome = replayed(&rt, replay, TRACE.as_bytes(), mute_after(calls), &OpenGate);
-            let begun = &output.as_bytes()[..calls];
-            expect(&rt, &outcome, Err(ReplayFault::Write), begun);
+        for calls in 0..=output.len() {
+            let begun = begun(output, calls);
+            expect(&rt, replay, TRACE.as_bytes(), mute_after(calls), begun);
         }
     }
 }
 
-/// The call that would fail comes after the last write.
-#[test]
-fn a_failure_that_is_not_met_changes_nothing(rt: HostRuntime) {
-    for (replay, output) in OUTPUTS {
-        let devices = mute_after(output.len());
-        let outcome = replayed(&rt, replay, TRACE.as_bytes(), devices, &OpenGate);
-        expect(&rt, &outcome, Ok(Ending::Good), output.as_bytes());
+/// Whether a replay wrote all, or says what it has not got and wrote nothing; the writer may have no room for what is written.
+fn is_whole_or_ended(outcome: &Outcome, output: &str) -> bool {
+    match outcome.ending {
+        Ok(ending) => { ending == Ending::Good && outcome.written.as_slice() == output.as_bytes() }
+        Err(ReplayFault::Memory | ReplayFault::NoThread) => outcome.written.is_empty(),
+        Err(fault) => fault == ReplayFault::Write,
     }
 }
 
-/// A replay writes all, or says what it has not got and writes nothing; the writer may have no room for what is written: tried
-/// with each allocation failing in turn (`rt try --test --fail-alloc N`).
+/// Tried with each allocation failing in turn (`rt try --test --fail-alloc N`).
 #[test]
 fn a_replay_is_whole_or_ends_for_memory(rt: HostRuntime) {
     for (replay, output) in OUTPUTS {
         let outcome = replayed(&rt, replay, TRACE.as_bytes(), sound(1000), &OpenGate);
-        match outcome.ending {
-            Ok(_) => expect(&rt, &outcome, Ok(Ending::Good), output.as_bytes()),
-            Err(ReplayFault::Memory | ReplayFault::NoThread) => assert!(rt;
-                outcome.written.is_empty()
-            ),
-            Err(fault) => assert!(rt; fault == ReplayFault::Write),
-        }
+        assert!(rt; is_whole_or_ended(&outcome, output));
     }
 }
 
@@ -257,13 +265,8 @@ fn expect_in_turn<R: Abort + AllocGlobal + Clock + Sync + Threads + Wait>(
     };
     let text = b"zone DMA 0 4096 0\nworkers 2\nlists 0 0\n0 info\n1 info\n";
     let outcome = replayed(rt, Replay::Threads, text, sound(1000), &gate);
-    assert_eq!(rt; gate.gave_up.load(), 0);
-    assert!(rt; outcome.ending == Ok(Ending::Good));
-    let infos = "\
-Node 0, zone      DMA      0      0      0      0      0      0      0      0      0      0      4 \n\
-Node 0, zone      DMA      0      0      0      0      0      0      0      0      0      0      4 \n\
-total ";
-    assert!(rt; outcome.written.as_slice().starts_with(infos.as_bytes()));
+    assert!(rt; gate.gave_up.load() == 0 && outcome.ending == Ok(Ending::Good));
+    assert!(rt; outcome.written.as_slice().starts_with(FIRST_INFOS.as_bytes()));
 }
 
 /// Neither worker waits for the other to end all its commands, whichever is first.
@@ -272,3 +275,9 @@ fn workers_work_at_the_same_time(rt: HostRuntime) {
     expect_in_turn(&rt, 0, 1);
     expect_in_turn(&rt, 1, 0);
 }
+
+/// What they write first.
+const FIRST_INFOS: &str = "\
+Node 0, zone      DMA      0      0      0      0      0      0      0      0      0      0      4 \n\
+Node 0, zone      DMA      0      0      0      0      0      0      0      0      0      0      4 \n\
+total ";

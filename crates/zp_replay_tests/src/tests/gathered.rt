@@ -146,58 +146,51 @@ fn expectation<R: AllocGlobal>(rt: &R, output: Output<'_>) -> Result<Expected, A
     })
 }
 
-/// A writer that takes a piece whole or not at all has the lines that fit, as if each were a piece of its own.
-fn expect_lines<R: Abort + AllocGlobal>(
-    rt: &R,
-    output: Output<'_>,
-    expected: &Expected,
-    room: usize,
-) {
+/// Whether a writer that takes a piece whole or not at all has the lines that fit, as if each were a piece of its own.
+fn has_lines<R: AllocGlobal>(rt: &R, output: Output<'_>, expected: &Expected, room: usize) -> bool {
     let text = expected.text.as_slice();
     let gathered = written(rt, output, Taking::Whole, room);
     let by_lines = Output::Pieces(text, expected.lines.as_slice());
     let by_lines = written(rt, by_lines, Taking::Whole, room);
-    assert!(rt; gathered.bytes == by_lines.bytes, "room for {room} bytes");
-    assert!(rt;
-        gathered.is_whole == (room >= text.len()),
-        "room for {room} bytes"
-    );
+    gathered.bytes == by_lines.bytes && gathered.is_whole == (room >= text.len())
 }
 
-/// A writer that takes a part of what it is asked to take has all that there is room for, and sees what it would see of pieces that are
-/// never tried line by line: the first refusal ends that, but where it comes behind the end of a line.
-fn expect_parts<R: Abort + AllocGlobal>(
-    rt: &R,
-    output: Output<'_>,
-    expected: &Expected,
-    room: usize,
-) {
+/// Whether a writer that takes a part of what it is asked to take has all that there is room for, and sees what it would see of pieces that
+/// are never tried line by line: the first refusal ends that, but where it comes behind the end of a line.
+fn has_parts<R: AllocGlobal>(rt: &R, output: Output<'_>, expected: &Expected, room: usize) -> bool {
     let text = expected.text.as_slice();
     let gathered = written(rt, output, Taking::Half, room);
     let in_pieces = Output::Pieces(text, expected.pieces.as_slice());
     let in_pieces = written(rt, in_pieces, Taking::Half, room);
-    assert!(rt; gathered.bytes.as_slice() == &text[..room.min(text.len())]);
-    assert!(rt; gathered.bytes == in_pieces.bytes, "room for {room} bytes");
-    assert!(rt;
-        gathered
-            .asked
-            .as_slice()
-            .starts_with(in_pieces.asked.as_slice())
-    );
-    let is_inside = room > 0 && room < text.len() && text[room - 1] != b'\n';
-    assert!(rt;
-        !is_inside || gathered.asked == in_pieces.asked,
-        "room for {room} bytes"
-    );
+    gathered.bytes.as_slice() == &text[..room.min(text.len())]
+        && gathered.bytes == in_pieces.bytes
+        && (gathered.asked == in_pieces.asked
+            || is_behind_a_line(text, room) && begins_with(&gathered, &in_pieces))
 }
 
-fn expect_all<R: Abort + AllocGlobal>(rt: &R, output: Output<'_>) -> Result<(), Fail> {
+/// Whether room for so many bytes ends where a line does, or holds none of the text or all of it.
+fn is_behind_a_line(text: &[u8], room: usize) -> bool {
+    room == 0 || room >= text.len() || text[room - 1] == b'\n'
+}
+
+/// Whether the one was asked for what the other was, and then perhaps for more.
+fn begins_with(whole: &Attempt, begun: &Attempt) -> bool {
+    whole.asked.as_slice().starts_with(begun.asked.as_slice())
+}
+
+fn expect_all<R: Abort + AllocGlobal>(rt: &R, output: Output<'_>) -> Result<(), AllocError> {
     let expected = expectation(rt, output)?;
     let pieces = expected.pieces.len();
     assert!(rt; 1 < pieces && pieces < expected.lines.len());
     for room in 0..expected.text.len() + 2 {
-        expect_lines(rt, output, &expected, room);
-        expect_parts(rt, output, &expected, room);
+        assert!(rt;
+            has_lines(rt, output, &expected, room),
+            "room for {room} bytes"
+        );
+        assert!(rt;
+            has_parts(rt, output, &expected, room),
+            "room for {room} bytes"
+        );
     }
     Ok(())
 }
@@ -205,11 +198,13 @@ fn expect_all<R: Abort + AllocGlobal>(rt: &R, output: Output<'_>) -> Result<(), 
 #[test]
 fn a_journal_fills_a_writer_line_by_line(rt: HostRuntime) -> Result<(), Fail> {
     let journal = some_journal(rt.alloc())?;
-    expect_all(&rt, Output::Journal(&journal))
+    expect_all(&rt, Output::Journal(&journal))?;
+    Ok(())
 }
 
 #[test]
 fn a_replay_fills_a_writer_line_by_line(rt: HostRuntime) -> Result<(), Fail> {
     let trace = some_trace(rt.alloc())?;
-    expect_all(&rt, Output::Replay(trace.as_slice()))
+    expect_all(&rt, Output::Replay(trace.as_slice()))?;
+    Ok(())
 }
