@@ -67,7 +67,7 @@ pub struct Enters<Q> {
     of: PhantomData<Q>,
 }
 
-impl<Q: Asks> Act<Books, ()> for Enters<Q> {
+impl<T, Q: Asks> Act<Books, T> for Enters<Q> {
     ghost use Rattle.zp_model.specs.Books.{entered};
 
     ghost to = { λ w a b. entered w Q.request b };

@@ -62,7 +62,7 @@ impl Seat {
         &mut self,
         keeper: &mut Keeper<Books, Part, Parts>,
         zone: &UntiedZone,
-        _about: &T,
+        about: &T,
     ) -> Worker
         requires tie { self.old.tie ≡ keeper.old.tie }
         requires zone { keeper.old.whole.plain ≡ zone.now.plain }
@@ -77,7 +77,7 @@ impl Seat {
         ensures agrees { (self.old.part ≡ part self.old.worker keeper.old.whole) × (self.new.part ≡ part self.new.worker keeper.new.whole) }
     {
         zone.lawful();
-        keeper.request::<(), Enters<Q>>(&mut self.token, &());
+        keeper.request::<T, Enters<Q>>(&mut self.token, about);
         self.worker
     }
 

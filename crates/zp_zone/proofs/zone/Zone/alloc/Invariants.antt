@@ -2,4 +2,4 @@ use Rattle.zp_model.specs.declared.request.Request.TheVariants.{Alloc}
 use Rattle.zp_zone.proofs.zone.Zone.alloc.Given as goal
 
 abbrev pub ghosts-enter : goal.ghosts-enter
-ghosts-enter a = record { request = Alloc a._about.now.0 a._about.now.1 a._about.now.2 }
+ghosts-enter a = record { request = Alloc a.about.now.0 a.about.now.1 a.about.now.2 }
