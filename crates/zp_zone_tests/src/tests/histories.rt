@@ -2,6 +2,7 @@
 //! replays them all, as a journal.
 
 use super::*;
+use arrayvec::ArrayVec;
 use std::alloc::AllocGlobal;
 use zp_journal::{Journal, JournalCheck, replay_journal};
 use zp_model::{
@@ -40,7 +41,7 @@ pub(super) enum Said<'a> {
 pub(super) type Asked<'a> = (u8, Ask<'a>, Said<'a>);
 
 /// What is noted of a page, in numbers.
-#[derive(Clone, Copy, PartialEq, Eq, Debug, Drop)]
+#[derive(Clone, Copy, PartialEq, Eq, Drop)]
 pub(super) enum Noted {
     Tail,
     Free(u8),
@@ -54,6 +55,8 @@ pub(super) type Told = (u32, Noted, Option<u32>, Option<u32>);
 /// What is asked of a zone of two workers, and what it tells then: its free pages, those in posted blocks, and some pages.
 #[derive(Clone, Copy, Drop)]
 pub(super) struct History<'a> {
+    /// What it shows.
+    pub(super) shows: &'a str,
     pub(super) config: Making<'a>,
     pub(super) asked: &'a [Asked<'a>],
     pub(super) free: u32,
@@ -110,16 +113,37 @@ fn entry(asked: &Asked<'_>) -> Option<Entry> {
     Entry::new(Worker::new(worker)?, &request(ask)?, &reply(said)?)
 }
 
-/// The history as a journal.
-pub(super) fn journal_of(rt: &impl AllocGlobal, asked: &[Asked<'_>]) -> Result<Journal, Fail> {
-    let mut journal = Journal::new(rt.alloc(), 2048)?;
+/// Room for the longest history.
+const ROOM: u32 = 2048;
+
+/// A journal with no entry.
+pub(super) fn empty_journal(rt: &impl AllocGlobal) -> Result<Journal, Refused> {
+    Journal::new(rt.alloc(), ROOM)
+}
+
+/// The journal goes on.
+pub(super) fn go_on_by(rt: &impl Abort, journal: &mut Journal, asked: &Asked<'_>) {
+    let Some(entry) = entry(asked) else {
+        assert!(rt; false, "there is no such request");
+        return;
+    };
+    assert!(rt; !journal.is_full());
+    journal.append(&entry);
+}
+
+fn go_on_by_all(rt: &impl Abort, journal: &mut Journal, asked: &[Asked<'_>]) {
     for it in asked {
-        let entry = entry(it).ok_or("there is such a request")?;
-        if journal.is_full() {
-            return Err(Fail::from("the history is short"));
-        }
-        journal.append(&entry);
+        go_on_by(rt, journal, it);
     }
+}
+
+/// The history as a journal.
+pub(super) fn journal_of(
+    rt: &(impl Abort + AllocGlobal),
+    asked: &[Asked<'_>],
+) -> Result<Journal, Refused> {
+    let mut journal = empty_journal(rt)?;
+    go_on_by_all(rt, &mut journal, asked);
     Ok(journal)
 }
 
@@ -140,30 +164,56 @@ fn told_of(zone: &Zone, page: u32) -> Option<Told> {
     Some((page, noted_as(entry.state), back, forward))
 }
 
+/// Whether a zone tells what it has to tell, but of its pages.
+fn is_told(zone: &Zone, history: &History<'_>) -> bool {
+    zone.name() == history.config.name
+        && zone.pages() == history.config.pages
+        && zone.counts().free == history.free
+        && zone.posted_pages() == history.posted
+}
+
 /// Compares what a zone tells with what it has to tell.
 pub(super) fn compare(rt: &impl Abort, zone: &Zone, history: &History<'_>) {
-    assert_eq!(rt; zone.name(), history.config.name);
-    assert_eq!(rt; zone.pages(), history.config.pages);
-    assert_eq!(rt; zone.counts().free, history.free);
-    assert_eq!(rt; zone.posted_pages(), history.posted);
+    assert!(rt; is_told(zone, history), "{}", history.shows);
     for page in history.pages {
         assert!(rt; told_of(zone, page.0) == Some(*page), "page {}", page.0);
     }
 }
 
-/// A new zone answers all of the history as it says, and tells then what it says.
-pub(super) fn expect(rt: &(impl Abort + AllocGlobal), history: &History<'_>) -> Result<(), Fail> {
-    let journal = journal_of(rt, history.asked)?;
+/// A new zone with this largest order answers as the journal says: what it has become. None where it does not.
+pub(super) fn replayed(
+    rt: &(impl Abort + AllocGlobal),
+    making: &Making<'_>,
+    largest: Largest,
+    journal: &Journal,
+) -> Option<Zone> {
     let config = ZoneConfig {
-        name: history.config.name,
-        base: history.config.base,
-        pages: history.config.pages,
-        min: history.config.min,
-        largest: Largest::usual(),
+        name: making.name,
+        base: making.base,
+        pages: making.pages,
+        min: making.min,
+        largest,
     };
-    match replay_journal(rt.alloc(), config, 2, &journal)? {
-        JournalCheck::Legal(zone) => compare(rt, &zone, history),
-        JournalCheck::Differs(number) => assert!(rt; false, "entry {number} differs"),
+    match replay_journal(rt.alloc(), config, 2, journal) {
+        Ok(JournalCheck::Legal(zone)) => Some(zone),
+        Ok(JournalCheck::Differs(number)) => {
+            assert!(rt; false, "entry {number} differs");
+            None
+        }
+        Err(_) => None,
     }
+}
+
+/// A new zone answers all of the history as it says, and tells then what it says.
+pub(super) fn expect(
+    rt: &(impl Abort + AllocGlobal),
+    history: &History<'_>,
+) -> Result<(), Refused> {
+    let journal = journal_of(rt, history.asked)?;
+    let Some(zone) = replayed(rt, &history.config, Largest::usual(), &journal) else {
+        assert!(rt; false, "{}", history.shows);
+        return Ok(());
+    };
+    compare(rt, &zone, history);
     Ok(())
 }

@@ -32,6 +32,7 @@ const ASKED_THEN: &[Asked<'static>] = &[
 
 /// What the zone tells after `ASKED`: blocks of 1,024, 8 and 1 pages are not free.
 const TOLD: History<'static> = History {
+    shows: "pieces lead where the whole does",
     config: Making {
         name: "DMA",
         base: 0,
