@@ -13,7 +13,7 @@ use std::rt::Clock;
 use std::sync::Wait;
 use std::thread::Threads;
 use std::time::{Duration, Instant};
-use zp_loads::{BlockSource, Cached, Load, PastLists, Seated};
+use zp_loads::{BlockSource, Cached, Load, PastLists, Seated, Unmade};
 use zp_model::Order;
 
 /// The calls that are timed, about.
@@ -213,25 +213,43 @@ fn print_time_of(
     Ok(())
 }
 
-/// Prints the lines of what a section publishes, and of a read: on a board with room for each of its counts, and on one that turns.
-fn print_board_times(rt: &(impl Print + Eprint + Clock), alloc: Global) -> anyhow::Result<()> {
-    let mut fixed = BoardBench::fixed(alloc)?;
-    print_time_of(
+/// Prints the lines of what a section publishes on a board, and of a read off it.
+fn print_times_of_board(
+    rt: &(impl Print + Eprint + Clock),
+    published: &str,
+    read: &str,
+    board: &mut BoardBench,
+) -> anyhow::Result<()> {
+    print_time_of(rt, published, board.time_publishing(rt)?)?;
+    print_time_of(rt, read, board.time_reads(rt, CALLS)?)
+}
+
+/// The same, where there is memory for the board.
+fn print_board_times(
+    rt: &(impl Print + Eprint + Clock),
+    published: &str,
+    read: &str,
+    made: Result<BoardBench, Unmade>,
+) -> anyhow::Result<()> {
+    match made {
+        Ok(mut board) => print_times_of_board(rt, published, read, &mut board),
+        Err(unmade) => Err(unmade.into()),
+    }
+}
+
+/// Prints these lines of a board with room for each of its counts, and of one that turns.
+fn print_boards(rt: &(impl Print + Eprint + Clock), alloc: Global) -> anyhow::Result<()> {
+    print_board_times(
         rt,
         "counts published on a board",
-        fixed.time_publishing(rt)?,
+        "counts read off a board",
+        BoardBench::fixed(alloc),
     )?;
-    print_time_of(rt, "counts read off a board", fixed.time_reads(rt, CALLS)?)?;
-    let mut turning = BoardBench::turning(alloc)?;
-    print_time_of(
+    print_board_times(
         rt,
         "counts published on a board that turns",
-        turning.time_publishing(rt)?,
-    )?;
-    print_time_of(
-        rt,
         "counts read off a board that turns",
-        turning.time_reads(rt, CALLS)?,
+        BoardBench::turning(alloc),
     )
 }
 
@@ -264,7 +282,7 @@ pub fn print_all<R: Print + Eprint + Clock + Threads + Wait + Sync>(
     print_crew_lines(rt, alloc)?;
     print_shared_time(rt, alloc, "cached pairs, one thread", 1)?;
     print_shared_time(rt, alloc, "cached pairs, four threads", 4)?;
-    print_board_times(rt, alloc)?;
+    print_boards(rt, alloc)?;
     print_reading_times(rt, alloc)?;
     println!(rt; "{HOW_TO_COUNT}")?;
     Ok(())

@@ -43,10 +43,7 @@ fn publish_and_read(board: Board, mut publisher: Publisher, calls: u32) -> Resul
         publisher,
         reader,
     };
-    for free in 0..calls {
-        board.publish_and_read(free)?;
-    }
-    Ok(())
+    board.rounds(calls)
 }
 
 /// A board with its publisher and a reader.
@@ -60,6 +57,14 @@ struct ReadBoard {
 }
 
 impl ReadBoard {
+    /// So many rounds.
+    fn rounds(&mut self, rounds: u32) -> Result<(), Unmade> {
+        for free in 0..rounds {
+            self.publish_and_read(free)?;
+        }
+        Ok(())
+    }
+
     /// Publishes counts with so many free pages and reads them, with the publisher and without it.
     fn publish_and_read(&mut self, free: u32) -> Result<(), Unmade> {
         let board = &self.board;

@@ -42,9 +42,16 @@ pub fn area(alloc: Global) -> Result<(), Unmade> {
 
 /// A buddy allocator, and so many rounds of its takes and gives.
 pub fn buddy(alloc: Global, calls: u32) -> Result<(), Unmade> {
-    let mut buddy = Buddy::new(alloc, PAGES, Largest::usual(), SIDE)?;
-    for _ in 0..calls {
-        take_and_give(&mut buddy)?;
+    match Buddy::new(alloc, PAGES, Largest::usual(), SIDE) {
+        Ok(mut buddy) => rounds(&mut buddy, calls),
+        Err(e) => Err(e.into()),
+    }
+}
+
+/// So many rounds.
+fn rounds(buddy: &mut Buddy, rounds: u32) -> Result<(), Unmade> {
+    for _ in 0..rounds {
+        take_and_give(buddy)?;
     }
     Ok(())
 }

@@ -1,5 +1,5 @@
 //! Zones behind locks.
-ghost use Rattle.std.specs.Prelude.{◌≡◌, ◌∷◌, [], IfOk, length};
+ghost use Rattle.std.specs.Prelude.{◌≡◌, ◌∷◌, [], All, IfOk, length};
 ghost use Rattle.zp_share.specs.Shares.{IsShareOf, key_of};
 ghost use Rattle.zp_shared.specs.Rows.{board_at, opened_board, opened_key};
 ghost use Rattle.zp_zone.specs.Seats.{IsSeatOf, IsUnused};
@@ -11,11 +11,11 @@ use std::marker::Brand;
 use std::sync::Wait;
 use zp_journal::Journal;
 use zp_loads::{Unmade, config, expect};
-use zp_model::{Mark, MigrateType, Order};
+use zp_model::{Counts, Mark, MigrateType, Order};
 use zp_share::Share;
 use zp_shared::{
-    BoardReader, CutJournal, Keeps, Naming, NoJournal, OpenedZone, SharedZone, WholeJournal,
-    open_zones, reader_rows, readers_of, share_zones,
+    Board, BoardReader, CutJournal, Guarded, Keeps, Naming, NoJournal, OpenedZone, SharedZone,
+    WholeJournal, open_zones, reader_rows, readers_of, share_zones,
 };
 use zp_zone::{Seat, Zone};
 
@@ -25,8 +25,10 @@ pub const ENTRIES: u32 = 1024;
 /// A zone that is opened for threads.
 pub fn opened(alloc: Global) -> Result<(), Unmade> {
     let (zone, _seats) = Zone::new(alloc, config(PAGES), 1)?;
-    let _opened = OpenedZone::new(alloc, zone, ENTRIES)?;
-    Ok(())
+    match OpenedZone::new(alloc, zone, ENTRIES) {
+        Ok(_opened) => Ok(()),
+        Err(refused) => Err(refused.into()),
+    }
 }
 
 /// Readers of a row of one zone, for one worker and for two.
@@ -46,12 +48,26 @@ fn zone_and_share(alloc: Global) -> Result<(Zone, Share), Unmade>
     ensures fits { IfOk result (λ z. IsShareOf (key_of z.0 ∷ []) z.1) }
     ensures one { IfOk result (λ z. length z.1.zones ≡ 1) }
 {
-    let (zone, mut seats) = Zone::new(alloc, config(PAGES), 1)?;
-    let Some(seat) = seats.pop() else {
-        return Err(Unmade::Other);
+    let (zone, seats) = Zone::new(alloc, config(PAGES), 1)?;
+    with_share(alloc, zone, seats)
+}
+
+/// The zone, and the share of its last seat.
+fn with_share(alloc: Global, zone: Zone, mut seats: Vec<Seat>) -> Result<(Zone, Share), Unmade>
+    requires seats { All (IsSeatOf zone) seats.items }
+    requires unused { All IsUnused seats.items }
+    ensures zone { IfOk result (λ z. z.0 ≡ zone) }
+    ensures fits { IfOk result (λ z. IsShareOf (key_of z.0 ∷ []) z.1) }
+    ensures one { IfOk result (λ z. length z.1.zones ≡ 1) }
+{
+    let share = match seats.pop() {
+        Some(seat) => share_of(alloc, &zone, seat),
+        None => Err(Unmade::Other),
     };
-    let share = share_of(alloc, &zone, seat)?;
-    Ok((zone, share))
+    match share {
+        Ok(share) => Ok((zone, share)),
+        Err(unmade) => Err(unmade),
+    }
 }
 
 /// An opened zone, and its worker's share.
@@ -92,10 +108,12 @@ pub fn without_journal<R: Wait>(rt: &R, alloc: Global, calls: u32) -> Result<(),
 
 /// The same of a zone whose journal can be cut.
 pub fn with_pieces<R: Wait>(rt: &R, alloc: Global, calls: u32) -> Result<(), Unmade> {
-    let (zone, share) = zone_and_share(alloc)?;
     let journal = Journal::new(alloc, ENTRIES)?;
-    let opened = OpenedZone::with_pieces(alloc, zone, journal, u64::MAX)?;
-    shared_as::<Brand, CutJournal, R>(rt, opened, share, calls)
+    let (zone, share) = zone_and_share(alloc)?;
+    match OpenedZone::with_pieces(alloc, zone, journal, u64::MAX) {
+        Ok(opened) => shared_as::<Brand, CutJournal, R>(rt, opened, share, calls),
+        Err(refused) => Err(refused.into()),
+    }
 }
 
 /// As `shared`, under the name of the opened zone.
@@ -117,10 +135,7 @@ fn shared_as<J: Naming, K: Keeps, R: Wait>(
         reader,
         share,
     };
-    for _ in 0..calls {
-        locked.round(rt)?;
-    }
-    Ok(())
+    locked.rounds(rt, calls)
 }
 
 /// A zone behind its lock at the first place, with a reader of its board and the share of its worker.
@@ -136,6 +151,14 @@ struct Locked<J: Naming, K: Keeps> {
 }
 
 impl<J: Naming, K: Keeps> Locked<J, K> {
+    /// So many rounds.
+    fn rounds<R: Wait>(&mut self, rt: &R, rounds: u32) -> Result<(), Unmade> {
+        for _ in 0..rounds {
+            self.round(rt)?;
+        }
+        Ok(())
+    }
+
     /// A page is taken under the lock and given back, and the board is read before it, between the two and after them.
     fn round<R: Wait>(&mut self, rt: &R) -> Result<(), Unmade> {
         let Locked {
@@ -169,6 +192,26 @@ fn take_and_give<J: Naming, K: Keeps, R: Wait>(
     if guarded.place() != 0 {
         return Err(Unmade::Other);
     }
+    give_again(&mut guarded, board, reader, share, &before.counts)
+}
+
+/// The part of it under the lock, where the counts were these before.
+fn give_again<J: Naming, K: Keeps>(
+    guarded: &mut Guarded<J, K>,
+    board: &Board,
+    reader: &mut BoardReader,
+    share: &mut Share,
+    before: &Counts,
+) -> Result<(), Unmade>
+    requires place { guarded.old.place ≡ 0 }
+    requires board { board.now ≡ board_at J.boards 0 }
+    requires reader { reader.old.tie ≡ board.now.tie }
+    requires fits { IsShareOf J.zones share.old }
+    requires one { length share.old.zones ≡ 1 }
+    ensures reader { reader.new.tie ≡ reader.old.tie }
+    ensures fits { IsShareOf J.zones share.new }
+    ensures one { length share.new.zones ≡ 1 }
+{
     let order = Order::zero();
     let page = guarded.alloc_block(board, share, order, MigrateType::Movable, Mark::Any)?;
     let taken = guarded.read_board(board, reader);
@@ -176,7 +219,7 @@ fn take_and_give<J: Naming, K: Keeps, R: Wait>(
     let after = guarded.read_board(board, reader);
     expect(page.number() == FRONT)?;
     expect(taken.counts.by_order == [1, 1, 1, 1, 1, 1, 1, 1, 1, 1, 3])?;
-    expect(before.counts.free == 4096 && taken.counts.free == 4095 && after.counts == before.counts)
+    expect(before.free == 4096 && taken.counts.free == 4095 && after.counts == *before)
 }
 
 /// A row of one zone.

@@ -1,5 +1,5 @@
 //! A zone that one thread owns, and the requests of two of its workers.
-ghost use Rattle.std.specs.Prelude.{◌≡◌};
+ghost use Rattle.std.specs.Prelude.{◌≡◌, All};
 ghost use Rattle.zp_zone.specs.Seats.{IsSeatOf};
 
 use std::alloc::Global;
@@ -21,19 +21,30 @@ const BATCH: u8 = 4;
 
 /// The zone with two workers, who make so many rounds of requests.
 pub fn zone(alloc: Global, calls: u32) -> Result<(), Unmade> {
-    let (zone, mut seats) = Zone::new(alloc, config(PAGES), 2)?;
-    let (Some(second), Some(first)) = (seats.pop(), seats.pop()) else {
-        return Err(Unmade::Other);
-    };
-    let mut crew = Crew {
-        zone,
-        first,
-        second,
-    };
-    for _ in 0..calls {
-        crew.round()?;
+    match two_workers(alloc) {
+        Ok(mut crew) => crew.rounds(calls),
+        Err(unmade) => Err(unmade),
     }
-    Ok(())
+}
+
+/// The zone with two workers.
+fn two_workers(alloc: Global) -> Result<Crew, Unmade> {
+    let (zone, seats) = Zone::new(alloc, config(PAGES), 2)?;
+    crew_of(zone, seats)
+}
+
+/// The zone with the workers of its last two seats.
+fn crew_of(zone: Zone, mut seats: Vec<Seat>) -> Result<Crew, Unmade>
+    requires { All (IsSeatOf zone) seats.items }
+{
+    match (seats.pop(), seats.pop()) {
+        (Some(second), Some(first)) => Ok(Crew {
+            zone,
+            first,
+            second,
+        }),
+        _ => Err(Unmade::Other),
+    }
 }
 
 /// A zone and the seats of two workers.
@@ -47,6 +58,14 @@ struct Crew {
 }
 
 impl Crew {
+    /// So many rounds.
+    fn rounds(&mut self, rounds: u32) -> Result<(), Unmade> {
+        for _ in 0..rounds {
+            self.round()?;
+        }
+        Ok(())
+    }
+
     /// Each of the nine requests, and what the zone tells. All pages are free after it, as before.
     fn round(&mut self) -> Result<(), Unmade> {
         let Crew {
