@@ -266,7 +266,12 @@ fn expect_in_turn<R: Abort + AllocGlobal + Clock + Sync + Threads + Wait>(
     let text = b"zone DMA 0 4096 0\nworkers 2\nlists 0 0\n0 info\n1 info\n";
     let outcome = replayed(rt, Replay::Threads, text, sound(1000), &gate);
     assert!(rt; gate.gave_up.load() == 0 && outcome.ending == Ok(Ending::Good));
-    assert!(rt; outcome.written.as_slice().starts_with(FIRST_INFOS.as_bytes()));
+    assert!(rt;
+        outcome
+            .written
+            .as_slice()
+            .starts_with(FIRST_INFOS.as_bytes())
+    );
 }
 
 /// Neither worker waits for the other to end all its commands, whichever is first.
