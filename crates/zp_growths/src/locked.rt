@@ -15,7 +15,7 @@ use zp_model::{Counts, Mark, MigrateType, Order};
 use zp_share::Share;
 use zp_shared::{
     Board, BoardReader, CutJournal, Guarded, Keeps, Naming, NoJournal, OpenedZone, SharedZone,
-    WholeJournal, open_zones, reader_rows, readers_of, share_zones,
+    WholeJournal, open_zones, reader_rows, readers_of,
 };
 use zp_zone::{Seat, Zone};
 
@@ -220,28 +220,4 @@ fn give_again<J: Naming, K: Keeps>(
     expect(page.number() == FRONT)?;
     expect(taken.counts.by_order == [1, 1, 1, 1, 1, 1, 1, 1, 1, 1, 3])?;
     expect(before.free == 4096 && taken.counts.free == 4095 && after.counts == *before)
-}
-
-/// A row of one zone.
-pub fn row(alloc: Global) -> Result<(), Unmade> {
-    let (opened, _share) = opened_zone(alloc)?;
-    row_as::<Brand>(alloc, opened)
-}
-
-/// As `row`, under the name of the opened zone.
-fn row_as<J: Naming>(alloc: Global, opened: OpenedZone) -> Result<(), Unmade>
-    requires zones { J.zones ≡ opened_key opened ∷ [] }
-    requires boards { J.boards ≡ opened_board opened ∷ [] }
-{
-    let _row = share_zones::<J, _>(alloc, alone(alloc, opened)?)?;
-    Ok(())
-}
-
-/// A vector of one.
-fn alone<T: Drop>(alloc: Global, one: T) -> Result<Vec<T>, Unmade>
-    ensures { IfOk result (λ all. all.items ≡ one ∷ []) }
-{
-    let mut all = Vec::with_capacity(alloc, 1)?;
-    all.push_reserved(one);
-    Ok(all)
 }

@@ -2,6 +2,7 @@
 ghost use Rattle.std.specs.Prelude.{◌≡◌, [], All, IfOk, map};
 ghost use Rattle.zp_office.specs.Desks.{IsReady};
 ghost use Rattle.zp_share.specs.Shares.{key_of};
+ghost use Rattle.zp_trace.specs.Grammar.{IsBeginning, IsHeader, lines_of};
 ghost use Rattle.zp_zone.specs.Seats.{ZoneState};
 
 use crate::hand::lists;
@@ -30,7 +31,10 @@ pub fn trace(alloc: Global) -> Result<(), Unmade> {
     Ok(())
 }
 
-fn read_trace(alloc: Global) -> Result<Trace, Unmade> {
+fn read_trace(alloc: Global) -> Result<Trace, Unmade>
+    ensures begun { IfOk result (λ t. IsBeginning (lines_of t)) }
+    ensures header { IfOk result (λ t. IsHeader t.header) }
+{
     match parse_trace(alloc, TRACE.as_bytes()) {
         Ok(trace) => Ok(trace),
         Err(TraceFault::Memory) => Err(Unmade::Fault),

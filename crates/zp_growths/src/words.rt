@@ -27,7 +27,6 @@ pub enum Making {
     SharedZone,
     WithoutJournal,
     WithPieces,
-    Row,
     Crew,
     Trace,
     Script,
@@ -50,7 +49,7 @@ pub struct MakingWord {
 }
 
 /// All words, the lower layers first.
-pub const WORDS: [MakingWord; 28] = [
+pub const WORDS: [MakingWord; 27] = [
     MakingWord {
         name: "nothing",
         making: Making::Nothing,
@@ -135,11 +134,6 @@ pub const WORDS: [MakingWord; 28] = [
         name: "with_pieces",
         making: Making::WithPieces,
         has_calls: true,
-    },
-    MakingWord {
-        name: "share_zones",
-        making: Making::Row,
-        has_calls: false,
     },
     MakingWord {
         name: "Crew",
@@ -228,7 +222,6 @@ pub fn make<R: Threads + Wait + Sync>(
         Making::SharedZone => locked::shared(rt, alloc, calls),
         Making::WithoutJournal => locked::without_journal(rt, alloc, calls),
         Making::WithPieces => locked::with_pieces(rt, alloc, calls),
-        Making::Row => locked::row(alloc),
         Making::Crew => crews::crew(rt, alloc, calls),
         Making::Trace => offices::trace(alloc),
         Making::Script => offices::script(alloc),

@@ -1,5 +1,5 @@
 //! A zone that one thread owns, and the requests of two of its workers.
-ghost use Rattle.std.specs.Prelude.{◌≡◌, All};
+ghost use Rattle.std.specs.Prelude.{◌≡◌};
 ghost use Rattle.zp_zone.specs.Seats.{IsSeatOf};
 
 use std::alloc::Global;
@@ -29,22 +29,15 @@ pub fn zone(alloc: Global, calls: u32) -> Result<(), Unmade> {
 
 /// The zone with two workers.
 fn two_workers(alloc: Global) -> Result<Crew, Unmade> {
-    let (zone, seats) = Zone::new(alloc, config(PAGES), 2)?;
-    crew_of(zone, seats)
-}
-
-/// The zone with the workers of its last two seats.
-fn crew_of(zone: Zone, mut seats: Vec<Seat>) -> Result<Crew, Unmade>
-    requires { All (IsSeatOf zone) seats.items }
-{
-    match (seats.pop(), seats.pop()) {
-        (Some(second), Some(first)) => Ok(Crew {
-            zone,
-            first,
-            second,
-        }),
-        _ => Err(Unmade::Other),
-    }
+    let (zone, mut seats) = Zone::new(alloc, config(PAGES), 2)?;
+    let (Some(second), Some(first)) = (seats.pop(), seats.pop()) else {
+        return Err(Unmade::Other);
+    };
+    Ok(Crew {
+        zone,
+        first,
+        second,
+    })
 }
 
 /// A zone and the seats of two workers.
