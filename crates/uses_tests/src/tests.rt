@@ -119,18 +119,19 @@ impl Hand {
     }
 }
 
-/// The orders of a run and of the page in place of the next one, which is given back; and how many pages are free before that and after.
-fn taken_runs(zone: &mut Zone, seat: &mut Seat) -> Option<(u8, u8, u32, u32)>
+/// Whether a run is whole, and the next one a page, which is given back; and how many pages are free before that and after.
+fn taken_runs(zone: &mut Zone, seat: &mut Seat) -> Option<(bool, bool, u32, u32)>
     requires { IsSeatOf zone.old seat.old }
     ensures { IsSeatOf zone.new seat.new }
 {
     let huge = Order::new(9)?;
     let whole = take_huge_page(zone, seat, huge).ok()?;
     let single = take_huge_page(zone, seat, huge).ok()?;
+    let orders = (whole.order == huge, single.order == Order::zero());
     let free = zone.counts().free;
     give_run(zone, seat, single);
     let after = zone.counts().free;
-    Some((whole.order.number(), single.order.number(), free, after))
+    Some((orders.0, orders.1, free, after))
 }
 
 #[test]
@@ -140,7 +141,7 @@ fn a_huge_page_is_whole_or_single(rt: HostRuntime) {
         return;
     };
     let Hand { zone, seat, .. } = &mut hand;
-    assert!(rt; taken_runs(zone, seat) == Some((9, 0, 511, 512)));
+    assert!(rt; taken_runs(zone, seat) == Some((true, true, 511, 512)));
     assert!(rt; take_two(zone, seat).is_ok());
     assert!(rt; zone.counts().free == 512);
 }
