@@ -1,0 +1,5 @@
+use Rattle.std.proofs.Common.{◌≡◌, ◌≤◌, length, vec_len, vec_capacity}
+use Rattle.zp_gate.proofs.row.next_worker.Given as goal
+
+abbrev pub invariant-loop-zone : goal.invariant-loop-zone
+invariant-loop-zone l = record { many : vec_len l.desks ≡ l.zone-index; room : l.zone-index-end ≤ vec_capacity l.desks; }

@@ -1,0 +1,73 @@
+-- What a worker has of each zone of its row, and what its calls come to. A zone behind a gate is not seen between calls: each of them
+-- speaks of the zone as it is then, whatever it is (this profile).
+use Rattle.std.specs.Prelude.{ℕ, ◌≡◌, ◌<◌, ◌≤◌, ◌⊎◌, List, [], length, slice_index_or, slice_set, Option, None, Some, Result, Ok, Err}
+use Rattle.atomic_table.specs.Seated.{TableId}
+use Rattle.zp_model.specs.declared.constants.TheConstants.{LONGEST_LIST}
+use Rattle.zp_model.specs.declared.request.Request.{Request}
+use Rattle.zp_model.specs.declared.request.Reply.{Reply}
+use Rattle.zp_model.specs.declared.refused.Refused.{Refused as Refusal}
+use Rattle.zp_model.specs.declared.migrate_type.MigrateType.{MigrateType}
+use Rattle.zp_model.specs.declared.mark.Mark.{Mark}
+use Rattle.zp_model.specs.Rows.{front}
+use Rattle.zp_zone.specs.Seats.{ZoneState}
+use Rattle.zp_share.specs.PlainShares.{back, putting, taken}
+use Rattle.zp_share.specs.Sections.{IsAsked}
+use Rattle.zp_share.specs.Shares.{ShareState, share_at, with_zone_share}
+use Rattle.zp_share.specs.ZoneShares.{cached_of, plain_share}
+use Rattle.zp_gate.specs.declared.denied.Denied.{Denied}
+use Rattle.zp_gate.specs.declared.denied.Denied.TheVariants.{NoZone, Refused}
+
+-- for each zone of the row, the lowest first, the worker's share of that zone alone
+abbrev pub WorkerState : Type 0
+WorkerState = List ShareState
+
+-- past the end of the row there is nothing
+abbrev pub no_share : ShareState
+no_share = record { worker = 0; batch = 0; high_len = 0; zones = [] }
+
+abbrev pub desk_at : WorkerState → ℕ → ShareState
+desk_at w i = slice_index_or w i no_share
+
+-- the zone was asked, and this is its answer: one step of the zone, whatever it was, and the same step of the worker's share
+abbrev pub IsAnswer : Request → Reply → ShareState → ShareState → Type 0
+IsAnswer r q s t = (z : ZoneState) × ((y : ZoneState) × IsAsked r q z y (share_at s 0) (share_at t 0)) × (t ≡ with_zone_share 0 (share_at t 0) s)
+
+-- why nothing was asked, or which refusal was the answer
+abbrev pub IsDenial : Request → Denied → ShareState → ShareState → Type 0
+IsDenial r (Refused e) s t = IsAnswer r (Reply.Refused e) s t
+IsDenial r NoZone s t = ⊥
+IsDenial r d s t = t ≡ s
+
+-- some pages came, in one refill of as many as a batch
+abbrev pub IsFilled : MigrateType → Mark → ShareState → ShareState → Type 0
+IsFilled k m s t = (ps : List ℕ) × IsAnswer (Request.Refill k m s.batch) (Reply.Pages ps) s t
+
+-- so many pages went back from the back of a list
+abbrev pub IsDrained : MigrateType → ℕ → ShareState → ShareState → Type 0
+IsDrained k n s t = IsAnswer (Request.Drain k (back n (cached_of (share_at s 0) k))) Reply.Drained s t
+
+-- at the zone of place i the one share became the other, by what is so of the two; the shares of other zones stay
+abbrev pub IsAt : ℕ → (ShareState → ShareState → Type 0) → WorkerState → WorkerState → Type 0
+IsAt i P v w = (i < length v) × P (desk_at v i) (desk_at w i) × (w ≡ slice_set v i (desk_at w i))
+
+-- the request to the zone at place i was answered so
+abbrev pub IsAskedOf : ℕ → Request → Reply → WorkerState → WorkerState → Type 0
+IsAskedOf i r q v w = IsAt i (IsAnswer r q) v w
+
+-- the request to the zone at place i was denied so: where there is no such zone nothing is asked
+abbrev pub IsDeniedOf : ℕ → Request → Denied → WorkerState → WorkerState → Type 0
+IsDeniedOf i r d v w = ((d ≡ NoZone) × (length v ≤ i) × (w ≡ v)) ⊎ IsAt i (IsDenial r d) v w
+
+-- the page in front of a type's list was taken, and is lent
+pub record IsTaken (k : MigrateType) (page : ℕ) (s t : ShareState) : Type 0 where
+  pub front : front (cached_of (share_at s 0) k) ≡ Some page
+  pub after : plain_share (share_at t 0) ≡ taken k (plain_share (share_at s 0))
+  pub seat : (share_at t 0).seat ≡ (share_at s 0).seat
+  pub others : t ≡ with_zone_share 0 (share_at t 0) s
+
+-- a page was put on the list of its type, or refused
+pub record IsPut (page : ℕ) (given : Result (Unit {0}) Refusal) (s t : ShareState) : Type 0 where
+  pub answer : given ≡ (putting (plain_share (share_at s 0)) page s.high_len).answer
+  pub after : plain_share (share_at t 0) ≡ (putting (plain_share (share_at s 0)) page s.high_len).share
+  pub seat : (share_at t 0).seat ≡ (share_at s 0).seat
+  pub others : t ≡ with_zone_share 0 (share_at t 0) s

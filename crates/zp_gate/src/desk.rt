@@ -1,0 +1,270 @@
+//! One worker's place at one zone.
+ghost use Rattle.std.specs.Prelude.{◌≡◌, ◌<◌, ◌≤◌, ◌≢◌, [], length, All, IfOk, IfErr, IfSome, IfNone, OnOk, OnErr, IsTrue, IsSome, Some, None, Ok, Err};
+ghost use Rattle.std.specs.Arc.{arc_value};
+ghost use Rattle.zp_model.specs.declared.request.Request.TheVariants as request;
+ghost use Rattle.zp_model.specs.declared.request.Reply.TheVariants as reply;
+ghost use Rattle.zp_model.specs.declared.refused.Refused.TheVariants.{Memory};
+ghost use Rattle.zp_model.specs.declared.constants.TheConstants.{LONGEST_LIST};
+ghost use Rattle.zp_model.specs.Rows.{front};
+ghost use Rattle.zp_zone.specs.Seats.{IsUnused};
+ghost use Rattle.zp_share.specs.PlainShares.{back};
+ghost use Rattle.zp_share.specs.Sections.{IsRefilled, MayAsk};
+ghost use Rattle.zp_share.specs.Shares.{share_at};
+ghost use Rattle.zp_share.specs.ZoneShares.{cached_of, is_lent};
+ghost use Rattle.zp_gate.specs.Gates.{IsOneShare};
+ghost use Rattle.zp_gate.specs.Workers.{IsAnswer, IsDenial, IsDrained, IsFilled, IsPut, IsTaken};
+
+use crate::denied::Denied;
+use crate::gate::Gate;
+use std::alloc::Global;
+use std::marker::Model;
+use std::sync::Arc;
+use zp_model::{Block, Mark, MigrateType, Order, PageNo, Refused, Reply, Request, Worker};
+use zp_share::{ListConfig, Share};
+use zp_zone::Seat;
+
+/// One worker's place at one zone: the gate of the zone, and the worker's share of it. Contracts see the share.
+#[derive(Drop)]
+pub struct Desk {
+    gate: Arc<Gate, Global>,
+    share: Share,
+}
+
+impl Model for Desk {
+    ghost use Rattle.std.specs.Arc.{arc_value};
+    ghost use Rattle.zp_share.specs.Shares.{ShareState};
+    ghost use Rattle.zp_gate.specs.Gates.{IsOneShare};
+
+    ghost Value = { ShareState };
+
+    ghost view = { λ d. d.share };
+
+    ghost invariant = { λ d. IsOneShare (arc_value d.gate).table.shared.key.seat.tie d.share };
+}
+
+/// One request to the zone behind a gate, where nobody is in.
+#[inline(always)]
+fn ask(gate: &Gate, share: &mut Share, request: &Request) -> Option<Reply>
+    requires share { IsOneShare gate.now.table.shared.key.seat.tie share.old }
+    requires may { MayAsk gate.now.table.shared.key.workers share.old.batch request.now (share_at share.old 0) }
+    ensures share { IsOneShare gate.now.table.shared.key.seat.tie share.new }
+    ensures some { IfSome result (λ q. IsAnswer request.now q share.old share.new) }
+    ensures none { IfNone result (share.new ≡ share.old) }
+{
+    let mut pass = gate.enter()?;
+    let room = pass.slot_mut(&gate.table.shared, 0);
+    let reply = room.section(share, request);
+    gate.leave(pass);
+    Some(reply)
+}
+
+/// Fills the empty list of this type from the zone behind a gate, where nobody is in.
+#[inline(always)]
+fn fill(
+    gate: &Gate,
+    share: &mut Share,
+    kind: MigrateType,
+    mark: Mark,
+) -> Option<Result<(), Refused>>
+    requires share { IsOneShare gate.now.table.shared.key.seat.tie share.old }
+    requires empty { cached_of (share_at share.old 0) kind ≡ [] }
+    requires lists { 1 ≤ share.old.batch }
+    ensures share { IsOneShare gate.now.table.shared.key.seat.tie share.new }
+    ensures some { IfSome result (λ r. IsRefilled (λ q. IsAnswer (request.Refill kind mark share.old.batch) q share.old share.new) r) }
+    ensures none { IfNone result (share.new ≡ share.old) }
+{
+    let mut pass = gate.enter()?;
+    let room = pass.slot_mut(&gate.table.shared, 0);
+    let filled = room.fill(share, kind, mark);
+    gate.leave(pass);
+    Some(filled)
+}
+
+/// The value, where the reply is of the kind that answers the request; or why not. No other reply comes.
+macro_rules! answered {
+    ($desk:expr, $request:expr, $kind:pat => $value:expr) => {{
+        let Some(reply) = ask(&$desk.gate, &mut $desk.share, $request) else {
+            return Err(Denied::Busy);
+        };
+        match reply {
+            $kind => Ok($value),
+            Reply::Refused(refused) => Err(Denied::Refused(refused)),
+            _ => unreachable!(),
+        }
+    }};
+}
+
+impl Desk {
+    /// A desk at this gate for a worker with which no request was made. Refused 6.
+    pub(crate) fn new(
+        alloc: Global,
+        gate: &Arc<Gate, Global>,
+        seat: Seat,
+        lists: ListConfig,
+    ) -> Result<Desk, Refused>
+        requires unused { IsUnused seat }
+        requires tie { seat.tie ≡ (arc_value gate.now).table.shared.key.seat.tie }
+        ensures why { IfErr result (λ e. e ≡ Memory) }
+    {
+        let Ok(seats) = Vec::from_array(alloc, [seat]) else {
+            return Err(Refused::Memory);
+        };
+        let share = Share::new(alloc, seats, lists)?;
+        let Ok(gate) = Arc::try_clone(gate) else {
+            return Err(Refused::Memory);
+        };
+        Ok(Desk { gate, share })
+    }
+
+    /// The gate of the zone.
+    pub(crate) fn gate(&self) -> &Gate {
+        &self.gate
+    }
+
+    /// A block of this order for this type, held to this mark, which is then lent. Refused 10, 11 or 30.
+    pub(crate) fn alloc(
+        &mut self,
+        order: Order,
+        kind: MigrateType,
+        mark: Mark,
+    ) -> Result<PageNo, Denied>
+        ensures ok { IfOk result (λ page. IsAnswer (request.Alloc order kind mark) (reply.Page page) self.old self.new) }
+        ensures denied { IfErr result (λ d. IsDenial (request.Alloc order kind mark) d self.old self.new) }
+    {
+        let request = Request::Alloc(order, kind, mark);
+        answered!(self, &request, Reply::Page(page) => page)
+    }
+
+    /// The lowest block of this order, which is then lent. Refused 11 or 30.
+    pub(crate) fn alloc_low(&mut self, order: Order) -> Result<Block, Denied>
+        ensures ok { IfOk result (λ block. IsAnswer (request.AllocLow order) (reply.Block block) self.old self.new) }
+        ensures denied { IfErr result (λ d. IsDenial (request.AllocLow order) d self.old self.new) }
+    {
+        let request = Request::AllocLow(order);
+        answered!(self, &request, Reply::Block(block) => block)
+    }
+
+    /// Gives back a lent block. Refused 20 or 30.
+    pub(crate) fn free(&mut self, page: PageNo, order: Order) -> Result<(), Denied>
+        ensures ok { OnOk result (IsAnswer (request.Free page order) reply.Freed self.old self.new) }
+        ensures denied { IfErr result (λ d. IsDenial (request.Free page order) d self.old self.new) }
+    {
+        let request = Request::Free(page, order);
+        answered!(self, &request, Reply::Freed => ())
+    }
+
+    /// Posts a lent block to a worker. Refused 20 or 30.
+    pub(crate) fn post(&mut self, page: PageNo, order: Order, to: Worker) -> Result<(), Denied>
+        ensures ok { OnOk result (IsAnswer (request.Post page order to) reply.Posted self.old self.new) }
+        ensures denied { IfErr result (λ d. IsDenial (request.Post page order to) d self.old self.new) }
+    {
+        if u32::from(to.number()) >= self.gate.workers {
+            return Err(Denied::NoWorker);
+        }
+        let request = Request::Post(page, order, to);
+        answered!(self, &request, Reply::Posted => ())
+    }
+
+    /// The block in front of those posted to the worker, which is then lent. Refused 12 or 30.
+    pub(crate) fn collect(&mut self) -> Result<Block, Denied>
+        ensures ok { IfOk result (λ block. IsAnswer request.Collect (reply.Block block) self.old self.new) }
+        ensures denied { IfErr result (λ d. IsDenial request.Collect d self.old self.new) }
+    {
+        answered!(self, &Request::Collect, Reply::Block(block) => block)
+    }
+
+    /// Isolates the pageblock of this number. Refused 13, 14 or 30.
+    pub(crate) fn isolate(&mut self, pageblock: u32) -> Result<(), Denied>
+        ensures ok { OnOk result (IsAnswer (request.Isolate pageblock) reply.Isolated self.old self.new) }
+        ensures denied { IfErr result (λ d. IsDenial (request.Isolate pageblock) d self.old self.new) }
+    {
+        let request = Request::Isolate(pageblock);
+        answered!(self, &request, Reply::Isolated => ())
+    }
+
+    /// Gives an isolated pageblock a type. Refused 13, 15 or 30.
+    pub(crate) fn release(&mut self, pageblock: u32, kind: MigrateType) -> Result<(), Denied>
+        ensures ok { OnOk result (IsAnswer (request.Release pageblock kind) reply.Released self.old self.new) }
+        ensures denied { IfErr result (λ d. IsDenial (request.Release pageblock kind) d self.old self.new) }
+    {
+        let request = Request::Release(pageblock, kind);
+        answered!(self, &request, Reply::Released => ())
+    }
+
+    /// Fills the worker's empty list of this type with up to a batch of pages. Refused 10, 11 or 30.
+    pub(crate) fn refill(&mut self, kind: MigrateType, mark: Mark) -> Result<(), Denied>
+        ensures ok { OnOk result (IsFilled kind mark self.old self.new) }
+        ensures denied { IfErr result (λ d. IsDenial (request.Refill kind mark self.old.batch) d self.old self.new) }
+    {
+        if self.share.lists().batch() == 0 {
+            return Err(Denied::NoLists);
+        }
+        if self.share.cached_len(0, kind) != 0 {
+            return Err(Denied::NotEmpty);
+        }
+        match fill(&self.gate, &mut self.share, kind, mark) {
+            Some(Ok(())) => Ok(()),
+            Some(Err(refused)) => Err(Denied::Refused(refused)),
+            None => Err(Denied::Busy),
+        }
+    }
+
+    /// Gives back so many pages from the back of the worker's list of this type. Refused 30.
+    pub(crate) fn drain(&mut self, kind: MigrateType, count: usize) -> Result<(), Denied>
+        ensures ok { OnOk result (IsDrained kind count self.old self.new) }
+        ensures denied { IfErr result (λ d. IsDenial (request.Drain kind (back count (cached_of (share_at self.old 0) kind))) d self.old self.new) }
+    {
+        if count == 0 || self.share.cached_len(0, kind) < count {
+            return Err(Denied::TooFew);
+        }
+        let request = Request::Drain(kind, self.share.back(0, kind, count));
+        answered!(self, &request, Reply::Drained => ())
+    }
+
+    /// How many pages the worker's list of this type has.
+    pub(crate) fn cached_len(&self, kind: MigrateType) -> usize
+        ensures same { result ≡ length (cached_of (share_at self.now 0) kind) }
+        ensures within { result ≤ LONGEST_LIST }
+    {
+        self.share.cached_len(0, kind)
+    }
+
+    /// Whether the block at this page, of this order, is lent to the worker.
+    pub(crate) fn is_lent(&self, page: PageNo, order: Order) -> bool
+        ensures { result ≡ is_lent (share_at self.now 0) page order }
+    {
+        self.share.is_lent(0, page, order)
+    }
+
+    /// Takes the page in front of the worker's list of this type, and lends it.
+    #[inline(always)]
+    pub(crate) fn take(&mut self, kind: MigrateType) -> Option<PageNo>
+        ensures some { IfSome result (λ page. IsTaken kind page self.old self.new) }
+        ensures none { IfNone result ((self.new ≡ self.old) × (cached_of (share_at self.old 0) kind ≡ [])) }
+    {
+        self.share.take_cached(0, kind)
+    }
+
+    /// Puts a lent page at the front of the worker's list of its type. Refused 20, and 21 where the list is full.
+    #[inline(always)]
+    pub(crate) fn put(&mut self, page: PageNo) -> Result<(), Refused>
+        ensures { IsPut page result self.old self.new }
+    {
+        self.share.put_cached(0, page)
+    }
+
+    /// The worker leaves the zone: its share stays in the room. The desk comes back where somebody is in.
+    pub(crate) fn leave(self) -> Result<(), Desk>
+        ensures { IfErr result (λ d. d ≡ self) }
+    {
+        let Desk { gate, share } = self;
+        let behind = &*gate;
+        let Some(mut pass) = behind.enter() else {
+            return Err(Desk { gate, share });
+        };
+        let room = pass.slot_mut(&behind.table.shared, 0);
+        room.keep(share);
+        behind.leave(pass);
+        Ok(())
+    }
+}

@@ -1,0 +1,195 @@
+//! A gate with a zone behind it.
+ghost use Rattle.std.specs.Prelude.{◌≡◌, ◌↔◌, ◌<◌, ◌≤◌, All, length, IfOk, IfErr, IfSome, IsSome, [], ◌∷◌};
+ghost use Rattle.zp_model.specs.declared.refused.Refused.TheVariants.{Memory};
+ghost use Rattle.zp_model.specs.Info.{counts_of};
+ghost use Rattle.zp_model.specs.Mark.{level_of};
+ghost use Rattle.zp_model.specs.Zone.{posted_pages, workers_of};
+ghost use Rattle.zp_zone.specs.NamedZone.{IsPageOf, IsPageblockOf};
+ghost use Rattle.zp_zone.specs.Seats.{IsSeatOf, ZoneState};
+ghost use Rattle.zp_gate.specs.Gates.{IsBehind, IsGathered, IsIn, IsOneShare};
+
+use crate::room::Room;
+use atomic_table::{Play, Seat as Place, Table, TableRule};
+use std::alloc::Global;
+use std::marker::Model;
+use zp_model::{Counts, Level, PageNo, Refused};
+use zp_share::Totals;
+use zp_text::{INFO_LINE, TextBuffer, push_counts};
+use zp_zone::{Pageblock, Seat, Zone, ZonePage};
+
+/// What a gate is known by: a seat of its zone, for the tie alone, and how many workers the zone has.
+#[derive(Drop)]
+pub struct GateKey {
+    pub(crate) seat: Seat,
+    pub(crate) workers: u32,
+}
+
+/// The rule of a gate.
+pub(crate) struct Gated;
+
+impl TableRule<Room, GateKey, GateKey> for Gated {
+    ghost use Rattle.zp_gate.specs.Gates.{IsGated};
+
+    ghost holds = { IsGated };
+
+    ghost first = { λ key. key };
+}
+
+/// Somebody enters, where nobody is in.
+pub(crate) struct Enter;
+
+impl Play<Room, GateKey> for Enter {
+    ghost use Rattle.zp_gate.specs.Gates.{Enters};
+
+    ghost then = { Enters };
+}
+
+/// Whoever is in leaves.
+pub(crate) struct Leave;
+
+impl Play<Room, GateKey> for Leave {
+    ghost use Rattle.zp_gate.specs.Gates.{Leaves};
+
+    ghost then = { Leaves };
+}
+
+/// A new place, outside.
+pub(crate) struct Come;
+
+impl Play<Room, GateKey> for Come {
+    ghost use Rattle.zp_gate.specs.Gates.{Comes};
+
+    ghost then = { Comes };
+}
+
+/// The right of who is in.
+pub(crate) type Pass = Place<Room, GateKey>;
+
+const FREE: u64 = 0;
+
+const TAKEN: u64 = 1;
+
+/// What a zone tells of itself.
+#[derive(Clone, Copy, Drop)]
+pub struct Told {
+    pub counts: Counts,
+    pub level: Level,
+    pub posted: u32,
+}
+
+/// A zone that one caller at a time may enter.
+#[derive(Drop)]
+pub struct Gate {
+    pub(crate) table: Table<Room, GateKey, GateKey, Gated, Global>,
+    pub(crate) workers: u32,
+    ghost words: { table.shared.table_id.words ≡ 1 },
+    ghost slots: { table.shared.table_id.slots ≡ 1 },
+    ghost crew: { workers ≡ table.shared.key.workers },
+}
+
+impl Gate {
+    /// A gate with this zone behind it, which no worker has left yet. Refused 6.
+    pub(crate) fn new(alloc: Global, zone: Zone, key: &GateKey) -> Result<Gate, Refused>
+        requires tie { IsSeatOf zone key.now.seat }
+        requires workers { workers_of zone.plain ≡ key.now.workers }
+        ensures key { IfOk result (λ g. g.table.shared.key ≡ key.now) }
+        ensures why { IfErr result (λ e. e ≡ Memory) }
+    {
+        let workers = key.workers;
+        let Ok(left) = Vec::with_capacity(alloc, workers as usize) else {
+            return Err(Refused::Memory);
+        };
+        let Ok(zones) = Vec::from_array(alloc, [zone]) else {
+            return Err(Refused::Memory);
+        };
+        let Ok(rooms) = Vec::from_array(alloc, [Room { zones, left }]) else {
+            return Err(Refused::Memory);
+        };
+        match Table::new(alloc, &[FREE], rooms, key) {
+            Ok((table, _place)) => Ok(Gate { table, workers }),
+            Err(_) => Err(Refused::Memory),
+        }
+    }
+
+    /// Enters where nobody is in.
+    #[inline(always)]
+    pub(crate) fn enter(&self) -> Option<Pass>
+        ensures { IfSome result (IsIn self.now.table.shared.table_id self.now.table.shared.key) }
+    {
+        let shared = &self.table.shared;
+        let (_, mut place) = shared.load_new_seat::<Come>(0);
+        if shared.compare_exchange::<Enter>(&mut place, 0, FREE, TAKEN) != FREE {
+            return None;
+        }
+        Some(place)
+    }
+
+    /// Whoever is in leaves.
+    #[inline(always)]
+    pub(crate) fn leave(&self, pass: Pass)
+        requires { IsIn self.now.table.shared.table_id self.now.table.shared.key pass }
+    {
+        let mut pass = pass;
+        self.table.shared.store::<Leave>(&mut pass, 0, FREE);
+    }
+
+    /// What the zone tells of itself, where nobody is in.
+    pub fn tell(&self) -> Option<Told>
+        ensures { IfSome result (λ t. (z : ZoneState) × (t.counts ≡ counts_of z.plain.area.largest z.plain.area.free) × (t.level ≡ level_of z.plain) × (t.posted ≡ posted_pages z.plain)) }
+    {
+        let mut pass = self.enter()?;
+        let room = &*pass.slot_mut(&self.table.shared, 0);
+        let zone = &room.zones[0];
+        let told = Told {
+            counts: zone.counts(),
+            level: zone.level(),
+            posted: zone.posted_pages(),
+        };
+        self.leave(pass);
+        Some(told)
+    }
+
+    /// The zone's info line, where nobody is in.
+    pub fn info(&self) -> Option<TextBuffer<INFO_LINE>> {
+        let mut line = TextBuffer::new();
+        let mut pass = self.enter()?;
+        let room = &*pass.slot_mut(&self.table.shared, 0);
+        let zone = &room.zones[0];
+        push_counts(&mut line, zone.name(), zone.largest(), &zone.counts());
+        self.leave(pass);
+        Some(line)
+    }
+
+    /// What the zone tells of a page, where nobody is in.
+    pub fn entry(&self, page: PageNo) -> Option<Option<ZonePage>>
+        ensures { IfSome result (λ e. (z : ZoneState) × (IsSome e ↔ IsPageOf z.plain page)) }
+    {
+        let mut pass = self.enter()?;
+        let room = &*pass.slot_mut(&self.table.shared, 0);
+        let told = room.zones[0].entry(page);
+        self.leave(pass);
+        Some(told)
+    }
+
+    /// What the zone tells of a pageblock, where nobody is in.
+    pub fn pageblock(&self, pageblock: u32) -> Option<Option<Pageblock>>
+        ensures { IfSome result (λ e. (z : ZoneState) × IfSome e (IsPageblockOf z.plain pageblock)) }
+    {
+        let mut pass = self.enter()?;
+        let room = &*pass.slot_mut(&self.table.shared, 0);
+        let told = room.zones[0].pageblock(pageblock);
+        self.leave(pass);
+        Some(told)
+    }
+
+    /// Where the pages of the zone are, where nobody is in; nothing, where a worker of the zone has not left.
+    pub fn gather(&self) -> Option<Option<Totals>>
+        ensures { IfSome result (λ t. IfSome t IsGathered) }
+    {
+        let mut pass = self.enter()?;
+        let room = pass.slot_mut(&self.table.shared, 0);
+        let totals = room.gather(self.workers);
+        self.leave(pass);
+        Some(totals)
+    }
+}

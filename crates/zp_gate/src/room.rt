@@ -1,0 +1,131 @@
+//! What lies behind a gate.
+ghost use Rattle.std.specs.Prelude.{ℕ, ◌≡◌, ◌<◌, ◌≤◌, ◌==◌, ◌++◌, ◌∷◌, [], ◌⊎◌, All, IfSome, IsTrue, length, map};
+ghost use Rattle.std.specs.List.{count_by};
+ghost use Rattle.zp_model.specs.Zone.{workers_of};
+ghost use Rattle.zp_share.specs.Gathering.{AddsUp, IsCrewOf, owns_at, totals_of};
+ghost use Rattle.zp_share.specs.Shares.{ShareState, plain, share_at};
+ghost use Rattle.zp_model.specs.declared.request.Request.TheVariants as request;
+ghost use Rattle.zp_share.specs.Sections.{IsRefilled, MayAsk};
+ghost use Rattle.zp_share.specs.ZoneShares.{cached_of};
+ghost use Rattle.zp_gate.specs.declared.gate.GateKey.{GateKey};
+ghost use Rattle.zp_gate.specs.Gates.{IsBehind, IsOneShare, zone_in};
+ghost use Rattle.zp_gate.specs.Workers.{IsAnswer};
+
+use zp_model::{Mark, MigrateType, Refused, Reply, Request};
+use zp_share::{Share, Totals, gather};
+use zp_zone::Zone;
+
+/// A zone, in a row of one, and the shares of it that workers left when they ended.
+#[derive(Drop)]
+pub struct Room {
+    pub(crate) zones: Vec<Zone>,
+    pub(crate) left: Vec<Share>,
+}
+
+impl Room {
+    /// One request to the zone, by a share of it.
+    #[tactic(auto, using(crate::proofs::Moves::asked_behind))]
+    #[inline(always)]
+    pub(crate) fn section(&mut self, share: &mut Share, request: &Request) -> Reply
+        requires zone { length self.old.zones.items ≡ 1 }
+        requires share { IsOneShare (zone_in self.old).tie share.old }
+        requires may { MayAsk (workers_of (zone_in self.old).plain) share.old.batch request.now (share_at share.old 0) }
+        ensures answer { IsAnswer request.now result share.old share.new }
+        ensures share { IsOneShare (zone_in self.old).tie share.new }
+        ensures behind { (key : GateKey) → IsBehind key self.old → IsBehind key self.new }
+    {
+        share.section(&mut self.zones[0], 0, request)
+    }
+
+    /// Fills the share's empty list of this type.
+    #[tactic(auto, using(crate::proofs::Moves::asked_behind))]
+    #[inline(always)]
+    pub(crate) fn fill(
+        &mut self,
+        share: &mut Share,
+        kind: MigrateType,
+        mark: Mark,
+    ) -> Result<(), Refused>
+        requires zone { length self.old.zones.items ≡ 1 }
+        requires share { IsOneShare (zone_in self.old).tie share.old }
+        requires empty { cached_of (share_at share.old 0) kind ≡ [] }
+        requires lists { 1 ≤ share.old.batch }
+        ensures answer { IsRefilled (λ q. IsAnswer (request.Refill kind mark share.old.batch) q share.old share.new) result }
+        ensures share { IsOneShare (zone_in self.old).tie share.new }
+        ensures behind { (key : GateKey) → IsBehind key self.old → IsBehind key self.new }
+    {
+        share.fill(&mut self.zones[0], 0, kind, mark)
+    }
+
+    /// A worker leaves its share. (There is room for all workers' shares.)
+    pub(crate) fn keep(&mut self, share: Share)
+        requires share { IsOneShare (zone_in self.old).tie share }
+        ensures zone { self.new.zones.items ≡ self.old.zones.items }
+        ensures behind { (key : GateKey) → IsBehind key self.old → IsBehind key self.new }
+        ensures left { (self.new.left.items ≡ self.old.left.items ++ share ∷ []) ⊎ (self.new.left.items ≡ self.old.left.items) }
+    {
+        if self.left.len() < self.left.capacity() {
+            self.left.push_reserved(share);
+        }
+    }
+
+    /// Where the pages of the zone are, where each of its workers has left its share.
+    pub(crate) fn gather(&mut self, workers: u32) -> Option<Totals>
+        requires zone { length self.old.zones.items ≡ 1 }
+        requires workers { workers ≡ workers_of (zone_in self.old).plain }
+        requires left { All (IsOneShare (zone_in self.old).tie) self.old.left.items }
+        ensures zone { self.new.zones.items ≡ self.old.zones.items }
+        ensures left { self.new.left.items ≡ self.old.left.items }
+        ensures behind { (key : GateKey) → IsBehind key self.old → IsBehind key self.new }
+        ensures crew { IfSome result (λ _. IsCrewOf self.old.left.items (zone_in self.old)) }
+        ensures totals { IfSome result (λ t. t ≡ totals_of (zone_in self.old).plain (owns_at (map plain self.old.left.items) 0)) }
+        ensures adds_up { IfSome result (λ _. AddsUp (zone_in self.old).plain (owns_at (map plain self.old.left.items) 0)) }
+    {
+        if !is_crew(self.left.as_slice(), workers) {
+            return None;
+        }
+        Some(self.totals())
+    }
+
+    /// Where the pages of the zone are: each of its workers has left its share.
+    fn totals(&mut self) -> Totals
+        requires zone { length self.old.zones.items ≡ 1 }
+        requires left { All (IsOneShare (zone_in self.old).tie) self.old.left.items }
+        requires crew { IsCrewOf self.old.left.items (zone_in self.old) }
+        ensures zone { self.new.zones.items ≡ self.old.zones.items }
+        ensures left { self.new.left.items ≡ self.old.left.items }
+        ensures totals { result ≡ totals_of (zone_in self.old).plain (owns_at (map plain self.old.left.items) 0) }
+        ensures adds_up { AddsUp (zone_in self.old).plain (owns_at (map plain self.old.left.items) 0) }
+    {
+        let mut totals = gather(self.zones.as_mut_slice(), self.left.as_mut_slice());
+        let Some(totals) = totals.pop() else {
+            unreachable!()
+        };
+        totals
+    }
+}
+
+/// Whether each of so many workers has exactly one of the shares.
+fn is_crew(shares: &[Share], workers: u32) -> bool
+    ensures { IsTrue result → (w : ℕ) → w < workers → count_by (λ (s : ShareState). s.worker == w) shares.now ≡ 1 }
+{
+    for number in 0..workers {
+        if shares_of(shares, number) != 1 {
+            return false;
+        }
+    }
+    true
+}
+
+/// How many of the shares are those of the worker of this number.
+fn shares_of(shares: &[Share], number: u32) -> usize
+    ensures { result ≡ count_by (λ (s : ShareState). s.worker == number) shares.now }
+{
+    let mut count = 0;
+    for share in shares {
+        if u32::from(share.worker().number()) == number {
+            count += 1;
+        }
+    }
+    count
+}

@@ -1,0 +1,158 @@
+//! A row of zones and its workers.
+ghost use Rattle.std.specs.Prelude.{◌≡◌, ◌<◌, ◌≤◌, All, IfOk, IfSome, length};
+ghost use Rattle.std.specs.Arc.{arc_value};
+ghost use Rattle.zp_zone.specs.Seats.{IsUnused, SeatState};
+
+use crate::desk::Desk;
+use crate::gate::{Gate, GateKey};
+use crate::worker::Worker;
+use std::alloc::Global;
+use std::sync::Arc;
+use zp_model::Refused;
+use zp_share::{ListConfig, Totals};
+use zp_zone::{Seat, Zone, ZoneConfig};
+
+/// The zones of a row.
+#[derive(Drop)]
+pub struct Row {
+    gates: Vec<Arc<Gate, Global>>,
+}
+
+impl Row {
+    /// Whether a worker of the row is left.
+    pub fn has_worker(&self) -> bool {
+        for gate in &self.gates {
+            if Arc::strong_count(gate) != 1 {
+                return true;
+            }
+        }
+        false
+    }
+
+    /// The gate of a zone, where there is one.
+    pub fn gate(&self, zone: usize) -> Option<&Gate> {
+        match self.gates.get(zone) {
+            Some(gate) => Some(&**gate),
+            None => None,
+        }
+    }
+}
+
+/// A zone of a row while the row is made: its gate, and the seats that no worker has yet.
+#[derive(Drop)]
+struct OpenedZone {
+    gate: Arc<Gate, Global>,
+    seats: Vec<Seat>,
+    ghost unused: { All IsUnused seats.items },
+    ghost ties: { All (λ (s : SeatState). s.tie ≡ (arc_value gate).table.shared.key.seat.tie) seats.items },
+}
+
+/// A row of zones, each with all its pages free, and its workers, the one of the highest number first.
+pub fn open_row(
+    alloc: Global,
+    configs: &[ZoneConfig<'_>],
+    workers: u32,
+    lists: ListConfig,
+) -> Result<(Row, Vec<Box<Worker>>), Refused> {
+    let mut zones = opened_zones(alloc, configs, workers)?;
+    let crew = crew_of(alloc, zones.as_mut_slice(), workers, lists)?;
+    let Ok(mut gates) = Vec::with_capacity(alloc, zones.len()) else {
+        return Err(Refused::Memory);
+    };
+    for zone in zones {
+        gates.push_reserved(zone.gate);
+    }
+    Ok((Row { gates }, crew))
+}
+
+/// The zones of a row, with all their seats.
+fn opened_zones(
+    alloc: Global,
+    configs: &[ZoneConfig<'_>],
+    workers: u32,
+) -> Result<Vec<OpenedZone>, Refused>
+    ensures { IfOk result (λ zs. length zs.items ≡ length configs.now) }
+{
+    let Ok(mut zones) = Vec::with_capacity(alloc, configs.len()) else {
+        return Err(Refused::Memory);
+    };
+    for config in configs {
+        zones.push_reserved(opened_zone(alloc, config, workers)?);
+    }
+    Ok(zones)
+}
+
+/// One zone behind its gate, and its seats.
+fn opened_zone(
+    alloc: Global,
+    config: &ZoneConfig<'_>,
+    workers: u32,
+) -> Result<OpenedZone, Refused> {
+    let (zone, mut seats) = Zone::new(alloc, ZoneConfig { ..*config }, workers)?;
+    let Some(seat) = seats.pop() else {
+        return Err(Refused::BadWorkers);
+    };
+    let key = GateKey { seat, workers };
+    let gate = Gate::new(alloc, zone, &key)?;
+    seats.push_reserved(key.seat);
+    let Ok(gate) = Arc::new(alloc, gate) else {
+        return Err(Refused::Memory);
+    };
+    Ok(OpenedZone { gate, seats })
+}
+
+/// So many workers, the last one first.
+fn crew_of(
+    alloc: Global,
+    zones: &mut [OpenedZone],
+    workers: u32,
+    lists: ListConfig,
+) -> Result<Vec<Box<Worker>>, Refused>
+    ensures { IfOk result (λ crew. length crew.items ≡ workers) }
+{
+    let Ok(mut crew) = Vec::with_capacity(alloc, workers as usize) else {
+        return Err(Refused::Memory);
+    };
+    for _ in 0..workers {
+        let worker = next_worker(alloc, zones, lists)?;
+        let Ok(worker) = Box::new(alloc, worker) else {
+            return Err(Refused::Memory);
+        };
+        crew.push_reserved(worker);
+    }
+    Ok(crew)
+}
+
+/// The worker of the last seats that are left.
+fn next_worker(
+    alloc: Global,
+    zones: &mut [OpenedZone],
+    lists: ListConfig,
+) -> Result<Worker, Refused>
+    ensures { IfOk result (λ w. length w ≡ length zones.old) }
+{
+    let Ok(mut desks) = Vec::with_capacity(alloc, zones.len()) else {
+        return Err(Refused::Memory);
+    };
+    for zone in zones {
+        let Some(seat) = zone.seats.pop() else {
+            return Err(Refused::BadWorkers);
+        };
+        desks.push_reserved(Desk::new(alloc, &zone.gate, seat, lists)?);
+    }
+    Ok(Worker { desks })
+}
+
+/// A worker may be used by any thread.
+pub fn worker_crosses(worker: Worker) -> Worker {
+    crosses(worker)
+}
+
+/// A row may be used by any thread.
+pub fn row_crosses(row: Row) -> Row {
+    crosses(row)
+}
+
+fn crosses<T: Send>(value: T) -> T {
+    value
+}

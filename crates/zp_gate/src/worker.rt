@@ -1,0 +1,198 @@
+//! A worker of a row. The calls that ask a zone answer `Denied::Busy` at once where somebody is with it.
+ghost use Rattle.std.specs.Prelude.{◌≡◌, ◌<◌, ◌≤◌, ◌≢◌, ◌↔◌, length, IfOk, IfErr, IfSome, IfNone, IsSome, IsTrue, OnOk, [], false, take, ◌-◌, Ok, Err};
+ghost use Rattle.zp_model.specs.declared.request.Request.TheVariants as request;
+ghost use Rattle.zp_model.specs.declared.request.Reply.TheVariants as reply;
+ghost use Rattle.zp_model.specs.declared.constants.TheConstants.{LONGEST_LIST};
+ghost use Rattle.zp_share.specs.PlainShares.{back};
+ghost use Rattle.zp_share.specs.Shares.{share_at};
+ghost use Rattle.zp_share.specs.ZoneShares.{cached_of, is_lent};
+ghost use Rattle.zp_gate.specs.declared.denied.Denied.TheVariants.{NoZone};
+ghost use Rattle.zp_gate.specs.Workers.{IsAskedOf, IsAt, IsDeniedOf, IsDrained, IsFilled, IsPut, IsTaken, desk_at};
+
+use crate::denied::Denied;
+use crate::desk::Desk;
+use crate::gate::Gate;
+use std::marker::Model;
+use zp_model::{Block, Mark, MigrateType, Order, PageNo, Refused, Worker as Number};
+
+/// A worker of a row, with a place at each of its zones. Contracts see its shares, one of each zone.
+#[derive(Drop)]
+pub struct Worker {
+    pub(crate) desks: Vec<Desk>,
+}
+
+impl Model for Worker {
+    ghost use Rattle.zp_gate.specs.Workers.{WorkerState};
+
+    ghost Value = { WorkerState };
+
+    ghost view = { λ w. w.desks.items };
+}
+
+impl Worker {
+    /// A block of this order for this type, held to this mark, which is then lent. Refused 10, 11 or 30.
+    pub fn alloc(&mut self, zone: usize, order: Order, kind: MigrateType, mark: Mark) -> Result<PageNo, Denied>
+        ensures ok { IfOk result (λ page. IsAskedOf zone (request.Alloc order kind mark) (reply.Page page) self.old self.new) }
+        ensures denied { IfErr result (λ d. IsDeniedOf zone (request.Alloc order kind mark) d self.old self.new) }
+    {
+        let Some(desk) = self.desks.get_mut(zone) else {
+            return Err(Denied::NoZone);
+        };
+        desk.alloc(order, kind, mark)
+    }
+
+    /// The lowest block of this order, which is then lent. Refused 11 or 30.
+    pub fn alloc_low(&mut self, zone: usize, order: Order) -> Result<Block, Denied>
+        ensures ok { IfOk result (λ block. IsAskedOf zone (request.AllocLow order) (reply.Block block) self.old self.new) }
+        ensures denied { IfErr result (λ d. IsDeniedOf zone (request.AllocLow order) d self.old self.new) }
+    {
+        let Some(desk) = self.desks.get_mut(zone) else {
+            return Err(Denied::NoZone);
+        };
+        desk.alloc_low(order)
+    }
+
+    /// Gives back a lent block. Refused 20 or 30.
+    pub fn free(&mut self, zone: usize, page: PageNo, order: Order) -> Result<(), Denied>
+        ensures ok { OnOk result (IsAskedOf zone (request.Free page order) reply.Freed self.old self.new) }
+        ensures denied { IfErr result (λ d. IsDeniedOf zone (request.Free page order) d self.old self.new) }
+    {
+        let Some(desk) = self.desks.get_mut(zone) else {
+            return Err(Denied::NoZone);
+        };
+        desk.free(page, order)
+    }
+
+    /// Posts a lent block to the worker of this number. Refused 20 or 30.
+    pub fn post(&mut self, zone: usize, page: PageNo, order: Order, to: Number) -> Result<(), Denied>
+        ensures ok { OnOk result (IsAskedOf zone (request.Post page order to) reply.Posted self.old self.new) }
+        ensures denied { IfErr result (λ d. IsDeniedOf zone (request.Post page order to) d self.old self.new) }
+    {
+        let Some(desk) = self.desks.get_mut(zone) else {
+            return Err(Denied::NoZone);
+        };
+        desk.post(page, order, to)
+    }
+
+    /// The block in front of those posted to the worker, which is then lent. Refused 12 or 30.
+    pub fn collect(&mut self, zone: usize) -> Result<Block, Denied>
+        ensures ok { IfOk result (λ block. IsAskedOf zone request.Collect (reply.Block block) self.old self.new) }
+        ensures denied { IfErr result (λ d. IsDeniedOf zone request.Collect d self.old self.new) }
+    {
+        let Some(desk) = self.desks.get_mut(zone) else {
+            return Err(Denied::NoZone);
+        };
+        desk.collect()
+    }
+
+    /// Isolates the pageblock of this number. Refused 13, 14 or 30.
+    pub fn isolate(&mut self, zone: usize, pageblock: u32) -> Result<(), Denied>
+        ensures ok { OnOk result (IsAskedOf zone (request.Isolate pageblock) reply.Isolated self.old self.new) }
+        ensures denied { IfErr result (λ d. IsDeniedOf zone (request.Isolate pageblock) d self.old self.new) }
+    {
+        let Some(desk) = self.desks.get_mut(zone) else {
+            return Err(Denied::NoZone);
+        };
+        desk.isolate(pageblock)
+    }
+
+    /// Gives an isolated pageblock a type. Refused 13, 15 or 30.
+    pub fn release(&mut self, zone: usize, pageblock: u32, kind: MigrateType) -> Result<(), Denied>
+        ensures ok { OnOk result (IsAskedOf zone (request.Release pageblock kind) reply.Released self.old self.new) }
+        ensures denied { IfErr result (λ d. IsDeniedOf zone (request.Release pageblock kind) d self.old self.new) }
+    {
+        let Some(desk) = self.desks.get_mut(zone) else {
+            return Err(Denied::NoZone);
+        };
+        desk.release(pageblock, kind)
+    }
+
+    /// Fills the worker's empty list of this type with up to a batch of pages. Refused 10, 11 or 30.
+    pub fn refill(&mut self, zone: usize, kind: MigrateType, mark: Mark) -> Result<(), Denied>
+        ensures ok { OnOk result (IsAt zone (IsFilled kind mark) self.old self.new) }
+        ensures denied { IfErr result (λ d. IsDeniedOf zone (request.Refill kind mark (desk_at self.old zone).batch) d self.old self.new) }
+    {
+        let Some(desk) = self.desks.get_mut(zone) else {
+            return Err(Denied::NoZone);
+        };
+        desk.refill(kind, mark)
+    }
+
+    /// Gives back so many pages from the back of the worker's list of this type. Refused 30.
+    pub fn drain(&mut self, zone: usize, kind: MigrateType, count: usize) -> Result<(), Denied>
+        ensures ok { OnOk result (IsAt zone (IsDrained kind count) self.old self.new) }
+        ensures denied { IfErr result (λ d. IsDeniedOf zone (request.Drain kind (back count (cached_of (share_at (desk_at self.old zone) 0) kind))) d self.old self.new) }
+    {
+        let Some(desk) = self.desks.get_mut(zone) else {
+            return Err(Denied::NoZone);
+        };
+        desk.drain(kind, count)
+    }
+
+    /// Takes the page in front of the worker's list of this type, and lends it. None where the list is empty.
+    #[inline(always)]
+    pub fn take(&mut self, zone: usize, kind: MigrateType) -> Option<PageNo>
+        requires { zone < length self.old }
+        ensures some { IfSome result (λ page. IsAt zone (IsTaken kind page) self.old self.new) }
+        ensures none { IfNone result ((self.new ≡ self.old) × (cached_of (share_at (desk_at self.old zone) 0) kind ≡ [])) }
+    {
+        self.desks[zone].take(kind)
+    }
+
+    /// Puts a lent page at the front of the worker's list of its type. Refused 20, and 21 where the list is full.
+    #[inline(always)]
+    pub fn put(&mut self, zone: usize, page: PageNo) -> Result<(), Refused>
+        requires { zone < length self.old }
+        ensures { IsAt zone (IsPut page result) self.old self.new }
+    {
+        self.desks[zone].put(page)
+    }
+
+    /// How many zones the row has.
+    pub fn zones(&self) -> usize
+        ensures { result ≡ length self.now }
+    {
+        self.desks.len()
+    }
+
+    /// How many pages the worker's list of this type has.
+    pub fn cached_len(&self, zone: usize, kind: MigrateType) -> usize
+        requires { zone < length self.now }
+        ensures same { result ≡ length (cached_of (share_at (desk_at self.now zone) 0) kind) }
+        ensures within { result ≤ LONGEST_LIST }
+    {
+        self.desks[zone].cached_len(kind)
+    }
+
+    /// Whether the block at this page, of this order, is lent to the worker.
+    pub fn is_lent(&self, zone: usize, page: PageNo, order: Order) -> bool
+        requires { zone < length self.now }
+        ensures { result ≡ is_lent (share_at (desk_at self.now zone) 0) page order }
+    {
+        self.desks[zone].is_lent(page, order)
+    }
+
+    /// The gate of a zone.
+    pub fn gate(&self, zone: usize) -> &Gate
+        requires { zone < length self.now }
+    {
+        self.desks[zone].gate()
+    }
+
+    /// The worker leaves its last zone. False where somebody is in: then it has not.
+    pub fn leave(&mut self) -> bool
+        ensures left { IsTrue result → self.new ≡ take (length self.old - 1) self.old }
+        ensures not { result ≡ false → self.new ≡ self.old }
+    {
+        let Some(desk) = self.desks.pop() else {
+            return true;
+        };
+        match desk.leave() {
+            Ok(()) => true,
+            Err(desk) => {
+                self.desks.push_reserved(desk);
+                false
+            }
+        }
+    }
+}
