@@ -130,7 +130,7 @@ set_only : (zs : List ZoneState) (y : ZoneState) → length zs ≡ 1 → slice_i
 set_only [] y e = absurd (omega (arith, e))
 set_only (z ∷ zs) y e = refl
 
-any_first : (zs : List ZoneState) (z : ZoneState) → length zs ≡ 1 → slice_index_or zs 0 z ≡ slice_index_or zs 0 no_zone
+pub any_first : (zs : List ZoneState) (z : ZoneState) → length zs ≡ 1 → slice_index_or zs 0 z ≡ slice_index_or zs 0 no_zone
 any_first [] z e = absurd (omega (arith, e))
 any_first (x ∷ zs) z e = refl
 

@@ -7,6 +7,7 @@ use Rattle.zp_model.specs.declared.request.Request.{Request}
 use Rattle.zp_model.specs.declared.request.Reply.{Reply}
 use Rattle.zp_model.specs.declared.refused.Refused.{Refused as Refusal}
 use Rattle.zp_model.specs.declared.migrate_type.MigrateType.{MigrateType}
+use Rattle.zp_model.specs.declared.migrate_type.MigrateType.TheVariants.{Unmovable, Reclaimable, Movable}
 use Rattle.zp_model.specs.declared.mark.Mark.{Mark}
 use Rattle.zp_model.specs.Rows.{front}
 use Rattle.zp_zone.specs.Seats.{ZoneState}
@@ -28,6 +29,10 @@ no_share = record { worker = 0; batch = 0; high_len = 0; zones = [] }
 abbrev pub desk_at : WorkerState → ℕ → ShareState
 desk_at w i = slice_index_or w i no_share
 
+-- the tie of the zone at place i
+abbrev pub tie_at : WorkerState → ℕ → TableId
+tie_at w i = (share_at (desk_at w i) 0).seat.tie
+
 -- the zone was asked, and this is its answer: one step of the zone, whatever it was, and the same step of the worker's share
 abbrev pub IsAnswer : Request → Reply → ShareState → ShareState → Type 0
 IsAnswer r q s t = (z : ZoneState) × ((y : ZoneState) × IsAsked r q z y (share_at s 0) (share_at t 0)) × (t ≡ with_zone_share 0 (share_at t 0) s)
@@ -45,6 +50,10 @@ IsFilled k m s t = (ps : List ℕ) × IsAnswer (Request.Refill k m s.batch) (Rep
 -- so many pages went back from the back of a list
 abbrev pub IsDrained : MigrateType → ℕ → ShareState → ShareState → Type 0
 IsDrained k n s t = IsAnswer (Request.Drain k (back n (cached_of (share_at s 0) k))) Reply.Drained s t
+
+-- all pages of a list went back, where it had any
+abbrev pub IsListDrained : MigrateType → ShareState → ShareState → Type 0
+IsListDrained k s t = ((cached_of (share_at s 0) k ≡ []) × (t ≡ s)) ⊎ IsDrained k (length (cached_of (share_at s 0) k)) s t
 
 -- at the zone of place i the one share became the other, by what is so of the two; the shares of other zones stay
 abbrev pub IsAt : ℕ → (ShareState → ShareState → Type 0) → WorkerState → WorkerState → Type 0
@@ -71,3 +80,13 @@ pub record IsPut (page : ℕ) (given : Result (Unit {0}) Refusal) (s t : ShareSt
   pub after : plain_share (share_at t 0) ≡ (putting (plain_share (share_at s 0)) page s.high_len).share
   pub seat : (share_at t 0).seat ≡ (share_at s 0).seat
   pub others : t ≡ with_zone_share 0 (share_at t 0) s
+
+-- all lists of the zone at place i were drained, one after the other
+abbrev pub AreDrained : ℕ → WorkerState → WorkerState → Type 0
+AreDrained i v w =
+    (a : WorkerState) × (b : WorkerState) × IsAt i (IsListDrained Unmovable) v a × IsAt i (IsListDrained Reclaimable) a b × IsAt i (IsListDrained Movable) b w
+
+-- some of them were, from the first on
+abbrev pub AreSomeDrained : ℕ → WorkerState → WorkerState → Type 0
+AreSomeDrained i v w =
+    (w ≡ v) ⊎ (IsAt i (IsListDrained Unmovable) v w ⊎ ((a : WorkerState) × IsAt i (IsListDrained Unmovable) v a × IsAt i (IsListDrained Reclaimable) a w))

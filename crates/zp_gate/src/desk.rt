@@ -117,7 +117,9 @@ impl Desk {
     }
 
     /// The gate of the zone.
-    pub(crate) fn gate(&self) -> &Gate {
+    pub(crate) fn gate(&self) -> &Gate
+        ensures { result.now.table.shared.key.seat.tie ≡ (share_at self.now 0).seat.tie }
+    {
         &self.gate
     }
 

@@ -1,18 +1,17 @@
 //! A gate with a zone behind it.
 ghost use Rattle.std.specs.Prelude.{◌≡◌, ◌↔◌, ◌<◌, ◌≤◌, All, length, IfOk, IfErr, IfSome, IsSome, [], ◌∷◌};
 ghost use Rattle.zp_model.specs.declared.refused.Refused.TheVariants.{Memory};
-ghost use Rattle.zp_model.specs.Info.{counts_of};
-ghost use Rattle.zp_model.specs.Mark.{level_of};
-ghost use Rattle.zp_model.specs.Zone.{posted_pages, workers_of};
-ghost use Rattle.zp_zone.specs.NamedZone.{IsPageOf, IsPageblockOf};
-ghost use Rattle.zp_zone.specs.Seats.{IsSeatOf, ZoneState};
-ghost use Rattle.zp_gate.specs.Gates.{IsBehind, IsGathered, IsIn, IsOneShare};
+ghost use Rattle.zp_model.specs.Zone.{workers_of};
+ghost use Rattle.zp_zone.specs.Seats.{IsSeatOf};
+ghost use Rattle.zp_gate.specs.Gates.{IsGathered, IsIn};
+ghost use Rattle.zp_gate.specs.Readings.{IsThen, TellsLine, TellsPage, TellsPageblock, TellsZone};
 
 use crate::room::Room;
+use crate::told::Told;
 use atomic_table::{Play, Seat as Place, Table, TableRule};
 use std::alloc::Global;
 use std::marker::Model;
-use zp_model::{Counts, Level, PageNo, Refused};
+use zp_model::{PageNo, Refused};
 use zp_share::Totals;
 use zp_text::{INFO_LINE, TextBuffer, push_counts};
 use zp_zone::{Pageblock, Seat, Zone, ZonePage};
@@ -68,14 +67,6 @@ pub(crate) type Pass = Place<Room, GateKey>;
 const FREE: u64 = 0;
 
 const TAKEN: u64 = 1;
-
-/// What a zone tells of itself.
-#[derive(Clone, Copy, Drop)]
-pub struct Told {
-    pub counts: Counts,
-    pub level: Level,
-    pub posted: u32,
-}
 
 /// A zone that one caller at a time may enter.
 #[derive(Drop)]
@@ -134,8 +125,8 @@ impl Gate {
     }
 
     /// What the zone tells of itself, where nobody is in.
-    pub fn tell(&self) -> Option<Told>
-        ensures { IfSome result (λ t. (z : ZoneState) × (t.counts ≡ counts_of z.plain.area.largest z.plain.area.free) × (t.level ≡ level_of z.plain) × (t.posted ≡ posted_pages z.plain)) }
+    pub(crate) fn tell(&self) -> Option<Told>
+        ensures { IfSome result (λ t. IsThen self.now.table.shared.key.seat.tie (TellsZone t)) }
     {
         let mut pass = self.enter()?;
         let room = &*pass.slot_mut(&self.table.shared, 0);
@@ -150,7 +141,9 @@ impl Gate {
     }
 
     /// The zone's info line, where nobody is in.
-    pub fn info(&self) -> Option<TextBuffer<INFO_LINE>> {
+    pub(crate) fn info(&self) -> Option<TextBuffer<INFO_LINE>>
+        ensures { IfSome result (λ line. IsThen self.now.table.shared.key.seat.tie (TellsLine line)) }
+    {
         let mut line = TextBuffer::new();
         let mut pass = self.enter()?;
         let room = &*pass.slot_mut(&self.table.shared, 0);
@@ -161,8 +154,8 @@ impl Gate {
     }
 
     /// What the zone tells of a page, where nobody is in.
-    pub fn entry(&self, page: PageNo) -> Option<Option<ZonePage>>
-        ensures { IfSome result (λ e. (z : ZoneState) × (IsSome e ↔ IsPageOf z.plain page)) }
+    pub(crate) fn entry(&self, page: PageNo) -> Option<Option<ZonePage>>
+        ensures { IfSome result (λ e. IsThen self.now.table.shared.key.seat.tie (TellsPage page e)) }
     {
         let mut pass = self.enter()?;
         let room = &*pass.slot_mut(&self.table.shared, 0);
@@ -172,8 +165,8 @@ impl Gate {
     }
 
     /// What the zone tells of a pageblock, where nobody is in.
-    pub fn pageblock(&self, pageblock: u32) -> Option<Option<Pageblock>>
-        ensures { IfSome result (λ e. (z : ZoneState) × IfSome e (IsPageblockOf z.plain pageblock)) }
+    pub(crate) fn pageblock(&self, pageblock: u32) -> Option<Option<Pageblock>>
+        ensures { IfSome result (λ e. IsThen self.now.table.shared.key.seat.tie (TellsPageblock pageblock e)) }
     {
         let mut pass = self.enter()?;
         let room = &*pass.slot_mut(&self.table.shared, 0);

@@ -7,10 +7,12 @@ mod desk;
 mod gate;
 mod room;
 mod row;
+mod told;
 mod worker;
 
 pub use denied::Denied;
-pub use gate::{Gate, Told};
+pub use gate::Gate;
 pub use room::Room;
 pub use row::{Row, open_row};
+pub use told::Told;
 pub use worker::Worker;

@@ -2,6 +2,7 @@
 ghost use Rattle.std.specs.Prelude.{◌≡◌, ◌<◌, ◌≤◌, All, IfOk, IfSome, length};
 ghost use Rattle.std.specs.Arc.{arc_value};
 ghost use Rattle.zp_zone.specs.Seats.{IsUnused, SeatState};
+ghost use Rattle.zp_gate.specs.Gates.{IsGathered};
 
 use crate::desk::Desk;
 use crate::gate::{Gate, GateKey};
@@ -29,10 +30,13 @@ impl Row {
         false
     }
 
-    /// The gate of a zone, where there is one.
-    pub fn gate(&self, zone: usize) -> Option<&Gate> {
+    /// Where the pages of the zone at this place are, where the row has it: nothing where somebody is with the zone, and then nothing
+    /// while one of its workers has not left it.
+    pub fn gather(&self, zone: usize) -> Option<Option<Option<Totals>>>
+        ensures { IfSome result (λ told. IfSome told (λ t. IfSome t IsGathered)) }
+    {
         match self.gates.get(zone) {
-            Some(gate) => Some(&**gate),
+            Some(gate) => Some(gate.gather()),
             None => None,
         }
     }
@@ -53,7 +57,10 @@ pub fn open_row(
     configs: &[ZoneConfig<'_>],
     workers: u32,
     lists: ListConfig,
-) -> Result<(Row, Vec<Box<Worker>>), Refused> {
+) -> Result<(Row, Vec<Box<Worker>>), Refused>
+    ensures crew { IfOk result (λ r. length r.1.items ≡ workers) }
+    ensures zones { IfOk result (λ r. All (λ w. length w.value ≡ length configs.now) r.1.items) }
+{
     let mut zones = opened_zones(alloc, configs, workers)?;
     let crew = crew_of(alloc, zones.as_mut_slice(), workers, lists)?;
     let Ok(mut gates) = Vec::with_capacity(alloc, zones.len()) else {
@@ -108,7 +115,8 @@ fn crew_of(
     workers: u32,
     lists: ListConfig,
 ) -> Result<Vec<Box<Worker>>, Refused>
-    ensures { IfOk result (λ crew. length crew.items ≡ workers) }
+    ensures crew { IfOk result (λ crew. length crew.items ≡ workers) }
+    ensures zones { IfOk result (λ crew. All (λ w. length w.value ≡ length zones.old) crew.items) }
 {
     let Ok(mut crew) = Vec::with_capacity(alloc, workers as usize) else {
         return Err(Refused::Memory);

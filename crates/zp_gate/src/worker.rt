@@ -1,5 +1,5 @@
 //! A worker of a row. The calls that ask a zone answer `Denied::Busy` at once where somebody is with it.
-ghost use Rattle.std.specs.Prelude.{◌≡◌, ◌<◌, ◌≤◌, ◌≢◌, ◌↔◌, length, IfOk, IfErr, IfSome, IfNone, IsSome, IsTrue, OnOk, [], false, take, ◌-◌, Ok, Err};
+ghost use Rattle.std.specs.Prelude.{ℕ, ◌≡◌, ◌<◌, ◌≤◌, ◌≢◌, ◌↔◌, length, IfOk, IfErr, IfSome, IfNone, IsSome, IsTrue, OnErr, OnOk, [], false, take, ◌-◌, Ok, Err};
 ghost use Rattle.zp_model.specs.declared.request.Request.TheVariants as request;
 ghost use Rattle.zp_model.specs.declared.request.Reply.TheVariants as reply;
 ghost use Rattle.zp_model.specs.declared.constants.TheConstants.{LONGEST_LIST};
@@ -7,13 +7,16 @@ ghost use Rattle.zp_share.specs.PlainShares.{back};
 ghost use Rattle.zp_share.specs.Shares.{share_at};
 ghost use Rattle.zp_share.specs.ZoneShares.{cached_of, is_lent};
 ghost use Rattle.zp_gate.specs.declared.denied.Denied.TheVariants.{NoZone};
-ghost use Rattle.zp_gate.specs.Workers.{IsAskedOf, IsAt, IsDeniedOf, IsDrained, IsFilled, IsPut, IsTaken, desk_at};
+ghost use Rattle.zp_gate.specs.Workers.{AreDrained, AreSomeDrained, IsAskedOf, IsAt, IsDeniedOf, IsListDrained, IsDrained, IsFilled, IsPut, IsTaken, desk_at, tie_at};
+ghost use Rattle.zp_gate.specs.Readings.{IsThen, TellsLine, TellsPage, TellsPageblock, TellsZone};
 
 use crate::denied::Denied;
 use crate::desk::Desk;
-use crate::gate::Gate;
+use crate::told::Told;
 use std::marker::Model;
 use zp_model::{Block, Mark, MigrateType, Order, PageNo, Refused, Worker as Number};
+use zp_text::{INFO_LINE, TextBuffer};
+use zp_zone::{Pageblock, ZonePage};
 
 /// A worker of a row, with a place at each of its zones. Contracts see its shares, one of each zone.
 #[derive(Drop)]
@@ -129,6 +132,35 @@ impl Worker {
         desk.drain(kind, count)
     }
 
+    /// Gives back all pages of the worker's list of this type; where it has none, no zone is asked. Refused 30.
+    fn drain_list(&mut self, zone: usize, kind: MigrateType) -> Result<(), Denied>
+        requires { zone < length self.old }
+        ensures ok { OnOk result (IsAt zone (IsListDrained kind) self.old self.new) }
+        ensures denied { OnErr result (self.new ≡ self.old) }
+        ensures zones { length self.new ≡ length self.old }
+    {
+        let pages = self.cached_len(zone, kind);
+        if pages == 0 {
+            return Ok(());
+        }
+        self.drain(zone, kind, pages)
+    }
+
+    /// Gives back all pages of the worker's lists of this zone, a list at a time: where one is denied, the lists before it are empty, and
+    /// the rest is as it was.
+    pub fn drain_all(&mut self, zone: usize) -> Result<(), Denied>
+        ensures ok { OnOk result (AreDrained zone self.old self.new) }
+        ensures denied { OnErr result (AreSomeDrained zone self.old self.new) }
+        ensures none { (length self.old ≤ zone) → (result ≡ Err NoZone) }
+    {
+        if zone >= self.desks.len() {
+            return Err(Denied::NoZone);
+        }
+        self.drain_list(zone, MigrateType::Unmovable)?;
+        self.drain_list(zone, MigrateType::Reclaimable)?;
+        self.drain_list(zone, MigrateType::Movable)
+    }
+
     /// Takes the page in front of the worker's list of this type, and lends it. None where the list is empty.
     #[inline(always)]
     pub fn take(&mut self, zone: usize, kind: MigrateType) -> Option<PageNo>
@@ -172,11 +204,36 @@ impl Worker {
         self.desks[zone].is_lent(page, order)
     }
 
-    /// The gate of a zone.
-    pub fn gate(&self, zone: usize) -> &Gate
+    /// What a zone tells of itself.
+    pub fn tell(&self, zone: usize) -> Option<Told>
         requires { zone < length self.now }
+        ensures { IfSome result (λ t. IsThen (tie_at self.now zone) (TellsZone t)) }
     {
-        self.desks[zone].gate()
+        self.desks[zone].gate().tell()
+    }
+
+    /// A zone's info line, with its line feed.
+    pub fn info(&self, zone: usize) -> Option<TextBuffer<INFO_LINE>>
+        requires { zone < length self.now }
+        ensures { IfSome result (λ line. IsThen (tie_at self.now zone) (TellsLine line)) }
+    {
+        self.desks[zone].gate().info()
+    }
+
+    /// What a zone tells of a page, where the page is one of its own.
+    pub fn entry(&self, zone: usize, page: PageNo) -> Option<Option<ZonePage>>
+        requires { zone < length self.now }
+        ensures { IfSome result (λ e. IsThen (tie_at self.now zone) (TellsPage page e)) }
+    {
+        self.desks[zone].gate().entry(page)
+    }
+
+    /// What a zone tells of its pageblock of this number, where it has one.
+    pub fn pageblock(&self, zone: usize, pageblock: u32) -> Option<Option<Pageblock>>
+        requires { zone < length self.now }
+        ensures { IfSome result (λ e. IsThen (tie_at self.now zone) (TellsPageblock pageblock e)) }
+    {
+        self.desks[zone].gate().pageblock(pageblock)
     }
 
     /// The worker leaves its last zone. False where somebody is in: then it has not.
@@ -194,5 +251,18 @@ impl Worker {
                 false
             }
         }
+    }
+
+    /// The worker leaves its zones, the last first, till it has left all. False where somebody is in one: then it has left those behind it.
+    pub fn leave_all(&mut self) -> bool
+        ensures left { IsTrue result → self.new ≡ [] }
+        ensures some { (n : ℕ) × (self.new ≡ take n self.old) }
+    {
+        for _ in 0..self.desks.len() {
+            if !self.leave() {
+                return false;
+            }
+        }
+        true
     }
 }

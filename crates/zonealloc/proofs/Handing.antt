@@ -1,0 +1,27 @@
+-- A list whose last value is handed out into the next place of another.
+use Rattle.std.proofs.Common.{ℕ, ◌≡◌, ◌<◌, ◌≤◌, ◌+◌, ◌++◌, ◌∷◌, ◌∙◌, List, [], All, length, slice_set, slice_index_or, ap, refl, sym, subst, inl, inr, arith}
+use Rattle.std.proofs.lemmas.Bool.{cases_lt}
+use Rattle.std.proofs.lemmas.List.{length-append, length-set, get_or_append_left, get_or_push, get_or-set_same, get_or-set_other}
+
+-- a list is longer by its last value
+pub one_more : {A : Type 0} (all rest : List A) (last : A) → all ≡ rest ++ last ∷ [] → length all ≡ length rest + 1
+one_more all rest last e = ap length e ∙ length-append rest (last ∷ [])
+
+-- what is so of each value is so of those before the last, and of the last
+pub front_so : {A : Type 0} (P : A → Type 0) (all rest : List A) (last : A) → all ≡ rest ++ last ∷ [] → All P all → All P rest
+front_so P all rest last e so k d lt =
+    subst P (ap (λ xs. slice_index_or xs k d) e ∙ get_or_append_left rest (last ∷ []) d k lt) (so k d (subst (λ n. k < n) (sym (one_more all rest last e)) (omega (arith, lt))))
+
+pub last_so : {A : Type 0} (P : A → Type 0) (all rest : List A) (last : A) → all ≡ rest ++ last ∷ [] → All P all → P last
+last_so P all rest last e so =
+    let n = length rest in
+    subst P (ap (λ xs. slice_index_or xs n last) e ∙ get_or_push rest last last n refl) (so n last (subst (λ m. n < m) (sym (one_more all rest last e)) (omega arith)))
+
+-- what is so of each place below one is so of it too, once it is put there
+pub next_so : {A : Type 0} (P : A → Type 0) (xs : List A) (i : ℕ) (x : A) → i < length xs → ((k : ℕ) (d : A) → k < i → P (slice_index_or xs k d)) → P x →
+    (k : ℕ) (d : A) → k < i + 1 → P (slice_index_or (slice_set xs i x) k d)
+next_so P xs i x long below here k d lt = elim (cases_lt k i) [
+  inl less ↦ subst P (sym (get_or-set_other xs i k x d (λ same. absurd (omega (arith, less, same))))) (below k d less)
+  | inr not ↦ let same : k ≡ i = omega (arith, not, lt) in
+  subst (λ j. P (slice_index_or (slice_set xs i x) j d)) (sym same) (subst P (sym (get_or-set_same xs i x d long)) here)
+]

@@ -1,0 +1,85 @@
+-- What a C program's call of a worker's handle comes to, by the number it is answered (this profile).
+use Rattle.std.specs.Prelude.{ℕ, List, [], ◌≡◌, ◌<◌, ◌≤◌, ◌⊎◌, length, cond, Option, Some, Result, Ok, Err}
+use Rattle.zp_model.specs.declared.request.Request.{Request}
+use Rattle.zp_model.specs.declared.request.Reply.{Reply}
+use Rattle.zp_model.specs.declared.block.Block.{Block}
+use Rattle.zp_model.specs.declared.refused.Refused.{Refused}
+use Rattle.zp_model.specs.declared.migrate_type.MigrateType.{MigrateType}
+use Rattle.zp_model.specs.declared.mark.Mark.{Mark}
+use Rattle.zp_model.specs.MigrateType.{type_number}
+use Rattle.zp_model.specs.Refused.{refused_number}
+use Rattle.zp_share.specs.PlainShares.{back}
+use Rattle.zp_share.specs.Shares.{share_at}
+use Rattle.zp_share.specs.ZoneShares.{cached_of, is_lent}
+use Rattle.zp_gate.specs.Workers.{WorkerState, AreDrained, AreSomeDrained, IsAskedOf, IsAt, IsPut, IsTaken, desk_at}
+use Rattle.zonealloc.specs.Numbers.{mark_number}
+
+-- the worker in the handle asked the zone at place i for r, and q was the answer
+abbrev pub IsAskedBy : ℕ → Request → Reply → Option WorkerState → Option WorkerState → Type 0
+IsAskedBy i r q b a = (v : WorkerState) × (w : WorkerState) × (b ≡ Some v) × (a ≡ Some w) × IsAskedOf i r q v w
+
+-- answered 0, the worker made such a request, and what is told is the reply; below 40, it made one and got this refusal; from 40 on nothing
+-- changed. `kept` says that the call's results were not written
+pub record IsCall (asks : Option WorkerState → Request → Type 0) (told : Reply → Type 0) (kept : Type 0) (i code : ℕ) (b a : Option WorkerState) : Type 0 where
+  pub done : code ≡ 0 → (r : Request) × (q : Reply) × asks b r × told q × IsAskedBy i r q b a
+  pub refused : 1 ≤ code → code < 40 → kept × ((r : Request) × (e : Refused) × asks b r × (refused_number e ≡ code) × IsAskedBy i r (Reply.Refused e) b a)
+  pub unasked : 40 ≤ code → kept × (a ≡ b)
+
+-- the requests, by the numbers that C names
+abbrev pub AsksAlloc : ℕ → ℕ → ℕ → Option WorkerState → Request → Type 0
+AsksAlloc k t m b r = (kind : MigrateType) × (mark : Mark) × (type_number kind ≡ t) × (mark_number mark ≡ m) × (r ≡ Request.Alloc k kind mark)
+
+abbrev pub Asks : Request → Option WorkerState → Request → Type 0
+Asks is b r = r ≡ is
+
+abbrev pub AsksRelease : ℕ → ℕ → Option WorkerState → Request → Type 0
+AsksRelease n t b r = (kind : MigrateType) × (type_number kind ≡ t) × (r ≡ Request.Release n kind)
+
+abbrev pub AsksRefill : ℕ → ℕ → ℕ → Option WorkerState → Request → Type 0
+AsksRefill i t m b r =
+    (v : WorkerState) × (kind : MigrateType) × (mark : Mark) × (b ≡ Some v) × (type_number kind ≡ t) × (mark_number mark ≡ m) × (r ≡ Request.Refill kind mark (desk_at v i).batch)
+
+abbrev pub AsksDrain : ℕ → ℕ → ℕ → Option WorkerState → Request → Type 0
+AsksDrain i t n b r =
+    (v : WorkerState) × (kind : MigrateType) × (b ≡ Some v) × (type_number kind ≡ t) × (r ≡ Request.Drain kind (back n (cached_of (share_at (desk_at v i) 0) kind)))
+
+-- a refill tells no pages
+abbrev pub IsPages : Reply → Type 0
+IsPages q = (ps : List ℕ) × (q ≡ Reply.Pages ps)
+
+-- the block at this page, of this order
+abbrev pub IsBlockAt : ℕ → ℕ → Reply → Type 0
+IsBlockAt p k q = (x : Block) × (q ≡ Reply.Block x) × (x.page ≡ p) × (x.order ≡ k)
+
+-- answered 0, the page in front of the list of this type was taken; else nothing changed, and answered 44 the list was empty
+pub record IsTakeCall (i t code before after : ℕ) (b a : Option WorkerState) : Type 0 where
+  pub done : code ≡ 0 → (v : WorkerState) × (w : WorkerState) × (k : MigrateType) × (b ≡ Some v) × (a ≡ Some w) × (type_number k ≡ t) × IsAt i (IsTaken k after) v w
+  pub unchanged : 1 ≤ code → (after ≡ before) × (a ≡ b)
+  pub empty : code ≡ 44 → (v : WorkerState) × (k : MigrateType) × (b ≡ Some v) × (type_number k ≡ t) × (cached_of (share_at (desk_at v i) 0) k ≡ [])
+
+-- the number of what a put answers
+abbrev pub put_number : Result (Unit {0}) Refused → ℕ
+put_number (Ok u) = 0
+put_number (Err e) = refused_number e
+
+-- answered below 40, the page was put so; else nothing changed
+pub record IsPutCall (i page code : ℕ) (b a : Option WorkerState) : Type 0 where
+  pub asked : code < 40 → (v : WorkerState) × (w : WorkerState) × (answer : Result (Unit {0}) Refused) × (b ≡ Some v) × (a ≡ Some w) × (put_number answer ≡ code) × IsAt i (IsPut page answer) v w
+  pub unasked : 40 ≤ code → a ≡ b
+
+-- a question to the worker alone: nothing changes, and answered 0 this is told of the worker
+pub record IsAsking (tells : WorkerState → ℕ → Type 0) (code before after : ℕ) (b a : Option WorkerState) : Type 0 where
+  pub same : a ≡ b
+  pub told : code ≡ 0 → (v : WorkerState) × (b ≡ Some v) × tells v after
+  pub kept : 1 ≤ code → after ≡ before
+
+abbrev pub TellsLent : ℕ → ℕ → ℕ → WorkerState → ℕ → Type 0
+TellsLent i p k v n = (i < length v) × (n ≡ cond (is_lent (share_at (desk_at v i) 0) p k) 1 0)
+
+abbrev pub TellsCached : ℕ → ℕ → WorkerState → ℕ → Type 0
+TellsCached i t v n = (i < length v) × ((k : MigrateType) × (type_number k ≡ t) × (n ≡ length (cached_of (share_at (desk_at v i) 0) k)))
+
+-- answered 0, all lists were drained; else some may have been, from the first on
+pub record IsDrainAllCall (i code : ℕ) (b a : Option WorkerState) : Type 0 where
+  pub done : code ≡ 0 → (v : WorkerState) × (w : WorkerState) × (b ≡ Some v) × (a ≡ Some w) × AreDrained i v w
+  pub some : 1 ≤ code → (a ≡ b) ⊎ ((v : WorkerState) × (w : WorkerState) × (b ≡ Some v) × (a ≡ Some w) × AreSomeDrained i v w)

@@ -1,0 +1,65 @@
+-- What a C program is told of a zone, by numbers (this profile).
+use Rattle.std.specs.Prelude.{ℕ, ◌≡◌, ◌<◌, ◌≤◌, List, [], ◌++◌, take, drop, length, Option, None, Some}
+use Rattle.zp_model.specs.declared.mark.Level.{Level}
+use Rattle.zp_model.specs.declared.mark.Level.TheVariants as level
+use Rattle.zp_model.specs.declared.state.State.{State}
+use Rattle.zp_model.specs.declared.state.State.TheVariants.{Tail, Free, Out, Posted}
+use Rattle.zp_model.specs.MigrateType.{type_number}
+use Rattle.zp_model.specs.PageblockType.{pageblock_type_number}
+use Rattle.zp_zone.specs.declared.page.ZonePage.{ZonePage}
+use Rattle.zp_zone.specs.declared.pageblock.Pageblock.{Pageblock}
+use Rattle.zp_gate.specs.declared.told.Told.{Told}
+use Rattle.zp_gate.specs.Readings.{IsThen, TellsLine, TellsPage, TellsPageblock, TellsZone}
+use Rattle.zp_gate.specs.Workers.{WorkerState, tie_at}
+use Rattle.zonealloc.specs.declared.told.ZoneCounts.{ZoneCounts}
+use Rattle.zonealloc.specs.declared.told.PageEntry.{PageEntry}
+use Rattle.zonealloc.specs.declared.told.PageblockEntry.{PageblockEntry}
+
+abbrev pub level_number : Level → ℕ
+level_number level.Short = 0
+level_number level.Min = 1
+level_number level.Low = 2
+level_number level.High = 3
+
+abbrev pub counts_told : Told → ZoneCounts
+counts_told t = record { by_order = t.counts.by_order; free = t.counts.free; posted = t.posted; level = level_number t.level }
+
+-- a page's entry: what the state does not have is 0
+abbrev pub entry_told : State → PageEntry
+entry_told Tail = record { state = 0; order = 0; kind = 0; worker = 0 }
+entry_told (Free k) = record { state = 1; order = k; kind = 0; worker = 0 }
+entry_told (Out k t w) = record { state = 2; order = k; kind = type_number t; worker = w }
+entry_told (Posted k t w) = record { state = 3; order = k; kind = type_number t; worker = w }
+
+-- the order of the largest free block; 11 where there is none
+abbrev pub largest_told : Option ℕ → ℕ
+largest_told None = 11
+largest_told (Some k) = k
+
+abbrev pub pageblock_told : Pageblock → PageblockEntry
+pageblock_told b = record { kind = pageblock_type_number b.kind; free = b.free; largest = largest_told b.largest }
+
+-- a reading: nothing changes but what is told, and answered 0 that is so of the zone at place i as it is at one moment
+pub record IsReading {A : Type 0} (tells : WorkerState → A → Type 0) (i code : ℕ) (before after : A) (b a : Option WorkerState) : Type 0 where
+  pub same : a ≡ b
+  pub kept : 1 ≤ code → after ≡ before
+  pub told : code ≡ 0 → (v : WorkerState) × (b ≡ Some v) × (i < length v) × tells v after
+
+abbrev pub TellsCounts : ℕ → WorkerState → ZoneCounts → Type 0
+TellsCounts i v c = (t : Told) × (c ≡ counts_told t) × IsThen (tie_at v i) (TellsZone t)
+
+abbrev pub TellsEntry : ℕ → ℕ → WorkerState → PageEntry → Type 0
+TellsEntry i p v e = (x : ZonePage) × (e ≡ entry_told x.state) × IsThen (tie_at v i) (TellsPage p (Some x))
+
+abbrev pub TellsPageblockEntry : ℕ → ℕ → WorkerState → PageblockEntry → Type 0
+TellsPageblockEntry i n v e = (x : Pageblock) × (e ≡ pageblock_told x) × IsThen (tie_at v i) (TellsPageblock n (Some x))
+
+-- a text over the beginning of a buffer, as much as there is room for
+abbrev pub written_over : List ℕ → List ℕ → List ℕ
+written_over text buffer = take (length buffer) text ++ drop (length text) buffer
+
+-- nothing changes but the buffer and the length; answered 0, these are of the zone's info line as it is at one moment
+pub record IsInfoCall (i code : ℕ) (buffer written : List ℕ) (before after : ℕ) (b a : Option WorkerState) : Type 0 where
+  pub same : a ≡ b
+  pub kept : 1 ≤ code → (written ≡ buffer) × (after ≡ before)
+  pub told : code ≡ 0 → (v : WorkerState) × (line : List ℕ) × (b ≡ Some v) × IsThen (tie_at v i) (TellsLine line) × (written ≡ written_over line buffer) × (after ≡ length line)

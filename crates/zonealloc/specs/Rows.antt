@@ -1,0 +1,40 @@
+-- What the making and unmaking of a row come to, by their answers (this profile).
+use Rattle.std.specs.Prelude.{ℕ, ◌≡◌, ◌<◌, ◌≤◌, ◌⊎◌, List, All, length, take, Option, None, Some}
+use Rattle.zp_gate.specs.declared.row.Row.{Row}
+use Rattle.zp_gate.specs.Gates.{IsGathered}
+use Rattle.zp_gate.specs.Workers.{WorkerState}
+use Rattle.zonealloc.specs.declared.handles.RowHandle.{RowHandle}
+use Rattle.zonealloc.specs.declared.handles.WorkerHandle.{WorkerHandle}
+use Rattle.zonealloc.specs.declared.rows.ZoneTotals.{ZoneTotals}
+
+abbrev pub IsEmpty : WorkerHandle → Type 0
+IsEmpty h = h.slot.value ≡ None
+
+-- there is a worker of so many zones in the handle
+abbrev pub HasWorkerOf : ℕ → WorkerHandle → Type 0
+HasWorkerOf n h = (v : WorkerState) × (h.slot.value ≡ Some v) × (length v ≡ n)
+
+-- answered 0, all that were empty are full; else nothing changed
+pub record IsMakeCall (zones code : ℕ) (r s : RowHandle) (ws vs : List WorkerHandle) : Type 0 where
+  pub was_empty : code ≡ 0 → (r.slot.value ≡ None) × All IsEmpty ws
+  pub row : code ≡ 0 → (x : Row) × (s.slot.value ≡ Some x)
+  pub workers : code ≡ 0 → (length vs ≡ length ws) × All (HasWorkerOf zones) vs
+  pub unchanged : 1 ≤ code → (s ≡ r) × (vs ≡ ws)
+
+-- answered 0, there was a worker and is none; answered 42, it has left some of its last zones; else nothing changed
+pub record IsDismissCall (code : ℕ) (b a : Option WorkerState) : Type 0 where
+  pub done : code ≡ 0 → (a ≡ None) × ((v : WorkerState) × (b ≡ Some v))
+  pub busy : code ≡ 42 → (v : WorkerState) × (n : ℕ) × (b ≡ Some v) × (a ≡ Some (take n v))
+  pub empty : code ≡ 41 → (a ≡ None) × (b ≡ None)
+  pub codes : (code ≡ 0) ⊎ ((code ≡ 41) ⊎ (code ≡ 42))
+
+-- answered 0, there was a row and is none; else nothing changed
+pub record IsUnmakeCall (code : ℕ) (b a : Option Row) : Type 0 where
+  pub done : code ≡ 0 → (a ≡ None) × ((x : Row) × (b ≡ Some x))
+  pub unchanged : 1 ≤ code → a ≡ b
+
+-- the row stays; answered 0, this is where the pages of the zone are, with what all its workers left
+pub record IsGatherCall (code : ℕ) (before after : ZoneTotals) (b a : Option Row) : Type 0 where
+  pub same : a ≡ b
+  pub done : code ≡ 0 → IsGathered (record { free = after.free; posted = after.posted; cached = after.cached; lent = after.lent })
+  pub kept : 1 ≤ code → after ≡ before

@@ -1,0 +1,210 @@
+//! A worker's own lists. What asks no zone wants no lock.
+ghost use Rattle.std.specs.Prelude.{◌≡◌, ◌<◌, ◌≤◌, ◌⊎◌, [], IfErr, IfOk, length};
+ghost use Rattle.zp_model.specs.declared.request.Reply.TheVariants as reply;
+ghost use Rattle.zp_share.specs.Shares.{share_at};
+ghost use Rattle.zp_share.specs.ZoneShares.{cached_of};
+ghost use Rattle.zp_gate.specs.Workers.{IsAt, IsTaken, desk_at};
+ghost use Rattle.zonealloc.specs.Calls.{AsksDrain, AsksRefill, IsAsking, IsCall, IsDrainAllCall, IsPages, IsPutCall, IsTakeCall, TellsCached, TellsLent};
+
+use crate::answers::{
+    BAD_ARGUMENT, BAD_HANDLE, DONE, LIST_EMPTY, denied, kind_of, mark_of, order_of, refused,
+};
+use crate::handles::{WorkerHandle, put_worker, worker_of};
+use std::alloc::Global;
+use zp_gate::Worker;
+use zp_model::{MigrateType, PageNo};
+
+/// The page in front of the worker's list of this type, which is then lent.
+#[unsafe(no_mangle)]
+pub extern "C" fn zonealloc_take(
+    alloc: Global,
+    worker: &mut WorkerHandle,
+    zone: u32,
+    kind: u32,
+    page: &mut u32,
+) -> u32
+    ensures { IsTakeCall zone kind result page.old page.new worker.old.slot.value worker.new.slot.value }
+{
+    let Some(kind) = kind_of(kind) else {
+        return BAD_ARGUMENT;
+    };
+    let Some(mut at) = worker_of(alloc, worker) else {
+        return BAD_HANDLE;
+    };
+    let answer = taken(&mut at, zone as usize, kind);
+    put_worker(worker, at);
+    match answer {
+        Ok(first) => {
+            *page = first.number();
+            DONE
+        }
+        Err(why) => why,
+    }
+}
+
+/// The page in front of a list, where there is one; else the number of why not.
+#[inline(always)]
+fn taken(worker: &mut Worker, zone: usize, kind: MigrateType) -> Result<PageNo, u32>
+    ensures ok { IfOk result (λ page. IsAt zone (IsTaken kind page) worker.old worker.new) }
+    ensures same { IfErr result (λ n. worker.new ≡ worker.old) }
+    ensures why { IfErr result (λ n. (n ≡ 40) ⊎ ((n ≡ 44) × (cached_of (share_at (desk_at worker.old zone) 0) kind ≡ []))) }
+{
+    if zone >= worker.zones() {
+        return Err(BAD_ARGUMENT);
+    }
+    match worker.take(zone, kind) {
+        Some(page) => Ok(page),
+        None => Err(LIST_EMPTY),
+    }
+}
+
+/// A lent page to the front of the worker's list of its type.
+#[unsafe(no_mangle)]
+pub extern "C" fn zonealloc_put(
+    alloc: Global,
+    worker: &mut WorkerHandle,
+    zone: u32,
+    page: u32,
+) -> u32
+    ensures { IsPutCall zone page result worker.old.slot.value worker.new.slot.value }
+{
+    let Some(mut at) = worker_of(alloc, worker) else {
+        return BAD_HANDLE;
+    };
+    if zone as usize >= at.zones() {
+        put_worker(worker, at);
+        return BAD_ARGUMENT;
+    }
+    let answer = at.put(zone as usize, PageNo::new(page));
+    put_worker(worker, at);
+    match answer {
+        Ok(()) => DONE,
+        Err(why) => refused(why),
+    }
+}
+
+/// Whether the block is lent to the worker with this order: 1 or 0.
+#[unsafe(no_mangle)]
+pub extern "C" fn zonealloc_is_lent(
+    alloc: Global,
+    worker: &mut WorkerHandle,
+    zone: u32,
+    page: u32,
+    order: u32,
+    lent: &mut u32,
+) -> u32
+    ensures { IsAsking (TellsLent zone page order) result lent.old lent.new worker.old.slot.value worker.new.slot.value }
+{
+    let Some(order) = order_of(order) else {
+        return BAD_ARGUMENT;
+    };
+    let Some(at) = worker_of(alloc, worker) else {
+        return BAD_HANDLE;
+    };
+    if zone as usize >= at.zones() {
+        put_worker(worker, at);
+        return BAD_ARGUMENT;
+    }
+    let is_lent = at.is_lent(zone as usize, PageNo::new(page), order);
+    put_worker(worker, at);
+    *lent = u32::from(is_lent);
+    DONE
+}
+
+/// How many pages the worker's list of this type has.
+#[unsafe(no_mangle)]
+pub extern "C" fn zonealloc_cached(
+    alloc: Global,
+    worker: &mut WorkerHandle,
+    zone: u32,
+    kind: u32,
+    pages: &mut u32,
+) -> u32
+    ensures { IsAsking (TellsCached zone kind) result pages.old pages.new worker.old.slot.value worker.new.slot.value }
+{
+    let Some(kind) = kind_of(kind) else {
+        return BAD_ARGUMENT;
+    };
+    let Some(at) = worker_of(alloc, worker) else {
+        return BAD_HANDLE;
+    };
+    if zone as usize >= at.zones() {
+        put_worker(worker, at);
+        return BAD_ARGUMENT;
+    }
+    let cached = at.cached_len(zone as usize, kind);
+    put_worker(worker, at);
+    *pages = cached as u32;
+    DONE
+}
+
+/// Fills the worker's empty list of this type with up to a batch of pages.
+#[tactic(auto, using(crate::proofs::Denials::denied_call))]
+#[unsafe(no_mangle)]
+pub extern "C" fn zonealloc_refill(
+    alloc: Global,
+    worker: &mut WorkerHandle,
+    zone: u32,
+    kind: u32,
+    mark: u32,
+) -> u32
+    ensures { IsCall (AsksRefill zone kind mark) IsPages (Unit {0}) zone result worker.old.slot.value worker.new.slot.value }
+{
+    let Some(kind) = kind_of(kind) else {
+        return BAD_ARGUMENT;
+    };
+    let Some(mark) = mark_of(mark) else {
+        return BAD_ARGUMENT;
+    };
+    let Some(mut at) = worker_of(alloc, worker) else {
+        return BAD_HANDLE;
+    };
+    let answer = at.refill(zone as usize, kind, mark);
+    put_worker(worker, at);
+    match answer {
+        Ok(()) => DONE,
+        Err(why) => denied(why),
+    }
+}
+
+/// Gives back so many pages from the back of the worker's list of this type.
+#[unsafe(no_mangle)]
+pub extern "C" fn zonealloc_drain(
+    alloc: Global,
+    worker: &mut WorkerHandle,
+    zone: u32,
+    kind: u32,
+    count: u32,
+) -> u32
+    ensures { IsCall (AsksDrain zone kind count) (λ q. q ≡ reply.Drained) (Unit {0}) zone result worker.old.slot.value worker.new.slot.value }
+{
+    let Some(kind) = kind_of(kind) else {
+        return BAD_ARGUMENT;
+    };
+    let Some(mut at) = worker_of(alloc, worker) else {
+        return BAD_HANDLE;
+    };
+    let answer = at.drain(zone as usize, kind, count as usize);
+    put_worker(worker, at);
+    match answer {
+        Ok(()) => DONE,
+        Err(why) => denied(why),
+    }
+}
+
+/// Gives back all pages of the worker's lists of this zone, a list at a time. Where it does not answer 0 the lists before the one that was
+/// refused are empty, and the rest is as it was.
+#[unsafe(no_mangle)]
+pub extern "C" fn zonealloc_drain_all(alloc: Global, worker: &mut WorkerHandle, zone: u32) -> u32
+    ensures { IsDrainAllCall zone result worker.old.slot.value worker.new.slot.value }
+{
+    let Some(mut at) = worker_of(alloc, worker) else {
+        return BAD_HANDLE;
+    };
+    let answer = at.drain_all(zone as usize);
+    put_worker(worker, at);
+    match answer {
+        Ok(()) => DONE,
+        Err(why) => denied(why),
+    }
+}

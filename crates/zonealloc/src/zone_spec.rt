@@ -1,0 +1,44 @@
+//! What C makes a zone with.
+ghost use Rattle.std.specs.Prelude.{◌≡◌, ◌≤◌, IfErr};
+
+use crate::answers::{BAD_ARGUMENT, refused};
+use zp_model::{LONGEST_NAME, Largest, Refused};
+use zp_zone::ZoneConfig;
+
+/// The first page of a zone, its pages, its least mark, the order of its largest block, and its name.
+#[repr(C)]
+#[derive(Drop)]
+pub struct ZoneSpec {
+    base: u32,
+    pages: u32,
+    min: u32,
+    largest: u32,
+    name_len: u32,
+    name: [u8; LONGEST_NAME],
+}
+
+/// The config of a zone; else the number of what is wrong. The rest the making of the zone tests.
+pub fn config_of(spec: &ZoneSpec) -> Result<ZoneConfig<'_>, u32>
+    ensures why { IfErr result (λ n. 1 ≤ n) }
+{
+    let bytes = &spec.name;
+    let Some(name) = bytes.get(..spec.name_len as usize) else {
+        return Err(refused(Refused::BadName));
+    };
+    let Ok(name) = std::str::from_utf8(name) else {
+        return Err(refused(Refused::BadName));
+    };
+    let Ok(largest) = u8::try_from(spec.largest) else {
+        return Err(BAD_ARGUMENT);
+    };
+    let Some(largest) = Largest::new(largest) else {
+        return Err(BAD_ARGUMENT);
+    };
+    Ok(ZoneConfig {
+        name,
+        base: spec.base,
+        pages: spec.pages,
+        min: spec.min,
+        largest,
+    })
+}

@@ -1,0 +1,29 @@
+-- What is told of the zone behind a gate, as it is at one moment (this profile).
+use Rattle.std.specs.Prelude.{ℕ, ◌≡◌, ◌<◌, ◌↔◌, List, Option, IsSome, IfSome}
+use Rattle.atomic_table.specs.Seated.{TableId}
+use Rattle.zp_model.specs.Area.{pageblocks_of}
+use Rattle.zp_model.specs.Info.{counts_of, info_line}
+use Rattle.zp_model.specs.Mark.{level_of}
+use Rattle.zp_model.specs.Zone.{pages_of, posted_pages}
+use Rattle.zp_zone.specs.NamedZone.{IsPageOf, IsPageblockOf, IsToldOf}
+use Rattle.zp_zone.specs.Seats.{ZoneState}
+use Rattle.zp_zone.specs.declared.page.ZonePage.{ZonePage}
+use Rattle.zp_zone.specs.declared.pageblock.Pageblock.{Pageblock}
+use Rattle.zp_gate.specs.declared.told.Told.{Told}
+
+-- it is so of the zone of this tie, as it is then
+abbrev pub IsThen : TableId → (ZoneState → Type 0) → Type 0
+IsThen t P = (z : ZoneState) × (z.tie ≡ t) × P z
+
+-- its free blocks and pages, its level, and its posted pages
+abbrev pub TellsZone : Told → ZoneState → Type 0
+TellsZone t z = (t.counts ≡ counts_of z.plain.area.largest z.plain.area.free) × (t.level ≡ level_of z.plain) × (t.posted ≡ posted_pages z.plain)
+
+abbrev pub TellsLine : List ℕ → ZoneState → Type 0
+TellsLine line z = line ≡ info_line z.name z.plain.area.largest (counts_of z.plain.area.largest z.plain.area.free)
+
+abbrev pub TellsPage : ℕ → Option ZonePage → ZoneState → Type 0
+TellsPage p e z = (IsSome e ↔ IsPageOf z.plain p) × IfSome e (λ (e : ZonePage). IsToldOf z.plain p e.state e.back e.forward)
+
+abbrev pub TellsPageblock : ℕ → Option Pageblock → ZoneState → Type 0
+TellsPageblock n e z = (IsSome e ↔ (n < pageblocks_of z.plain.area.largest (pages_of z.plain))) × IfSome e (IsPageblockOf z.plain n)
