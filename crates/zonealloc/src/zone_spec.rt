@@ -1,8 +1,9 @@
 //! What C makes a zone with.
-ghost use Rattle.std.specs.Prelude.{◌≡◌, ◌≤◌, IfErr};
+ghost use Rattle.std.specs.Prelude.{◌≡◌, ◌≤◌, IfErr, IfSome};
+ghost use Rattle.zp_model.specs.declared.constants.TheConstants.{MAX_PAGES};
 
 use crate::answers::{BAD_ARGUMENT, refused};
-use zp_model::{LONGEST_NAME, Largest, Refused};
+use zp_model::{LONGEST_NAME, Largest, MAX_PAGES, Refused};
 use zp_zone::ZoneConfig;
 
 /// The first page of a zone, its pages, its least mark, the order of its largest block, and its name.
@@ -41,4 +42,14 @@ pub fn config_of(spec: &ZoneSpec) -> Result<ZoneConfig<'_>, u32>
         min: spec.min,
         largest,
     })
+}
+
+/// How many pages the zone is to have, where a zone can have so many.
+pub fn pages_of(spec: &ZoneSpec) -> Option<u32>
+    ensures { IfSome result (λ n. (n ≡ spec.now.pages) × (n ≤ MAX_PAGES)) }
+{
+    if spec.pages == 0 || spec.pages > MAX_PAGES {
+        return None;
+    }
+    Some(spec.pages)
 }
