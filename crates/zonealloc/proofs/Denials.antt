@@ -59,6 +59,6 @@ module _ (asks : Option WorkerState → Request → Type 0) (told : Reply → Ty
 
   pub denied_call : (d : Denied) (v w : WorkerState) → asks (Some v) r → kept → IsDeniedOf i r d v w → IsCall asks told kept i (denial_number d) (Some v) (Some w)
   denied_call d v w a k x = elim x [
-    inl none ↦ subst (λ (u : Denied). IsCall asks told kept i (denial_number u) (Some v) (Some w)) (sym none.0) (unasked 40 v w (omega arith) k none.2)
+    | inl none ↦ subst (λ (u : Denied). IsCall asks told kept i (denial_number u) (Some v) (Some w)) (sym none.0) (unasked 40 v w (omega arith) k none.2)
     | inr here ↦ at_denied d v w a k here
   ]

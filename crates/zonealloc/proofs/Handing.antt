@@ -21,7 +21,7 @@ last_so P all rest last e so =
 pub next_so : {A : Type 0} (P : A → Type 0) (xs : List A) (i : ℕ) (x : A) → i < length xs → ((k : ℕ) (d : A) → k < i → P (slice_index_or xs k d)) → P x →
     (k : ℕ) (d : A) → k < i + 1 → P (slice_index_or (slice_set xs i x) k d)
 next_so P xs i x long below here k d lt = elim (cases_lt k i) [
-  inl less ↦ subst P (sym (get_or-set_other xs i k x d (λ same. absurd (omega (arith, less, same))))) (below k d less)
+  | inl less ↦ subst P (sym (get_or-set_other xs i k x d (λ same. absurd (omega (arith, less, same))))) (below k d less)
   | inr not ↦ let same : k ≡ i = omega (arith, not, lt) in
-  subst (λ j. P (slice_index_or (slice_set xs i x) j d)) (sym same) (subst P (sym (get_or-set_same xs i x d long)) here)
+      subst (λ j. P (slice_index_or (slice_set xs i x) j d)) (sym same) (subst P (sym (get_or-set_same xs i x d long)) here)
 ]

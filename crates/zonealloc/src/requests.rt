@@ -4,7 +4,9 @@ ghost use Rattle.zp_model.specs.declared.request.Request.TheVariants as request;
 ghost use Rattle.zp_model.specs.declared.request.Reply.TheVariants as reply;
 ghost use Rattle.zonealloc.specs.Calls.{Asks, AsksAlloc, AsksRelease, IsBlockAt, IsCall};
 
-use crate::answers::{BAD_ARGUMENT, BAD_HANDLE, DONE, denied, kind_of, mark_of, number_of, order_of};
+use crate::answers::{
+    BAD_ARGUMENT, BAD_HANDLE, DONE, denied, kind_of, mark_of, number_of, order_of,
+};
 use crate::handles::{WorkerHandle, put_worker, worker_of};
 use std::alloc::Global;
 use zp_model::PageNo;

@@ -34,7 +34,13 @@ impl Model for Worker {
 
 impl Worker {
     /// A block of this order for this type, held to this mark, which is then lent. Refused 10, 11 or 30.
-    pub fn alloc(&mut self, zone: usize, order: Order, kind: MigrateType, mark: Mark) -> Result<PageNo, Denied>
+    pub fn alloc(
+        &mut self,
+        zone: usize,
+        order: Order,
+        kind: MigrateType,
+        mark: Mark,
+    ) -> Result<PageNo, Denied>
         ensures ok { IfOk result (λ page. IsAskedOf zone (request.Alloc order kind mark) (reply.Page page) self.old self.new) }
         ensures denied { IfErr result (λ d. IsDeniedOf zone (request.Alloc order kind mark) d self.old self.new) }
     {
@@ -67,7 +73,13 @@ impl Worker {
     }
 
     /// Posts a lent block to the worker of this number. Refused 20 or 30.
-    pub fn post(&mut self, zone: usize, page: PageNo, order: Order, to: Number) -> Result<(), Denied>
+    pub fn post(
+        &mut self,
+        zone: usize,
+        page: PageNo,
+        order: Order,
+        to: Number,
+    ) -> Result<(), Denied>
         ensures ok { OnOk result (IsAskedOf zone (request.Post page order to) reply.Posted self.old self.new) }
         ensures denied { IfErr result (λ d. IsDeniedOf zone (request.Post page order to) d self.old self.new) }
     {

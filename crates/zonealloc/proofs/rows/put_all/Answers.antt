@@ -15,5 +15,5 @@ loop-place-preserved c =
       left = omega (arith, put, more, kept.left);
       zones = front_so (λ w. length w.value ≡ c.args.zones) all rest last c.in-Some.ensures.items kept.zones;
       put = next_so (HasWorkerOf c.args.zones) c.loop-place.workers c.loop-place.place c.put_worker.new.handle (omega (arith, more, kept.left)) kept.put
-      (last.value, c.put_worker.ensures, last_so (λ w. length w.value ≡ c.args.zones) all rest last c.in-Some.ensures.items kept.zones);
+          (last.value, c.put_worker.ensures, last_so (λ w. length w.value ≡ c.args.zones) all rest last c.in-Some.ensures.items kept.zones);
     }

@@ -2,4 +2,4 @@ use Rattle.std.proofs.Common.{◌≡◌, ◌≤◌, length, All, vec_len, vec_ca
 use Rattle.zp_gate.proofs.row.crew_of.Given as goal
 
 abbrev pub invariant-loop : goal.invariant-loop
-invariant-loop l = record { many : vec_len l.crew ≡ l.counter; room : l.workers ≤ vec_capacity l.crew; zones : All (λ w. length w.value ≡ length l.zones) l.crew.items; same : length l.zones ≡ length l.fn.zones; }
+invariant-loop l = record { many : vec_len l.crew ≡ l.counter; room : l.workers ≤ vec_capacity l.crew; zones : All (λ w. length w.value ≡ length l.zones) l.crew.items; same : length l.zones ≡ length l.fn.zones }

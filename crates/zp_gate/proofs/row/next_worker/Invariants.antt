@@ -2,4 +2,4 @@ use Rattle.std.proofs.Common.{◌≡◌, ◌≤◌, length, vec_len, vec_capacit
 use Rattle.zp_gate.proofs.row.next_worker.Given as goal
 
 abbrev pub invariant-loop-zone : goal.invariant-loop-zone
-invariant-loop-zone l = record { many : vec_len l.desks ≡ l.zone-index; room : l.zone-index-end ≤ vec_capacity l.desks; }
+invariant-loop-zone l = record { many : vec_len l.desks ≡ l.zone-index; room : l.zone-index-end ≤ vec_capacity l.desks }

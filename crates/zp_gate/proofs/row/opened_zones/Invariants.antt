@@ -2,4 +2,4 @@ use Rattle.std.proofs.Common.{◌≡◌, ◌≤◌, length, vec_len, vec_capacit
 use Rattle.zp_gate.proofs.row.opened_zones.Given as goal
 
 abbrev pub invariant-loop-config : goal.invariant-loop-config
-invariant-loop-config l = record { many : vec_len l.zones ≡ l.config-index; room : length l.configs ≤ vec_capacity l.zones; }
+invariant-loop-config l = record { many : vec_len l.zones ≡ l.config-index; room : length l.configs ≤ vec_capacity l.zones }
