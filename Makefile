@@ -24,4 +24,4 @@ install: all
 	install -m 644 cmake/zonealloc-config.cmake $(DESTDIR)$(PREFIX)/lib/cmake/zonealloc
 clean:
 	rm -rf build
-.PHONY: all check install clean build/zonealloc.pc
+.PHONY: all check install clean build/libzonealloc.a build/zonealloc.pc

@@ -90,7 +90,7 @@ static void print(const uint8_t *text, size_t bytes)
 
 /* --- the program --- */
 
-static const zone_spec_t normal = { 0, 65536, 128, 10, 6, { 'N', 'o', 'r', 'm', 'a', 'l' } };
+static const zone_spec_t normal = { 0, 65536, 128, 10, 6, "Normal" };
 static zone_row_t row;
 static zone_worker_t workers[WORKERS];
 

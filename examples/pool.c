@@ -47,7 +47,7 @@ static void unmap_pages(pool_t *pool)
 
 static uint32_t pool_make(pool_t *pool)
 {
-    static const zone_spec_t normal = { 0, PAGES, 256, LARGEST, 6, { 'N', 'o', 'r', 'm', 'a', 'l' } };
+    static const zone_spec_t normal = { 0, PAGES, 256, LARGEST, 6, "Normal" };
     memset(pool, 0, sizeof *pool);
     if (!map_pages(pool))
         return ZONE_NO_MEMORY;

@@ -20,7 +20,7 @@ typedef struct thread {
 } thread_t;
 
 static const zone_spec_t specs[ZONES] = {
-    { 0, 4096, 0, 10, 3, { 'D', 'M', 'A' } }, { 4096, 16384, 64, 10, 6, { 'N', 'o', 'r', 'm', 'a', 'l' } }
+    { 0, 4096, 0, 10, 3, "DMA" }, { 4096, 16384, 64, 10, 6, "Normal" }
 };
 static zone_pool_t pool;
 static thread_t threads[THREADS];
