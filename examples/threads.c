@@ -1,5 +1,5 @@
-/* Four threads, each with a worker, take and give back blocks of two zones, and post some to each other. Then the workers are dismissed, and
- * the pages of each zone are where the threads say that they left them. Without a lock, or with -DZONEALLOC_SLEEP with a mutex a zone.
+/* Four threads, each with a worker, take and give back blocks of two zones, and post some to each other. Then the workers are dismissed,
+ * and the pages of each zone are where the threads say that they left them. Without a lock; with -DZONEALLOC_SLEEP over mutexes.
  * Argument: how many calls a thread makes. */
 #include "zonealloc_threads.h"
 #include <pthread.h>
