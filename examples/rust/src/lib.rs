@@ -25,7 +25,7 @@ mod values;
 mod worker;
 
 pub use refusal::Refusal;
-pub use values::{Counts, Level, Lists, MigrateType, Mark, PageState, PageblockState, Totals, ZoneSpec};
+pub use values::{Counts, Level, Lists, Mark, MigrateType, PageState, PageblockState, Totals, ZoneSpec};
 pub use worker::Worker;
 
 use raw::Handle;
@@ -50,9 +50,8 @@ impl Row {
         let mut row = Row { handle: Handle::empty(), unused: (0..workers).map(|_| Handle::empty()).collect() };
         let handles = row.unused.as_mut_ptr();
         // SAFETY: both handles' memory and the zones are as long as is said, and do not overlap; the handles are empty.
-        let number = unsafe {
-            raw::zonealloc_make(&mut row.handle, handles, row.unused.len(), zones.as_ptr(), zones.len(), batch, high_len)
-        };
+        let number =
+            unsafe { raw::zonealloc_make(&mut row.handle, handles, row.unused.len(), zones.as_ptr(), zones.len(), batch, high_len) };
         answered(number).map(|()| row)
     }
 

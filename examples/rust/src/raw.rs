@@ -42,7 +42,13 @@ pub struct RawCounts {
 extern "C" {
     pub fn zonealloc_bytes(zones: *const ZoneSpec, n_zones: usize, workers: u32, bytes: &mut u64) -> u32;
     pub fn zonealloc_make(
-        row: &mut Handle, workers: *mut Handle, n_workers: usize, zones: *const ZoneSpec, n_zones: usize, batch: u32, high_len: u32,
+        row: &mut Handle,
+        workers: *mut Handle,
+        n_workers: usize,
+        zones: *const ZoneSpec,
+        n_zones: usize,
+        batch: u32,
+        high_len: u32,
     ) -> u32;
     pub fn zonealloc_dismiss(worker: &mut Handle) -> u32;
     pub fn zonealloc_unmake(row: &mut Handle) -> u32;

@@ -1,9 +1,27 @@
 use std::fmt;
 
-/// Why a call was refused. Nothing has changed then, but where the call's own line says what has.
-#[derive(Clone, Copy, Debug, PartialEq, Eq)]
-#[repr(u32)]
-pub enum Refusal {
+/// The refusals by their numbers, which `include/zonealloc.h` explains.
+macro_rules! refusals {
+    ($($name:ident = $number:literal,)*) => {
+        /// Why a call was refused. Nothing has changed then, but where the call's own line says what has.
+        #[derive(Clone, Copy, Debug, PartialEq, Eq)]
+        #[repr(u32)]
+        pub enum Refusal {
+            $($name = $number,)*
+        }
+
+        /// What a call of the archive answered.
+        pub(crate) fn answered(number: u32) -> Result<(), Refusal> {
+            match number {
+                0 => Ok(()),
+                $($number => Err(Refusal::$name),)*
+                _ => panic!("the archive answered {number}, which the header does not have"),
+            }
+        }
+    };
+}
+
+refusals! {
     BadName = 1,
     BadBase = 2,
     BadPages = 3,
@@ -26,24 +44,6 @@ pub enum Refusal {
     ListEmpty = 44,
     ListNotEmpty = 45,
     NoLists = 46,
-}
-
-use Refusal::*;
-
-const ALL: [Refusal; 22] = [
-    BadName, BadBase, BadPages, BadMark, BadWorkers, NoMemory, BelowMark, NoBlock, NothingPosted, BadPageblock, AlreadyIsolated,
-    NotIsolated, NotLent, ListFull, Ended, BadArgument, BadHandle, Busy, HasWorkers, ListEmpty, ListNotEmpty, NoLists,
-];
-
-/// What a call of the archive answered.
-pub(crate) fn answered(number: u32) -> Result<(), Refusal> {
-    if number == 0 {
-        return Ok(());
-    }
-    match ALL.iter().find(|it| **it as u32 == number) {
-        Some(refusal) => Err(*refusal),
-        None => panic!("the archive answered {number}, which the header does not have"),
-    }
 }
 
 impl fmt::Display for Refusal {

@@ -1,6 +1,6 @@
 use crate::raw::{self, Handle};
 use crate::refusal::answered;
-use crate::values::{Counts, Level, MigrateType, Mark, PageState, PageblockState};
+use crate::values::{Counts, Level, Mark, MigrateType, PageState, PageblockState};
 use crate::{until_free, Refusal, Row};
 use std::marker::PhantomData;
 

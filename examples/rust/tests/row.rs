@@ -1,6 +1,6 @@
 //! One thread: each call once at least, and what is refused.
 
-use zonealloc::{Level, Lists, MigrateType::*, Mark, PageState, Refusal, Row, Totals, ZoneSpec};
+use zonealloc::{Level, Lists, Mark, MigrateType::*, PageState, Refusal, Row, Totals, ZoneSpec};
 
 fn normal() -> ZoneSpec {
     ZoneSpec::new("Normal", 4096, 4096, 16, 10)
