@@ -27,7 +27,7 @@ typedef struct zone_pool {
     zone_door_t doors[ZONE_ZONES];
 } zone_pool_t;
 /* Rests for so many hints to the processor, and tells how long to rest next. Past the longest rest others may want this processor. */
-enum { ZONE_FIRST_REST = 64, ZONE_LONGEST_REST = 4096 };
+enum { ZONE_FIRST_REST = 256, ZONE_LONGEST_REST = 4096 };
 static inline uint32_t zone_rest(uint32_t hints) {
 #if defined(__x86_64__) || defined(__i386__)
     uint32_t i;

@@ -87,7 +87,7 @@ impl Drop for Row {
 
 /// Makes a call until no other is in its zone, with a longer rest each time.
 pub fn until_free<T>(mut call: impl FnMut() -> Result<T, Refusal>) -> Result<T, Refusal> {
-    let mut hints = 64;
+    let mut hints = 256;
     loop {
         match call() {
             Err(Refusal::Busy) => rest(&mut hints),
