@@ -1,0 +1,120 @@
+/* A row for any number of threads, each with a worker of its own. There is no lock: a ZONE call that is answered ZONE_BUSY is made again
+ * after a rest, so the archive's own gate of the zone is the lock. Each rest is longer than the one before: who is in a zone then makes
+ * several calls before its memory moves to another processor. With ZONEALLOC_SLEEP defined before the include, a mutex for each zone
+ * stands round the call, and who waits for it sleeps.
+ *
+ * ANY, below: any threads at the same time, each with a worker whose number no other thread calls with. ALONE is as in zonealloc.h.
+ * Each call answers what the calls under it answer, but never ZONE_BUSY. */
+#ifndef ZONEALLOC_THREADS_H
+#define ZONEALLOC_THREADS_H
+#include "zonealloc.h"
+#include <sched.h>
+#include <string.h>
+#ifdef ZONEALLOC_SLEEP
+#include <pthread.h>
+typedef struct zone_door { unsigned char apart[64]; pthread_mutex_t mutex; } zone_door_t;
+#define ZONE_DOOR(act, pool, zone) (void)pthread_mutex_##act(&(pool)->doors[(zone) % ZONE_ZONES].mutex)
+#else
+typedef struct zone_door { unsigned char mutex; } zone_door_t;
+#define ZONE_DOOR(act, pool, zone) (void)(pool)
+#endif
+/* Each call writes its worker's handle, so no two of them share a line of the cache, nor one of them with what all threads read. */
+typedef struct zone_seat { zone_worker_t worker; unsigned char apart[112]; } zone_seat_t;
+typedef struct zone_pool {
+    zone_seat_t seats[ZONE_WORKERS];
+    zone_row_t row;
+    uint32_t workers, batch, high_len;
+    zone_door_t doors[ZONE_ZONES];
+} zone_pool_t;
+/* Rests for so many hints to the processor, and tells how long to rest next. Past the longest rest others may want this processor. */
+enum { ZONE_FIRST_REST = 256, ZONE_LONGEST_REST = 4096 };
+static inline uint32_t zone_rest(uint32_t hints) {
+#if defined(__x86_64__) || defined(__i386__)
+    uint32_t i;
+    for (i = 0; i < hints; i++) __builtin_ia32_pause();
+#endif
+    if (hints < ZONE_LONGEST_REST) return hints * 2;
+    (void)sched_yield();
+    return hints;
+}
+/* ANY. A ZONE call, made until it is answered: for those that have no function below, too. */
+#define ZONE_ASK(pool, zone, answer, call) do { \
+        uint32_t zone_hints = ZONE_FIRST_REST; \
+        ZONE_DOOR(lock, pool, zone); \
+        while (((answer) = (call)) == ZONE_BUSY) zone_hints = zone_rest(zone_hints); \
+        ZONE_DOOR(unlock, pool, zone); \
+    } while (0)
+/* ALONE. Makes a pool where none is. */
+static inline uint32_t zone_pool_make(zone_pool_t *pool, uint32_t workers, const zone_spec_t *zones, size_t n_zones, uint32_t batch,
+                                      uint32_t high_len) {
+    zone_worker_t made[ZONE_WORKERS];
+    uint32_t i, answer;
+    memset(pool, 0, sizeof *pool); memset(made, 0, sizeof made);
+    if (workers > ZONE_WORKERS) return ZONE_BAD_WORKERS;
+    answer = zonealloc_make(&pool->row, made, workers, zones, n_zones, batch, high_len);
+    if (answer != ZONE_OK) return answer;
+#ifdef ZONEALLOC_SLEEP
+    for (i = 0; i < ZONE_ZONES; i++) (void)pthread_mutex_init(&pool->doors[i].mutex, NULL);
+#endif
+    for (i = 0; i < workers; i++) pool->seats[i].worker = made[i];
+    pool->workers = workers; pool->batch = batch; pool->high_len = high_len;
+    return ZONE_OK;
+}
+/* ANY. Ends a worker. (In both forms it rests where a zone other than the lowest is busy.) */
+static inline uint32_t zone_pool_dismiss(zone_pool_t *pool, uint32_t worker) {
+    uint32_t answer = ZONE_BAD_ARGUMENT;
+    if (worker < pool->workers) ZONE_ASK(pool, 0, answer, zonealloc_dismiss(&pool->seats[worker].worker));
+    return answer;
+}
+/* ALONE. Where the pages of a zone are, when all workers were dismissed. */
+static inline uint32_t zone_pool_gather(zone_pool_t *pool, uint32_t zone, zone_totals_t *totals) {
+    return zonealloc_gather(&pool->row, zone, totals);
+}
+/* ALONE. Ends the workers that are left, and gives back the memory. */
+static inline uint32_t zone_pool_unmake(zone_pool_t *pool) {
+    uint32_t i;
+    for (i = 0; i < pool->workers; i++) (void)zone_pool_dismiss(pool, i);
+    for (i = 0; i < ZONE_ZONES; i++) ZONE_DOOR(destroy, pool, i);
+    return zonealloc_unmake(&pool->row);
+}
+/* ANY. Free blocks of each order, free and posted pages, and the level of a zone, all of one moment. */
+static inline uint32_t zone_pool_counts(zone_pool_t *pool, uint32_t worker, uint32_t zone, zone_counts_t *counts) {
+    uint32_t answer = ZONE_BAD_ARGUMENT;
+    if (worker < pool->workers) ZONE_ASK(pool, zone, answer, zonealloc_counts(&pool->seats[worker].worker, zone, counts));
+    return answer;
+}
+static inline uint32_t zone_listed(zone_pool_t *pool, zone_worker_t *own, uint32_t type, uint32_t mark, uint32_t zone, uint32_t *page) {
+    uint32_t answer = zonealloc_take(own, zone, type, page);
+    if (answer != ZONE_LIST_EMPTY) return answer;
+    ZONE_ASK(pool, zone, answer, zonealloc_refill(own, zone, type, mark));
+    return answer == ZONE_OK ? zonealloc_take(own, zone, type, page) : answer;
+}
+/* ANY. A block of 2^order pages, of *zone or the nearest zone below that gives one: its first page, and in *zone the zone that it is of.
+ * A single page comes from the worker's list, which is filled where it is empty. */
+static inline uint32_t zone_alloc_pages(zone_pool_t *pool, uint32_t worker, uint32_t order, uint32_t type, uint32_t mark, uint32_t *zone,
+                                        uint32_t *page) {
+    uint32_t at, answer = ZONE_NO_BLOCK;
+    if (worker >= pool->workers) return ZONE_BAD_ARGUMENT;
+    for (at = *zone + 1; at-- > 0 && (answer == ZONE_NO_BLOCK || answer == ZONE_BELOW_MARK);) {
+        zone_worker_t *own = &pool->seats[worker].worker;
+        if (order == 0 && pool->batch != 0) answer = zone_listed(pool, own, type, mark, at, page);
+        else ZONE_ASK(pool, at, answer, zonealloc_alloc(own, at, order, type, mark, page));
+        if (answer == ZONE_OK) *zone = at;
+    }
+    return answer;
+}
+/* ANY. Gives back a block of a zone: a single page to the worker's list, from which a batch goes to the zone first where it is full. */
+static inline uint32_t zone_free_pages(zone_pool_t *pool, uint32_t worker, uint32_t zone, uint32_t page, uint32_t order) {
+    zone_worker_t *own = &pool->seats[worker % ZONE_WORKERS].worker;
+    uint32_t type, cached, answer = ZONE_BAD_ARGUMENT;
+    if (worker >= pool->workers) return answer;
+    if (order == 0 && pool->batch != 0) answer = zonealloc_put(own, zone, page);
+    else ZONE_ASK(pool, zone, answer, zonealloc_free(own, zone, page, order));
+    for (type = 0; answer == ZONE_LIST_FULL && type < ZONE_TYPES; type++) {
+        if (zonealloc_cached(own, zone, type, &cached) != ZONE_OK || cached < pool->high_len) continue;
+        ZONE_ASK(pool, zone, answer, zonealloc_drain(own, zone, type, pool->batch));
+        if (answer == ZONE_OK) answer = zonealloc_put(own, zone, page);
+    }
+    return answer;
+}
+#endif
