@@ -77,64 +77,64 @@ typedef struct zone_totals { uint32_t free, posted, cached, lent; } zone_totals_
 /* --- making and unmaking: these alone take and give memory --- */
 
 /* OWN. How many bytes a making takes at most, with so many workers. */
-int32_t zonealloc_bytes(const zone_spec_t *zones, size_t n_zones, uint32_t workers, uint64_t *bytes);
+uint32_t zonealloc_bytes(const zone_spec_t *zones, size_t n_zones, uint32_t workers, uint64_t *bytes);
 /* ALONE. Fills an empty row and all its empty workers, which are numbered by their place. batch 0 and high_len 0: no lists; else batch is 1
  * to 31 and high_len above it, at most 64. */
-int32_t zonealloc_make(zone_row_t *row, zone_worker_t *workers, size_t n_workers, const zone_spec_t *zones, size_t n_zones, uint32_t batch, uint32_t high_len);
+uint32_t zonealloc_make(zone_row_t *row, zone_worker_t *workers, size_t n_workers, const zone_spec_t *zones, size_t n_zones, uint32_t batch, uint32_t high_len);
 /* ZONE, of each zone. Ends a worker. What its lists have and what is lent to it stays noted with the row until that is unmade. ZONE_BUSY:
  * the worker has left the zones behind the busy one, for good; call again. */
-int32_t zonealloc_dismiss(zone_worker_t *worker);
+uint32_t zonealloc_dismiss(zone_worker_t *worker);
 /* ALONE. Gives back the row's memory; ZONE_HAS_WORKERS while a worker of it is not dismissed. */
-int32_t zonealloc_unmake(zone_row_t *row);
+uint32_t zonealloc_unmake(zone_row_t *row);
 
 /* --- the worker's own lists: no lock --- */
 
 /* OWN. The page in front of the worker's list of this type, which is then lent. ZONE_LIST_EMPTY: refill first. */
-int32_t zonealloc_take(zone_worker_t *worker, uint32_t zone, uint32_t type, uint32_t *page);
+uint32_t zonealloc_take(zone_worker_t *worker, uint32_t zone, uint32_t type, uint32_t *page);
 /* OWN. A lent page to the front of the list of its type. ZONE_NOT_LENT; ZONE_LIST_FULL: drain first. */
-int32_t zonealloc_put(zone_worker_t *worker, uint32_t zone, uint32_t page);
+uint32_t zonealloc_put(zone_worker_t *worker, uint32_t zone, uint32_t page);
 /* OWN. Whether the block is lent to the worker with this order: *lent is 1 or 0. */
-int32_t zonealloc_is_lent(zone_worker_t *worker, uint32_t zone, uint32_t page, uint32_t order, uint32_t *lent);
+uint32_t zonealloc_is_lent(zone_worker_t *worker, uint32_t zone, uint32_t page, uint32_t order, uint32_t *lent);
 /* OWN. How many pages the worker's list has. */
-int32_t zonealloc_cached(zone_worker_t *worker, uint32_t zone, uint32_t type, uint32_t *pages);
+uint32_t zonealloc_cached(zone_worker_t *worker, uint32_t zone, uint32_t type, uint32_t *pages);
 
 /* --- requests to one zone --- */
 
 /* ZONE. A block of 2^order pages, which is then lent: its first page. ZONE_BELOW_MARK, ZONE_NO_BLOCK: ask the zone below. */
-int32_t zonealloc_alloc(zone_worker_t *worker, uint32_t zone, uint32_t order, uint32_t type, uint32_t mark, uint32_t *page);
+uint32_t zonealloc_alloc(zone_worker_t *worker, uint32_t zone, uint32_t order, uint32_t type, uint32_t mark, uint32_t *page);
 /* ZONE. The lowest free block of this order, which is then lent. */
-int32_t zonealloc_alloc_low(zone_worker_t *worker, uint32_t zone, uint32_t order, uint32_t *page);
+uint32_t zonealloc_alloc_low(zone_worker_t *worker, uint32_t zone, uint32_t order, uint32_t *page);
 /* ZONE. Gives back a lent block to the zone, single pages too. */
-int32_t zonealloc_free(zone_worker_t *worker, uint32_t zone, uint32_t page, uint32_t order);
+uint32_t zonealloc_free(zone_worker_t *worker, uint32_t zone, uint32_t page, uint32_t order);
 /* ZONE. Posts a lent block to the worker of this number. */
-int32_t zonealloc_post(zone_worker_t *worker, uint32_t zone, uint32_t page, uint32_t order, uint32_t to);
+uint32_t zonealloc_post(zone_worker_t *worker, uint32_t zone, uint32_t page, uint32_t order, uint32_t to);
 /* ZONE. The block in front of those that were posted to the worker, which is then lent. */
-int32_t zonealloc_collect(zone_worker_t *worker, uint32_t zone, uint32_t *page, uint32_t *order);
+uint32_t zonealloc_collect(zone_worker_t *worker, uint32_t zone, uint32_t *page, uint32_t *order);
 /* ZONE. Isolates a pageblock, by its number in the zone. */
-int32_t zonealloc_isolate(zone_worker_t *worker, uint32_t zone, uint32_t pageblock);
+uint32_t zonealloc_isolate(zone_worker_t *worker, uint32_t zone, uint32_t pageblock);
 /* ZONE. Gives an isolated pageblock a type. */
-int32_t zonealloc_release(zone_worker_t *worker, uint32_t zone, uint32_t pageblock, uint32_t type);
+uint32_t zonealloc_release(zone_worker_t *worker, uint32_t zone, uint32_t pageblock, uint32_t type);
 /* ZONE. Fills the worker's empty list with up to a batch of pages. */
-int32_t zonealloc_refill(zone_worker_t *worker, uint32_t zone, uint32_t type, uint32_t mark);
+uint32_t zonealloc_refill(zone_worker_t *worker, uint32_t zone, uint32_t type, uint32_t mark);
 /* ZONE. Gives back so many pages, at least one, from the back of the worker's list. ZONE_BAD_ARGUMENT where it has fewer. */
-int32_t zonealloc_drain(zone_worker_t *worker, uint32_t zone, uint32_t type, uint32_t count);
+uint32_t zonealloc_drain(zone_worker_t *worker, uint32_t zone, uint32_t type, uint32_t count);
 /* ZONE. Gives back all pages of the worker's lists of this zone, a list at a time. Where it does not answer ZONE_OK the lists before the one
  * that was refused are empty, and the rest is as it was. */
-int32_t zonealloc_drain_all(zone_worker_t *worker, uint32_t zone);
+uint32_t zonealloc_drain_all(zone_worker_t *worker, uint32_t zone);
 
 /* --- reading --- */
 
 /* ZONE. Free blocks of each order, free and posted pages, and the level. */
-int32_t zonealloc_counts(zone_worker_t *worker, uint32_t zone, zone_counts_t *counts);
+uint32_t zonealloc_counts(zone_worker_t *worker, uint32_t zone, zone_counts_t *counts);
 /* ZONE. The info line, without an end of line or a zero: as much as there is room for, and its whole length. */
-int32_t zonealloc_info(zone_worker_t *worker, uint32_t zone, uint8_t *buffer, size_t room, size_t *len);
+uint32_t zonealloc_info(zone_worker_t *worker, uint32_t zone, uint8_t *buffer, size_t room, size_t *len);
 /* ZONE. What is noted of a page of the zone. */
-int32_t zonealloc_page(zone_worker_t *worker, uint32_t zone, uint32_t page, zone_page_t *told);
+uint32_t zonealloc_page(zone_worker_t *worker, uint32_t zone, uint32_t page, zone_page_t *told);
 /* ZONE. What a pageblock is. */
-int32_t zonealloc_pageblock(zone_worker_t *worker, uint32_t zone, uint32_t pageblock, zone_pageblock_t *told);
+uint32_t zonealloc_pageblock(zone_worker_t *worker, uint32_t zone, uint32_t pageblock, zone_pageblock_t *told);
 /* ZONE. Where the pages of a zone are, when all workers were dismissed; ZONE_HAS_WORKERS before that. What is lent then was never given
  * back. */
-int32_t zonealloc_gather(zone_row_t *row, uint32_t zone, zone_totals_t *totals);
+uint32_t zonealloc_gather(zone_row_t *row, uint32_t zone, zone_totals_t *totals);
 
 #ifdef __cplusplus
 }

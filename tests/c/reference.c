@@ -279,7 +279,7 @@ static uint32_t level_of(const zone_t *zone)
 }
 
 /* A block that is out in the worker's name from then on: its head, counted from the base. */
-static int32_t alloc(zone_t *zone, uint32_t worker, uint32_t order, uint32_t type, uint32_t mark, uint32_t *head)
+static uint32_t alloc(zone_t *zone, uint32_t worker, uint32_t order, uint32_t type, uint32_t mark, uint32_t *head)
 {
     if (!passes(zone, order, mark))
         return ZONE_BELOW_MARK;
@@ -308,7 +308,7 @@ static int is_name(const zone_spec_t *spec)
     return 1;
 }
 
-static int32_t check_spec(const zone_spec_t *spec)
+static uint32_t check_spec(const zone_spec_t *spec)
 {
     if (spec->largest < 1 || spec->largest >= ZONE_ORDERS)
         return ZONE_BAD_ARGUMENT;
@@ -326,13 +326,13 @@ static int are_lists(uint32_t batch, uint32_t high_len)
     return batch == 0 ? high_len == 0 : batch <= MOST_BATCH && high_len > batch && high_len <= LONGEST_LIST;
 }
 
-static int32_t check_making(size_t n_workers, const zone_spec_t *zones, size_t n_zones, uint32_t batch, uint32_t high_len)
+static uint32_t check_making(size_t n_workers, const zone_spec_t *zones, size_t n_zones, uint32_t batch, uint32_t high_len)
 {
     size_t i;
     if (n_zones < 1 || n_zones > ZONE_ZONES || !are_lists(batch, high_len))
         return ZONE_BAD_ARGUMENT;
     for (i = 0; i < n_zones; i++) {
-        int32_t answer = check_spec(&zones[i]);
+        uint32_t answer = check_spec(&zones[i]);
         if (answer != ZONE_OK)
             return answer;
     }
@@ -385,10 +385,10 @@ static struct row *open_row(size_t n_workers, const zone_spec_t *zones, size_t n
     return row;
 }
 
-int32_t reference_make(reference_row_t *row, reference_worker_t *workers, size_t n_workers, const zone_spec_t *zones, size_t n_zones,
+uint32_t reference_make(reference_row_t *row, reference_worker_t *workers, size_t n_workers, const zone_spec_t *zones, size_t n_zones,
                        uint32_t batch, uint32_t high_len)
 {
-    int32_t answer = check_making(n_workers, zones, n_zones, batch, high_len);
+    uint32_t answer = check_making(n_workers, zones, n_zones, batch, high_len);
     size_t i;
     if (answer != ZONE_OK)
         return answer;
@@ -408,7 +408,7 @@ int32_t reference_make(reference_row_t *row, reference_worker_t *workers, size_t
     return ZONE_OK;
 }
 
-int32_t reference_dismiss(reference_worker_t *worker)
+uint32_t reference_dismiss(reference_worker_t *worker)
 {
     if (!worker->row)
         return ZONE_BAD_HANDLE;
@@ -427,7 +427,7 @@ static int has_workers(const struct row *row)
     return 0;
 }
 
-int32_t reference_unmake(reference_row_t *row)
+uint32_t reference_unmake(reference_row_t *row)
 {
     if (!row->at)
         return ZONE_BAD_HANDLE;
@@ -441,7 +441,7 @@ int32_t reference_unmake(reference_row_t *row)
 /* --- what each call of a worker begins with --- */
 
 /* The worker's zone of this number; or none, and what is answered then. */
-static zone_t *zone_of(const reference_worker_t *worker, uint32_t zone, int32_t *answer)
+static zone_t *zone_of(const reference_worker_t *worker, uint32_t zone, uint32_t *answer)
 {
     *answer = !worker->row ? ZONE_BAD_HANDLE : zone >= worker->row->n_zones ? ZONE_BAD_ARGUMENT : ZONE_OK;
     return *answer == ZONE_OK ? &worker->row->zones[zone] : NULL;
@@ -476,9 +476,9 @@ static void put_in_front(zone_t *zone, cache_t *cache, uint32_t page)
     zone->pages[page - zone->spec.base].cached = 1;
 }
 
-int32_t reference_take(reference_worker_t *worker, uint32_t zone, uint32_t type, uint32_t *page)
+uint32_t reference_take(reference_worker_t *worker, uint32_t zone, uint32_t type, uint32_t *page)
 {
-    int32_t answer;
+    uint32_t answer;
     zone_t *at = zone_of(worker, zone, &answer);
     cache_t *cache;
     if (!at || type >= ZONE_TYPES)
@@ -493,9 +493,9 @@ int32_t reference_take(reference_worker_t *worker, uint32_t zone, uint32_t type,
     return ZONE_OK;
 }
 
-int32_t reference_put(reference_worker_t *worker, uint32_t zone, uint32_t page)
+uint32_t reference_put(reference_worker_t *worker, uint32_t zone, uint32_t page)
 {
-    int32_t answer;
+    uint32_t answer;
     zone_t *at = zone_of(worker, zone, &answer);
     cache_t *cache;
     if (!at)
@@ -509,9 +509,9 @@ int32_t reference_put(reference_worker_t *worker, uint32_t zone, uint32_t page)
     return ZONE_OK;
 }
 
-int32_t reference_is_lent(reference_worker_t *worker, uint32_t zone, uint32_t page, uint32_t order, uint32_t *lent)
+uint32_t reference_is_lent(reference_worker_t *worker, uint32_t zone, uint32_t page, uint32_t order, uint32_t *lent)
 {
-    int32_t answer;
+    uint32_t answer;
     zone_t *at = zone_of(worker, zone, &answer);
     if (!at || order >= ZONE_ORDERS)
         return at ? ZONE_BAD_ARGUMENT : answer;
@@ -519,9 +519,9 @@ int32_t reference_is_lent(reference_worker_t *worker, uint32_t zone, uint32_t pa
     return ZONE_OK;
 }
 
-int32_t reference_cached(reference_worker_t *worker, uint32_t zone, uint32_t type, uint32_t *pages)
+uint32_t reference_cached(reference_worker_t *worker, uint32_t zone, uint32_t type, uint32_t *pages)
 {
-    int32_t answer;
+    uint32_t answer;
     zone_t *at = zone_of(worker, zone, &answer);
     if (!at || type >= ZONE_TYPES)
         return at ? ZONE_BAD_ARGUMENT : answer;
@@ -531,9 +531,9 @@ int32_t reference_cached(reference_worker_t *worker, uint32_t zone, uint32_t typ
 
 /* --- requests to one zone --- */
 
-int32_t reference_alloc(reference_worker_t *worker, uint32_t zone, uint32_t order, uint32_t type, uint32_t mark, uint32_t *page)
+uint32_t reference_alloc(reference_worker_t *worker, uint32_t zone, uint32_t order, uint32_t type, uint32_t mark, uint32_t *page)
 {
-    int32_t answer;
+    uint32_t answer;
     uint32_t head;
     zone_t *at = zone_of(worker, zone, &answer);
     if (!at || order >= ZONE_ORDERS || type >= ZONE_TYPES || mark > ZONE_LOW)
@@ -544,9 +544,9 @@ int32_t reference_alloc(reference_worker_t *worker, uint32_t zone, uint32_t orde
     return answer;
 }
 
-int32_t reference_alloc_low(reference_worker_t *worker, uint32_t zone, uint32_t order, uint32_t *page)
+uint32_t reference_alloc_low(reference_worker_t *worker, uint32_t zone, uint32_t order, uint32_t *page)
 {
-    int32_t answer;
+    uint32_t answer;
     uint32_t head;
     zone_t *at = zone_of(worker, zone, &answer);
     if (!at || order >= ZONE_ORDERS)
@@ -559,9 +559,9 @@ int32_t reference_alloc_low(reference_worker_t *worker, uint32_t zone, uint32_t 
     return ZONE_OK;
 }
 
-int32_t reference_free(reference_worker_t *worker, uint32_t zone, uint32_t page, uint32_t order)
+uint32_t reference_free(reference_worker_t *worker, uint32_t zone, uint32_t page, uint32_t order)
 {
-    int32_t answer;
+    uint32_t answer;
     zone_t *at = zone_of(worker, zone, &answer);
     if (!at || order >= ZONE_ORDERS)
         return at ? ZONE_BAD_ARGUMENT : answer;
@@ -571,9 +571,9 @@ int32_t reference_free(reference_worker_t *worker, uint32_t zone, uint32_t page,
     return ZONE_OK;
 }
 
-int32_t reference_post(reference_worker_t *worker, uint32_t zone, uint32_t page, uint32_t order, uint32_t to)
+uint32_t reference_post(reference_worker_t *worker, uint32_t zone, uint32_t page, uint32_t order, uint32_t to)
 {
-    int32_t answer;
+    uint32_t answer;
     uint32_t head;
     zone_t *at = zone_of(worker, zone, &answer);
     if (!at || order >= ZONE_ORDERS || to >= worker->row->n_workers)
@@ -587,9 +587,9 @@ int32_t reference_post(reference_worker_t *worker, uint32_t zone, uint32_t page,
     return ZONE_OK;
 }
 
-int32_t reference_collect(reference_worker_t *worker, uint32_t zone, uint32_t *page, uint32_t *order)
+uint32_t reference_collect(reference_worker_t *worker, uint32_t zone, uint32_t *page, uint32_t *order)
 {
-    int32_t answer;
+    uint32_t answer;
     uint32_t head;
     zone_t *at = zone_of(worker, zone, &answer);
     if (!at)
@@ -605,9 +605,9 @@ int32_t reference_collect(reference_worker_t *worker, uint32_t zone, uint32_t *p
     return ZONE_OK;
 }
 
-int32_t reference_isolate(reference_worker_t *worker, uint32_t zone, uint32_t pageblock)
+uint32_t reference_isolate(reference_worker_t *worker, uint32_t zone, uint32_t pageblock)
 {
-    int32_t answer;
+    uint32_t answer;
     zone_t *at = zone_of(worker, zone, &answer);
     if (!at)
         return answer;
@@ -619,9 +619,9 @@ int32_t reference_isolate(reference_worker_t *worker, uint32_t zone, uint32_t pa
     return ZONE_OK;
 }
 
-int32_t reference_release(reference_worker_t *worker, uint32_t zone, uint32_t pageblock, uint32_t type)
+uint32_t reference_release(reference_worker_t *worker, uint32_t zone, uint32_t pageblock, uint32_t type)
 {
-    int32_t answer;
+    uint32_t answer;
     zone_t *at = zone_of(worker, zone, &answer);
     if (!at || type >= ZONE_TYPES)
         return at ? ZONE_BAD_ARGUMENT : answer;
@@ -634,9 +634,9 @@ int32_t reference_release(reference_worker_t *worker, uint32_t zone, uint32_t pa
 }
 
 /* The pages stand on the list in the order taken. */
-static int32_t refill(zone_t *zone, cache_t *cache, uint32_t worker, uint32_t batch, uint32_t type, uint32_t mark)
+static uint32_t refill(zone_t *zone, cache_t *cache, uint32_t worker, uint32_t batch, uint32_t type, uint32_t mark)
 {
-    int32_t answer = ZONE_OK;
+    uint32_t answer = ZONE_OK;
     uint32_t head;
     while (answer == ZONE_OK && cache->len < batch) {
         answer = alloc(zone, worker, 0, type, mark, &head);
@@ -648,9 +648,9 @@ static int32_t refill(zone_t *zone, cache_t *cache, uint32_t worker, uint32_t ba
     return cache->len > 0 ? ZONE_OK : answer;
 }
 
-int32_t reference_refill(reference_worker_t *worker, uint32_t zone, uint32_t type, uint32_t mark)
+uint32_t reference_refill(reference_worker_t *worker, uint32_t zone, uint32_t type, uint32_t mark)
 {
-    int32_t answer;
+    uint32_t answer;
     zone_t *at = zone_of(worker, zone, &answer);
     if (!at || type >= ZONE_TYPES || mark > ZONE_LOW)
         return at ? ZONE_BAD_ARGUMENT : answer;
@@ -668,9 +668,9 @@ static void drain(zone_t *zone, cache_t *cache, uint32_t count)
         give(zone, cache->pages[--cache->len] - zone->spec.base, 0);
 }
 
-int32_t reference_drain(reference_worker_t *worker, uint32_t zone, uint32_t type, uint32_t count)
+uint32_t reference_drain(reference_worker_t *worker, uint32_t zone, uint32_t type, uint32_t count)
 {
-    int32_t answer;
+    uint32_t answer;
     zone_t *at = zone_of(worker, zone, &answer);
     if (!at || type >= ZONE_TYPES || count == 0 || count > cache_of(worker, zone, type)->len)
         return at ? ZONE_BAD_ARGUMENT : answer;
@@ -678,9 +678,9 @@ int32_t reference_drain(reference_worker_t *worker, uint32_t zone, uint32_t type
     return ZONE_OK;
 }
 
-int32_t reference_drain_all(reference_worker_t *worker, uint32_t zone)
+uint32_t reference_drain_all(reference_worker_t *worker, uint32_t zone)
 {
-    int32_t answer;
+    uint32_t answer;
     uint32_t type;
     zone_t *at = zone_of(worker, zone, &answer);
     if (!at)
@@ -703,9 +703,9 @@ static void count_blocks(const zone_t *zone, uint32_t by_order[ZONE_ORDERS])
     }
 }
 
-int32_t reference_counts(reference_worker_t *worker, uint32_t zone, zone_counts_t *counts)
+uint32_t reference_counts(reference_worker_t *worker, uint32_t zone, zone_counts_t *counts)
 {
-    int32_t answer;
+    uint32_t answer;
     zone_t *at = zone_of(worker, zone, &answer);
     if (!at)
         return answer;
@@ -716,9 +716,9 @@ int32_t reference_counts(reference_worker_t *worker, uint32_t zone, zone_counts_
     return ZONE_OK;
 }
 
-int32_t reference_info(reference_worker_t *worker, uint32_t zone, uint8_t *buffer, size_t room, size_t *len)
+uint32_t reference_info(reference_worker_t *worker, uint32_t zone, uint8_t *buffer, size_t room, size_t *len)
 {
-    int32_t answer;
+    uint32_t answer;
     uint32_t by_order[ZONE_ORDERS], order;
     char line[ZONE_INFO_LINE];
     zone_t *at = zone_of(worker, zone, &answer);
@@ -732,9 +732,9 @@ int32_t reference_info(reference_worker_t *worker, uint32_t zone, uint8_t *buffe
     return ZONE_OK;
 }
 
-int32_t reference_page(reference_worker_t *worker, uint32_t zone, uint32_t page, zone_page_t *told)
+uint32_t reference_page(reference_worker_t *worker, uint32_t zone, uint32_t page, zone_page_t *told)
 {
-    int32_t answer;
+    uint32_t answer;
     zone_t *at = zone_of(worker, zone, &answer);
     const page_t *noted;
     if (!at || number_of(at, page) == NONE)
@@ -757,9 +757,9 @@ static uint32_t largest_in(const zone_t *zone, uint32_t pageblock)
     return most;
 }
 
-int32_t reference_pageblock(reference_worker_t *worker, uint32_t zone, uint32_t pageblock, zone_pageblock_t *told)
+uint32_t reference_pageblock(reference_worker_t *worker, uint32_t zone, uint32_t pageblock, zone_pageblock_t *told)
 {
-    int32_t answer;
+    uint32_t answer;
     zone_t *at = zone_of(worker, zone, &answer);
     if (!at)
         return answer;
@@ -787,7 +787,7 @@ static void total(const zone_t *zone, zone_totals_t *totals)
     }
 }
 
-int32_t reference_gather(reference_row_t *row, uint32_t zone, zone_totals_t *totals)
+uint32_t reference_gather(reference_row_t *row, uint32_t zone, zone_totals_t *totals)
 {
     if (!row->at)
         return ZONE_BAD_HANDLE;
