@@ -13,43 +13,54 @@ enum { LOW_ZONE = 40, HIGH_ZONE = 1500, ALL_PAGES = LOW_ZONE + HIGH_ZONE, PAGEBL
 
 /* --- memory, counted, and refused where it is wanted to be --- */
 
-typedef struct { uint64_t ok; void *at; } tried_t;
-typedef union { struct { size_t bytes; } noted; unsigned char apart[16]; } before_t;
+typedef struct { uint64_t ok; void *at; } tried_t;           /* whether there is some, in a register, and where, in the next */
+typedef struct { void *whole; size_t bytes; } before_t;      /* what stands before a block */
 static uint64_t asked, in_use, most_in_use, taken, blocks;
-static uint64_t refuse_from, refuse_to;   /* by their numbers, from 1 */
+static uint64_t refuse_from, refuse_to;                      /* by their numbers, from 1 */
 
 tried_t rattle_alloc(size_t bytes, size_t align);
 void rattle_dealloc(void *at);
 
-/* What is given is not zeros. */
-tried_t rattle_alloc(size_t bytes, size_t align)
+static void count_block(size_t bytes)
 {
-    tried_t got = { 0, NULL };
-    before_t *block;
-    asked++;
-    if (align > sizeof(before_t) || (asked >= refuse_from && asked <= refuse_to))
-        return got;
-    block = malloc(sizeof *block + bytes);
-    if (!block)
-        return got;
-    block->noted.bytes = bytes;
-    memset(block + 1, 0xC3, bytes);
     blocks++;
     taken += bytes;
     in_use += bytes;
     most_in_use = in_use > most_in_use ? in_use : most_in_use;
+}
+
+/* What is given is not zeros. Where there is none, some address is told all the same. */
+tried_t rattle_alloc(size_t bytes, size_t align)
+{
+    static long double none;
+    tried_t got = { 0, &none };
+    before_t before;
+    unsigned char *at;
+    asked++;
+    if (asked >= refuse_from && asked <= refuse_to)
+        return got;
+    before.bytes = bytes;
+    before.whole = malloc(bytes + align + sizeof before);
+    if (!before.whole)
+        return got;
+    at = (unsigned char *)before.whole + sizeof before;
+    at += (align - (uintptr_t)at % align) % align;
+    memcpy(at - sizeof before, &before, sizeof before);
+    memset(at, 0xC3, bytes);
+    count_block(bytes);
     got.ok = 1;
-    got.at = block + 1;
+    got.at = at;
     return got;
 }
 
 void rattle_dealloc(void *at)
 {
-    before_t *block = (before_t *)at - 1;
+    before_t before;
+    memcpy(&before, (unsigned char *)at - sizeof before, sizeof before);
+    memset(at, 0x3C, before.bytes);
     blocks--;
-    in_use -= block->noted.bytes;
-    memset(at, 0x3C, block->noted.bytes);
-    free(block);
+    in_use -= before.bytes;
+    free(before.whole);
 }
 
 /* From the one of this number on, counted from now, so many are refused. */
