@@ -167,7 +167,6 @@ static void furnish(world_t *w, known_t *k)
 {
     zone_worker_t *own = w->workers;
     uint32_t i;
-    memset(w, 0, sizeof *w);
     ANSWERS(ZONE_OK, zonealloc_make(&w->row, w->workers, CREW, specs, ZONES, BATCH, HIGH_LEN));
     ANSWERS(ZONE_OK, zonealloc_alloc(&own[0], 1, 0, ZONE_MOVABLE, ZONE_LOW, &k->lent));
     ANSWERS(ZONE_OK, zonealloc_alloc(&own[0], 1, 4, ZONE_UNMOVABLE, ZONE_MIN, &k->order4));
@@ -466,16 +465,23 @@ static void dead_handles(zone_worker_t *w, zone_row_t *row)
     REFUSED(ZONE_BAD_HANDLE, zonealloc_gather(row, 0, &told.totals));
 }
 
+/* Handles that are zeros, that of a worker which was dismissed, and those of a row which was unmade. These may be filled again. */
 static void wrong_handles(void)
 {
     world_t other;
+    zone_row_t none = ZONE_NONE;
+    uint32_t i;
     memset(&other, 0, sizeof other);
     dead_handles(&other.workers[0], &other.row);
     CHECK(are_no_workers(other.workers, CREW) && is_no_row(&other.row));
     furnish(&other, &known);
-    unfurnish(&other);
+    for (i = 0; i < CREW; i++) {
+        ANSWERS(ZONE_OK, zonealloc_dismiss(&other.workers[i]));
+        dead_handles(&other.workers[i], &none);
+    }
+    ANSWERS(ZONE_OK, zonealloc_unmake(&other.row));
     dead_handles(&other.workers[0], &other.row);
-    furnish(&other, &known);       /* handles of a row that was unmade may be filled again */
+    furnish(&other, &known);
     unfurnish(&other);
 }
 
