@@ -2,7 +2,7 @@
  *     zone      zonealloc_alloc and zonealloc_free
  *     lists     zone_alloc_pages and zone_free_pages of zonealloc_threads.h, with lists of 31 pages, at most 62
  *     malloc    aligned_alloc(4096 << order, 4096 << order) and free, of whatever allocator the process has
- *     calls     take and put on the worker's own list; is_lent, which has no gate to pass, beside readings of a zone, which have
+ *     calls     take and put on the worker's own list; is_lent, which has no gate to pass, beside a reading of a page, which has
  * The workloads are the same steps for each way, picked by the seed, with the same blocks lent. No way touches the memory of a block. */
 #define _POSIX_C_SOURCE 200112L
 #define _ISOC11_SOURCE
@@ -132,15 +132,18 @@ static void write_churn(uint32_t kept)
             give_block(ZONE, 0, slots[0][slot], orders[slot]);
 }
 
+/* Up to 64 of the pages are given back, picked at random, and then as many are taken. */
 static void write_lent(uint32_t count)
 {
-    uint32_t i, slot;
+    uint32_t i, run, holes[64];
     for (i = 0; i < count; i++)
         add(i, 0, 0);
     for (script.filled = script.len; script.len - script.filled < STEPS;) {
-        slot = below(count);
-        add(slot, 0, 1);
-        add(slot, 0, 0);
+        run = 1 + below(64);
+        for (i = 0; i < run; i++)
+            add(holes[i] = below(count / 64) * 64 + i, 0, 1);
+        for (i = 0; i < run; i++)
+            add(holes[i], 0, 0);
     }
 }
 
@@ -271,14 +274,11 @@ static void run_calls(uint32_t rounds)
     zone_worker_t *own = &pool.seats[0].worker;
     uint32_t page = 0, lent = 0;
     zone_page_t noted;
-    zone_counts_t counts;
-    if (zonealloc_refill(own, 0, ZONE_MOVABLE, ZONE_ANY) != ZONE_OK || zonealloc_isolate(own, 0, 1) != ZONE_OK)
+    if (zonealloc_refill(own, 0, ZONE_MOVABLE, ZONE_ANY) != ZONE_OK)
         stop("no pages");
     TIME("take and put, each", 2, rounds, zonealloc_take(own, 0, ZONE_MOVABLE, &page); zonealloc_put(own, 0, page));
     TIME("is_lent, no gate", 1, rounds, zonealloc_is_lent(own, 0, n % PAGES, 0, &lent));
     TIME("page, behind the gate", 1, rounds, zonealloc_page(own, 0, n % PAGES, &noted));
-    TIME("counts, behind the gate", 1, rounds, zonealloc_counts(own, 0, &counts));
-    TIME("isolate, refused behind the gate", 1, rounds, zonealloc_isolate(own, 0, 1));
 }
 
 int main(int argc, char **argv)
