@@ -85,7 +85,6 @@ static long system_call(long number, long first, long second, long third)
 static void print(const uint8_t *text, size_t bytes)
 {
     (void)system_call(1, 1, (long)text, (long)bytes);
-    (void)system_call(1, 1, (long)"\n", 1);
 }
 
 /* --- the program --- */

@@ -82,7 +82,7 @@ static void print_info(pool_t *pool)
     uint8_t line[ZONE_INFO_LINE];
     size_t len;
     if (zonealloc_info(&pool->worker, 0, line, sizeof line, &len) == ZONE_OK)
-        printf("%.*s\n", (int)len, (const char *)line);
+        printf("%.*s", (int)len, (const char *)line);
 }
 
 /* The mark stands in the block's first word and in its last. */

@@ -12,7 +12,8 @@
  * A worker's handle leads to its row, so no call takes two handles, and no worker can be used with a row that is not its own.
  *
  * Each call answers ZONE_OK or a number below. With any other number than ZONE_OK it has changed nothing, its results included, but where
- * its line says what it has. What C cannot tell is the caller's: no pointer is null, a buffer is as long as is said, no two arguments overlap.
+ * its line says what it has. Arguments are looked at before handles. What C cannot tell is the caller's: no pointer is null, a buffer is as
+ * long as is said, no two arguments overlap.
  *
  * Pages are absolute numbers, pageblocks and zones are counted from 0. The archive calls rattle_alloc and rattle_dealloc in
  * zonealloc_make, zonealloc_dismiss and zonealloc_unmake, and nowhere else: see docs/c.md. */
@@ -76,11 +77,12 @@ typedef struct zone_totals { uint32_t free, posted, cached, lent; } zone_totals_
 
 /* --- making and unmaking: these alone take and give memory --- */
 
-/* OWN. How many bytes a making takes at most, with so many workers. */
+/* OWN. How many bytes a making takes at most, with so many workers. Refused for how many zones, workers or pages there are alone. */
 uint32_t zonealloc_bytes(const zone_spec_t *zones, size_t n_zones, uint32_t workers, uint64_t *bytes);
 /* ALONE. Fills an empty row and all its empty workers, which are numbered by their place. batch 0 and high_len 0: no lists; else batch is 1
  * to 31 and high_len above it, at most 64. */
-uint32_t zonealloc_make(zone_row_t *row, zone_worker_t *workers, size_t n_workers, const zone_spec_t *zones, size_t n_zones, uint32_t batch, uint32_t high_len);
+uint32_t zonealloc_make(zone_row_t *row, zone_worker_t *workers, size_t n_workers, const zone_spec_t *zones, size_t n_zones, uint32_t batch,
+                        uint32_t high_len);
 /* ZONE, of each zone. Ends a worker. What its lists have and what is lent to it stays noted with the row until that is unmade. ZONE_BUSY:
  * the worker has left the zones behind the busy one, for good; call again. */
 uint32_t zonealloc_dismiss(zone_worker_t *worker);
@@ -118,15 +120,15 @@ uint32_t zonealloc_release(zone_worker_t *worker, uint32_t zone, uint32_t pagebl
 uint32_t zonealloc_refill(zone_worker_t *worker, uint32_t zone, uint32_t type, uint32_t mark);
 /* ZONE. Gives back so many pages, at least one, from the back of the worker's list. ZONE_BAD_ARGUMENT where it has fewer. */
 uint32_t zonealloc_drain(zone_worker_t *worker, uint32_t zone, uint32_t type, uint32_t count);
-/* ZONE. Gives back all pages of the worker's lists of this zone, a list at a time. Where it does not answer ZONE_OK the lists before the one
- * that was refused are empty, and the rest is as it was. */
+/* ZONE. Gives back all pages of the worker's lists of this zone, a list at a time. Where it does not answer ZONE_OK the lists before the
+ * one that was refused are empty, and the rest is as it was. */
 uint32_t zonealloc_drain_all(zone_worker_t *worker, uint32_t zone);
 
 /* --- reading --- */
 
 /* ZONE. Free blocks of each order, free and posted pages, and the level. */
 uint32_t zonealloc_counts(zone_worker_t *worker, uint32_t zone, zone_counts_t *counts);
-/* ZONE. The info line, without an end of line or a zero: as much as there is room for, and its whole length. */
+/* ZONE. The info line with its line feed, and no zero: as much as there is room for, and its whole length. */
 uint32_t zonealloc_info(zone_worker_t *worker, uint32_t zone, uint8_t *buffer, size_t room, size_t *len);
 /* ZONE. What is noted of a page of the zone. */
 uint32_t zonealloc_page(zone_worker_t *worker, uint32_t zone, uint32_t page, zone_page_t *told);

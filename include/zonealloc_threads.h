@@ -94,7 +94,7 @@ static inline uint32_t zone_listed(zone_pool_t *pool, zone_worker_t *own, uint32
 static inline uint32_t zone_alloc_pages(zone_pool_t *pool, uint32_t worker, uint32_t order, uint32_t type, uint32_t mark, uint32_t *zone,
                                         uint32_t *page) {
     uint32_t at, answer = ZONE_NO_BLOCK;
-    if (worker >= pool->workers) return ZONE_BAD_ARGUMENT;
+    if (worker >= pool->workers || *zone >= ZONE_ZONES) return ZONE_BAD_ARGUMENT;
     for (at = *zone + 1; at-- > 0 && (answer == ZONE_NO_BLOCK || answer == ZONE_BELOW_MARK);) {
         zone_worker_t *own = &pool->seats[worker].worker;
         if (order == 0 && pool->batch != 0) answer = zone_listed(pool, own, type, mark, at, page);

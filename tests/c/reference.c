@@ -728,6 +728,7 @@ uint32_t reference_info(reference_worker_t *worker, uint32_t zone, uint8_t *buff
     *len = (size_t)sprintf(line, "Node 0, zone %8.*s ", (int)at->spec.name_len, (const char *)at->spec.name);
     for (order = 0; order <= at->spec.largest; order++)
         *len += (size_t)sprintf(line + *len, "%6lu ", (unsigned long)by_order[order]);
+    line[(*len)++] = '\n';
     memcpy(buffer, line, room < *len ? room : *len);
     return ZONE_OK;
 }

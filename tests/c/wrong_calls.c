@@ -664,7 +664,7 @@ static void little_memory(uint32_t workers, uint32_t zones)
 
 static void good_readings(zone_worker_t *w)
 {
-    static const char line[] = "Node 0, zone      DMA      0      0      0      5 ";
+    static const char line[] = "Node 0, zone      DMA      0      0      0      5 \n";
     forget();
     ANSWERS(ZONE_OK, zonealloc_info(w, 0, told.line, 20, &told.len));
     CHECK(told.len == sizeof line - 1 && memcmp(told.line, line, 20) == 0 && is_left(told.line + 20, ZONE_INFO_LINE - 20));

@@ -1,5 +1,5 @@
 //! One worker's place at one zone.
-ghost use Rattle.std.specs.Prelude.{◌≡◌, ◌<◌, ◌≤◌, ◌≢◌, [], length, All, IfOk, IfErr, IfSome, IfNone, OnOk, OnErr, IsTrue, IsSome, Some, None, Ok, Err};
+ghost use Rattle.std.specs.Prelude.{◌≡◌, ◌<◌, ◌≤◌, ◌≢◌, [], length, All, IfOk, IfErr, IfSome, IfNone, OnOk, OnErr, IsTrue, IsOk, IsSome, Some, None, Ok, Err};
 ghost use Rattle.std.specs.Arc.{arc_value};
 ghost use Rattle.zp_model.specs.declared.request.Request.TheVariants as request;
 ghost use Rattle.zp_model.specs.declared.request.Reply.TheVariants as reply;
@@ -214,6 +214,7 @@ impl Desk {
     /// Gives back so many pages from the back of the worker's list of this type. Refused 30.
     pub(crate) fn drain(&mut self, kind: MigrateType, count: usize) -> Result<(), Denied>
         ensures ok { OnOk result (IsDrained kind count self.old self.new) }
+        ensures some { IsOk result → (1 ≤ count) × (count ≤ length (cached_of (share_at self.old 0) kind)) }
         ensures denied { IfErr result (λ d. IsDenial (request.Drain kind (back count (cached_of (share_at self.old 0) kind))) d self.old self.new) }
     {
         if count == 0 || self.share.cached_len(0, kind) < count {

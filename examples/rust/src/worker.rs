@@ -117,11 +117,11 @@ impl Worker<'_> {
         Ok((told.counts, Level::of(told.level)))
     }
 
-    /// *Zone.* The info line.
+    /// *Zone.* The info line, without its line feed.
     pub fn info(&mut self, zone: u32) -> Result<String, Refusal> {
         let (mut line, mut len) = ([0; 160], 0);
         answered(unsafe { raw::zonealloc_info(&mut self.handle, zone, line.as_mut_ptr(), line.len(), &mut len) })?;
-        Ok(String::from_utf8_lossy(&line[..len]).into_owned())
+        Ok(String::from_utf8_lossy(&line[..len]).trim_end_matches('\n').to_owned())
     }
 
     /// *Zone.* What is noted of a page.
