@@ -1,6 +1,6 @@
 -- What a call comes to, by what the worker's own call answered.
-use Rattle.std.proofs.Common.{ℕ, ◌≡◌, ◌<◌, ◌≤◌, ◌⊎◌, List, [], ◌∷◌, length, slice_set, slice_index_or, refl, sym, ap, ◌∙◌, subst, inl, inr, arith}
-use Rattle.std.specs.Prelude.{Option, Some, None}
+use Rattle.std.proofs.Common.{ℕ, ◌≡◌, ◌<◌, ◌≤◌, slice_set, refl, sym, ap, ◌∙◌, subst, inl, inr, arith}
+use Rattle.std.specs.Prelude.{Option, Some}
 use Rattle.std.proofs.lemmas.List.{set-get_or}
 use Rattle.zp_model.specs.declared.request.Request.{Request}
 use Rattle.zp_model.specs.declared.request.Reply.{Reply}
@@ -10,7 +10,7 @@ use Rattle.zp_model.specs.Refused.{refused_number}
 use Rattle.zp_share.specs.Shares.{ShareState}
 use Rattle.zp_gate.specs.declared.denied.Denied.{Denied}
 use Rattle.zp_gate.specs.declared.denied.Denied.TheVariants.{NoZone, Busy, NoWorker, NoLists, NotEmpty, TooFew, Refused}
-use Rattle.zp_gate.specs.Workers.{WorkerState, IsAskedOf, IsAt, IsDenial, IsDeniedOf, desk_at, no_share}
+use Rattle.zp_gate.specs.Workers.{WorkerState, IsAt, IsDenial, IsDeniedOf, desk_at, no_share}
 use Rattle.zonealloc.specs.Numbers.{denial_number}
 use Rattle.zonealloc.specs.Calls.{IsCall}
 

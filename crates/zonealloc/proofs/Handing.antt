@@ -1,7 +1,7 @@
 -- A list whose last value is handed out into the next place of another.
-use Rattle.std.proofs.Common.{ℕ, ◌≡◌, ◌<◌, ◌≤◌, ◌+◌, ◌++◌, ◌∷◌, ◌∙◌, List, [], All, length, slice_set, slice_index_or, ap, refl, sym, subst, inl, inr, arith}
+use Rattle.std.proofs.Common.{ℕ, ◌≡◌, ◌<◌, ◌+◌, ◌++◌, ◌∷◌, ◌∙◌, List, [], All, length, slice_set, slice_index_or, ap, refl, sym, subst, inl, inr, arith}
 use Rattle.std.proofs.lemmas.Bool.{cases_lt}
-use Rattle.std.proofs.lemmas.List.{length-append, length-set, get_or_append_left, get_or_push, get_or-set_same, get_or-set_other}
+use Rattle.std.proofs.lemmas.List.{length-append, get_or_append_left, get_or_push, get_or-set_same, get_or-set_other}
 
 -- a list is longer by its last value
 pub one_more : {A : Type 0} (all rest : List A) (last : A) → all ≡ rest ++ last ∷ [] → length all ≡ length rest + 1

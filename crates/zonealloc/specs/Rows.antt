@@ -1,5 +1,5 @@
 -- What the making and unmaking of a row come to, by their answers (this profile).
-use Rattle.std.specs.Prelude.{ℕ, ◌≡◌, ◌<◌, ◌≤◌, ◌⊎◌, List, All, length, take, Option, None, Some}
+use Rattle.std.specs.Prelude.{ℕ, ◌≡◌, ◌≤◌, ◌⊎◌, List, All, length, take, Option, None, Some}
 use Rattle.zp_gate.specs.declared.row.Row.{Row}
 use Rattle.zp_gate.specs.Gates.{IsGathered}
 use Rattle.zp_gate.specs.Workers.{WorkerState}

@@ -1,5 +1,5 @@
 -- Each step on a gate keeps its rule.
-use Rattle.std.proofs.Common.{◌≡◌, ◌≢◌, ◌⊎◌, ℕ, zero, suc, ◌<◌, ◌==◌, List, [], ◌∷◌, ◌++◌, length, map, All, slice_index_or, set, refl, sym, ap, ◌∙◌, subst, inl, inr, arith, nat_eq}
+use Rattle.std.proofs.Common.{◌≡◌, ◌⊎◌, ℕ, zero, suc, ◌<◌, ◌==◌, List, [], ◌∷◌, ◌++◌, length, map, All, slice_index_or, set, refl, sym, ap, ◌∙◌, subst, inl, inr, arith}
 use Rattle.std.specs.Prelude.{Option, Some, None, Result, Ok, Err}
 use Rattle.std.proofs.lemmas.List.{length-set}
 use mathlib.Core.Option.{some, none, some-ne-none, some-injective}
@@ -16,14 +16,13 @@ use Rattle.zp_model.specs.declared.request.Reply.{Reply}
 use Rattle.zp_zone.specs.Seats.{ZoneState}
 use Rattle.zp_share.specs.ZoneShares.{ZoneShareState}
 use Rattle.zp_share.specs.Shares.{ShareState}
-use Rattle.zp_share.specs.Sections.{ComesOf, IsAsked, IsRefilled}
+use Rattle.zp_share.specs.Sections.{ComesOf, IsRefilled}
 use Rattle.zp_model.specs.declared.refused.Refused.{Refused}
 use Rattle.zp_laws.proofs.Sameness.{step-same}
-use Rattle.zp_model.specs.Step.{step as plain_step}
 use Rattle.atomic_table.proofs.Lists.{at_set, set_here, exchanged}
 use Rattle.zp_gate.specs.declared.gate.GateKey.{GateKey}
 use Rattle.zp_gate.specs.declared.room.Room.{Room}
-use Rattle.zp_gate.specs.Gates.{IsAtHome, IsBehind, IsGated, HasIn, HoldsRoom, IsIn, IsOneShare, Comes, Enters, Leaves, no_zone, zone_in}
+use Rattle.zp_gate.specs.Gates.{IsAtHome, IsBehind, IsGated, HoldsRoom, IsIn, IsOneShare, Comes, Enters, Leaves, no_zone, zone_in}
 
 abbrev Views : GateKey → List GateKey → Type 0
 Views key views = (by : ℕ) (v : GateKey) → get_elem? views by ≡ some v → v ≡ key

@@ -1,8 +1,7 @@
 -- What a worker has of each zone of its row, and what its calls come to. A zone behind a gate is not seen between calls: each of them
 -- speaks of the zone as it is then, whatever it is (this profile).
-use Rattle.std.specs.Prelude.{ℕ, ◌≡◌, ◌<◌, ◌≤◌, ◌⊎◌, List, [], length, slice_index_or, slice_set, Option, None, Some, Result, Ok, Err}
+use Rattle.std.specs.Prelude.{ℕ, ◌≡◌, ◌<◌, ◌≤◌, ◌⊎◌, List, [], length, slice_index_or, slice_set, Some, Result}
 use Rattle.atomic_table.specs.Seated.{TableId}
-use Rattle.zp_model.specs.declared.constants.TheConstants.{LONGEST_LIST}
 use Rattle.zp_model.specs.declared.request.Request.{Request}
 use Rattle.zp_model.specs.declared.request.Reply.{Reply}
 use Rattle.zp_model.specs.declared.refused.Refused.{Refused as Refusal}

@@ -1,5 +1,5 @@
 //! A gate with a zone behind it.
-ghost use Rattle.std.specs.Prelude.{◌≡◌, ◌↔◌, ◌<◌, ◌≤◌, All, length, IfOk, IfErr, IfSome, IsSome, [], ◌∷◌};
+ghost use Rattle.std.specs.Prelude.{◌≡◌, ◌<◌, IfOk, IfErr, IfSome, []};
 ghost use Rattle.zp_model.specs.declared.refused.Refused.TheVariants.{Memory};
 ghost use Rattle.zp_model.specs.Zone.{workers_of};
 ghost use Rattle.zp_zone.specs.Seats.{IsSeatOf};

@@ -1,5 +1,5 @@
 //! A row of zones and its workers.
-ghost use Rattle.std.specs.Prelude.{◌≡◌, ◌<◌, ◌≤◌, All, IfOk, IfSome, length};
+ghost use Rattle.std.specs.Prelude.{◌≡◌, ◌<◌, All, IfOk, IfSome, length};
 ghost use Rattle.std.specs.Arc.{arc_value};
 ghost use Rattle.zp_zone.specs.Seats.{IsUnused, SeatState};
 ghost use Rattle.zp_gate.specs.Gates.{IsGathered};

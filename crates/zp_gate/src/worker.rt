@@ -1,5 +1,5 @@
 //! A worker of a row. The calls that ask a zone answer `Denied::Busy` at once where somebody is with it.
-ghost use Rattle.std.specs.Prelude.{ℕ, ◌≡◌, ◌<◌, ◌≤◌, ◌≢◌, ◌↔◌, length, IfOk, IfErr, IfSome, IfNone, IsSome, IsTrue, OnErr, OnOk, [], false, take, ◌-◌, Ok, Err};
+ghost use Rattle.std.specs.Prelude.{ℕ, ◌≡◌, ◌<◌, ◌≤◌, length, IfOk, IfErr, IfSome, IfNone, IsTrue, OnErr, OnOk, [], false, take, ◌-◌, Ok, Err};
 ghost use Rattle.zp_model.specs.declared.request.Request.TheVariants as request;
 ghost use Rattle.zp_model.specs.declared.request.Reply.TheVariants as reply;
 ghost use Rattle.zp_model.specs.declared.constants.TheConstants.{LONGEST_LIST};

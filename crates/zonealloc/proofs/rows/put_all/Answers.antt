@@ -1,4 +1,4 @@
-use Rattle.std.proofs.Common.{ℕ, ◌≡◌, ◌∙◌, All, length, sym, arith}
+use Rattle.std.proofs.Common.{◌≡◌, ◌∙◌, length, arith}
 use Rattle.std.proofs.lemmas.List.{length-set}
 use Rattle.zonealloc.specs.Rows.{HasWorkerOf}
 use Rattle.zonealloc.proofs.Handing.{front_so, last_so, next_so, one_more}

@@ -1,4 +1,4 @@
-use Rattle.std.proofs.Common.{◌≡◌, arith}
+use Rattle.std.proofs.Common.{arith}
 use Rattle.zonealloc.proofs.rows.zonealloc_make.Goals as goal
 
 pub returns-in-Ok : goal.returns-in-Ok

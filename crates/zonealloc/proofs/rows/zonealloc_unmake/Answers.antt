@@ -1,4 +1,4 @@
-use Rattle.std.proofs.Common.{◌≡◌, arith}
+use Rattle.std.proofs.Common.{arith}
 use Rattle.zonealloc.proofs.rows.zonealloc_unmake.Goals as goal
 
 pub returns : goal.returns

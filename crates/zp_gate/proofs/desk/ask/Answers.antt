@@ -1,4 +1,3 @@
-use Rattle.std.proofs.Common.{◌≡◌}
 use Rattle.zp_gate.proofs.Moves.{has_room, in_room, still_in}
 use Rattle.zp_gate.proofs.desk.ask.Goals as goal
 

@@ -1,4 +1,4 @@
-use Rattle.std.proofs.Common.{ℕ, ◌≡◌, ◌==◌, arith, sym, ◌∙◌}
+use Rattle.std.proofs.Common.{◌≡◌, ◌==◌, arith, sym, ◌∙◌}
 use Rattle.std.specs.List.{count_by}
 use Rattle.zp_share.specs.Shares.{ShareState}
 use Rattle.zp_gate.proofs.Crews.{below_next}

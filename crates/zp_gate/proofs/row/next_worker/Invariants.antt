@@ -1,4 +1,4 @@
-use Rattle.std.proofs.Common.{◌≡◌, ◌≤◌, length, vec_len, vec_capacity}
+use Rattle.std.proofs.Common.{◌≡◌, ◌≤◌, vec_len, vec_capacity}
 use Rattle.zp_gate.proofs.row.next_worker.Given as goal
 
 abbrev pub invariant-loop-zone : goal.invariant-loop-zone

@@ -1,4 +1,4 @@
-use Rattle.std.proofs.Common.{◌≡◌, ◌≤◌, ◌+◌, length, vec_len, vec_capacity}
+use Rattle.std.proofs.Common.{◌≤◌, ◌+◌, length, vec_len, vec_capacity}
 use Rattle.zp_gate.proofs.row.open_row.Given as goal
 
 abbrev pub invariant-loop-zone : goal.invariant-loop-zone

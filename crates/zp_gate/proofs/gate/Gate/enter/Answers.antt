@@ -1,4 +1,4 @@
-use Rattle.std.proofs.Common.{◌≡◌, ap, ◌∙◌, sym, arith}
+use Rattle.std.proofs.Common.{arith}
 use Rattle.zp_gate.proofs.Moves.{came_in, comes, enters}
 use Rattle.zp_gate.proofs.gate.Gate.enter.Goals as goal
 

@@ -1,4 +1,4 @@
-use Rattle.std.proofs.Common.{List, ◌≡◌, All, [], ◌∷◌, ap, length, sym, ◌∙◌, subst, slice_index_or, arith}
+use Rattle.std.proofs.Common.{List, ◌≡◌, All, ap, length, sym, ◌∙◌, subst, slice_index_or, arith}
 use Rattle.zp_model.specs.Zone.{workers_of}
 use Rattle.zp_zone.specs.Seats.{ZoneState}
 use Rattle.zp_share.specs.Shares.{ShareState}

@@ -1,4 +1,4 @@
-use Rattle.std.proofs.Common.{◌≡◌, refl}
+use Rattle.std.proofs.Common.{refl}
 use Rattle.std.specs.Vec.{with_item}
 use Rattle.zp_model.specs.declared.request.Request.TheVariants as request
 use Rattle.zp_share.specs.Sections.{IsAsked}

@@ -1,4 +1,4 @@
-use Rattle.std.proofs.Common.{◌≡◌, refl}
+use Rattle.std.proofs.Common.{refl}
 use Rattle.std.specs.Vec.{with_item}
 use Rattle.zp_gate.proofs.Moves.{asked_behind}
 use Rattle.zp_gate.proofs.room.Room.section.Goals as goal

@@ -1,8 +1,8 @@
-use Rattle.std.proofs.Common.{List, ◌≡◌, ◌∙◌, ap, sym, subst, length, All}
+use Rattle.std.proofs.Common.{List, sym, subst, All}
 use Rattle.zp_zone.specs.Seats.{ZoneState}
 use Rattle.zp_share.specs.Gathering.{IsCrewOf}
 use Rattle.zp_share.specs.Shares.{ShareState}
-use Rattle.zp_gate.specs.Gates.{no_zone, zone_in}
+use Rattle.zp_gate.specs.Gates.{no_zone}
 use Rattle.zp_gate.proofs.Crews.{of_one}
 use Rattle.zp_gate.proofs.room.Room.totals.Goals as goal
 

@@ -1,4 +1,4 @@
-use Rattle.std.proofs.Common.{ℕ, ◌≡◌, ◌+◌, ◌≤◌, ap, length, take, arith}
+use Rattle.std.proofs.Common.{ap, length, arith}
 use Rattle.zp_gate.proofs.Crews.{left_next}
 use Rattle.zp_gate.proofs.worker.Worker.leave_all.Goals as goal
 

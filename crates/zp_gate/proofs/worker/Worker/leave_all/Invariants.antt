@@ -1,4 +1,4 @@
-use Rattle.std.proofs.Common.{ℕ, ◌≡◌, ◌+◌, ◌≤◌, length, take}
+use Rattle.std.proofs.Common.{◌≡◌, ◌+◌, length, take}
 use Rattle.zp_gate.proofs.worker.Worker.leave_all.Given as goal
 
 abbrev pub invariant-loop : goal.invariant-loop
