@@ -8,7 +8,8 @@ ghost use Rattle.zp_model.specs.declared.constants.TheConstants.{LONGEST_LIST};
 ghost use Rattle.zp_model.specs.Rows.{front};
 ghost use Rattle.zp_zone.specs.Seats.{IsUnused};
 ghost use Rattle.zp_share.specs.PlainShares.{back};
-ghost use Rattle.zp_share.specs.Sections.{IsRefilled, MayAsk};
+ghost use Rattle.zp_zone.specs.NamedZone.{block_reply, isolate_reply, page_reply, release_reply};
+ghost use Rattle.zp_share.specs.Sections.{IsRefilled, done_reply};
 ghost use Rattle.zp_share.specs.Shares.{share_at};
 ghost use Rattle.zp_share.specs.ZoneShares.{cached_of, is_lent};
 ghost use Rattle.zp_gate.specs.Gates.{IsOneShare};
@@ -19,7 +20,7 @@ use crate::gate::Gate;
 use std::alloc::Global;
 use std::marker::Model;
 use std::sync::Arc;
-use zp_model::{Block, Mark, MigrateType, Order, PageNo, Refused, Reply, Request, Worker};
+use zp_model::{Block, Mark, MigrateType, Order, PageNo, Refused, Worker};
 use zp_share::{ListConfig, Share};
 use zp_zone::Seat;
 
@@ -42,20 +43,154 @@ impl Model for Desk {
     ghost invariant = { λ d. IsOneShare (arc_value d.gate).table.shared.key.seat.tie d.share };
 }
 
-/// One request to the zone behind a gate, where nobody is in.
+/// A block for a share of the zone. Nothing where somebody is with the zone.
 #[inline(always)]
-fn ask(gate: &Gate, share: &mut Share, request: &Request) -> Option<Reply>
+fn ask_alloc(
+    gate: &Gate,
+    share: &mut Share,
+    order: Order,
+    kind: MigrateType,
+    mark: Mark,
+) -> Option<Result<PageNo, Refused>>
     requires share { IsOneShare gate.now.table.shared.key.seat.tie share.old }
-    requires may { MayAsk gate.now.table.shared.key.workers share.old.batch request.now (share_at share.old 0) }
     ensures share { IsOneShare gate.now.table.shared.key.seat.tie share.new }
-    ensures some { IfSome result (λ q. IsAnswer request.now q share.old share.new) }
+    ensures some { IfSome result (λ r. IsAnswer (request.Alloc order kind mark) (page_reply r) share.old share.new) }
     ensures none { IfNone result (share.new ≡ share.old) }
 {
     let mut pass = gate.enter()?;
     let room = pass.slot_mut(&gate.table.shared, 0);
-    let reply = room.section(share, request);
+    let answer = room.alloc(share, order, kind, mark);
     gate.leave(pass);
-    Some(reply)
+    Some(answer)
+}
+
+/// The lowest block, for a share of the zone. Nothing where somebody is with the zone.
+#[inline(always)]
+fn ask_alloc_low(gate: &Gate, share: &mut Share, order: Order) -> Option<Result<Block, Refused>>
+    requires share { IsOneShare gate.now.table.shared.key.seat.tie share.old }
+    ensures share { IsOneShare gate.now.table.shared.key.seat.tie share.new }
+    ensures some { IfSome result (λ r. IsAnswer (request.AllocLow order) (block_reply r) share.old share.new) }
+    ensures none { IfNone result (share.new ≡ share.old) }
+{
+    let mut pass = gate.enter()?;
+    let room = pass.slot_mut(&gate.table.shared, 0);
+    let answer = room.alloc_low(share, order);
+    gate.leave(pass);
+    Some(answer)
+}
+
+/// A block back from a share of the zone. Nothing where somebody is with the zone.
+#[inline(always)]
+fn ask_free(
+    gate: &Gate,
+    share: &mut Share,
+    page: PageNo,
+    order: Order,
+) -> Option<Result<(), Refused>>
+    requires share { IsOneShare gate.now.table.shared.key.seat.tie share.old }
+    ensures share { IsOneShare gate.now.table.shared.key.seat.tie share.new }
+    ensures some { IfSome result (λ r. IsAnswer (request.Free page order) (done_reply reply.Freed r) share.old share.new) }
+    ensures none { IfNone result (share.new ≡ share.old) }
+{
+    let mut pass = gate.enter()?;
+    let room = pass.slot_mut(&gate.table.shared, 0);
+    let answer = room.free(share, page, order);
+    gate.leave(pass);
+    Some(answer)
+}
+
+/// A block of a share posted to a worker. Nothing where somebody is with the zone.
+#[inline(always)]
+fn ask_post(
+    gate: &Gate,
+    share: &mut Share,
+    page: PageNo,
+    order: Order,
+    to: Worker,
+) -> Option<Result<(), Refused>>
+    requires share { IsOneShare gate.now.table.shared.key.seat.tie share.old }
+    requires to { to < gate.now.table.shared.key.workers }
+    ensures share { IsOneShare gate.now.table.shared.key.seat.tie share.new }
+    ensures some { IfSome result (λ r. IsAnswer (request.Post page order to) (done_reply reply.Posted r) share.old share.new) }
+    ensures none { IfNone result (share.new ≡ share.old) }
+{
+    let mut pass = gate.enter()?;
+    let room = pass.slot_mut(&gate.table.shared, 0);
+    let answer = room.post(share, page, order, to);
+    gate.leave(pass);
+    Some(answer)
+}
+
+/// The block in front of those posted to the share's worker. Nothing where somebody is with the zone.
+#[inline(always)]
+fn ask_collect(gate: &Gate, share: &mut Share) -> Option<Result<Block, Refused>>
+    requires share { IsOneShare gate.now.table.shared.key.seat.tie share.old }
+    ensures share { IsOneShare gate.now.table.shared.key.seat.tie share.new }
+    ensures some { IfSome result (λ r. IsAnswer request.Collect (block_reply r) share.old share.new) }
+    ensures none { IfNone result (share.new ≡ share.old) }
+{
+    let mut pass = gate.enter()?;
+    let room = pass.slot_mut(&gate.table.shared, 0);
+    let answer = room.collect(share);
+    gate.leave(pass);
+    Some(answer)
+}
+
+/// A pageblock isolated, by a share of the zone. Nothing where somebody is with the zone.
+#[inline(always)]
+fn ask_isolate(gate: &Gate, share: &mut Share, pageblock: u32) -> Option<Result<(), Refused>>
+    requires share { IsOneShare gate.now.table.shared.key.seat.tie share.old }
+    ensures share { IsOneShare gate.now.table.shared.key.seat.tie share.new }
+    ensures some { IfSome result (λ r. IsAnswer (request.Isolate pageblock) (isolate_reply r) share.old share.new) }
+    ensures none { IfNone result (share.new ≡ share.old) }
+{
+    let mut pass = gate.enter()?;
+    let room = pass.slot_mut(&gate.table.shared, 0);
+    let answer = room.isolate(share, pageblock);
+    gate.leave(pass);
+    Some(answer)
+}
+
+/// An isolated pageblock released, by a share of the zone. Nothing where somebody is with the zone.
+#[inline(always)]
+fn ask_release(
+    gate: &Gate,
+    share: &mut Share,
+    pageblock: u32,
+    kind: MigrateType,
+) -> Option<Result<(), Refused>>
+    requires share { IsOneShare gate.now.table.shared.key.seat.tie share.old }
+    ensures share { IsOneShare gate.now.table.shared.key.seat.tie share.new }
+    ensures some { IfSome result (λ r. IsAnswer (request.Release pageblock kind) (release_reply r) share.old share.new) }
+    ensures none { IfNone result (share.new ≡ share.old) }
+{
+    let mut pass = gate.enter()?;
+    let room = pass.slot_mut(&gate.table.shared, 0);
+    let answer = room.release(share, pageblock, kind);
+    gate.leave(pass);
+    Some(answer)
+}
+
+/// Pages back from the end of a list of a share. Nothing where somebody is with the zone.
+#[inline(always)]
+fn ask_drain(
+    gate: &Gate,
+    share: &mut Share,
+    kind: MigrateType,
+    count: usize,
+) -> Option<Result<(), Refused>>
+    requires share { IsOneShare gate.now.table.shared.key.seat.tie share.old }
+    requires some { 1 ≤ count }
+    requires within { count ≤ length (cached_of (share_at share.old 0) kind) }
+    ensures share { IsOneShare gate.now.table.shared.key.seat.tie share.new }
+    ensures some { IfSome result (λ r. IsAnswer (request.Drain kind (back count (cached_of (share_at share.old 0) kind))) (done_reply reply.Drained r) share.old share.new) }
+    ensures none { IfNone result (share.new ≡ share.old) }
+{
+    let mut pass = gate.enter()?;
+    let room = pass.slot_mut(&gate.table.shared, 0);
+    let answer = room.drain(share, kind, count);
+    gate.leave(pass);
+    Some(answer)
 }
 
 /// Fills the empty list of this type from the zone behind a gate, where nobody is in.
@@ -80,18 +215,15 @@ fn fill(
     Some(filled)
 }
 
-/// The value, where the reply is of the kind that answers the request; or why not. No other reply comes.
-macro_rules! answered {
-    ($desk:expr, $request:expr, $kind:pat => $value:expr) => {{
-        let Some(reply) = ask(&$desk.gate, &mut $desk.share, $request) else {
-            return Err(Denied::Busy);
-        };
-        match reply {
-            $kind => Ok($value),
-            Reply::Refused(refused) => Err(Denied::Refused(refused)),
-            _ => unreachable!(),
+/// What was answered, with why not where nobody asked.
+macro_rules! told {
+    ($asked:expr) => {
+        match $asked {
+            Some(Ok(value)) => Ok(value),
+            Some(Err(refused)) => Err(Denied::Refused(refused)),
+            None => Err(Denied::Busy),
         }
-    }};
+    };
 }
 
 impl Desk {
@@ -133,8 +265,7 @@ impl Desk {
         ensures ok { IfOk result (λ page. IsAnswer (request.Alloc order kind mark) (reply.Page page) self.old self.new) }
         ensures denied { IfErr result (λ d. IsDenial (request.Alloc order kind mark) d self.old self.new) }
     {
-        let request = Request::Alloc(order, kind, mark);
-        answered!(self, &request, Reply::Page(page) => page)
+        told!(ask_alloc(&self.gate, &mut self.share, order, kind, mark))
     }
 
     /// The lowest block of this order, which is then lent. Refused 11 or 30.
@@ -142,8 +273,7 @@ impl Desk {
         ensures ok { IfOk result (λ block. IsAnswer (request.AllocLow order) (reply.Block block) self.old self.new) }
         ensures denied { IfErr result (λ d. IsDenial (request.AllocLow order) d self.old self.new) }
     {
-        let request = Request::AllocLow(order);
-        answered!(self, &request, Reply::Block(block) => block)
+        told!(ask_alloc_low(&self.gate, &mut self.share, order))
     }
 
     /// Gives back a lent block. Refused 20 or 30.
@@ -151,8 +281,7 @@ impl Desk {
         ensures ok { OnOk result (IsAnswer (request.Free page order) reply.Freed self.old self.new) }
         ensures denied { IfErr result (λ d. IsDenial (request.Free page order) d self.old self.new) }
     {
-        let request = Request::Free(page, order);
-        answered!(self, &request, Reply::Freed => ())
+        told!(ask_free(&self.gate, &mut self.share, page, order))
     }
 
     /// Posts a lent block to a worker. Refused 20 or 30.
@@ -163,8 +292,7 @@ impl Desk {
         if u32::from(to.number()) >= self.gate.workers {
             return Err(Denied::NoWorker);
         }
-        let request = Request::Post(page, order, to);
-        answered!(self, &request, Reply::Posted => ())
+        told!(ask_post(&self.gate, &mut self.share, page, order, to))
     }
 
     /// The block in front of those posted to the worker, which is then lent. Refused 12 or 30.
@@ -172,7 +300,7 @@ impl Desk {
         ensures ok { IfOk result (λ block. IsAnswer request.Collect (reply.Block block) self.old self.new) }
         ensures denied { IfErr result (λ d. IsDenial request.Collect d self.old self.new) }
     {
-        answered!(self, &Request::Collect, Reply::Block(block) => block)
+        told!(ask_collect(&self.gate, &mut self.share))
     }
 
     /// Isolates the pageblock of this number. Refused 13, 14 or 30.
@@ -180,8 +308,7 @@ impl Desk {
         ensures ok { OnOk result (IsAnswer (request.Isolate pageblock) reply.Isolated self.old self.new) }
         ensures denied { IfErr result (λ d. IsDenial (request.Isolate pageblock) d self.old self.new) }
     {
-        let request = Request::Isolate(pageblock);
-        answered!(self, &request, Reply::Isolated => ())
+        told!(ask_isolate(&self.gate, &mut self.share, pageblock))
     }
 
     /// Gives an isolated pageblock a type. Refused 13, 15 or 30.
@@ -189,8 +316,7 @@ impl Desk {
         ensures ok { OnOk result (IsAnswer (request.Release pageblock kind) reply.Released self.old self.new) }
         ensures denied { IfErr result (λ d. IsDenial (request.Release pageblock kind) d self.old self.new) }
     {
-        let request = Request::Release(pageblock, kind);
-        answered!(self, &request, Reply::Released => ())
+        told!(ask_release(&self.gate, &mut self.share, pageblock, kind))
     }
 
     /// Fills the worker's empty list of this type with up to a batch of pages. Refused 10, 11 or 30.
@@ -204,11 +330,7 @@ impl Desk {
         if self.share.cached_len(0, kind) != 0 {
             return Err(Denied::NotEmpty);
         }
-        match fill(&self.gate, &mut self.share, kind, mark) {
-            Some(Ok(())) => Ok(()),
-            Some(Err(refused)) => Err(Denied::Refused(refused)),
-            None => Err(Denied::Busy),
-        }
+        told!(fill(&self.gate, &mut self.share, kind, mark))
     }
 
     /// Gives back so many pages from the back of the worker's list of this type. Refused 30.
@@ -220,8 +342,7 @@ impl Desk {
         if count == 0 || self.share.cached_len(0, kind) < count {
             return Err(Denied::TooFew);
         }
-        let request = Request::Drain(kind, self.share.back(0, kind, count));
-        answered!(self, &request, Reply::Drained => ())
+        told!(ask_drain(&self.gate, &mut self.share, kind, count))
     }
 
     /// How many pages the worker's list of this type has.

@@ -5,13 +5,16 @@ ghost use Rattle.zp_model.specs.Zone.{workers_of};
 ghost use Rattle.zp_share.specs.Gathering.{AddsUp, IsCrewOf, owns_at, totals_of};
 ghost use Rattle.zp_share.specs.Shares.{ShareState, plain, share_at};
 ghost use Rattle.zp_model.specs.declared.request.Request.TheVariants as request;
-ghost use Rattle.zp_share.specs.Sections.{IsRefilled, MayAsk};
+ghost use Rattle.zp_model.specs.declared.request.Reply.TheVariants as reply;
+ghost use Rattle.zp_zone.specs.NamedZone.{block_reply, isolate_reply, page_reply, release_reply};
+ghost use Rattle.zp_share.specs.PlainShares.{back};
+ghost use Rattle.zp_share.specs.Sections.{IsRefilled, done_reply};
 ghost use Rattle.zp_share.specs.ZoneShares.{cached_of};
 ghost use Rattle.zp_gate.specs.declared.gate.GateKey.{GateKey};
 ghost use Rattle.zp_gate.specs.Gates.{IsBehind, IsOneShare, zone_in};
 ghost use Rattle.zp_gate.specs.Workers.{IsAnswer};
 
-use zp_model::{Mark, MigrateType, Refused, Reply, Request};
+use zp_model::{Block, Mark, MigrateType, Order, PageNo, Refused, Worker};
 use zp_share::{Share, Totals, gather};
 use zp_zone::Zone;
 
@@ -23,18 +26,130 @@ pub struct Room {
 }
 
 impl Room {
-    /// One request to the zone, by a share of it.
-    #[tactic(auto, using(crate::proofs::Moves::asked_behind))]
+    /// A block for a share of the zone.
     #[inline(always)]
-    pub(crate) fn section(&mut self, share: &mut Share, request: &Request) -> Reply
+    pub(crate) fn alloc(
+        &mut self,
+        share: &mut Share,
+        order: Order,
+        kind: MigrateType,
+        mark: Mark,
+    ) -> Result<PageNo, Refused>
         requires zone { length self.old.zones.items ≡ 1 }
         requires share { IsOneShare (zone_in self.old).tie share.old }
-        requires may { MayAsk (workers_of (zone_in self.old).plain) share.old.batch request.now (share_at share.old 0) }
-        ensures answer { IsAnswer request.now result share.old share.new }
+        ensures answer { IsAnswer (request.Alloc order kind mark) (page_reply result) share.old share.new }
         ensures share { IsOneShare (zone_in self.old).tie share.new }
         ensures behind { (key : GateKey) → IsBehind key self.old → IsBehind key self.new }
     {
-        share.section(&mut self.zones[0], 0, request)
+        share.alloc_block(&mut self.zones[0], 0, order, kind, mark)
+    }
+
+    /// The lowest block, for a share of the zone.
+    #[inline(always)]
+    pub(crate) fn alloc_low(&mut self, share: &mut Share, order: Order) -> Result<Block, Refused>
+        requires zone { length self.old.zones.items ≡ 1 }
+        requires share { IsOneShare (zone_in self.old).tie share.old }
+        ensures answer { IsAnswer (request.AllocLow order) (block_reply result) share.old share.new }
+        ensures share { IsOneShare (zone_in self.old).tie share.new }
+        ensures behind { (key : GateKey) → IsBehind key self.old → IsBehind key self.new }
+    {
+        share.alloc_low(&mut self.zones[0], 0, order)
+    }
+
+    /// A block back from a share of the zone.
+    #[inline(always)]
+    pub(crate) fn free(
+        &mut self,
+        share: &mut Share,
+        page: PageNo,
+        order: Order,
+    ) -> Result<(), Refused>
+        requires zone { length self.old.zones.items ≡ 1 }
+        requires share { IsOneShare (zone_in self.old).tie share.old }
+        ensures answer { IsAnswer (request.Free page order) (done_reply reply.Freed result) share.old share.new }
+        ensures share { IsOneShare (zone_in self.old).tie share.new }
+        ensures behind { (key : GateKey) → IsBehind key self.old → IsBehind key self.new }
+    {
+        share.free_block(&mut self.zones[0], 0, page, order)
+    }
+
+    /// A block of a share posted to a worker.
+    #[inline(always)]
+    pub(crate) fn post(
+        &mut self,
+        share: &mut Share,
+        page: PageNo,
+        order: Order,
+        to: Worker,
+    ) -> Result<(), Refused>
+        requires zone { length self.old.zones.items ≡ 1 }
+        requires share { IsOneShare (zone_in self.old).tie share.old }
+        requires to { to < workers_of (zone_in self.old).plain }
+        ensures answer { IsAnswer (request.Post page order to) (done_reply reply.Posted result) share.old share.new }
+        ensures share { IsOneShare (zone_in self.old).tie share.new }
+        ensures behind { (key : GateKey) → IsBehind key self.old → IsBehind key self.new }
+    {
+        share.post(&mut self.zones[0], 0, page, order, to)
+    }
+
+    /// The block in front of those posted to the share's worker.
+    #[inline(always)]
+    pub(crate) fn collect(&mut self, share: &mut Share) -> Result<Block, Refused>
+        requires zone { length self.old.zones.items ≡ 1 }
+        requires share { IsOneShare (zone_in self.old).tie share.old }
+        ensures answer { IsAnswer request.Collect (block_reply result) share.old share.new }
+        ensures share { IsOneShare (zone_in self.old).tie share.new }
+        ensures behind { (key : GateKey) → IsBehind key self.old → IsBehind key self.new }
+    {
+        share.collect(&mut self.zones[0], 0)
+    }
+
+    /// A pageblock isolated, by a share of the zone.
+    #[inline(always)]
+    pub(crate) fn isolate(&mut self, share: &mut Share, pageblock: u32) -> Result<(), Refused>
+        requires zone { length self.old.zones.items ≡ 1 }
+        requires share { IsOneShare (zone_in self.old).tie share.old }
+        ensures answer { IsAnswer (request.Isolate pageblock) (isolate_reply result) share.old share.new }
+        ensures share { IsOneShare (zone_in self.old).tie share.new }
+        ensures behind { (key : GateKey) → IsBehind key self.old → IsBehind key self.new }
+    {
+        share.isolate(&mut self.zones[0], 0, pageblock)
+    }
+
+    /// An isolated pageblock released, by a share of the zone.
+    #[inline(always)]
+    pub(crate) fn release(
+        &mut self,
+        share: &mut Share,
+        pageblock: u32,
+        kind: MigrateType,
+    ) -> Result<(), Refused>
+        requires zone { length self.old.zones.items ≡ 1 }
+        requires share { IsOneShare (zone_in self.old).tie share.old }
+        ensures answer { IsAnswer (request.Release pageblock kind) (release_reply result) share.old share.new }
+        ensures share { IsOneShare (zone_in self.old).tie share.new }
+        ensures behind { (key : GateKey) → IsBehind key self.old → IsBehind key self.new }
+    {
+        share.release(&mut self.zones[0], 0, pageblock, kind)
+    }
+
+    /// Pages back from the end of a list of a share.
+    #[inline(always)]
+    pub(crate) fn drain(
+        &mut self,
+        share: &mut Share,
+        kind: MigrateType,
+        count: usize,
+    ) -> Result<(), Refused>
+        requires zone { length self.old.zones.items ≡ 1 }
+        requires share { IsOneShare (zone_in self.old).tie share.old }
+        requires some { 1 ≤ count }
+        requires within { count ≤ length (cached_of (share_at share.old 0) kind) }
+        ensures answer { IsAnswer (request.Drain kind (back count (cached_of (share_at share.old 0) kind))) (done_reply reply.Drained result) share.old share.new }
+        ensures share { IsOneShare (zone_in self.old).tie share.new }
+        ensures behind { (key : GateKey) → IsBehind key self.old → IsBehind key self.new }
+    {
+        share.drain(&mut self.zones[0], 0, kind, count)
     }
 
     /// Fills the share's empty list of this type.
