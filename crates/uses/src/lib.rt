@@ -15,7 +15,6 @@ mod low_block;
 mod page_pool;
 mod reading_in_history;
 mod replayed_pieces;
-mod shared_row;
 mod two_pages;
 
 pub use buddyinfo::{Memory, show};
@@ -31,7 +30,6 @@ pub use low_block::take_below;
 pub use page_pool::PagePool;
 pub use reading_in_history::read_before_the_lock;
 pub use replayed_pieces::replayed_zone;
-pub use shared_row::{SharedRun, share_a_zone};
 pub use two_pages::take_two;
 
 // One zone that threads share, by the names of a row of one.

@@ -6,9 +6,10 @@ use arrayvec::ArrayVec;
 use std::alloc::Global;
 use std::test::*;
 use uses::{
-    Emptying, HugePool, Memory, PagePool, SharedRun, empty_a_pageblock, give_run, one_page, relay,
-    share_a_zone, show, take_below, take_huge_page, take_two,
+    Emptying, HugePool, Memory, PagePool, empty_a_pageblock, give_run, one_page, relay, show,
+    take_below, take_huge_page, take_two,
 };
+use uses_desks::{SharedRun, share_a_zone};
 use zp_model::{Largest, Level, Order, PageNo};
 use zp_text::{WriteFault, Writer};
 use zp_zone::{Seat, Zone, ZoneConfig};

@@ -1,4 +1,4 @@
-//! Zones that threads share, and workers at their desks: what no clause says of them, and how it is asked of traces.
+//! Zones that threads share: what no clause says of them, with no desk.
 #![tactic(auto)]
 
 #[cfg(test)]

@@ -1,19 +1,7 @@
-//! Traces whose workers run in threads, over zones behind locks, each when a plan gives it its turn. What a zone answers is of its
-//! rules: a new zone of 4,096 pages from page 0 on gives its first single pages from 3072 on, and its lowest block begins at page 0.
+//! A zone behind its lock, a worker's share, and readers of its board. A new zone of 4,096 pages from page 0 on gives its first single pages
+//! from 3072 on.
 
-mod case;
-mod full;
 mod full_lists;
-mod gates;
-mod histories;
-mod keepers;
 mod one_zone;
 mod places;
-mod plan;
 mod readings;
-mod rows;
-mod schedules;
-mod sections;
-mod strayed;
-mod two_calls;
-mod workers;

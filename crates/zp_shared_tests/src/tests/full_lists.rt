@@ -5,8 +5,6 @@ ghost use Rattle.zp_model.specs.Zone.{workers_of};
 ghost use Rattle.zp_share.specs.Shares.{IsShareOf, key_of};
 ghost use Rattle.zp_shared.specs.Rows.{opened_board, opened_key};
 
-use super::case::Told::*;
-use super::case::{FULL, NOT_LENT, Told};
 use super::one_zone::{OnlyWorker, alone, config, opened_with_lists};
 use std::alloc::Global;
 use std::marker::Brand;
@@ -29,7 +27,22 @@ enum Call {
     Drain,
 }
 
+/// What it is told: the page of a block, how many pages were drained, the number of a refusal.
+#[derive(Clone, Copy, PartialEq, Eq, Drop)]
+enum Told {
+    Page(u32),
+    Freed,
+    Drained(u32),
+    Refused(u8),
+}
+
 use Call::*;
+use Told::*;
+
+/// A full journal.
+const FULL: Told = Refused(30);
+
+const NOT_LENT: Told = Refused(20);
 
 /// The calls, what each is answered, and then the pages of the worker's list, the front first, and those that are lent.
 const CALLS: [(Call, Told, &[u32], &[u32]); 14] = [

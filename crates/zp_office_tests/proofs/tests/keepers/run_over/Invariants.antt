@@ -1,7 +1,7 @@
 use Rattle.std.proofs.Common.{map}
 use Rattle.zp_shared.specs.Rows.{opened_board, opened_key}
-use Rattle.zp_shared_tests.proofs.tests.rows.run_zones.Given as goal
+use Rattle.zp_office_tests.proofs.tests.keepers.run_over.Given as goal
 
--- the name of the opened zones
+-- the name of the opened zone
 abbrev pub ghosts-run_as : goal.ghosts-run_as
 ghosts-run_as g a = record { zones = map opened_key a.opened.items; boards = map opened_board a.opened.items }

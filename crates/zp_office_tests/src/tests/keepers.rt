@@ -6,7 +6,6 @@ ghost use Rattle.zp_office.specs.Desks.{IsReady};
 ghost use Rattle.zp_office.specs.Runs.{IsLentTo};
 ghost use Rattle.zp_shared.specs.Rows.{IsRowOf, opened_board, opened_key};
 
-use super::one_zone::alone;
 use super::rows::opened_trace;
 use std::alloc::Global;
 use std::marker::Brand;
@@ -46,6 +45,15 @@ fn opened_one(alloc: Global) -> Option<(Zone, Vec<Desk>)>
 struct Ran<K: Keeps> {
     desks: Vec<Desk>,
     closed: Closed<K>,
+}
+
+/// A vector of one.
+fn alone<T: Drop>(alloc: Global, one: T) -> Option<Vec<T>>
+    ensures { IfSome result (λ all. all.items ≡ one ∷ []) }
+{
+    let mut all = Vec::with_capacity(alloc, 1).ok()?;
+    all.push_reserved(one);
+    Some(all)
 }
 
 /// The workers of these desks run over the zone.

@@ -4,7 +4,7 @@ use Rattle.zp_office.specs.Desks.{IsReady}
 use Rattle.zp_model.proofs.RowLists.{written_back}
 use Rattle.zp_office.proofs.Running.{rows_lent}
 use Rattle.zp_shared.specs.Rows.{opened_key}
-use Rattle.zp_shared_tests.proofs.tests.keepers.run_over.Goals as goal
+use Rattle.zp_office_tests.proofs.tests.keepers.run_over.Goals as goal
 
 pub run_as-requires-clause-readers : goal.run_as-requires-clause-readers
 run_as-requires-clause-readers g c κs within =

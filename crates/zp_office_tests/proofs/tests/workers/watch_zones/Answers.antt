@@ -1,7 +1,7 @@
 use Rattle.std.proofs.Common.{◌∙◌, sym, subst}
 use Rattle.zp_office.specs.Desks.{IsReady}
 use Rattle.zp_shared.proofs.Opening.{keys_back}
-use Rattle.zp_shared_tests.proofs.tests.workers.watch_zones.Goals as goal
+use Rattle.zp_office_tests.proofs.tests.workers.watch_zones.Goals as goal
 
 pub watch_as-requires-clause-ready : goal.watch_as-requires-clause-ready
 watch_as-requires-clause-ready g c =

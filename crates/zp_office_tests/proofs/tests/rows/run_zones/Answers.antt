@@ -3,7 +3,7 @@ use Rattle.zp_office.specs.Desks.{IsReady}
 use Rattle.zp_model.proofs.RowLists.{written_back}
 use Rattle.zp_shared.proofs.Opening.{keys_back}
 use Rattle.zp_office.proofs.Running.{rows_lent}
-use Rattle.zp_shared_tests.proofs.tests.rows.run_zones.Goals as goal
+use Rattle.zp_office_tests.proofs.tests.rows.run_zones.Goals as goal
 
 pub run_as-requires-clause-readers : goal.run_as-requires-clause-readers
 run_as-requires-clause-readers g c κs within =
