@@ -1,7 +1,9 @@
-//! Callers of workers at their desks, as a user would write them. As those of `uses`, each is proved from the contracts of the calls that it
-//! makes, with no proof file; they stand apart because desks do.
+//! A caller of workers at their desks, as a user would write it. As those of `uses_owned`, it is proved from the contracts of the calls that it
+//! makes, with no proof file.
 #![tactic(auto)]
 
 mod shared_row;
+#[cfg(test)]
+mod tests;
 
 pub use shared_row::{SharedRun, share_a_zone};

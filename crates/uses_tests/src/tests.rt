@@ -5,11 +5,10 @@ ghost use Rattle.zp_zone.specs.Seats.{IsSeatOf};
 use arrayvec::ArrayVec;
 use std::alloc::Global;
 use std::test::*;
-use uses::{
+use uses_owned::{
     Emptying, HugePool, Memory, PagePool, empty_a_pageblock, give_run, one_page, relay, show,
     take_below, take_huge_page, take_two,
 };
-use uses_desks::{SharedRun, share_a_zone};
 use zp_model::{Largest, Level, Order, PageNo};
 use zp_text::{WriteFault, Writer};
 use zp_zone::{Seat, Zone, ZoneConfig};
@@ -185,17 +184,6 @@ fn a_block_below_a_limit_is_kept(rt: HostRuntime) {
     };
     let Hand { zone, seat, .. } = &mut hand;
     assert!(rt; low_pages(zone, seat) == ([Some(0), Some(16), None], 1024 - 32));
-}
-
-const SHARED: SharedRun = SharedRun {
-    free_pages: 1024,
-    requests: 4,
-    is_legal: true,
-};
-
-#[test]
-fn two_workers_share_a_zone(rt: HostRuntime) {
-    assert!(rt; share_a_zone(&rt, rt.alloc(), dma(0)) == Some(SHARED));
 }
 
 /// Keeps the bytes that it is given.

@@ -3,13 +3,13 @@ ghost use Rattle.std.specs.Prelude.{◌≡◌, ◌∷◌, [], All, IfOk};
 ghost use Rattle.zp_shared.specs.Rows.{opened_board, opened_key};
 ghost use Rattle.zp_zone.specs.Seats.{IsSeatOf, IsUnused};
 
-use crate::hand::lists;
 use crate::locked::ENTRIES;
-use crate::zones::{FRONT, PAGES};
 use std::alloc::Global;
 use std::marker::Brand;
 use std::sync::Wait;
 use zp_loads::{Unmade, config, expect};
+use zp_makings::lists;
+use zp_makings::zones::{FRONT, PAGES};
 use zp_model::Order;
 use zp_share::ListConfig;
 use zp_shared::{Crew, Keeps, Naming, OpenedZone, WorkerAt};

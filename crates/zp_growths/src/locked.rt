@@ -4,13 +4,13 @@ ghost use Rattle.zp_share.specs.Shares.{IsShareOf, key_of};
 ghost use Rattle.zp_shared.specs.Rows.{board_at, opened_board, opened_key};
 ghost use Rattle.zp_zone.specs.Seats.{IsSeatOf, IsUnused};
 
-use crate::hand::lists;
-use crate::zones::{FRONT, PAGES};
 use std::alloc::Global;
 use std::marker::Brand;
 use std::sync::Wait;
 use zp_journal::Journal;
 use zp_loads::{Unmade, config, expect};
+use zp_makings::lists;
+use zp_makings::zones::{FRONT, PAGES};
 use zp_model::{Counts, Mark, MigrateType, Order};
 use zp_share::Share;
 use zp_shared::{

@@ -6,15 +6,10 @@
 //! and whether it leaves something; and two runs with few and with many calls, whether a call takes any (`tests/growths`).
 #![tactic(auto)]
 
-mod boards;
-mod buddies;
 mod crews;
-mod hand;
 mod locked;
 mod offices;
-mod shares;
 mod words;
-mod zones;
 
 use std::env;
 use std::process::ExitCode;

@@ -5,13 +5,13 @@ ghost use Rattle.zp_share.specs.Shares.{key_of};
 ghost use Rattle.zp_trace.specs.Grammar.{IsBeginning, IsHeader, lines_of};
 ghost use Rattle.zp_zone.specs.Seats.{ZoneState};
 
-use crate::hand::lists;
-use crate::zones::PAGES;
 use std::alloc::Global;
 use std::sync::Wait;
 use std::thread::Threads;
 use zp_journal::{Journal, JournalCheck, counts_after, replay_journal};
 use zp_loads::{Unmade, config, expect};
+use zp_makings::lists;
+use zp_makings::zones::PAGES;
 use zp_model::Worker;
 use zp_office::{Command, Desk, Office, OpenGate, opened, opened_desks, run_zones, script_of};
 use zp_share::Share;

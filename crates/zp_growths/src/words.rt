@@ -1,10 +1,11 @@
 //! The words, and what is made of each.
 
-use crate::{boards, buddies, crews, locked, offices, shares, zones};
+use crate::{crews, locked, offices};
 use std::alloc::Global;
 use std::sync::Wait;
 use std::thread::Threads;
 use zp_loads::Unmade;
+use zp_makings::{boards, buddies, shares, zones};
 
 /// What can be made.
 #[derive(Clone, Copy, PartialEq, Eq, Debug, Drop)]

@@ -2,7 +2,7 @@
 //! pageblock is one such block, and no block that comes back is joined to more.
 ghost use Rattle.std.specs.Prelude.{◌≡◌, IfSome, IsTrue};
 ghost use Rattle.zp_zone.specs.Seats.{IsSeatOf, Agrees, has};
-ghost use Rattle.uses.specs.declared.huge_pool.TheConstants.{HUGE};
+ghost use Rattle.uses_owned.specs.declared.huge_pool.TheConstants.{HUGE};
 
 use std::alloc::Global;
 use zp_model::{Largest, Mark, MigrateType, Order, PageNo, Refused};

@@ -1,7 +1,7 @@
 //! A run of 512 pages, 2 MiB of pages of 4 KiB, or a single page in its place.
 ghost use Rattle.std.specs.Prelude.{IfOk};
 ghost use Rattle.zp_zone.specs.Seats.{IsSeatOf};
-ghost use Rattle.uses.specs.Lent.{IsLent};
+ghost use Rattle.uses_owned.specs.Lent.{IsLent};
 
 use zp_model::{Mark, MigrateType, Order, PageNo, Refused};
 use zp_zone::{Seat, Zone};

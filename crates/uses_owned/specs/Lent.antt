@@ -1,7 +1,7 @@
 -- What a caller says of pages that it keeps.
 use Rattle.std.specs.Prelude.{IsTrue}
 use Rattle.zp_zone.specs.Seats.{SeatState, has}
-use Rattle.uses.specs.declared.huge_page.Run.{Run}
+use Rattle.uses_owned.specs.declared.huge_page.Run.{Run}
 
 -- the pages are the seat's, as one block
 abbrev pub IsLent : SeatState → Run → Type 0
