@@ -10,7 +10,7 @@ use Rattle.zp_zone.specs.declared.page.ZonePage.{ZonePage}
 use Rattle.zp_zone.specs.declared.pageblock.Pageblock.{Pageblock}
 use Rattle.zp_gate.specs.declared.told.Told.{Told}
 use Rattle.zp_gate.specs.Readings.{IsThen, TellsLine, TellsPage, TellsPageblock, TellsZone}
-use Rattle.zp_gate.specs.Workers.{WorkerState, tie_at}
+use Rattle.zp_gate.specs.Workers.{WorkerState, desk_at}
 use Rattle.zonealloc.specs.declared.told.ZoneCounts.{ZoneCounts}
 use Rattle.zonealloc.specs.declared.told.PageEntry.{PageEntry}
 use Rattle.zonealloc.specs.declared.told.PageblockEntry.{PageblockEntry}
@@ -46,13 +46,13 @@ pub record IsReading {A : Type 0} (tells : WorkerState → A → Type 0) (i code
   pub told : code ≡ 0 → (v : WorkerState) × (b ≡ Some v) × (i < length v) × tells v after
 
 abbrev pub TellsCounts : ℕ → WorkerState → ZoneCounts → Type 0
-TellsCounts i v c = (t : Told) × (c ≡ counts_told t) × IsThen (tie_at v i) (TellsZone t)
+TellsCounts i v c = (t : Told) × (c ≡ counts_told t) × IsThen (desk_at v i) (TellsZone t)
 
 abbrev pub TellsEntry : ℕ → ℕ → WorkerState → PageEntry → Type 0
-TellsEntry i p v e = (x : ZonePage) × (e ≡ entry_told x.state) × IsThen (tie_at v i) (TellsPage p (Some x))
+TellsEntry i p v e = (x : ZonePage) × (e ≡ entry_told x.state) × IsThen (desk_at v i) (TellsPage p (Some x))
 
 abbrev pub TellsPageblockEntry : ℕ → ℕ → WorkerState → PageblockEntry → Type 0
-TellsPageblockEntry i n v e = (x : Pageblock) × (e ≡ pageblock_told x) × IsThen (tie_at v i) (TellsPageblock n (Some x))
+TellsPageblockEntry i n v e = (x : Pageblock) × (e ≡ pageblock_told x) × IsThen (desk_at v i) (TellsPageblock n (Some x))
 
 -- a text over the beginning of a buffer, as much as there is room for
 abbrev pub written_over : List ℕ → List ℕ → List ℕ
@@ -62,4 +62,4 @@ written_over text buffer = take (length buffer) text ++ drop (length text) buffe
 pub record IsInfoCall (i code : ℕ) (buffer written : List ℕ) (before after : ℕ) (b a : Option WorkerState) : Type 0 where
   pub same : a ≡ b
   pub kept : 1 ≤ code → (written ≡ buffer) × (after ≡ before)
-  pub told : code ≡ 0 → (v : WorkerState) × (line : List ℕ) × (b ≡ Some v) × IsThen (tie_at v i) (TellsLine line) × (written ≡ written_over line buffer) × (after ≡ length line)
+  pub told : code ≡ 0 → (v : WorkerState) × (line : List ℕ) × (b ≡ Some v) × (i < length v) × IsThen (desk_at v i) (TellsLine line) × (written ≡ written_over line buffer) × (after ≡ length line)

@@ -1,11 +1,13 @@
 -- What the making and unmaking of a row come to, by their answers (this profile).
-use Rattle.std.specs.Prelude.{ℕ, ◌≡◌, ◌≤◌, ◌⊎◌, List, All, length, take, Option, None, Some}
-use Rattle.zp_gate.specs.declared.row.Row.{Row}
+use Rattle.std.specs.Prelude.{ℕ, ◌≡◌, ◌<◌, ◌≤◌, ◌⊎◌, List, All, length, map, take, Option, None, Some}
 use Rattle.zp_gate.specs.Gates.{IsGathered}
+use Rattle.zp_gate.specs.Rows.{RowState, key_at, untied}
 use Rattle.zp_gate.specs.Workers.{WorkerState}
 use Rattle.zonealloc.specs.declared.handles.RowHandle.{RowHandle}
 use Rattle.zonealloc.specs.declared.handles.WorkerHandle.{WorkerHandle}
 use Rattle.zonealloc.specs.declared.rows.ZoneTotals.{ZoneTotals}
+use Rattle.zonealloc.specs.declared.zone_spec.ZoneSpec.{ZoneSpec}
+use Rattle.zonealloc.specs.Zones.{spec_key}
 
 abbrev pub IsEmpty : WorkerHandle → Type 0
 IsEmpty h = h.slot.value ≡ None
@@ -14,11 +16,11 @@ IsEmpty h = h.slot.value ≡ None
 abbrev pub HasWorkerOf : ℕ → WorkerHandle → Type 0
 HasWorkerOf n h = (v : WorkerState) × (h.slot.value ≡ Some v) × (length v ≡ n)
 
--- answered 0, all that were empty are full; else nothing changed
-pub record IsMakeCall (zones code : ℕ) (r s : RowHandle) (ws vs : List WorkerHandle) : Type 0 where
+-- answered 0, all that were empty are full, the row with a zone as each of those described; else nothing changed
+pub record IsMakeCall (zones : List ZoneSpec) (code : ℕ) (r s : RowHandle) (ws vs : List WorkerHandle) : Type 0 where
   pub was_empty : code ≡ 0 → (r.slot.value ≡ None) × All IsEmpty ws
-  pub row : code ≡ 0 → (x : Row) × (s.slot.value ≡ Some x)
-  pub workers : code ≡ 0 → (length vs ≡ length ws) × All (HasWorkerOf zones) vs
+  pub row : code ≡ 0 → (x : RowState) × (s.slot.value ≡ Some x) × (map untied x ≡ map (spec_key (length ws)) zones)
+  pub workers : code ≡ 0 → (length vs ≡ length ws) × All (HasWorkerOf (length zones)) vs
   pub unchanged : 1 ≤ code → (s ≡ r) × (vs ≡ ws)
 
 -- answered 0, there was a worker and is none; answered 42, it has left some of its last zones; else nothing changed
@@ -29,12 +31,12 @@ pub record IsDismissCall (code : ℕ) (b a : Option WorkerState) : Type 0 where
   pub codes : (code ≡ 0) ⊎ ((code ≡ 41) ⊎ (code ≡ 42))
 
 -- answered 0, there was a row and is none; else nothing changed
-pub record IsUnmakeCall (code : ℕ) (b a : Option Row) : Type 0 where
-  pub done : code ≡ 0 → (a ≡ None) × ((x : Row) × (b ≡ Some x))
+pub record IsUnmakeCall (code : ℕ) (b a : Option RowState) : Type 0 where
+  pub done : code ≡ 0 → (a ≡ None) × ((x : RowState) × (b ≡ Some x))
   pub unchanged : 1 ≤ code → a ≡ b
 
--- the row stays; answered 0, this is where the pages of the zone are, with what all its workers left
-pub record IsGatherCall (code : ℕ) (before after : ZoneTotals) (b a : Option Row) : Type 0 where
+-- the row stays; answered 0, this is where the pages of its zone at place i are, with what all its workers left
+pub record IsGatherCall (i code : ℕ) (before after : ZoneTotals) (b a : Option RowState) : Type 0 where
   pub same : a ≡ b
-  pub done : code ≡ 0 → IsGathered (record { free = after.free; posted = after.posted; cached = after.cached; lent = after.lent })
+  pub done : code ≡ 0 → (x : RowState) × (b ≡ Some x) × (i < length x) × IsGathered (key_at x i) (record { free = after.free; posted = after.posted; cached = after.cached; lent = after.lent })
   pub kept : 1 ≤ code → after ≡ before

@@ -1,6 +1,8 @@
 //! What C makes a zone with.
-ghost use Rattle.std.specs.Prelude.{◌≡◌, ◌≤◌, IfErr, IfSome};
+ghost use Rattle.std.specs.Prelude.{ℕ, ◌≡◌, ◌≤◌, IfErr, IfOk, IfSome};
 ghost use Rattle.zp_model.specs.declared.constants.TheConstants.{MAX_PAGES};
+ghost use Rattle.zp_gate.specs.Rows.{key_for};
+ghost use Rattle.zonealloc.specs.Zones.{spec_key};
 
 use crate::answers::{BAD_ARGUMENT, refused};
 use zp_model::{LONGEST_NAME, Largest, MAX_PAGES, Refused};
@@ -20,6 +22,7 @@ pub struct ZoneSpec {
 
 /// The config of a zone; else the number of what is wrong. The rest the making of the zone tests.
 pub fn config_of(spec: &ZoneSpec) -> Result<ZoneConfig<'_>, u32>
+    ensures ok { IfOk result (λ config. (workers : ℕ) → key_for workers config ≡ spec_key workers spec.now) }
     ensures why { IfErr result (λ n. 1 ≤ n) }
 {
     let bytes = &spec.name;

@@ -1,3 +1,4 @@
 pub mod Gates
 pub mod Workers
 pub mod Readings
+pub mod Rows

@@ -1,19 +1,28 @@
 -- What is told of the zone behind a gate, as it is at one moment (this profile).
 use Rattle.std.specs.Prelude.{ℕ, ◌≡◌, ◌<◌, ◌↔◌, List, Option, IsSome, IfSome}
-use Rattle.atomic_table.specs.Seated.{TableId}
 use Rattle.zp_model.specs.Area.{pageblocks_of}
 use Rattle.zp_model.specs.Info.{counts_of, info_line}
 use Rattle.zp_model.specs.Mark.{level_of}
+use Rattle.zp_model.specs.Run.{IsHistory}
 use Rattle.zp_model.specs.Zone.{pages_of, posted_pages}
 use Rattle.zp_zone.specs.NamedZone.{IsPageOf, IsPageblockOf, IsToldOf}
 use Rattle.zp_zone.specs.Seats.{ZoneState}
 use Rattle.zp_zone.specs.declared.page.ZonePage.{ZonePage}
 use Rattle.zp_zone.specs.declared.pageblock.Pageblock.{Pageblock}
+use Rattle.zp_share.specs.Shares.{ShareState, share_at}
+use Rattle.zp_share.specs.ZoneShares.{SharesIn}
 use Rattle.zp_gate.specs.declared.told.Told.{Told}
 
--- it is so of the zone of this tie, as it is then
-abbrev pub IsThen : TableId → (ZoneState → Type 0) → Type 0
-IsThen t P = (z : ZoneState) × (z.tie ≡ t) × P z
+-- the zone of a worker's share: it is of the share's tie and has its first page, what is out in the worker's name is what the share has, page by
+-- page of the zone, and it is what its requests, the worker's sections among them, made of it, so a lawful zone
+pub record IsZoneOf (s : ShareState) (z : ZoneState) : Type 0 where
+  pub agrees : SharesIn z (share_at s 0)
+  pub base : z.plain.base ≡ (share_at s 0).seat.part.base
+  pub history : IsHistory z.plain z.entries
+
+-- it is so of the zone of this share, as it is then
+abbrev pub IsThen : ShareState → (ZoneState → Type 0) → Type 0
+IsThen s P = (z : ZoneState) × IsZoneOf s z × P z
 
 -- its free blocks and pages, its level, and its posted pages
 abbrev pub TellsZone : Told → ZoneState → Type 0

@@ -1,7 +1,6 @@
 -- What a worker has of each zone of its row, and what its calls come to. A zone behind a gate is not seen between calls: each of them
 -- speaks of the zone as it is then, whatever it is (this profile).
 use Rattle.std.specs.Prelude.{ℕ, ◌≡◌, ◌<◌, ◌≤◌, ◌⊎◌, List, [], length, slice_index_or, slice_set, Some, Result}
-use Rattle.atomic_table.specs.Seated.{TableId}
 use Rattle.zp_model.specs.declared.request.Request.{Request}
 use Rattle.zp_model.specs.declared.request.Reply.{Reply}
 use Rattle.zp_model.specs.declared.refused.Refused.{Refused as Refusal}
@@ -27,10 +26,6 @@ no_share = record { worker = 0; batch = 0; high_len = 0; zones = [] }
 
 abbrev pub desk_at : WorkerState → ℕ → ShareState
 desk_at w i = slice_index_or w i no_share
-
--- the tie of the zone at place i
-abbrev pub tie_at : WorkerState → ℕ → TableId
-tie_at w i = (share_at (desk_at w i) 0).seat.tie
 
 -- the zone was asked, and this is its answer: one step of the zone, whatever it was, and the same step of the worker's share
 abbrev pub IsAnswer : Request → Reply → ShareState → ShareState → Type 0

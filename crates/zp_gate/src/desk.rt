@@ -12,17 +12,20 @@ ghost use Rattle.zp_zone.specs.NamedZone.{block_reply, isolate_reply, page_reply
 ghost use Rattle.zp_share.specs.Sections.{IsRefilled, done_reply};
 ghost use Rattle.zp_share.specs.Shares.{share_at};
 ghost use Rattle.zp_share.specs.ZoneShares.{cached_of, is_lent};
-ghost use Rattle.zp_gate.specs.Gates.{IsOneShare};
+ghost use Rattle.zp_gate.specs.Gates.{IsOneShare, IsSeatBy};
+ghost use Rattle.zp_gate.specs.Readings.{IsThen, TellsLine, TellsPage, TellsPageblock, TellsZone};
 ghost use Rattle.zp_gate.specs.Workers.{IsAnswer, IsDenial, IsDrained, IsFilled, IsPut, IsTaken};
 
 use crate::denied::Denied;
 use crate::gate::Gate;
+use crate::told::Told;
 use std::alloc::Global;
 use std::marker::Model;
 use std::sync::Arc;
 use zp_model::{Block, Mark, MigrateType, Order, PageNo, Refused, Worker};
 use zp_share::{ListConfig, Share};
-use zp_zone::Seat;
+use zp_text::{INFO_LINE, TextBuffer};
+use zp_zone::{Pageblock, Seat, ZonePage};
 
 /// One worker's place at one zone: the gate of the zone, and the worker's share of it. Contracts see the share.
 #[derive(Drop)]
@@ -40,7 +43,7 @@ impl Model for Desk {
 
     ghost view = { λ d. d.share };
 
-    ghost invariant = { λ d. IsOneShare (arc_value d.gate).table.shared.key.seat.tie d.share };
+    ghost invariant = { λ d. IsOneShare (arc_value d.gate).table.shared.key d.share };
 }
 
 /// A block for a share of the zone. Nothing where somebody is with the zone.
@@ -52,8 +55,8 @@ fn ask_alloc(
     kind: MigrateType,
     mark: Mark,
 ) -> Option<Result<PageNo, Refused>>
-    requires share { IsOneShare gate.now.table.shared.key.seat.tie share.old }
-    ensures share { IsOneShare gate.now.table.shared.key.seat.tie share.new }
+    requires share { IsOneShare gate.now.table.shared.key share.old }
+    ensures share { IsOneShare gate.now.table.shared.key share.new }
     ensures some { IfSome result (λ r. IsAnswer (request.Alloc order kind mark) (page_reply r) share.old share.new) }
     ensures none { IfNone result (share.new ≡ share.old) }
 {
@@ -67,8 +70,8 @@ fn ask_alloc(
 /// The lowest block, for a share of the zone. Nothing where somebody is with the zone.
 #[inline(always)]
 fn ask_alloc_low(gate: &Gate, share: &mut Share, order: Order) -> Option<Result<Block, Refused>>
-    requires share { IsOneShare gate.now.table.shared.key.seat.tie share.old }
-    ensures share { IsOneShare gate.now.table.shared.key.seat.tie share.new }
+    requires share { IsOneShare gate.now.table.shared.key share.old }
+    ensures share { IsOneShare gate.now.table.shared.key share.new }
     ensures some { IfSome result (λ r. IsAnswer (request.AllocLow order) (block_reply r) share.old share.new) }
     ensures none { IfNone result (share.new ≡ share.old) }
 {
@@ -87,8 +90,8 @@ fn ask_free(
     page: PageNo,
     order: Order,
 ) -> Option<Result<(), Refused>>
-    requires share { IsOneShare gate.now.table.shared.key.seat.tie share.old }
-    ensures share { IsOneShare gate.now.table.shared.key.seat.tie share.new }
+    requires share { IsOneShare gate.now.table.shared.key share.old }
+    ensures share { IsOneShare gate.now.table.shared.key share.new }
     ensures some { IfSome result (λ r. IsAnswer (request.Free page order) (done_reply reply.Freed r) share.old share.new) }
     ensures none { IfNone result (share.new ≡ share.old) }
 {
@@ -108,9 +111,9 @@ fn ask_post(
     order: Order,
     to: Worker,
 ) -> Option<Result<(), Refused>>
-    requires share { IsOneShare gate.now.table.shared.key.seat.tie share.old }
+    requires share { IsOneShare gate.now.table.shared.key share.old }
     requires to { to < gate.now.table.shared.key.workers }
-    ensures share { IsOneShare gate.now.table.shared.key.seat.tie share.new }
+    ensures share { IsOneShare gate.now.table.shared.key share.new }
     ensures some { IfSome result (λ r. IsAnswer (request.Post page order to) (done_reply reply.Posted r) share.old share.new) }
     ensures none { IfNone result (share.new ≡ share.old) }
 {
@@ -124,8 +127,8 @@ fn ask_post(
 /// The block in front of those posted to the share's worker. Nothing where somebody is with the zone.
 #[inline(always)]
 fn ask_collect(gate: &Gate, share: &mut Share) -> Option<Result<Block, Refused>>
-    requires share { IsOneShare gate.now.table.shared.key.seat.tie share.old }
-    ensures share { IsOneShare gate.now.table.shared.key.seat.tie share.new }
+    requires share { IsOneShare gate.now.table.shared.key share.old }
+    ensures share { IsOneShare gate.now.table.shared.key share.new }
     ensures some { IfSome result (λ r. IsAnswer request.Collect (block_reply r) share.old share.new) }
     ensures none { IfNone result (share.new ≡ share.old) }
 {
@@ -139,8 +142,8 @@ fn ask_collect(gate: &Gate, share: &mut Share) -> Option<Result<Block, Refused>>
 /// A pageblock isolated, by a share of the zone. Nothing where somebody is with the zone.
 #[inline(always)]
 fn ask_isolate(gate: &Gate, share: &mut Share, pageblock: u32) -> Option<Result<(), Refused>>
-    requires share { IsOneShare gate.now.table.shared.key.seat.tie share.old }
-    ensures share { IsOneShare gate.now.table.shared.key.seat.tie share.new }
+    requires share { IsOneShare gate.now.table.shared.key share.old }
+    ensures share { IsOneShare gate.now.table.shared.key share.new }
     ensures some { IfSome result (λ r. IsAnswer (request.Isolate pageblock) (isolate_reply r) share.old share.new) }
     ensures none { IfNone result (share.new ≡ share.old) }
 {
@@ -159,8 +162,8 @@ fn ask_release(
     pageblock: u32,
     kind: MigrateType,
 ) -> Option<Result<(), Refused>>
-    requires share { IsOneShare gate.now.table.shared.key.seat.tie share.old }
-    ensures share { IsOneShare gate.now.table.shared.key.seat.tie share.new }
+    requires share { IsOneShare gate.now.table.shared.key share.old }
+    ensures share { IsOneShare gate.now.table.shared.key share.new }
     ensures some { IfSome result (λ r. IsAnswer (request.Release pageblock kind) (release_reply r) share.old share.new) }
     ensures none { IfNone result (share.new ≡ share.old) }
 {
@@ -179,10 +182,10 @@ fn ask_drain(
     kind: MigrateType,
     count: usize,
 ) -> Option<Result<(), Refused>>
-    requires share { IsOneShare gate.now.table.shared.key.seat.tie share.old }
+    requires share { IsOneShare gate.now.table.shared.key share.old }
     requires some { 1 ≤ count }
     requires within { count ≤ length (cached_of (share_at share.old 0) kind) }
-    ensures share { IsOneShare gate.now.table.shared.key.seat.tie share.new }
+    ensures share { IsOneShare gate.now.table.shared.key share.new }
     ensures some { IfSome result (λ r. IsAnswer (request.Drain kind (back count (cached_of (share_at share.old 0) kind))) (done_reply reply.Drained r) share.old share.new) }
     ensures none { IfNone result (share.new ≡ share.old) }
 {
@@ -201,10 +204,10 @@ fn fill(
     kind: MigrateType,
     mark: Mark,
 ) -> Option<Result<(), Refused>>
-    requires share { IsOneShare gate.now.table.shared.key.seat.tie share.old }
+    requires share { IsOneShare gate.now.table.shared.key share.old }
     requires empty { cached_of (share_at share.old 0) kind ≡ [] }
     requires lists { 1 ≤ share.old.batch }
-    ensures share { IsOneShare gate.now.table.shared.key.seat.tie share.new }
+    ensures share { IsOneShare gate.now.table.shared.key share.new }
     ensures some { IfSome result (λ r. IsRefilled (λ q. IsAnswer (request.Refill kind mark share.old.batch) q share.old share.new) r) }
     ensures none { IfNone result (share.new ≡ share.old) }
 {
@@ -235,7 +238,7 @@ impl Desk {
         lists: ListConfig,
     ) -> Result<Desk, Refused>
         requires unused { IsUnused seat }
-        requires tie { seat.tie ≡ (arc_value gate.now).table.shared.key.seat.tie }
+        requires of { IsSeatBy (arc_value gate.now).table.shared.key seat }
         ensures why { IfErr result (λ e. e ≡ Memory) }
     {
         let Ok(seats) = Vec::from_array(alloc, [seat]) else {
@@ -246,13 +249,6 @@ impl Desk {
             return Err(Refused::Memory);
         };
         Ok(Desk { gate, share })
-    }
-
-    /// The gate of the zone.
-    pub(crate) fn gate(&self) -> &Gate
-        ensures { result.now.table.shared.key.seat.tie ≡ (share_at self.now 0).seat.tie }
-    {
-        &self.gate
     }
 
     /// A block of this order for this type, held to this mark, which is then lent. Refused 10, 11 or 30.
@@ -375,6 +371,38 @@ impl Desk {
         ensures { IsPut page result self.old self.new }
     {
         self.share.put_cached(0, page)
+    }
+
+    /// What the zone tells of itself.
+    pub(crate) fn tell(&mut self) -> Option<Told>
+        ensures same { self.new ≡ self.old }
+        ensures told { IfSome result (λ t. IsThen self.old (TellsZone t)) }
+    {
+        self.gate.tell(&mut self.share)
+    }
+
+    /// The zone's info line, with its line feed.
+    pub(crate) fn info(&mut self) -> Option<TextBuffer<INFO_LINE>>
+        ensures same { self.new ≡ self.old }
+        ensures told { IfSome result (λ line. IsThen self.old (TellsLine line)) }
+    {
+        self.gate.info(&mut self.share)
+    }
+
+    /// What the zone tells of a page, where the page is one of its own.
+    pub(crate) fn entry(&mut self, page: PageNo) -> Option<Option<ZonePage>>
+        ensures same { self.new ≡ self.old }
+        ensures told { IfSome result (λ e. IsThen self.old (TellsPage page e)) }
+    {
+        self.gate.entry(&mut self.share, page)
+    }
+
+    /// What the zone tells of its pageblock of this number, where it has one.
+    pub(crate) fn pageblock(&mut self, pageblock: u32) -> Option<Option<Pageblock>>
+        ensures same { self.new ≡ self.old }
+        ensures told { IfSome result (λ e. IsThen self.old (TellsPageblock pageblock e)) }
+    {
+        self.gate.pageblock(&mut self.share, pageblock)
     }
 
     /// The worker leaves the zone: its share stays in the room. The desk comes back where somebody is in.

@@ -1,9 +1,8 @@
 //! A gate with a zone behind it.
 ghost use Rattle.std.specs.Prelude.{◌≡◌, ◌<◌, IfOk, IfErr, IfSome, []};
 ghost use Rattle.zp_model.specs.declared.refused.Refused.TheVariants.{Memory};
-ghost use Rattle.zp_model.specs.Zone.{workers_of};
-ghost use Rattle.zp_zone.specs.Seats.{IsSeatOf};
-ghost use Rattle.zp_gate.specs.Gates.{IsGathered, IsIn};
+ghost use Rattle.zp_share.specs.Shares.{key_of};
+ghost use Rattle.zp_gate.specs.Gates.{IsGathered, IsIn, IsOneShare};
 ghost use Rattle.zp_gate.specs.Readings.{IsThen, TellsLine, TellsPage, TellsPageblock, TellsZone};
 
 use crate::room::Room;
@@ -11,16 +10,29 @@ use crate::told::Told;
 use atomic_table::{Play, Seat as Place, Table, TableRule};
 use std::alloc::Global;
 use std::marker::Model;
-use zp_model::{PageNo, Refused};
-use zp_share::Totals;
+use zp_model::{Largest, Name, PageNo, Refused};
+use zp_share::{Share, Totals};
 use zp_text::{INFO_LINE, TextBuffer, push_counts};
 use zp_zone::{Pageblock, Seat, Zone, ZonePage};
 
-/// What a gate is known by: a seat of its zone, for the tie alone, and how many workers the zone has.
+/// What a gate is known by: what of its zone never changes, and a seat of it, for the tie alone. Contracts see the zone's key.
 #[derive(Drop)]
 pub struct GateKey {
     pub(crate) seat: Seat,
+    pub(crate) name: Name,
+    pub(crate) base: u32,
+    pub(crate) pages: u32,
+    pub(crate) min: u32,
+    pub(crate) largest: Largest,
     pub(crate) workers: u32,
+}
+
+impl Model for GateKey {
+    ghost use Rattle.zp_share.specs.Shares.{ZoneKey};
+
+    ghost Value = { ZoneKey };
+
+    ghost view = { λ k. record { tie = k.seat.tie; name = k.name; base = k.base; pages = k.pages; min = k.min; largest = k.largest; workers = k.workers } };
 }
 
 /// The rule of a gate.
@@ -81,8 +93,7 @@ pub struct Gate {
 impl Gate {
     /// A gate with this zone behind it, which no worker has left yet. Refused 6.
     pub(crate) fn new(alloc: Global, zone: Zone, key: &GateKey) -> Result<Gate, Refused>
-        requires tie { IsSeatOf zone key.now.seat }
-        requires workers { workers_of zone.plain ≡ key.now.workers }
+        requires key { key_of zone ≡ key.now }
         ensures key { IfOk result (λ g. g.table.shared.key ≡ key.now) }
         ensures why { IfErr result (λ e. e ≡ Memory) }
     {
@@ -124,12 +135,15 @@ impl Gate {
         self.table.shared.store::<Leave>(&mut pass, 0, FREE);
     }
 
-    /// What the zone tells of itself, where nobody is in.
-    pub(crate) fn tell(&self) -> Option<Told>
-        ensures { IfSome result (λ t. IsThen self.now.table.shared.key.seat.tie (TellsZone t)) }
+    /// What the zone of a share tells of itself, where nobody is in.
+    pub(crate) fn tell(&self, share: &mut Share) -> Option<Told>
+        requires share { IsOneShare self.now.table.shared.key share.old }
+        ensures same { share.new ≡ share.old }
+        ensures told { IfSome result (λ t. IsThen share.old (TellsZone t)) }
     {
         let mut pass = self.enter()?;
-        let room = &*pass.slot_mut(&self.table.shared, 0);
+        let room = pass.slot_mut(&self.table.shared, 0);
+        room.check(share);
         let zone = &room.zones[0];
         let told = Told {
             counts: zone.counts(),
@@ -140,36 +154,45 @@ impl Gate {
         Some(told)
     }
 
-    /// The zone's info line, where nobody is in.
-    pub(crate) fn info(&self) -> Option<TextBuffer<INFO_LINE>>
-        ensures { IfSome result (λ line. IsThen self.now.table.shared.key.seat.tie (TellsLine line)) }
+    /// The info line of the zone of a share, where nobody is in.
+    pub(crate) fn info(&self, share: &mut Share) -> Option<TextBuffer<INFO_LINE>>
+        requires share { IsOneShare self.now.table.shared.key share.old }
+        ensures same { share.new ≡ share.old }
+        ensures told { IfSome result (λ line. IsThen share.old (TellsLine line)) }
     {
         let mut line = TextBuffer::new();
         let mut pass = self.enter()?;
-        let room = &*pass.slot_mut(&self.table.shared, 0);
+        let room = pass.slot_mut(&self.table.shared, 0);
+        room.check(share);
         let zone = &room.zones[0];
         push_counts(&mut line, zone.name(), zone.largest(), &zone.counts());
         self.leave(pass);
         Some(line)
     }
 
-    /// What the zone tells of a page, where nobody is in.
-    pub(crate) fn entry(&self, page: PageNo) -> Option<Option<ZonePage>>
-        ensures { IfSome result (λ e. IsThen self.now.table.shared.key.seat.tie (TellsPage page e)) }
+    /// What the zone of a share tells of a page, where nobody is in.
+    pub(crate) fn entry(&self, share: &mut Share, page: PageNo) -> Option<Option<ZonePage>>
+        requires share { IsOneShare self.now.table.shared.key share.old }
+        ensures same { share.new ≡ share.old }
+        ensures told { IfSome result (λ e. IsThen share.old (TellsPage page e)) }
     {
         let mut pass = self.enter()?;
-        let room = &*pass.slot_mut(&self.table.shared, 0);
+        let room = pass.slot_mut(&self.table.shared, 0);
+        room.check(share);
         let told = room.zones[0].entry(page);
         self.leave(pass);
         Some(told)
     }
 
-    /// What the zone tells of a pageblock, where nobody is in.
-    pub(crate) fn pageblock(&self, pageblock: u32) -> Option<Option<Pageblock>>
-        ensures { IfSome result (λ e. IsThen self.now.table.shared.key.seat.tie (TellsPageblock pageblock e)) }
+    /// What the zone of a share tells of a pageblock, where nobody is in.
+    pub(crate) fn pageblock(&self, share: &mut Share, pageblock: u32) -> Option<Option<Pageblock>>
+        requires share { IsOneShare self.now.table.shared.key share.old }
+        ensures same { share.new ≡ share.old }
+        ensures told { IfSome result (λ e. IsThen share.old (TellsPageblock pageblock e)) }
     {
         let mut pass = self.enter()?;
-        let room = &*pass.slot_mut(&self.table.shared, 0);
+        let room = pass.slot_mut(&self.table.shared, 0);
+        room.check(share);
         let told = room.zones[0].pageblock(pageblock);
         self.leave(pass);
         Some(told)
@@ -177,7 +200,7 @@ impl Gate {
 
     /// Where the pages of the zone are, where nobody is in; nothing, where a worker of the zone has not left.
     pub fn gather(&self) -> Option<Option<Totals>>
-        ensures { IfSome result (λ t. IfSome t IsGathered) }
+        ensures { IfSome result (λ t. IfSome t (IsGathered self.now.table.shared.key)) }
     {
         let mut pass = self.enter()?;
         let room = pass.slot_mut(&self.table.shared, 0);

@@ -1,22 +1,34 @@
 //! A row of zones and its workers.
-ghost use Rattle.std.specs.Prelude.{◌≡◌, ◌<◌, All, IfOk, IfSome, length};
+ghost use Rattle.std.specs.Prelude.{◌≡◌, ◌<◌, ◌≤◌, All, IfNone, IfOk, IfSome, length, map};
 ghost use Rattle.std.specs.Arc.{arc_value};
-ghost use Rattle.zp_zone.specs.Seats.{IsUnused, SeatState};
-ghost use Rattle.zp_gate.specs.Gates.{IsGathered};
+ghost use Rattle.zp_zone.specs.Seats.{IsUnused};
+ghost use Rattle.zp_gate.specs.Gates.{IsGathered, IsSeatBy};
+ghost use Rattle.zp_gate.specs.Rows.{gate_key, key_at, key_for, untied};
 
 use crate::desk::Desk;
 use crate::gate::{Gate, GateKey};
 use crate::worker::Worker;
 use std::alloc::Global;
+use std::marker::Model;
 use std::sync::Arc;
-use zp_model::Refused;
+use zp_model::{Name, Refused};
 use zp_share::{ListConfig, Totals};
 use zp_zone::{Seat, Zone, ZoneConfig};
 
-/// The zones of a row.
+/// The zones of a row. Contracts see their keys.
 #[derive(Drop)]
 pub struct Row {
     gates: Vec<Arc<Gate, Global>>,
+}
+
+impl Model for Row {
+    ghost use Rattle.std.specs.Prelude.{map};
+    ghost use Rattle.std.specs.Arc.{arc_value};
+    ghost use Rattle.zp_gate.specs.Rows.{RowState, gate_key};
+
+    ghost Value = { RowState };
+
+    ghost view = { λ r. map (λ g. gate_key (arc_value g)) r.gates.items };
 }
 
 impl Row {
@@ -33,7 +45,9 @@ impl Row {
     /// Where the pages of the zone at this place are, where the row has it: nothing where somebody is with the zone, and then nothing
     /// while one of its workers has not left it.
     pub fn gather(&self, zone: usize) -> Option<Option<Option<Totals>>>
-        ensures { IfSome result (λ told. IfSome told (λ t. IfSome t IsGathered)) }
+        ensures has { IfSome result (λ _. zone < length self.now) }
+        ensures told { IfSome result (λ told. IfSome told (λ t. IfSome t (IsGathered (key_at self.now zone)))) }
+        ensures none { IfNone result (length self.now ≤ zone) }
     {
         match self.gates.get(zone) {
             Some(gate) => Some(gate.gather()),
@@ -48,7 +62,7 @@ struct OpenedZone {
     gate: Arc<Gate, Global>,
     seats: Vec<Seat>,
     ghost unused: { All IsUnused seats.items },
-    ghost ties: { All (λ (s : SeatState). s.tie ≡ (arc_value gate).table.shared.key.seat.tie) seats.items },
+    ghost of: { All (IsSeatBy (gate_key (arc_value gate))) seats.items },
 }
 
 /// A row of zones, each with all its pages free, and its workers, the one of the highest number first.
@@ -58,6 +72,7 @@ pub fn open_row(
     workers: u32,
     lists: ListConfig,
 ) -> Result<(Row, Vec<Box<Worker>>), Refused>
+    ensures keys { IfOk result (λ r. map untied r.0 ≡ map (key_for workers) configs.now) }
     ensures crew { IfOk result (λ r. length r.1.items ≡ workers) }
     ensures zones { IfOk result (λ r. All (λ w. length w.value ≡ length configs.now) r.1.items) }
 {
@@ -78,7 +93,8 @@ fn opened_zones(
     configs: &[ZoneConfig<'_>],
     workers: u32,
 ) -> Result<Vec<OpenedZone>, Refused>
-    ensures { IfOk result (λ zs. length zs.items ≡ length configs.now) }
+    ensures each { IfOk result (λ zs. length zs.items ≡ length configs.now) }
+    ensures keys { IfOk result (λ zs. map untied (map (λ z. gate_key (arc_value z.gate)) zs.items) ≡ map (key_for workers) configs.now) }
 {
     let Ok(mut zones) = Vec::with_capacity(alloc, configs.len()) else {
         return Err(Refused::Memory);
@@ -90,16 +106,25 @@ fn opened_zones(
 }
 
 /// One zone behind its gate, and its seats.
-fn opened_zone(
-    alloc: Global,
-    config: &ZoneConfig<'_>,
-    workers: u32,
-) -> Result<OpenedZone, Refused> {
+fn opened_zone(alloc: Global, config: &ZoneConfig<'_>, workers: u32) -> Result<OpenedZone, Refused>
+    ensures { IfOk result (λ z. untied (gate_key (arc_value z.gate)) ≡ key_for workers config.now) }
+{
+    let Some(name) = Name::new(config.name.as_bytes()) else {
+        return Err(Refused::BadName);
+    };
     let (zone, mut seats) = Zone::new(alloc, ZoneConfig { ..*config }, workers)?;
     let Some(seat) = seats.pop() else {
         return Err(Refused::BadWorkers);
     };
-    let key = GateKey { seat, workers };
+    let key = GateKey {
+        seat,
+        name,
+        base: config.base,
+        pages: config.pages,
+        min: config.min,
+        largest: config.largest,
+        workers,
+    };
     let gate = Gate::new(alloc, zone, &key)?;
     seats.push_reserved(key.seat);
     let Ok(gate) = Arc::new(alloc, gate) else {
@@ -115,6 +140,7 @@ fn crew_of(
     workers: u32,
     lists: ListConfig,
 ) -> Result<Vec<Box<Worker>>, Refused>
+    ensures keys { IfOk result (λ _. map (λ z. gate_key (arc_value z.gate)) zones.new ≡ map (λ z. gate_key (arc_value z.gate)) zones.old) }
     ensures crew { IfOk result (λ crew. length crew.items ≡ workers) }
     ensures zones { IfOk result (λ crew. All (λ w. length w.value ≡ length zones.old) crew.items) }
 {
@@ -137,7 +163,8 @@ fn next_worker(
     zones: &mut [OpenedZone],
     lists: ListConfig,
 ) -> Result<Worker, Refused>
-    ensures { IfOk result (λ w. length w ≡ length zones.old) }
+    ensures keys { IfOk result (λ _. map (λ z. gate_key (arc_value z.gate)) zones.new ≡ map (λ z. gate_key (arc_value z.gate)) zones.old) }
+    ensures zones { IfOk result (λ w. length w ≡ length zones.old) }
 {
     let Ok(mut desks) = Vec::with_capacity(alloc, zones.len()) else {
         return Err(Refused::Memory);

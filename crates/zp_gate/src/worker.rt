@@ -7,7 +7,7 @@ ghost use Rattle.zp_share.specs.PlainShares.{back};
 ghost use Rattle.zp_share.specs.Shares.{share_at};
 ghost use Rattle.zp_share.specs.ZoneShares.{cached_of, is_lent};
 ghost use Rattle.zp_gate.specs.declared.denied.Denied.TheVariants.{NoZone};
-ghost use Rattle.zp_gate.specs.Workers.{AreDrained, AreSomeDrained, IsAskedOf, IsAt, IsDeniedOf, IsListDrained, IsDrained, IsFilled, IsPut, IsTaken, desk_at, tie_at};
+ghost use Rattle.zp_gate.specs.Workers.{AreDrained, AreSomeDrained, IsAskedOf, IsAt, IsDeniedOf, IsListDrained, IsDrained, IsFilled, IsPut, IsTaken, desk_at};
 ghost use Rattle.zp_gate.specs.Readings.{IsThen, TellsLine, TellsPage, TellsPageblock, TellsZone};
 
 use crate::denied::Denied;
@@ -217,35 +217,39 @@ impl Worker {
     }
 
     /// What a zone tells of itself.
-    pub fn tell(&self, zone: usize) -> Option<Told>
-        requires { zone < length self.now }
-        ensures { IfSome result (λ t. IsThen (tie_at self.now zone) (TellsZone t)) }
+    pub fn tell(&mut self, zone: usize) -> Option<Told>
+        requires { zone < length self.old }
+        ensures same { self.new ≡ self.old }
+        ensures told { IfSome result (λ t. IsThen (desk_at self.old zone) (TellsZone t)) }
     {
-        self.desks[zone].gate().tell()
+        self.desks[zone].tell()
     }
 
     /// A zone's info line, with its line feed.
-    pub fn info(&self, zone: usize) -> Option<TextBuffer<INFO_LINE>>
-        requires { zone < length self.now }
-        ensures { IfSome result (λ line. IsThen (tie_at self.now zone) (TellsLine line)) }
+    pub fn info(&mut self, zone: usize) -> Option<TextBuffer<INFO_LINE>>
+        requires { zone < length self.old }
+        ensures same { self.new ≡ self.old }
+        ensures told { IfSome result (λ line. IsThen (desk_at self.old zone) (TellsLine line)) }
     {
-        self.desks[zone].gate().info()
+        self.desks[zone].info()
     }
 
     /// What a zone tells of a page, where the page is one of its own.
-    pub fn entry(&self, zone: usize, page: PageNo) -> Option<Option<ZonePage>>
-        requires { zone < length self.now }
-        ensures { IfSome result (λ e. IsThen (tie_at self.now zone) (TellsPage page e)) }
+    pub fn entry(&mut self, zone: usize, page: PageNo) -> Option<Option<ZonePage>>
+        requires { zone < length self.old }
+        ensures same { self.new ≡ self.old }
+        ensures told { IfSome result (λ e. IsThen (desk_at self.old zone) (TellsPage page e)) }
     {
-        self.desks[zone].gate().entry(page)
+        self.desks[zone].entry(page)
     }
 
     /// What a zone tells of its pageblock of this number, where it has one.
-    pub fn pageblock(&self, zone: usize, pageblock: u32) -> Option<Option<Pageblock>>
-        requires { zone < length self.now }
-        ensures { IfSome result (λ e. IsThen (tie_at self.now zone) (TellsPageblock pageblock e)) }
+    pub fn pageblock(&mut self, zone: usize, pageblock: u32) -> Option<Option<Pageblock>>
+        requires { zone < length self.old }
+        ensures same { self.new ≡ self.old }
+        ensures told { IfSome result (λ e. IsThen (desk_at self.old zone) (TellsPageblock pageblock e)) }
     {
-        self.desks[zone].gate().pageblock(pageblock)
+        self.desks[zone].pageblock(pageblock)
     }
 
     /// The worker leaves its last zone. False where somebody is in: then it has not.

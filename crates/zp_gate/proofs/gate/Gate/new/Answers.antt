@@ -1,7 +1,6 @@
 use Rattle.std.proofs.Common.{List, ◌≡◌, All, ap, length, sym, ◌∙◌, subst, slice_index_or, arith}
-use Rattle.zp_model.specs.Zone.{workers_of}
 use Rattle.zp_zone.specs.Seats.{ZoneState}
-use Rattle.zp_share.specs.Shares.{ShareState}
+use Rattle.zp_share.specs.Shares.{ShareState, key_of}
 use Rattle.zp_gate.specs.declared.room.Room.{Room}
 use Rattle.zp_gate.specs.Gates.{IsBehind, IsOneShare, no_zone, zone_in}
 use Rattle.zp_gate.proofs.Moves.{opened}
@@ -14,8 +13,7 @@ new-requires c =
     let here : zone_in y ≡ c.args.zone = ap (λ (zs : List ZoneState). slice_index_or zs 0 no_zone) zones in
     let b : IsBehind c.args.key.now y = record {
       one = ap length zones;
-      tie = ap (λ (z : ZoneState). z.tie) here ∙ sym c.requires.tie;
-      workers = ap (λ (z : ZoneState). workers_of z.plain) here ∙ c.requires.workers;
-      left = subst (λ (ss : List ShareState). All (IsOneShare c.args.key.now.seat.tie) ss) (sym (c.in-Ok.ensures.items)) (λ k d no. absurd (omega (arith, no)));
+      known = ap key_of here ∙ c.requires.key;
+      left = subst (λ (ss : List ShareState). All (IsOneShare c.args.key.now) ss) (sym (c.in-Ok.ensures.items)) (λ k d no. absurd (omega (arith, no)));
     } in
     opened c.args.key.now c.in-Ok-from_array-2.rooms.items y c.in-Ok-from_array-2.ensures.items b
