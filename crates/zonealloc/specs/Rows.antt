@@ -1,8 +1,8 @@
 -- What the making and unmaking of a row come to, by their answers (this profile).
-use Rattle.std.specs.Prelude.{ℕ, ◌≡◌, ◌≤◌, ◌⊎◌, List, All, length, take, Option, None, Some}
+use Rattle.std.specs.Prelude.{ℕ, ◌≡◌, ◌<◌, ◌≤◌, ◌⊎◌, List, All, length, slice_index_or, take, Option, None, Some}
 use Rattle.zp_gate.specs.declared.row.Row.{Row}
 use Rattle.zp_gate.specs.Gates.{IsGathered}
-use Rattle.zp_gate.specs.Workers.{WorkerState}
+use Rattle.zp_gate.specs.Workers.{IsNewWorker, WorkerState}
 use Rattle.zonealloc.specs.declared.handles.RowHandle.{RowHandle}
 use Rattle.zonealloc.specs.declared.handles.WorkerHandle.{WorkerHandle}
 use Rattle.zonealloc.specs.declared.rows.ZoneTotals.{ZoneTotals}
@@ -10,15 +10,15 @@ use Rattle.zonealloc.specs.declared.rows.ZoneTotals.{ZoneTotals}
 abbrev pub IsEmpty : WorkerHandle → Type 0
 IsEmpty h = h.slot.value ≡ None
 
--- there is a worker of so many zones in the handle
-abbrev pub HasWorkerOf : ℕ → WorkerHandle → Type 0
-HasWorkerOf n h = (v : WorkerState) × (h.slot.value ≡ Some v) × (length v ≡ n)
+-- worker w of a new row of n zones is in the handle, with lists of these sizes
+abbrev pub HasNewWorker : ℕ → ℕ → ℕ → ℕ → WorkerHandle → Type 0
+HasNewWorker w batch high n h = (v : WorkerState) × (h.slot.value ≡ Some v) × IsNewWorker w batch high n v
 
--- answered 0, all that were empty are full; else nothing changed
-pub record IsMakeCall (zones code : ℕ) (r s : RowHandle) (ws vs : List WorkerHandle) : Type 0 where
+-- answered 0, all that were empty are full, the handles of the workers in the order of their numbers; else nothing changed
+pub record IsMakeCall (zones batch high code : ℕ) (r s : RowHandle) (ws vs : List WorkerHandle) : Type 0 where
   pub was_empty : code ≡ 0 → (r.slot.value ≡ None) × All IsEmpty ws
   pub row : code ≡ 0 → (x : Row) × (s.slot.value ≡ Some x)
-  pub workers : code ≡ 0 → (length vs ≡ length ws) × All (HasWorkerOf zones) vs
+  pub workers : code ≡ 0 → (length vs ≡ length ws) × ((w : ℕ) (none : WorkerHandle) → w < length vs → HasNewWorker w batch high zones (slice_index_or vs w none))
   pub unchanged : 1 ≤ code → (s ≡ r) × (vs ≡ ws)
 
 -- answered 0, there was a worker and is none; answered 42, it has left some of its last zones; else nothing changed

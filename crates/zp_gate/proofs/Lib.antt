@@ -1,2 +1,4 @@
 pub mod Moves
 pub mod Crews
+pub mod InOrder
+pub mod Handing

@@ -1,8 +1,9 @@
 //! A row of zones and its workers.
-ghost use Rattle.std.specs.Prelude.{◌≡◌, ◌<◌, All, IfOk, IfSome, length};
+ghost use Rattle.std.specs.Prelude.{ℕ, ◌≡◌, ◌<◌, ◌+◌, All, IfOk, IfSome, IsOk, length};
 ghost use Rattle.std.specs.Arc.{arc_value};
 ghost use Rattle.zp_zone.specs.Seats.{IsUnused, SeatState};
 ghost use Rattle.zp_gate.specs.Gates.{IsGathered};
+ghost use Rattle.zp_gate.specs.Workers.{AllDown, AreInOrder, IsNewWorker};
 
 use crate::desk::Desk;
 use crate::gate::{Gate, GateKey};
@@ -47,6 +48,7 @@ impl Row {
 struct OpenedZone {
     gate: Arc<Gate, Global>,
     seats: Vec<Seat>,
+    ghost order: { AreInOrder seats.items },
     ghost unused: { All IsUnused seats.items },
     ghost ties: { All (λ (s : SeatState). s.tie ≡ (arc_value gate).table.shared.key.seat.tie) seats.items },
 }
@@ -59,7 +61,7 @@ pub fn open_row(
     lists: ListConfig,
 ) -> Result<(Row, Vec<Box<Worker>>), Refused>
     ensures crew { IfOk result (λ r. length r.1.items ≡ workers) }
-    ensures zones { IfOk result (λ r. All (λ w. length w.value ≡ length configs.now) r.1.items) }
+    ensures new { IfOk result (λ r. AllDown (λ w b. IsNewWorker w lists.batch lists.high_len (length configs.now) b.value) workers r.1.items) }
 {
     let mut zones = opened_zones(alloc, configs, workers)?;
     let crew = crew_of(alloc, zones.as_mut_slice(), workers, lists)?;
@@ -78,7 +80,8 @@ fn opened_zones(
     configs: &[ZoneConfig<'_>],
     workers: u32,
 ) -> Result<Vec<OpenedZone>, Refused>
-    ensures { IfOk result (λ zs. length zs.items ≡ length configs.now) }
+    ensures zones { IfOk result (λ zs. length zs.items ≡ length configs.now) }
+    ensures seats { IfOk result (λ zs. All (λ z. length z.seats.items ≡ workers) zs.items) }
 {
     let Ok(mut zones) = Vec::with_capacity(alloc, configs.len()) else {
         return Err(Refused::Memory);
@@ -90,11 +93,9 @@ fn opened_zones(
 }
 
 /// One zone behind its gate, and its seats.
-fn opened_zone(
-    alloc: Global,
-    config: &ZoneConfig<'_>,
-    workers: u32,
-) -> Result<OpenedZone, Refused> {
+fn opened_zone(alloc: Global, config: &ZoneConfig<'_>, workers: u32) -> Result<OpenedZone, Refused>
+    ensures { IfOk result (λ z. length z.seats.items ≡ workers) }
+{
     let (zone, mut seats) = Zone::new(alloc, ZoneConfig { ..*config }, workers)?;
     let Some(seat) = seats.pop() else {
         return Err(Refused::BadWorkers);
@@ -115,8 +116,9 @@ fn crew_of(
     workers: u32,
     lists: ListConfig,
 ) -> Result<Vec<Box<Worker>>, Refused>
+    requires seats { All (λ z. length z.seats.items ≡ workers) zones.old }
     ensures crew { IfOk result (λ crew. length crew.items ≡ workers) }
-    ensures zones { IfOk result (λ crew. All (λ w. length w.value ≡ length zones.old) crew.items) }
+    ensures new { IfOk result (λ crew. AllDown (λ w b. IsNewWorker w lists.batch lists.high_len (length zones.old) b.value) workers crew.items) }
 {
     let Ok(mut crew) = Vec::with_capacity(alloc, workers as usize) else {
         return Err(Refused::Memory);
@@ -131,13 +133,14 @@ fn crew_of(
     Ok(crew)
 }
 
-/// The worker of the last seats that are left.
+/// The worker of the last seats that are left, of which each zone has as many.
 fn next_worker(
     alloc: Global,
     zones: &mut [OpenedZone],
     lists: ListConfig,
 ) -> Result<Worker, Refused>
-    ensures { IfOk result (λ w. length w ≡ length zones.old) }
+    ensures new { IfOk result (λ v. (w : ℕ) → All (λ z. length z.seats.items ≡ w + 1) zones.old → IsNewWorker w lists.batch lists.high_len (length zones.old) v) }
+    ensures left { IsOk result → (w : ℕ) → All (λ z. length z.seats.items ≡ w + 1) zones.old → All (λ z. length z.seats.items ≡ w) zones.new }
 {
     let Ok(mut desks) = Vec::with_capacity(alloc, zones.len()) else {
         return Err(Refused::Memory);

@@ -1,5 +1,12 @@
-use Rattle.std.proofs.Common.{◌≡◌, ◌≤◌, length, All, vec_len, vec_capacity}
+use Rattle.std.proofs.Common.{ℕ, ◌≡◌, ◌≤◌, ◌+◌, length, All, vec_len, vec_capacity}
+use Rattle.zp_gate.specs.Workers.{AllDown, IsNewWorker}
 use Rattle.zp_gate.proofs.row.crew_of.Given as goal
 
 abbrev pub invariant-loop : goal.invariant-loop
-invariant-loop l = record { many : vec_len l.crew ≡ l.counter; room : l.workers ≤ vec_capacity l.crew; zones : All (λ w. length w.value ≡ length l.zones) l.crew.items; same : length l.zones ≡ length l.fn.zones }
+invariant-loop l = record {
+  many : vec_len l.crew ≡ l.counter;
+  room : l.workers ≤ vec_capacity l.crew;
+  same : length l.zones ≡ length l.fn.zones;
+  left : (n : ℕ) → n + l.counter ≡ l.workers → All (λ z. length z.seats.items ≡ n) l.zones;
+  new : AllDown (λ w b. IsNewWorker w l.lists.batch l.lists.high_len (length l.fn.zones) b.value) l.workers l.crew.items;
+}

@@ -1,5 +1,5 @@
-use Rattle.std.proofs.Common.{◌≡◌, ◌≤◌, length, vec_len, vec_capacity}
+use Rattle.std.proofs.Common.{◌≡◌, ◌≤◌, All, length, vec_len, vec_capacity}
 use Rattle.zp_gate.proofs.row.opened_zones.Given as goal
 
 abbrev pub invariant-loop-config : goal.invariant-loop-config
-invariant-loop-config l = record { many : vec_len l.zones ≡ l.config-index; room : length l.configs ≤ vec_capacity l.zones }
+invariant-loop-config l = record { many : vec_len l.zones ≡ l.config-index; room : length l.configs ≤ vec_capacity l.zones; seats : All (λ z. length z.seats.items ≡ l.workers) l.zones.items }
