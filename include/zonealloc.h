@@ -12,8 +12,10 @@
  * A worker's handle leads to its row, so no call takes two handles, and no worker can be used with a row that is not its own.
  *
  * Each call answers ZONE_OK or a number below. With any other number than ZONE_OK it has changed nothing, its results included, but where
- * its line says what it has. Arguments are looked at before handles. What C cannot tell is the caller's: no pointer is null, a buffer is as
- * long as is said, no two arguments overlap.
+ * its line says what it has. Of what is wrong with a worker's call the first of these is answered: an order, a type or a mark names nothing, or
+ * a worker's number is 32 or more; the handle is empty; the row has no such zone; its zones have no such worker, or the worker has no lists,
+ * pages on the list that is to be filled, or too few to drain. Only then a zone is asked, and ZONE_BUSY comes before any refusal. What C
+ * cannot tell is the caller's: no pointer is null, a buffer is as long as is said, no two arguments overlap.
  *
  * Pages are absolute numbers, pageblocks and zones are counted from 0. The archive calls rattle_alloc and rattle_dealloc in
  * zonealloc_make, zonealloc_dismiss and zonealloc_unmake, and nowhere else: see docs/c.md. */

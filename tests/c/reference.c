@@ -440,10 +440,11 @@ uint32_t reference_unmake(reference_row_t *row)
 
 /* --- what each call of a worker begins with --- */
 
-/* The worker's zone of this number; or none, and what is answered then. */
-static zone_t *zone_of(const reference_worker_t *worker, uint32_t zone, uint32_t *answer)
+/* The worker's zone of this number; or none, and what is answered then. First of all it is asked whether one of the call's numbers stands for
+ * nothing. */
+static zone_t *zone_of(const reference_worker_t *worker, uint32_t zone, int is_wrong, uint32_t *answer)
 {
-    *answer = !worker->row ? ZONE_BAD_HANDLE : zone >= worker->row->n_zones ? ZONE_BAD_ARGUMENT : ZONE_OK;
+    *answer = is_wrong ? ZONE_BAD_ARGUMENT : !worker->row ? ZONE_BAD_HANDLE : zone >= worker->row->n_zones ? ZONE_BAD_ARGUMENT : ZONE_OK;
     return *answer == ZONE_OK ? &worker->row->zones[zone] : NULL;
 }
 
@@ -479,10 +480,10 @@ static void put_in_front(zone_t *zone, cache_t *cache, uint32_t page)
 uint32_t reference_take(reference_worker_t *worker, uint32_t zone, uint32_t type, uint32_t *page)
 {
     uint32_t answer;
-    zone_t *at = zone_of(worker, zone, &answer);
+    zone_t *at = zone_of(worker, zone, type >= ZONE_TYPES, &answer);
     cache_t *cache;
-    if (!at || type >= ZONE_TYPES)
-        return at ? ZONE_BAD_ARGUMENT : answer;
+    if (!at)
+        return answer;
     cache = cache_of(worker, zone, type);
     if (cache->len == 0)
         return ZONE_LIST_EMPTY;
@@ -496,7 +497,7 @@ uint32_t reference_take(reference_worker_t *worker, uint32_t zone, uint32_t type
 uint32_t reference_put(reference_worker_t *worker, uint32_t zone, uint32_t page)
 {
     uint32_t answer;
-    zone_t *at = zone_of(worker, zone, &answer);
+    zone_t *at = zone_of(worker, zone, 0, &answer);
     cache_t *cache;
     if (!at)
         return answer;
@@ -512,9 +513,9 @@ uint32_t reference_put(reference_worker_t *worker, uint32_t zone, uint32_t page)
 uint32_t reference_is_lent(reference_worker_t *worker, uint32_t zone, uint32_t page, uint32_t order, uint32_t *lent)
 {
     uint32_t answer;
-    zone_t *at = zone_of(worker, zone, &answer);
-    if (!at || order >= ZONE_ORDERS)
-        return at ? ZONE_BAD_ARGUMENT : answer;
+    zone_t *at = zone_of(worker, zone, order >= ZONE_ORDERS, &answer);
+    if (!at)
+        return answer;
     *lent = (uint32_t)is_lent(worker, at, page, order);
     return ZONE_OK;
 }
@@ -522,9 +523,9 @@ uint32_t reference_is_lent(reference_worker_t *worker, uint32_t zone, uint32_t p
 uint32_t reference_cached(reference_worker_t *worker, uint32_t zone, uint32_t type, uint32_t *pages)
 {
     uint32_t answer;
-    zone_t *at = zone_of(worker, zone, &answer);
-    if (!at || type >= ZONE_TYPES)
-        return at ? ZONE_BAD_ARGUMENT : answer;
+    zone_t *at = zone_of(worker, zone, type >= ZONE_TYPES, &answer);
+    if (!at)
+        return answer;
     *pages = cache_of(worker, zone, type)->len;
     return ZONE_OK;
 }
@@ -535,9 +536,9 @@ uint32_t reference_alloc(reference_worker_t *worker, uint32_t zone, uint32_t ord
 {
     uint32_t answer;
     uint32_t head;
-    zone_t *at = zone_of(worker, zone, &answer);
-    if (!at || order >= ZONE_ORDERS || type >= ZONE_TYPES || mark > ZONE_LOW)
-        return at ? ZONE_BAD_ARGUMENT : answer;
+    zone_t *at = zone_of(worker, zone, order >= ZONE_ORDERS || type >= ZONE_TYPES || mark > ZONE_LOW, &answer);
+    if (!at)
+        return answer;
     answer = alloc(at, worker->number, order, type, mark, &head);
     if (answer == ZONE_OK)
         *page = at->spec.base + head;
@@ -548,9 +549,9 @@ uint32_t reference_alloc_low(reference_worker_t *worker, uint32_t zone, uint32_t
 {
     uint32_t answer;
     uint32_t head;
-    zone_t *at = zone_of(worker, zone, &answer);
-    if (!at || order >= ZONE_ORDERS)
-        return at ? ZONE_BAD_ARGUMENT : answer;
+    zone_t *at = zone_of(worker, zone, order >= ZONE_ORDERS, &answer);
+    if (!at)
+        return answer;
     head = choose_lowest(at, order);
     if (head == NONE)
         return ZONE_NO_BLOCK;
@@ -562,9 +563,9 @@ uint32_t reference_alloc_low(reference_worker_t *worker, uint32_t zone, uint32_t
 uint32_t reference_free(reference_worker_t *worker, uint32_t zone, uint32_t page, uint32_t order)
 {
     uint32_t answer;
-    zone_t *at = zone_of(worker, zone, &answer);
-    if (!at || order >= ZONE_ORDERS)
-        return at ? ZONE_BAD_ARGUMENT : answer;
+    zone_t *at = zone_of(worker, zone, order >= ZONE_ORDERS, &answer);
+    if (!at)
+        return answer;
     if (!is_lent(worker, at, page, order))
         return ZONE_NOT_LENT;
     give(at, page - at->spec.base, order);
@@ -575,9 +576,11 @@ uint32_t reference_post(reference_worker_t *worker, uint32_t zone, uint32_t page
 {
     uint32_t answer;
     uint32_t head;
-    zone_t *at = zone_of(worker, zone, &answer);
-    if (!at || order >= ZONE_ORDERS || to >= worker->row->n_workers)
-        return at ? ZONE_BAD_ARGUMENT : answer;
+    zone_t *at = zone_of(worker, zone, order >= ZONE_ORDERS || to >= ZONE_WORKERS, &answer);
+    if (!at)
+        return answer;
+    if (to >= worker->row->n_workers)
+        return ZONE_BAD_ARGUMENT;
     if (!is_lent(worker, at, page, order))
         return ZONE_NOT_LENT;
     head = page - at->spec.base;
@@ -591,7 +594,7 @@ uint32_t reference_collect(reference_worker_t *worker, uint32_t zone, uint32_t *
 {
     uint32_t answer;
     uint32_t head;
-    zone_t *at = zone_of(worker, zone, &answer);
+    zone_t *at = zone_of(worker, zone, 0, &answer);
     if (!at)
         return answer;
     head = at->posted_lists[worker->number].first;
@@ -605,32 +608,31 @@ uint32_t reference_collect(reference_worker_t *worker, uint32_t zone, uint32_t *
     return ZONE_OK;
 }
 
-uint32_t reference_isolate(reference_worker_t *worker, uint32_t zone, uint32_t pageblock)
+/* Isolates a pageblock, or releases it with another type. */
+static uint32_t retype(const reference_worker_t *worker, uint32_t zone, uint32_t pageblock, uint32_t type)
 {
     uint32_t answer;
-    zone_t *at = zone_of(worker, zone, &answer);
+    int is_isolated;
+    zone_t *at = zone_of(worker, zone, 0, &answer);
     if (!at)
         return answer;
     if (pageblock >= pageblocks_of(at))
         return ZONE_BAD_PAGEBLOCK;
-    if (at->pageblocks[pageblock].type == ZONE_ISOLATED)
-        return ZONE_ALREADY_ISOLATED;
-    set_type(at, pageblock, ZONE_ISOLATED);
+    is_isolated = at->pageblocks[pageblock].type == ZONE_ISOLATED;
+    if (is_isolated == (type == ZONE_ISOLATED))
+        return is_isolated ? ZONE_ALREADY_ISOLATED : ZONE_NOT_ISOLATED;
+    set_type(at, pageblock, type);
     return ZONE_OK;
+}
+
+uint32_t reference_isolate(reference_worker_t *worker, uint32_t zone, uint32_t pageblock)
+{
+    return retype(worker, zone, pageblock, ZONE_ISOLATED);
 }
 
 uint32_t reference_release(reference_worker_t *worker, uint32_t zone, uint32_t pageblock, uint32_t type)
 {
-    uint32_t answer;
-    zone_t *at = zone_of(worker, zone, &answer);
-    if (!at || type >= ZONE_TYPES)
-        return at ? ZONE_BAD_ARGUMENT : answer;
-    if (pageblock >= pageblocks_of(at))
-        return ZONE_BAD_PAGEBLOCK;
-    if (at->pageblocks[pageblock].type != ZONE_ISOLATED)
-        return ZONE_NOT_ISOLATED;
-    set_type(at, pageblock, type);
-    return ZONE_OK;
+    return type >= ZONE_TYPES ? ZONE_BAD_ARGUMENT : retype(worker, zone, pageblock, type);
 }
 
 /* The pages stand on the list in the order taken. */
@@ -651,9 +653,9 @@ static uint32_t refill(zone_t *zone, cache_t *cache, uint32_t worker, uint32_t b
 uint32_t reference_refill(reference_worker_t *worker, uint32_t zone, uint32_t type, uint32_t mark)
 {
     uint32_t answer;
-    zone_t *at = zone_of(worker, zone, &answer);
-    if (!at || type >= ZONE_TYPES || mark > ZONE_LOW)
-        return at ? ZONE_BAD_ARGUMENT : answer;
+    zone_t *at = zone_of(worker, zone, type >= ZONE_TYPES || mark > ZONE_LOW, &answer);
+    if (!at)
+        return answer;
     if (worker->row->batch == 0)
         return ZONE_NO_LISTS;
     if (cache_of(worker, zone, type)->len > 0)
@@ -671,9 +673,11 @@ static void drain(zone_t *zone, cache_t *cache, uint32_t count)
 uint32_t reference_drain(reference_worker_t *worker, uint32_t zone, uint32_t type, uint32_t count)
 {
     uint32_t answer;
-    zone_t *at = zone_of(worker, zone, &answer);
-    if (!at || type >= ZONE_TYPES || count == 0 || count > cache_of(worker, zone, type)->len)
-        return at ? ZONE_BAD_ARGUMENT : answer;
+    zone_t *at = zone_of(worker, zone, type >= ZONE_TYPES, &answer);
+    if (!at)
+        return answer;
+    if (count == 0 || count > cache_of(worker, zone, type)->len)
+        return ZONE_BAD_ARGUMENT;
     drain(at, cache_of(worker, zone, type), count);
     return ZONE_OK;
 }
@@ -682,7 +686,7 @@ uint32_t reference_drain_all(reference_worker_t *worker, uint32_t zone)
 {
     uint32_t answer;
     uint32_t type;
-    zone_t *at = zone_of(worker, zone, &answer);
+    zone_t *at = zone_of(worker, zone, 0, &answer);
     if (!at)
         return answer;
     for (type = 0; type < ZONE_TYPES; type++)
@@ -706,7 +710,7 @@ static void count_blocks(const zone_t *zone, uint32_t by_order[ZONE_ORDERS])
 uint32_t reference_counts(reference_worker_t *worker, uint32_t zone, zone_counts_t *counts)
 {
     uint32_t answer;
-    zone_t *at = zone_of(worker, zone, &answer);
+    zone_t *at = zone_of(worker, zone, 0, &answer);
     if (!at)
         return answer;
     count_blocks(at, counts->by_order);
@@ -721,7 +725,7 @@ uint32_t reference_info(reference_worker_t *worker, uint32_t zone, uint8_t *buff
     uint32_t answer;
     uint32_t by_order[ZONE_ORDERS], order;
     char line[ZONE_INFO_LINE];
-    zone_t *at = zone_of(worker, zone, &answer);
+    zone_t *at = zone_of(worker, zone, 0, &answer);
     if (!at)
         return answer;
     count_blocks(at, by_order);
@@ -736,10 +740,12 @@ uint32_t reference_info(reference_worker_t *worker, uint32_t zone, uint8_t *buff
 uint32_t reference_page(reference_worker_t *worker, uint32_t zone, uint32_t page, zone_page_t *told)
 {
     uint32_t answer;
-    zone_t *at = zone_of(worker, zone, &answer);
+    zone_t *at = zone_of(worker, zone, 0, &answer);
     const page_t *noted;
-    if (!at || number_of(at, page) == NONE)
-        return at ? ZONE_BAD_ARGUMENT : answer;
+    if (!at)
+        return answer;
+    if (number_of(at, page) == NONE)
+        return ZONE_BAD_ARGUMENT;
     noted = &at->pages[number_of(at, page)];
     told->state = noted->state;
     told->order = noted->state == ZONE_TAIL ? 0 : noted->order;
@@ -761,7 +767,7 @@ static uint32_t largest_in(const zone_t *zone, uint32_t pageblock)
 uint32_t reference_pageblock(reference_worker_t *worker, uint32_t zone, uint32_t pageblock, zone_pageblock_t *told)
 {
     uint32_t answer;
-    zone_t *at = zone_of(worker, zone, &answer);
+    zone_t *at = zone_of(worker, zone, 0, &answer);
     if (!at)
         return answer;
     if (pageblock >= pageblocks_of(at))

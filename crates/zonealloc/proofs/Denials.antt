@@ -43,12 +43,12 @@ module _ (asks : Option WorkerState → Request → Type 0) (told : Reply → Ty
       record { done = λ z. absurd (omega (arith, big, z)); refused = λ low small. absurd (omega (arith, big, small)); unasked = λ b. (k, ap Some e) }
 
   at_denied : (d : Denied) (v w : WorkerState) → asks (Some v) r → kept → IsAt i (IsDenial r d) v w → IsCall asks told kept i (denial_number d) (Some v) (Some w)
-  at_denied NoZone v w a k x = absurd x.1
-  at_denied Busy v w a k x = unasked 42 v w (omega arith) k (all_stay i v w x.1 x.2)
-  at_denied NoWorker v w a k x = unasked 40 v w (omega arith) k (all_stay i v w x.1 x.2)
-  at_denied NoLists v w a k x = unasked 46 v w (omega arith) k (all_stay i v w x.1 x.2)
-  at_denied NotEmpty v w a k x = unasked 45 v w (omega arith) k (all_stay i v w x.1 x.2)
-  at_denied TooFew v w a k x = unasked 40 v w (omega arith) k (all_stay i v w x.1 x.2)
+  at_denied NoZone v w a k x = unasked 40 v w (omega arith) k (all_stay i v w x.1.1 x.2)
+  at_denied Busy v w a k x = unasked 42 v w (omega arith) k (all_stay i v w x.1.1 x.2)
+  at_denied NoWorker v w a k x = unasked 40 v w (omega arith) k (all_stay i v w x.1.1 x.2)
+  at_denied NoLists v w a k x = unasked 46 v w (omega arith) k (all_stay i v w x.1.1 x.2)
+  at_denied NotEmpty v w a k x = unasked 45 v w (omega arith) k (all_stay i v w x.1.1 x.2)
+  at_denied TooFew v w a k x = unasked 40 v w (omega arith) k (all_stay i v w x.1.1 x.2)
   at_denied (Refused e) v w a k x =
       let small = refusal_small e in
       record {

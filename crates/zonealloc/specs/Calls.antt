@@ -1,5 +1,5 @@
 -- What a C program's call of a worker's handle comes to, by the number it is answered (this profile).
-use Rattle.std.specs.Prelude.{ℕ, List, [], ◌≡◌, ◌<◌, ◌≤◌, ◌⊎◌, length, cond, Option, Some, Result, Ok, Err}
+use Rattle.std.specs.Prelude.{ℕ, List, [], ◌≡◌, ◌<◌, ◌≤◌, ◌⊎◌, ◌↔◌, length, cond, Option, None, Some, Result, Ok, Err}
 use Rattle.zp_model.specs.declared.request.Request.{Request}
 use Rattle.zp_model.specs.declared.request.Reply.{Reply}
 use Rattle.zp_model.specs.declared.block.Block.{Block}
@@ -11,8 +11,36 @@ use Rattle.zp_model.specs.Refused.{refused_number}
 use Rattle.zp_share.specs.PlainShares.{back}
 use Rattle.zp_share.specs.Shares.{share_at}
 use Rattle.zp_share.specs.ZoneShares.{cached_of, is_lent}
-use Rattle.zp_gate.specs.Workers.{WorkerState, AreDrained, AreSomeDrained, IsAskedOf, IsAt, IsPut, IsTaken, desk_at}
+use Rattle.zp_gate.specs.Workers.{WorkerState, AreDrained, AreSomeDrained, HasPages, HasTooFew, IsAskedOf, IsAt, IsPut, IsTaken, desk_at}
 use Rattle.zonealloc.specs.Numbers.{mark_number}
+
+-- there is a worker in the handle, and this is so of it
+abbrev pub IsOf : (WorkerState → Type 0) → Option WorkerState → Type 0
+IsOf P b = (v : WorkerState) × (b ≡ Some v) × P v
+
+-- past the end of the row there is no zone
+abbrev pub HasNoZone : ℕ → WorkerState → Type 0
+HasNoZone i v = length v ≤ i
+
+abbrev pub HasZone : ℕ → WorkerState → Type 0
+HasZone i v = i < length v
+
+-- When a call is denied for what is seen without a zone. 40: a number of it names nothing, whatever the handle, or is out of the worker's range;
+-- beside these, 40 comes only where what is `hidden` is so. 41: the numbers name something, and nothing is in the handle. What is answered beside 0,
+-- 40 and 41 is one of the `others`
+pub record IsDenied (unnamed : Type 0) (beyond hidden : WorkerState → Type 0) (others : ℕ → Type 0) (code : ℕ) (b : Option WorkerState) : Type 0 where
+  pub argument : unnamed ⊎ IsOf beyond b → code ≡ 40
+  pub no_other : code ≡ 40 → unnamed ⊎ (IsOf beyond b ⊎ IsOf hidden b)
+  pub handle : (code ≡ 41) ↔ ((¬ unnamed) × (b ≡ None))
+  pub codes : (code ≡ 0) ⊎ ((code ≡ 40) ⊎ ((code ≡ 41) ⊎ others code))
+
+-- nothing is hidden: 40 comes exactly where it has to
+abbrev pub IsNever : WorkerState → Type 0
+IsNever v = ⊥
+
+-- a refusal, or that somebody is in the zone
+abbrev pub IsRefusedOrBusy : ℕ → Type 0
+IsRefusedOrBusy n = (n < 40) ⊎ (n ≡ 42)
 
 -- the worker in the handle asked the zone at place i for r, and q was the answer
 abbrev pub IsAskedBy : ℕ → Request → Reply → Option WorkerState → Option WorkerState → Type 0
@@ -51,11 +79,20 @@ IsPages q = (ps : List ℕ) × (q ≡ Reply.Pages ps)
 abbrev pub IsBlockAt : ℕ → ℕ → Reply → Type 0
 IsBlockAt p k q = (x : Block) × (q ≡ Reply.Block x) × (x.page ≡ p) × (x.order ≡ k)
 
--- answered 0, the page in front of the list of this type was taken; else nothing changed, and answered 44 the list was empty
+-- a refill is also answered 46, exactly where the worker has no lists, and 45, exactly where it has and the list that is to be filled has pages
+pub record IsRefillDenied (i t : ℕ) (named : Type 0) (code : ℕ) (b : Option WorkerState) : Type 0 where
+  pub lists : (code ≡ 46) ↔ (named × IsOf (λ v. HasZone i v × ((desk_at v i).batch ≡ 0)) b)
+  pub empty : (code ≡ 45) ↔ (named × IsOf (λ v. HasZone i v × ((k : MigrateType) × (type_number k ≡ t) × HasPages k (desk_at v i))) b)
+
+-- there is no such zone; or in that zone the list of the type of this number has not so many pages, or none are asked for
+abbrev pub HasNotSoMany : ℕ → ℕ → ℕ → WorkerState → Type 0
+HasNotSoMany i t n v = HasNoZone i v ⊎ (HasZone i v × ((k : MigrateType) × (type_number k ≡ t) × HasTooFew k n (desk_at v i)))
+
+-- answered 0, the page in front of the list of this type was taken; else nothing changed, and 44 is answered exactly where the list is empty
 pub record IsTakeCall (i t code before after : ℕ) (b a : Option WorkerState) : Type 0 where
   pub done : code ≡ 0 → (v : WorkerState) × (w : WorkerState) × (k : MigrateType) × (b ≡ Some v) × (a ≡ Some w) × (type_number k ≡ t) × IsAt i (IsTaken k after) v w
   pub unchanged : 1 ≤ code → (after ≡ before) × (a ≡ b)
-  pub empty : code ≡ 44 → (v : WorkerState) × (k : MigrateType) × (b ≡ Some v) × (type_number k ≡ t) × (cached_of (share_at (desk_at v i) 0) k ≡ [])
+  pub empty : (code ≡ 44) ↔ IsOf (λ v. HasZone i v × ((k : MigrateType) × (type_number k ≡ t) × (cached_of (share_at (desk_at v i) 0) k ≡ []))) b
 
 -- the number of what a put answers
 abbrev pub put_number : Result (Unit {0}) Refused → ℕ

@@ -1,8 +1,8 @@
 -- What the making and unmaking of a row come to, by their answers (this profile).
-use Rattle.std.specs.Prelude.{ℕ, ◌≡◌, ◌<◌, ◌≤◌, ◌⊎◌, List, All, length, map, take, Option, None, Some}
+use Rattle.std.specs.Prelude.{ℕ, ◌≡◌, ◌<◌, ◌≤◌, ◌⊎◌, List, All, length, map, slice_index_or, take, Option, None, Some}
 use Rattle.zp_gate.specs.Gates.{IsGathered}
 use Rattle.zp_gate.specs.Rows.{RowState, key_at, untied}
-use Rattle.zp_gate.specs.Workers.{WorkerState}
+use Rattle.zp_gate.specs.Workers.{IsNewWorker, WorkerState}
 use Rattle.zonealloc.specs.declared.handles.RowHandle.{RowHandle}
 use Rattle.zonealloc.specs.declared.handles.WorkerHandle.{WorkerHandle}
 use Rattle.zonealloc.specs.declared.rows.ZoneTotals.{ZoneTotals}
@@ -12,15 +12,16 @@ use Rattle.zonealloc.specs.Zones.{spec_key}
 abbrev pub IsEmpty : WorkerHandle → Type 0
 IsEmpty h = h.slot.value ≡ None
 
--- there is a worker of so many zones in the handle
-abbrev pub HasWorkerOf : ℕ → WorkerHandle → Type 0
-HasWorkerOf n h = (v : WorkerState) × (h.slot.value ≡ Some v) × (length v ≡ n)
+-- worker w of a new row of n zones is in the handle, with lists of these sizes
+abbrev pub HasNewWorker : ℕ → ℕ → ℕ → ℕ → WorkerHandle → Type 0
+HasNewWorker w batch high n h = (v : WorkerState) × (h.slot.value ≡ Some v) × IsNewWorker w batch high n v
 
--- answered 0, all that were empty are full, the row with a zone as each of those described; else nothing changed
-pub record IsMakeCall (zones : List ZoneSpec) (code : ℕ) (r s : RowHandle) (ws vs : List WorkerHandle) : Type 0 where
+-- answered 0, all that were empty are full: the row with a zone as each of those described, the handles of the workers in the order of their numbers;
+-- else nothing changed
+pub record IsMakeCall (zones : List ZoneSpec) (batch high code : ℕ) (r s : RowHandle) (ws vs : List WorkerHandle) : Type 0 where
   pub was_empty : code ≡ 0 → (r.slot.value ≡ None) × All IsEmpty ws
   pub row : code ≡ 0 → (x : RowState) × (s.slot.value ≡ Some x) × (map untied x ≡ map (spec_key (length ws)) zones)
-  pub workers : code ≡ 0 → (length vs ≡ length ws) × All (HasWorkerOf (length zones)) vs
+  pub workers : code ≡ 0 → (length vs ≡ length ws) × ((w : ℕ) (none : WorkerHandle) → w < length vs → HasNewWorker w batch high (length zones) (slice_index_or vs w none))
   pub unchanged : 1 ≤ code → (s ≡ r) × (vs ≡ ws)
 
 -- answered 0, there was a worker and is none; answered 42, it has left some of its last zones; else nothing changed

@@ -1,10 +1,11 @@
 //! A worker's own lists. What asks no zone wants no lock.
-ghost use Rattle.std.specs.Prelude.{◌≡◌, ◌<◌, ◌⊎◌, [], IfErr, IfOk};
+ghost use Rattle.std.specs.Prelude.{◌≡◌, ◌<◌, ◌≤◌, ◌⊎◌, [], IfErr, IfOk, length};
 ghost use Rattle.zp_model.specs.declared.request.Reply.TheVariants as reply;
 ghost use Rattle.zp_share.specs.Shares.{share_at};
 ghost use Rattle.zp_share.specs.ZoneShares.{cached_of};
 ghost use Rattle.zp_gate.specs.Workers.{IsAt, IsTaken, desk_at};
-ghost use Rattle.zonealloc.specs.Calls.{AsksDrain, AsksRefill, IsAsking, IsCall, IsDrainAllCall, IsPages, IsPutCall, IsTakeCall, TellsCached, TellsLent};
+ghost use Rattle.zonealloc.specs.Calls.{AsksDrain, AsksRefill, HasNotSoMany, HasNoZone, IsAsking, IsCall, IsDenied, IsDrainAllCall, IsNever, IsPages, IsPutCall, IsRefillDenied, IsRefusedOrBusy, IsTakeCall, TellsCached, TellsLent};
+ghost use Rattle.zonealloc.specs.Numbers.{IsNoMark, IsNoOrder, IsNoType};
 
 use crate::answers::{
     BAD_ARGUMENT, BAD_HANDLE, DONE, LIST_EMPTY, denied, kind_of, mark_of, order_of, refused,
@@ -23,7 +24,8 @@ pub extern "C" fn zonealloc_take(
     kind: u32,
     page: &mut u32,
 ) -> u32
-    ensures { IsTakeCall zone kind result page.old page.new worker.old.slot.value worker.new.slot.value }
+    ensures call { IsTakeCall zone kind result page.old page.new worker.old.slot.value worker.new.slot.value }
+    ensures denied { IsDenied (IsNoType kind) (HasNoZone zone) IsNever (λ n. n ≡ 44) result worker.old.slot.value }
 {
     let Some(kind) = kind_of(kind) else {
         return BAD_ARGUMENT;
@@ -47,7 +49,7 @@ pub extern "C" fn zonealloc_take(
 fn taken(worker: &mut Worker, zone: usize, kind: MigrateType) -> Result<PageNo, u32>
     ensures ok { IfOk result (λ page. IsAt zone (IsTaken kind page) worker.old worker.new) }
     ensures same { IfErr result (λ n. worker.new ≡ worker.old) }
-    ensures why { IfErr result (λ n. (n ≡ 40) ⊎ ((n ≡ 44) × (cached_of (share_at (desk_at worker.old zone) 0) kind ≡ []))) }
+    ensures why { IfErr result (λ n. ((n ≡ 40) × (length worker.old ≤ zone)) ⊎ ((n ≡ 44) × (zone < length worker.old) × (cached_of (share_at (desk_at worker.old zone) 0) kind ≡ []))) }
 {
     if zone >= worker.zones() {
         return Err(BAD_ARGUMENT);
@@ -66,7 +68,8 @@ pub extern "C" fn zonealloc_put(
     zone: u32,
     page: u32,
 ) -> u32
-    ensures { IsPutCall zone page result worker.old.slot.value worker.new.slot.value }
+    ensures call { IsPutCall zone page result worker.old.slot.value worker.new.slot.value }
+    ensures denied { IsDenied ⊥ (HasNoZone zone) IsNever (λ n. n < 40) result worker.old.slot.value }
 {
     let Some(mut at) = worker_of(alloc, worker) else {
         return BAD_HANDLE;
@@ -93,7 +96,8 @@ pub extern "C" fn zonealloc_is_lent(
     order: u32,
     lent: &mut u32,
 ) -> u32
-    ensures { IsAsking (TellsLent zone page order) result lent.old lent.new worker.old.slot.value worker.new.slot.value }
+    ensures call { IsAsking (TellsLent zone page order) result lent.old lent.new worker.old.slot.value worker.new.slot.value }
+    ensures denied { IsDenied (IsNoOrder order) (HasNoZone zone) IsNever (λ n. ⊥) result worker.old.slot.value }
 {
     let Some(order) = order_of(order) else {
         return BAD_ARGUMENT;
@@ -120,7 +124,8 @@ pub extern "C" fn zonealloc_cached(
     kind: u32,
     pages: &mut u32,
 ) -> u32
-    ensures { IsAsking (TellsCached zone kind) result pages.old pages.new worker.old.slot.value worker.new.slot.value }
+    ensures call { IsAsking (TellsCached zone kind) result pages.old pages.new worker.old.slot.value worker.new.slot.value }
+    ensures denied { IsDenied (IsNoType kind) (HasNoZone zone) IsNever (λ n. ⊥) result worker.old.slot.value }
 {
     let Some(kind) = kind_of(kind) else {
         return BAD_ARGUMENT;
@@ -148,7 +153,9 @@ pub extern "C" fn zonealloc_refill(
     kind: u32,
     mark: u32,
 ) -> u32
-    ensures { IsCall (AsksRefill zone kind mark) IsPages (Unit {0}) zone result worker.old.slot.value worker.new.slot.value }
+    ensures call { IsCall (AsksRefill zone kind mark) IsPages (Unit {0}) zone result worker.old.slot.value worker.new.slot.value }
+    ensures denied { IsDenied (IsNoType kind ⊎ IsNoMark mark) (HasNoZone zone) IsNever (λ n. IsRefusedOrBusy n ⊎ ((n ≡ 45) ⊎ (n ≡ 46))) result worker.old.slot.value }
+    ensures lists { IsRefillDenied zone kind ((¬ IsNoType kind) × (¬ IsNoMark mark)) result worker.old.slot.value }
 {
     let Some(kind) = kind_of(kind) else {
         return BAD_ARGUMENT;
@@ -176,7 +183,8 @@ pub extern "C" fn zonealloc_drain(
     kind: u32,
     count: u32,
 ) -> u32
-    ensures { IsCall (AsksDrain zone kind count) (λ q. q ≡ reply.Drained) (Unit {0}) zone result worker.old.slot.value worker.new.slot.value }
+    ensures call { IsCall (AsksDrain zone kind count) (λ q. q ≡ reply.Drained) (Unit {0}) zone result worker.old.slot.value worker.new.slot.value }
+    ensures denied { IsDenied (IsNoType kind) (HasNotSoMany zone kind count) IsNever IsRefusedOrBusy result worker.old.slot.value }
 {
     let Some(kind) = kind_of(kind) else {
         return BAD_ARGUMENT;
@@ -196,7 +204,8 @@ pub extern "C" fn zonealloc_drain(
 /// refused are empty, and the rest is as it was.
 #[unsafe(no_mangle)]
 pub extern "C" fn zonealloc_drain_all(alloc: Global, worker: &mut WorkerHandle, zone: u32) -> u32
-    ensures { IsDrainAllCall zone result worker.old.slot.value worker.new.slot.value }
+    ensures call { IsDrainAllCall zone result worker.old.slot.value worker.new.slot.value }
+    ensures denied { IsDenied ⊥ (HasNoZone zone) IsNever IsRefusedOrBusy result worker.old.slot.value }
 {
     let Some(mut at) = worker_of(alloc, worker) else {
         return BAD_HANDLE;

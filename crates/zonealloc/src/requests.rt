@@ -1,8 +1,9 @@
 //! What a worker asks of the zones of its row.
-ghost use Rattle.std.specs.Prelude.{◌≡◌};
+ghost use Rattle.std.specs.Prelude.{◌≡◌, ◌⊎◌};
 ghost use Rattle.zp_model.specs.declared.request.Request.TheVariants as request;
 ghost use Rattle.zp_model.specs.declared.request.Reply.TheVariants as reply;
-ghost use Rattle.zonealloc.specs.Calls.{Asks, AsksAlloc, AsksRelease, IsBlockAt, IsCall};
+ghost use Rattle.zonealloc.specs.Calls.{Asks, AsksAlloc, AsksRelease, HasNoZone, HasZone, IsBlockAt, IsCall, IsDenied, IsNever, IsRefusedOrBusy};
+ghost use Rattle.zonealloc.specs.Numbers.{IsNoMark, IsNoOrder, IsNoType, IsNoWorker};
 
 use crate::answers::{
     BAD_ARGUMENT, BAD_HANDLE, DONE, denied, kind_of, mark_of, number_of, order_of,
@@ -23,7 +24,8 @@ pub extern "C" fn zonealloc_alloc(
     mark: u32,
     page: &mut u32,
 ) -> u32
-    ensures { IsCall (AsksAlloc order kind mark) (λ q. q ≡ reply.Page page.new) (page.new ≡ page.old) zone result worker.old.slot.value worker.new.slot.value }
+    ensures call { IsCall (AsksAlloc order kind mark) (λ q. q ≡ reply.Page page.new) (page.new ≡ page.old) zone result worker.old.slot.value worker.new.slot.value }
+    ensures denied { IsDenied (IsNoOrder order ⊎ (IsNoType kind ⊎ IsNoMark mark)) (HasNoZone zone) IsNever IsRefusedOrBusy result worker.old.slot.value }
 {
     let Some(order) = order_of(order) else {
         return BAD_ARGUMENT;
@@ -57,7 +59,8 @@ pub extern "C" fn zonealloc_alloc_low(
     order: u32,
     page: &mut u32,
 ) -> u32
-    ensures { IsCall (Asks (request.AllocLow order)) (IsBlockAt page.new order) (page.new ≡ page.old) zone result worker.old.slot.value worker.new.slot.value }
+    ensures call { IsCall (Asks (request.AllocLow order)) (IsBlockAt page.new order) (page.new ≡ page.old) zone result worker.old.slot.value worker.new.slot.value }
+    ensures denied { IsDenied (IsNoOrder order) (HasNoZone zone) IsNever IsRefusedOrBusy result worker.old.slot.value }
 {
     let Some(order) = order_of(order) else {
         return BAD_ARGUMENT;
@@ -85,7 +88,8 @@ pub extern "C" fn zonealloc_free(
     page: u32,
     order: u32,
 ) -> u32
-    ensures { IsCall (Asks (request.Free page order)) (λ q. q ≡ reply.Freed) (Unit {0}) zone result worker.old.slot.value worker.new.slot.value }
+    ensures call { IsCall (Asks (request.Free page order)) (λ q. q ≡ reply.Freed) (Unit {0}) zone result worker.old.slot.value worker.new.slot.value }
+    ensures denied { IsDenied (IsNoOrder order) (HasNoZone zone) IsNever IsRefusedOrBusy result worker.old.slot.value }
 {
     let Some(order) = order_of(order) else {
         return BAD_ARGUMENT;
@@ -111,7 +115,8 @@ pub extern "C" fn zonealloc_post(
     order: u32,
     to: u32,
 ) -> u32
-    ensures { IsCall (Asks (request.Post page order to)) (λ q. q ≡ reply.Posted) (Unit {0}) zone result worker.old.slot.value worker.new.slot.value }
+    ensures call { IsCall (Asks (request.Post page order to)) (λ q. q ≡ reply.Posted) (Unit {0}) zone result worker.old.slot.value worker.new.slot.value }
+    ensures denied { IsDenied (IsNoOrder order ⊎ IsNoWorker to) (HasNoZone zone) (HasZone zone) IsRefusedOrBusy result worker.old.slot.value }
 {
     let Some(order) = order_of(order) else {
         return BAD_ARGUMENT;
@@ -139,7 +144,8 @@ pub extern "C" fn zonealloc_collect(
     page: &mut u32,
     order: &mut u32,
 ) -> u32
-    ensures { IsCall (Asks request.Collect) (IsBlockAt page.new order.new) ((page.new ≡ page.old) × (order.new ≡ order.old)) zone result worker.old.slot.value worker.new.slot.value }
+    ensures call { IsCall (Asks request.Collect) (IsBlockAt page.new order.new) ((page.new ≡ page.old) × (order.new ≡ order.old)) zone result worker.old.slot.value worker.new.slot.value }
+    ensures denied { IsDenied ⊥ (HasNoZone zone) IsNever IsRefusedOrBusy result worker.old.slot.value }
 {
     let Some(mut at) = worker_of(alloc, worker) else {
         return BAD_HANDLE;
@@ -164,7 +170,8 @@ pub extern "C" fn zonealloc_isolate(
     zone: u32,
     pageblock: u32,
 ) -> u32
-    ensures { IsCall (Asks (request.Isolate pageblock)) (λ q. q ≡ reply.Isolated) (Unit {0}) zone result worker.old.slot.value worker.new.slot.value }
+    ensures call { IsCall (Asks (request.Isolate pageblock)) (λ q. q ≡ reply.Isolated) (Unit {0}) zone result worker.old.slot.value worker.new.slot.value }
+    ensures denied { IsDenied ⊥ (HasNoZone zone) IsNever IsRefusedOrBusy result worker.old.slot.value }
 {
     let Some(mut at) = worker_of(alloc, worker) else {
         return BAD_HANDLE;
@@ -186,7 +193,8 @@ pub extern "C" fn zonealloc_release(
     pageblock: u32,
     kind: u32,
 ) -> u32
-    ensures { IsCall (AsksRelease pageblock kind) (λ q. q ≡ reply.Released) (Unit {0}) zone result worker.old.slot.value worker.new.slot.value }
+    ensures call { IsCall (AsksRelease pageblock kind) (λ q. q ≡ reply.Released) (Unit {0}) zone result worker.old.slot.value worker.new.slot.value }
+    ensures denied { IsDenied (IsNoType kind) (HasNoZone zone) IsNever IsRefusedOrBusy result worker.old.slot.value }
 {
     let Some(kind) = kind_of(kind) else {
         return BAD_ARGUMENT;

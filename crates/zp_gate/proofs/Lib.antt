@@ -1,3 +1,5 @@
 pub mod Moves
 pub mod Crews
 pub mod Keys
+pub mod InOrder
+pub mod Handing

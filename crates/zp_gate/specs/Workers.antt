@@ -1,6 +1,6 @@
 -- What a worker has of each zone of its row, and what its calls come to. A zone behind a gate is not seen between calls: each of them
 -- speaks of the zone as it is then, whatever it is (this profile).
-use Rattle.std.specs.Prelude.{ℕ, ◌≡◌, ◌<◌, ◌≤◌, ◌⊎◌, List, [], length, slice_index_or, slice_set, Some, Result}
+use Rattle.std.specs.Prelude.{ℕ, ◌≡◌, ◌<◌, ◌≤◌, ◌+◌, ◌⊎◌, List, [], ◌∷◌, All, length, slice_index_or, slice_set, Some, Result}
 use Rattle.zp_model.specs.declared.request.Request.{Request}
 use Rattle.zp_model.specs.declared.request.Reply.{Reply}
 use Rattle.zp_model.specs.declared.refused.Refused.{Refused as Refusal}
@@ -8,13 +8,13 @@ use Rattle.zp_model.specs.declared.migrate_type.MigrateType.{MigrateType}
 use Rattle.zp_model.specs.declared.migrate_type.MigrateType.TheVariants.{Unmovable, Reclaimable, Movable}
 use Rattle.zp_model.specs.declared.mark.Mark.{Mark}
 use Rattle.zp_model.specs.Rows.{front}
-use Rattle.zp_zone.specs.Seats.{ZoneState}
+use Rattle.zp_zone.specs.Seats.{IsUnused, SeatState, ZoneState}
 use Rattle.zp_share.specs.PlainShares.{back, putting, taken}
 use Rattle.zp_share.specs.Sections.{IsAsked}
 use Rattle.zp_share.specs.Shares.{ShareState, share_at, with_zone_share}
-use Rattle.zp_share.specs.ZoneShares.{cached_of, plain_share}
+use Rattle.zp_share.specs.ZoneShares.{cached_of, opening_share, plain_share}
 use Rattle.zp_gate.specs.declared.denied.Denied.{Denied}
-use Rattle.zp_gate.specs.declared.denied.Denied.TheVariants.{NoZone, Refused}
+use Rattle.zp_gate.specs.declared.denied.Denied.TheVariants.{Busy, NoLists, NoWorker, NoZone, NotEmpty, Refused, TooFew}
 
 -- for each zone of the row, the lowest first, the worker's share of that zone alone
 abbrev pub WorkerState : Type 0
@@ -27,15 +27,59 @@ no_share = record { worker = 0; batch = 0; high_len = 0; zones = [] }
 abbrev pub desk_at : WorkerState → ℕ → ShareState
 desk_at w i = slice_index_or w i no_share
 
+-- seats of workers 0, 1 and so on, in this order
+abbrev pub AreInOrder : List SeatState → Type 0
+AreInOrder ss = (w : ℕ) (none : SeatState) → w < length ss → (slice_index_or ss w none).worker ≡ w
+
+-- of each value and its number, where they are numbered from m - 1 down
+abbrev pub AllDown : {A : Type 0} → (ℕ → A → Type 0) → ℕ → List A → Type 0
+AllDown {A = A} P m xs = (k w : ℕ) (none : A) → k < length xs → k + w + 1 ≡ m → P w (slice_index_or xs k none)
+
+-- a share of one zone as it is made, for worker w and with lists of these sizes: it is of a seat with which no request was made, so that nothing is
+-- lent and no list has a page
+pub record IsNewShare (w batch high : ℕ) (s : ShareState) : Type 0 where
+  pub seat : SeatState
+  pub unused : IsUnused seat
+  pub worker : seat.worker ≡ w
+  pub share : s ≡ record { worker = w; batch = batch; high_len = high; zones = opening_share seat (length seat.part.blocks) ∷ [] }
+
+-- worker w of a row of n zones as it is made
+pub record IsNewWorker (w batch high n : ℕ) (v : WorkerState) : Type 0 where
+  pub zones : length v ≡ n
+  pub shares : All (IsNewShare w batch high) v
+
 -- the zone was asked, and this is its answer: one step of the zone, whatever it was, and the same step of the worker's share
 abbrev pub IsAnswer : Request → Reply → ShareState → ShareState → Type 0
 IsAnswer r q s t = (z : ZoneState) × ((y : ZoneState) × IsAsked r q z y (share_at s 0) (share_at t 0)) × (t ≡ with_zone_share 0 (share_at t 0) s)
 
--- why nothing was asked, or which refusal was the answer
+-- the worker has lists, and that of this type has pages
+abbrev pub HasPages : MigrateType → ShareState → Type 0
+HasPages k s = (1 ≤ s.batch) × (1 ≤ length (cached_of (share_at s 0) k))
+
+-- for what a request is denied without the zone, where the row has it: there is somebody in it; or the worker has no lists or one with pages to
+-- fill, too few pages to drain, or the zone has no such worker
+abbrev pub IsUnasked : Request → Denied → ShareState → Type 0
+IsUnasked r Busy s = Unit {0}
+IsUnasked (Request.Post p k w) NoWorker s = Unit {0}
+IsUnasked (Request.Refill k m n) NoLists s = s.batch ≡ 0
+IsUnasked (Request.Refill k m n) NotEmpty s = HasPages k s
+IsUnasked (Request.Drain k ps) TooFew s = Unit {0}
+IsUnasked r d s = ⊥
+
+-- what a zone itself denies a request for: that somebody is in it, or by a refusal
+abbrev pub IsOfZone : Denied → Type 0
+IsOfZone Busy = Unit {0}
+IsOfZone (Refused e) = Unit {0}
+IsOfZone d = ⊥
+
+-- nothing was asked, and why; or which refusal was the answer
 abbrev pub IsDenial : Request → Denied → ShareState → ShareState → Type 0
 IsDenial r (Refused e) s t = IsAnswer r (Reply.Refused e) s t
-IsDenial r NoZone s t = ⊥
-IsDenial r d s t = t ≡ s
+IsDenial r d s t = IsUnasked r d s × (t ≡ s)
+
+-- a drain of so many pages has too few, or is to give none
+abbrev pub HasTooFew : MigrateType → ℕ → ShareState → Type 0
+HasTooFew k n s = (n ≡ 0) ⊎ (length (cached_of (share_at s 0) k) < n)
 
 -- some pages came, in one refill of as many as a batch
 abbrev pub IsFilled : MigrateType → Mark → ShareState → ShareState → Type 0

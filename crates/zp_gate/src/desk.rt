@@ -1,5 +1,5 @@
 //! One worker's place at one zone.
-ghost use Rattle.std.specs.Prelude.{◌≡◌, ◌<◌, ◌≤◌, [], length, IfOk, IfErr, IfSome, IfNone, OnOk, IsOk, Some, None, Ok, Err};
+ghost use Rattle.std.specs.Prelude.{◌≡◌, ◌<◌, ◌≤◌, ◌↔◌, [], length, IfOk, IfErr, IfSome, IfNone, OnOk, Some, None, Ok, Err};
 ghost use Rattle.std.specs.Arc.{arc_value};
 ghost use Rattle.zp_model.specs.declared.request.Request.TheVariants as request;
 ghost use Rattle.zp_model.specs.declared.request.Reply.TheVariants as reply;
@@ -14,7 +14,8 @@ ghost use Rattle.zp_share.specs.Shares.{share_at};
 ghost use Rattle.zp_share.specs.ZoneShares.{cached_of, is_lent};
 ghost use Rattle.zp_gate.specs.Gates.{IsOneShare, IsSeatBy};
 ghost use Rattle.zp_gate.specs.Readings.{IsThen, TellsLine, TellsPage, TellsPageblock, TellsZone};
-ghost use Rattle.zp_gate.specs.Workers.{IsAnswer, IsDenial, IsDrained, IsFilled, IsPut, IsTaken};
+ghost use Rattle.zp_gate.specs.declared.denied.Denied.TheVariants.{NoLists, NotEmpty, TooFew};
+ghost use Rattle.zp_gate.specs.Workers.{HasPages, HasTooFew, IsAnswer, IsDenial, IsDrained, IsFilled, IsNewShare, IsPut, IsTaken};
 
 use crate::denied::Denied;
 use crate::gate::Gate;
@@ -239,6 +240,7 @@ impl Desk {
     ) -> Result<Desk, Refused>
         requires unused { IsUnused seat }
         requires of { IsSeatBy (arc_value gate.now).table.shared.key seat }
+        ensures new { IfOk result (IsNewShare seat.worker lists.batch lists.high_len) }
         ensures why { IfErr result (λ e. e ≡ Memory) }
     {
         let Ok(seats) = Vec::from_array(alloc, [seat]) else {
@@ -318,6 +320,8 @@ impl Desk {
     /// Fills the worker's empty list of this type with up to a batch of pages. Refused 10, 11 or 30.
     pub(crate) fn refill(&mut self, kind: MigrateType, mark: Mark) -> Result<(), Denied>
         ensures ok { OnOk result (IsFilled kind mark self.old self.new) }
+        ensures lists { self.old.batch ≡ 0 → result ≡ Err NoLists }
+        ensures empty { HasPages kind self.old → result ≡ Err NotEmpty }
         ensures denied { IfErr result (λ d. IsDenial (request.Refill kind mark self.old.batch) d self.old self.new) }
     {
         if self.share.lists().batch() == 0 {
@@ -332,7 +336,7 @@ impl Desk {
     /// Gives back so many pages from the back of the worker's list of this type. Refused 30.
     pub(crate) fn drain(&mut self, kind: MigrateType, count: usize) -> Result<(), Denied>
         ensures ok { OnOk result (IsDrained kind count self.old self.new) }
-        ensures some { IsOk result → (1 ≤ count) × (count ≤ length (cached_of (share_at self.old 0) kind)) }
+        ensures few { (result ≡ Err TooFew) ↔ HasTooFew kind count self.old }
         ensures denied { IfErr result (λ d. IsDenial (request.Drain kind (back count (cached_of (share_at self.old 0) kind))) d self.old self.new) }
     {
         if count == 0 || self.share.cached_len(0, kind) < count {

@@ -1,9 +1,10 @@
 //! A row of zones and its workers.
-ghost use Rattle.std.specs.Prelude.{◌≡◌, ◌<◌, ◌≤◌, All, IfNone, IfOk, IfSome, length, map};
+ghost use Rattle.std.specs.Prelude.{ℕ, ◌≡◌, ◌<◌, ◌≤◌, ◌+◌, All, IfNone, IfOk, IfSome, IsOk, length, map};
 ghost use Rattle.std.specs.Arc.{arc_value};
 ghost use Rattle.zp_zone.specs.Seats.{IsUnused};
 ghost use Rattle.zp_gate.specs.Gates.{IsGathered, IsSeatBy};
 ghost use Rattle.zp_gate.specs.Rows.{gate_key, key_at, key_for, untied};
+ghost use Rattle.zp_gate.specs.Workers.{AllDown, AreInOrder, IsNewWorker};
 
 use crate::desk::Desk;
 use crate::gate::{Gate, GateKey};
@@ -61,6 +62,7 @@ impl Row {
 struct OpenedZone {
     gate: Arc<Gate, Global>,
     seats: Vec<Seat>,
+    ghost order: { AreInOrder seats.items },
     ghost unused: { All IsUnused seats.items },
     ghost of: { All (IsSeatBy (gate_key (arc_value gate))) seats.items },
 }
@@ -74,7 +76,7 @@ pub fn open_row(
 ) -> Result<(Row, Vec<Box<Worker>>), Refused>
     ensures keys { IfOk result (λ r. map untied r.0 ≡ map (key_for workers) configs.now) }
     ensures crew { IfOk result (λ r. length r.1.items ≡ workers) }
-    ensures zones { IfOk result (λ r. All (λ w. length w.value ≡ length configs.now) r.1.items) }
+    ensures new { IfOk result (λ r. AllDown (λ w b. IsNewWorker w lists.batch lists.high_len (length configs.now) b.value) workers r.1.items) }
 {
     let mut zones = opened_zones(alloc, configs, workers)?;
     let crew = crew_of(alloc, zones.as_mut_slice(), workers, lists)?;
@@ -93,8 +95,9 @@ fn opened_zones(
     configs: &[ZoneConfig<'_>],
     workers: u32,
 ) -> Result<Vec<OpenedZone>, Refused>
-    ensures each { IfOk result (λ zs. length zs.items ≡ length configs.now) }
+    ensures zones { IfOk result (λ zs. length zs.items ≡ length configs.now) }
     ensures keys { IfOk result (λ zs. map untied (map (λ z. gate_key (arc_value z.gate)) zs.items) ≡ map (key_for workers) configs.now) }
+    ensures seats { IfOk result (λ zs. All (λ z. length z.seats.items ≡ workers) zs.items) }
 {
     let Ok(mut zones) = Vec::with_capacity(alloc, configs.len()) else {
         return Err(Refused::Memory);
@@ -107,7 +110,8 @@ fn opened_zones(
 
 /// One zone behind its gate, and its seats.
 fn opened_zone(alloc: Global, config: &ZoneConfig<'_>, workers: u32) -> Result<OpenedZone, Refused>
-    ensures { IfOk result (λ z. untied (gate_key (arc_value z.gate)) ≡ key_for workers config.now) }
+    ensures key { IfOk result (λ z. untied (gate_key (arc_value z.gate)) ≡ key_for workers config.now) }
+    ensures seats { IfOk result (λ z. length z.seats.items ≡ workers) }
 {
     let Some(name) = Name::new(config.name.as_bytes()) else {
         return Err(Refused::BadName);
@@ -140,9 +144,10 @@ fn crew_of(
     workers: u32,
     lists: ListConfig,
 ) -> Result<Vec<Box<Worker>>, Refused>
+    requires seats { All (λ z. length z.seats.items ≡ workers) zones.old }
     ensures keys { IfOk result (λ _. map (λ z. gate_key (arc_value z.gate)) zones.new ≡ map (λ z. gate_key (arc_value z.gate)) zones.old) }
     ensures crew { IfOk result (λ crew. length crew.items ≡ workers) }
-    ensures zones { IfOk result (λ crew. All (λ w. length w.value ≡ length zones.old) crew.items) }
+    ensures new { IfOk result (λ crew. AllDown (λ w b. IsNewWorker w lists.batch lists.high_len (length zones.old) b.value) workers crew.items) }
 {
     let Ok(mut crew) = Vec::with_capacity(alloc, workers as usize) else {
         return Err(Refused::Memory);
@@ -157,14 +162,15 @@ fn crew_of(
     Ok(crew)
 }
 
-/// The worker of the last seats that are left.
+/// The worker of the last seats that are left, of which each zone has as many.
 fn next_worker(
     alloc: Global,
     zones: &mut [OpenedZone],
     lists: ListConfig,
 ) -> Result<Worker, Refused>
     ensures keys { IfOk result (λ _. map (λ z. gate_key (arc_value z.gate)) zones.new ≡ map (λ z. gate_key (arc_value z.gate)) zones.old) }
-    ensures zones { IfOk result (λ w. length w ≡ length zones.old) }
+    ensures new { IfOk result (λ v. (w : ℕ) → All (λ z. length z.seats.items ≡ w + 1) zones.old → IsNewWorker w lists.batch lists.high_len (length zones.old) v) }
+    ensures left { IsOk result → (w : ℕ) → All (λ z. length z.seats.items ≡ w + 1) zones.old → All (λ z. length z.seats.items ≡ w) zones.new }
 {
     let Ok(mut desks) = Vec::with_capacity(alloc, zones.len()) else {
         return Err(Refused::Memory);

@@ -1,13 +1,13 @@
 //! A worker of a row. The calls that ask a zone answer `Denied::Busy` at once where somebody is with it.
-ghost use Rattle.std.specs.Prelude.{ℕ, ◌≡◌, ◌<◌, ◌≤◌, length, IfOk, IfErr, IfSome, IfNone, IsTrue, OnErr, OnOk, [], false, take, ◌-◌, Ok, Err};
+ghost use Rattle.std.specs.Prelude.{ℕ, ◌≡◌, ◌<◌, ◌≤◌, ◌↔◌, length, IfOk, IfErr, IfSome, IfNone, IsTrue, OnErr, OnOk, [], false, take, ◌-◌, Ok, Err};
 ghost use Rattle.zp_model.specs.declared.request.Request.TheVariants as request;
 ghost use Rattle.zp_model.specs.declared.request.Reply.TheVariants as reply;
 ghost use Rattle.zp_model.specs.declared.constants.TheConstants.{LONGEST_LIST};
 ghost use Rattle.zp_share.specs.PlainShares.{back};
 ghost use Rattle.zp_share.specs.Shares.{share_at};
 ghost use Rattle.zp_share.specs.ZoneShares.{cached_of, is_lent};
-ghost use Rattle.zp_gate.specs.declared.denied.Denied.TheVariants.{NoZone};
-ghost use Rattle.zp_gate.specs.Workers.{AreDrained, AreSomeDrained, IsAskedOf, IsAt, IsDeniedOf, IsListDrained, IsDrained, IsFilled, IsPut, IsTaken, desk_at};
+ghost use Rattle.zp_gate.specs.declared.denied.Denied.TheVariants.{NoLists, NoZone, NotEmpty, TooFew};
+ghost use Rattle.zp_gate.specs.Workers.{AreDrained, AreSomeDrained, HasPages, HasTooFew, IsAskedOf, IsAt, IsDeniedOf, IsListDrained, IsDrained, IsFilled, IsOfZone, IsPut, IsTaken, desk_at};
 ghost use Rattle.zp_gate.specs.Readings.{IsThen, TellsLine, TellsPage, TellsPageblock, TellsZone};
 
 use crate::denied::Denied;
@@ -125,6 +125,8 @@ impl Worker {
     /// Fills the worker's empty list of this type with up to a batch of pages. Refused 10, 11 or 30.
     pub fn refill(&mut self, zone: usize, kind: MigrateType, mark: Mark) -> Result<(), Denied>
         ensures ok { OnOk result (IsAt zone (IsFilled kind mark) self.old self.new) }
+        ensures lists { zone < length self.old → (desk_at self.old zone).batch ≡ 0 → result ≡ Err NoLists }
+        ensures empty { zone < length self.old → HasPages kind (desk_at self.old zone) → result ≡ Err NotEmpty }
         ensures denied { IfErr result (λ d. IsDeniedOf zone (request.Refill kind mark (desk_at self.old zone).batch) d self.old self.new) }
     {
         let Some(desk) = self.desks.get_mut(zone) else {
@@ -136,6 +138,7 @@ impl Worker {
     /// Gives back so many pages from the back of the worker's list of this type. Refused 30.
     pub fn drain(&mut self, zone: usize, kind: MigrateType, count: usize) -> Result<(), Denied>
         ensures ok { OnOk result (IsAt zone (IsDrained kind count) self.old self.new) }
+        ensures few { (result ≡ Err TooFew) ↔ ((zone < length self.old) × HasTooFew kind count (desk_at self.old zone)) }
         ensures denied { IfErr result (λ d. IsDeniedOf zone (request.Drain kind (back count (cached_of (share_at (desk_at self.old zone) 0) kind))) d self.old self.new) }
     {
         let Some(desk) = self.desks.get_mut(zone) else {
@@ -148,7 +151,7 @@ impl Worker {
     fn drain_list(&mut self, zone: usize, kind: MigrateType) -> Result<(), Denied>
         requires { zone < length self.old }
         ensures ok { OnOk result (IsAt zone (IsListDrained kind) self.old self.new) }
-        ensures denied { OnErr result (self.new ≡ self.old) }
+        ensures denied { IfErr result (λ d. IsOfZone d × (self.new ≡ self.old)) }
         ensures zones { length self.new ≡ length self.old }
     {
         let pages = self.cached_len(zone, kind);
@@ -164,6 +167,7 @@ impl Worker {
         ensures ok { OnOk result (AreDrained zone self.old self.new) }
         ensures denied { OnErr result (AreSomeDrained zone self.old self.new) }
         ensures none { (length self.old ≤ zone) → (result ≡ Err NoZone) }
+        ensures why { (zone < length self.old) → IfErr result IsOfZone }
     {
         if zone >= self.desks.len() {
             return Err(Denied::NoZone);

@@ -1,12 +1,12 @@
-use Rattle.std.proofs.Common.{ℕ, ◌≡◌, ◌<◌, ◌+◌, All, length, slice_index_or}
+use Rattle.std.proofs.Common.{ℕ, ◌≡◌, ◌<◌, ◌+◌, length, slice_index_or, Some, Box, Global}
+use Rattle.zp_gate.specs.declared.worker.Worker.{Worker}
 use Rattle.zonealloc.specs.declared.handles.WorkerHandle.{WorkerHandle}
-use Rattle.zonealloc.specs.Rows.{HasWorkerOf}
 use Rattle.zonealloc.proofs.rows.put_all.Given as goal
 
 abbrev pub invariant-loop-place : goal.invariant-loop-place
 invariant-loop-place l = record {
   each : length l.workers ≡ length l.fn.workers;
   left : length l.crew.items + l.place ≡ length l.workers;
-  zones : All (λ w. length w.value ≡ l.zones) l.crew.items;
-  put : (k : ℕ) (d : WorkerHandle) → k < l.place → HasWorkerOf l.zones (slice_index_or l.workers k d);
+  same : (k : ℕ) (d : Box Worker Global) → k < length l.crew.items → slice_index_or l.crew.items k d ≡ slice_index_or l.fn.crew.items k d;
+  put : (w k : ℕ) (d : Box Worker Global) (none : WorkerHandle) → w < l.place → k + w + 1 ≡ length l.workers → (slice_index_or l.workers w none).slot.value ≡ Some (slice_index_or l.fn.crew.items k d).value;
 }

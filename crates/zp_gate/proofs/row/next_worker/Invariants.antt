@@ -1,7 +1,15 @@
-use Rattle.std.proofs.Common.{◌≡◌, ◌≤◌, map, vec_len, vec_capacity}
+use Rattle.std.proofs.Common.{ℕ, ◌≡◌, ◌≤◌, ◌<◌, ◌+◌, All, length, map, slice_index_or, vec_len, vec_capacity}
+use Rattle.zp_gate.specs.declared.row.OpenedZone.{OpenedZone}
+use Rattle.zp_gate.specs.Workers.{IsNewShare}
 use Rattle.zp_gate.proofs.Keys.{key_in}
 use Rattle.zp_gate.proofs.row.next_worker.Given as goal
 
 abbrev pub invariant-loop-zone : goal.invariant-loop-zone
-invariant-loop-zone l =
-    record { many : vec_len l.desks ≡ l.zone-index; room : l.zone-index-end ≤ vec_capacity l.desks; keys : map key_in l.zone-items ≡ map key_in l.initial.zone-items }
+invariant-loop-zone l = record {
+  many : vec_len l.desks ≡ l.zone-index;
+  room : l.zone-index-end ≤ vec_capacity l.desks;
+  keys : map key_in l.zone-items ≡ map key_in l.initial.zone-items;
+  new : (w : ℕ) → All (λ z. length z.seats.items ≡ w + 1) l.fn.zones → All (IsNewShare w l.lists.batch l.lists.high_len) l.desks.items;
+  left : (w : ℕ) → All (λ z. length z.seats.items ≡ w + 1) l.fn.zones → (k : ℕ) (d : OpenedZone) → k < l.zone-index → length (slice_index_or l.zone-items k d).seats.items ≡ w;
+  rest : (k : ℕ) (d : OpenedZone) → l.zone-index ≤ k → slice_index_or l.zone-items k d ≡ slice_index_or l.fn.zones k d;
+}

@@ -1,17 +1,13 @@
 -- A list whose last value is handed out into the next place of another.
 use Rattle.std.proofs.Common.{ℕ, ◌≡◌, ◌<◌, ◌+◌, ◌++◌, ◌∷◌, ◌∙◌, List, [], All, length, slice_set, slice_index_or, ap, refl, sym, subst, inl, inr, arith}
 use Rattle.std.proofs.lemmas.Bool.{cases_lt}
-use Rattle.std.proofs.lemmas.List.{length-append, get_or_append_left, get_or_push, get_or-set_same, get_or-set_other}
+use Rattle.std.proofs.lemmas.List.{length-append, get_or_push, get_or-set_same, get_or-set_other}
 
 -- a list is longer by its last value
 pub one_more : {A : Type 0} (all rest : List A) (last : A) → all ≡ rest ++ last ∷ [] → length all ≡ length rest + 1
 one_more all rest last e = ap length e ∙ length-append rest (last ∷ [])
 
--- what is so of each value is so of those before the last, and of the last
-pub front_so : {A : Type 0} (P : A → Type 0) (all rest : List A) (last : A) → all ≡ rest ++ last ∷ [] → All P all → All P rest
-front_so P all rest last e so k d lt =
-    subst P (ap (λ xs. slice_index_or xs k d) e ∙ get_or_append_left rest (last ∷ []) d k lt) (so k d (subst (λ n. k < n) (sym (one_more all rest last e)) (omega (arith, lt))))
-
+-- what is so of each value is so of the last
 pub last_so : {A : Type 0} (P : A → Type 0) (all rest : List A) (last : A) → all ≡ rest ++ last ∷ [] → All P all → P last
 last_so P all rest last e so =
     let n = length rest in
