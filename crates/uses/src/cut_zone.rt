@@ -12,7 +12,7 @@ use std::sync::{Mutex, Wait};
 use std::thread::{Threads, map_vec};
 use zp_journal::{Journal, Piece};
 use zp_model::{Counts, Order, Refused};
-use zp_shared::{CutJournal, Naming, OneZone, SharedZone, WorkerAt, ZoneWorker};
+use zp_shared::{Closed, CutJournal, Naming, OneZone, SharedZone, WorkerAt, ZoneWorker};
 use zp_zone::{Zone, ZoneConfig};
 
 /// For how many entries each journal has room.
@@ -136,6 +136,43 @@ fn outcome(
     })
 }
 
+/// The pieces, with this one behind them.
+fn with_last(mut pieces: Vec<Piece>, last: Piece) -> Option<Vec<Piece>>
+    ensures { IfSome result (λ ps. ps.items ≡ pieces.items ++ last ∷ []) }
+{
+    match pieces.push(last) {
+        Ok(_) => Some(pieces),
+        Err(_) => None,
+    }
+}
+
+/// What is told of the zone, out of its lock, and of the pieces before its last. None where it was found at another's place, or as `outcome`.
+fn closed<J: Naming>(
+    alloc: Global,
+    config: ZoneConfig<'_>,
+    crew: u32,
+    shared: SharedZone<J, CutJournal>,
+    pieces: Vec<Piece>,
+) -> Option<CutRun>
+    ensures last { IfSome result (λ run. (ps : List Piece) × (p : Piece) × (run.pieces.items ≡ ps ++ p ∷ []) × IsCutOf run.zone (record { handed = p.before; journal = p.journal })) }
+    ensures adjoin { IfSome result (λ run. IfSome run.replayed (λ z. AreAdjoining 0 run.pieces.items)) }
+    ensures replayed { IfSome result (λ run. IfSome run.replayed (λ z. IsReplayedWhole config.entry.name.now (zone_opening config.entry.largest config.entry.base config.entry.pages config.entry.min crew) (entries_of run.pieces.items) (Some z))) }
+    ensures same { IfSome result (λ run. IfSome run.replayed (λ z. counts_of z.plain.area.largest z.plain.area.free ≡ counts_of run.zone.plain.area.largest run.zone.plain.area.free)) }
+{
+    let Closed {
+        zone,
+        journal,
+        at_place: true,
+    } = shared.close(&mut [])
+    else {
+        return None;
+    };
+    match with_last(pieces, journal.into_piece()) {
+        Some(pieces) => outcome(alloc, ZoneConfig { ..config }, crew, zone, pieces),
+        None => None,
+    }
+}
+
 /// So many workers of a zone of this config take a page and give it back, so many times, all at the same time; then all that was asked
 /// of the zone is replayed, from the pieces put together. None where there is no memory, a thread is missing, a worker was refused, the config
 /// makes no zone, or the zone was found at another's place.
@@ -154,14 +191,15 @@ pub fn work_in_pieces<J: Naming + Send + Sync, R: Threads + Wait + Sync>(
     ensures same { IfSome result (λ run. IfSome run.replayed (λ z. counts_of z.plain.area.largest z.plain.area.free ≡ counts_of run.zone.plain.area.largest run.zone.plain.area.free)) }
 {
     let pieces = Mutex::new(Vec::new(alloc));
-    if !work(rt, alloc, &zone, workers, &pieces, many) {
-        return None;
+    let done = work(rt, alloc, &zone, workers, &pieces, many);
+    match zone.into_zone() {
+        Some(shared) if done => closed(
+            alloc,
+            ZoneConfig { ..config },
+            crew,
+            shared,
+            pieces.into_inner(),
+        ),
+        _ => None,
     }
-    let closed = zone.into_zone()?.close(&mut []);
-    if !closed.at_place {
-        return None;
-    }
-    let mut pieces = pieces.into_inner();
-    pieces.push(closed.journal.into_piece()).ok()?;
-    outcome(alloc, ZoneConfig { ..config }, crew, closed.zone, pieces)
 }

@@ -12,7 +12,7 @@ use std::sync::Wait;
 use std::thread::Threads;
 use zp_journal::{Journal, JournalCheck, replay_journal};
 use zp_model::{Mark, MigrateType, Order, Refused};
-use zp_office::{Command, Desk, OpenGate, run_zones};
+use zp_office::{ClosedZones, Command, Desk, OpenGate, run_zones};
 use zp_share::{ListConfig, Share};
 use zp_zone::{Seat, Zone, ZoneConfig};
 
@@ -74,22 +74,33 @@ fn desk(alloc: Global, zone: &Zone, seat: Seat) -> Result<Desk, Refused>
     }
 }
 
+/// The desks of the last two workers of this zone.
+fn two_desks(alloc: Global, zone: &Zone, mut seats: Vec<Seat>) -> Option<(Desk, Desk)>
+    requires seats { All (IsSeatOf zone.now) seats.items }
+    requires unused { All IsUnused seats.items }
+    ensures first { IfSome result (λ d. IsReady (key_of zone.now ∷ []) d.0) }
+    ensures second { IfSome result (λ d. IsReady (key_of zone.now ∷ []) d.1) }
+{
+    let (Some(second), Some(first)) = (seats.pop(), seats.pop()) else {
+        return None;
+    };
+    match (desk(alloc, zone, first), desk(alloc, zone, second)) {
+        (Ok(first), Ok(second)) => Some((first, second)),
+        _ => None,
+    }
+}
+
 /// A zone, and the desks of its two workers. None where the config is refused, or there is no memory.
 fn opened(alloc: Global, config: ZoneConfig<'_>) -> Option<(Zone, Desk, Desk)>
     ensures new { IfSome result (λ o. o.0.entries ≡ []) }
     ensures first { IfSome result (λ o. IsReady (key_of o.0 ∷ []) o.1) }
     ensures second { IfSome result (λ o. IsReady (key_of o.0 ∷ []) o.2) }
 {
-    let Ok((zone, mut seats)) = Zone::new(alloc, ZoneConfig { ..config }, 2) else {
-        return None;
-    };
-    let (Some(second), Some(first)) = (seats.pop(), seats.pop()) else {
-        return None;
-    };
-    let (Ok(first), Ok(second)) = (desk(alloc, &zone, first), desk(alloc, &zone, second)) else {
-        return None;
-    };
-    Some((zone, first, second))
+    let (zone, seats) = Zone::new(alloc, ZoneConfig { ..config }, 2).ok()?;
+    match two_desks(alloc, &zone, seats) {
+        Some((first, second)) => Some((zone, first, second)),
+        None => None,
+    }
 }
 
 /// The workers carry out their scripts: the zone after that, and its journal. None where there is no memory or no thread.
@@ -102,10 +113,24 @@ fn run<R: Threads + Wait + Sync>(
     requires new { zone.entries ≡ [] }
     requires ready { All (IsReady (key_of zone ∷ [])) desks.old }
 {
-    let mut row = Vec::with_capacity(alloc, 1).ok()?;
-    row.push_reserved(zone);
-    let mut closed = run_zones(rt, alloc, row, ENTRIES, desks, &OpenGate).ok()?;
-    Some((closed.zones.pop()?, closed.journals.pop()?))
+    let row = vec![in alloc; zone].ok()?;
+    match run_zones(rt, alloc, row, ENTRIES, desks, &OpenGate) {
+        Ok(closed) => last_of(closed),
+        Err(_) => None,
+    }
+}
+
+/// The last zone, and its journal.
+fn last_of(closed: ClosedZones) -> Option<(Zone, Journal)> {
+    let ClosedZones {
+        mut zones,
+        mut journals,
+        ..
+    } = closed;
+    match (zones.pop(), journals.pop()) {
+        (Some(zone), Some(journal)) => Some((zone, journal)),
+        _ => None,
+    }
 }
 
 /// What is told of the zone that the workers shared. None where there is no memory to replay its journal.

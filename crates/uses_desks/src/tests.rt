@@ -6,13 +6,15 @@ use zp_model::Largest;
 use zp_zone::ZoneConfig;
 
 /// A zone of one pageblock.
-const DMA: ZoneConfig<'static> = ZoneConfig {
-    name: "DMA",
-    base: 0,
-    pages: 1024,
-    min: 0,
-    largest: Largest::usual(),
-};
+fn dma() -> ZoneConfig<'static> {
+    ZoneConfig {
+        name: "DMA",
+        base: 0,
+        pages: 1024,
+        min: 0,
+        largest: Largest::usual(),
+    }
+}
 
 const SHARED: SharedRun = SharedRun {
     free_pages: 1024,
@@ -22,5 +24,5 @@ const SHARED: SharedRun = SharedRun {
 
 #[test]
 fn two_workers_share_a_zone(rt: HostRuntime) {
-    assert!(rt; share_a_zone(&rt, rt.alloc(), DMA) == Some(SHARED));
+    assert!(rt; share_a_zone(&rt, rt.alloc(), dma()) == Some(SHARED));
 }

@@ -58,12 +58,26 @@ pub fn shares(alloc: Global) -> Result<(), Unmade> {
 
 /// The desk of a share with a script of one command.
 pub fn desk(alloc: Global) -> Result<(), Unmade> {
-    let (_zone, seats) = Zone::new(alloc, config(PAGES), 1)?;
-    let share = Share::new(alloc, seats, lists()?)?;
     let mut script = Vec::with_capacity(alloc, 1)?;
     script.push_reserved(Command::Drain);
-    let _desk = Desk::new(alloc, share, script)?;
-    Ok(())
+    let desk = match lone_share(alloc) {
+        Ok(share) => Desk::new(alloc, share, script),
+        Err(unmade) => return Err(unmade),
+    };
+    match desk {
+        Ok(_desk) => Ok(()),
+        Err(refused) => Err(refused.into()),
+    }
+}
+
+/// The share of a zone's only worker, without the zone.
+fn lone_share(alloc: Global) -> Result<Share, Unmade> {
+    let lists = lists()?;
+    let (_zone, seats) = Zone::new(alloc, config(PAGES), 1)?;
+    match Share::new(alloc, seats, lists) {
+        Ok(share) => Ok(share),
+        Err(refused) => Err(refused.into()),
+    }
 }
 
 /// The zones, and the desks of their workers.

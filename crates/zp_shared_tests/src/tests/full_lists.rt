@@ -1,9 +1,9 @@
 //! A worker with lists over one zone whose journal has room for two entries, by the calls that desks make, and where the zone's pages are when
 //! it is closed.
-ghost use Rattle.std.specs.Prelude.{◌≡◌, ◌∷◌, [], length};
+ghost use Rattle.std.specs.Prelude.{◌≡◌, ◌∷◌, [], length, true};
 ghost use Rattle.zp_model.specs.Zone.{workers_of};
 ghost use Rattle.zp_share.specs.Shares.{IsShareOf, key_of};
-ghost use Rattle.zp_shared.specs.Rows.{opened_board, opened_key};
+ghost use Rattle.zp_shared.specs.Rows.{AreReadersOf, key_at, opened_board, opened_key};
 
 use super::one_zone::{OnlyWorker, alone, config, opened_with_lists};
 use std::alloc::Global;
@@ -14,7 +14,7 @@ use std::test::*;
 use zp_journal::{Journal, JournalCheck, replay_journal};
 use zp_model::{Mark, MigrateType, Order, PageNo};
 use zp_share::{ListConfig, Share, Totals, alloc, drain_all, free, gather};
-use zp_shared::{LockedZones, Naming, OpenedZone, SharedZone};
+use zp_shared::{BoardReader, Closed, LockedZones, Naming, OpenedZone, SharedZone};
 use zp_zone::Zone;
 
 /// What the worker asks for.
@@ -217,18 +217,54 @@ fn run_calls<J: Naming, R: Abort + Wait>(
     requires one { length share.zones ≡ 1 }
     requires single { (opened_key opened).workers ≡ 1 }
 {
-    let readers = alone(alloc, opened.reader())?;
-    let mut row = alone(alloc, SharedZone::<J>::new(0, opened))?;
-    let view = LockedZones::<J, (), R>::new(rt, row.as_slice(), readers);
-    let share = make_calls(rt, OnlyWorker { share, view });
-    let closed = row.remove(0).close(&mut []);
-    if !closed.at_place {
-        return None;
+    match alone(alloc, opened.reader()) {
+        Some(readers) => run_over::<J, R>(rt, opened, readers, share),
+        None => None,
     }
+}
+
+/// The same with this reader.
+fn run_over<J: Naming, R: Abort + Wait>(
+    rt: &R,
+    opened: OpenedZone,
+    readers: Vec<BoardReader>,
+    share: Share,
+) -> Option<Ended>
+    requires zones { J.zones ≡ opened_key opened ∷ [] }
+    requires boards { J.boards ≡ opened_board opened ∷ [] }
+    requires readers { AreReadersOf J.zones J.boards readers.items }
+    requires fits { IsShareOf J.zones share }
+    requires one { length share.zones ≡ 1 }
+    requires single { (opened_key opened).workers ≡ 1 }
+{
+    let row = [SharedZone::<J>::new(0, opened)];
+    let view = LockedZones::<J, (), R>::new(rt, &row, readers);
+    let share = make_calls(rt, OnlyWorker { share, view });
+    let [shared] = row;
+    left_of::<J>(shared.close(&mut []), share)
+}
+
+/// What is left of the zone, where it lay at its place.
+fn left_of<J: Naming>(closed: Closed, share: Share) -> Option<Ended>
+    requires here { closed.at_place ≡ true → key_of closed.zone ∷ [] ≡ J.zones }
+    requires fits { IsShareOf J.zones share }
+    requires one { length share.zones ≡ 1 }
+    requires single { (key_at J.zones 0).workers ≡ 1 }
+{
+    let Closed {
+        zone,
+        journal,
+        at_place: true,
+    } = closed
+    else {
+        return None;
+    };
+    let sections = share.sections(0);
+    let totals = gather_one(zone, share);
     Some(Ended {
-        sections: share.sections(0),
-        totals: gather_one(closed.zone, share),
-        journal: closed.journal,
+        sections,
+        totals,
+        journal,
     })
 }
 

@@ -1,8 +1,9 @@
 //! A zone of 4,096 pages from page 0 on that one worker asks, without lists, while another thread reads its board.
-ghost use Rattle.std.specs.Prelude.{◌≡◌, ◌<◌, ◌∷◌, [], IfSome, length};
+ghost use Rattle.std.specs.Prelude.{◌≡◌, ◌<◌, ◌≤◌, ◌∷◌, [], IfSome, length};
+ghost use Rattle.zp_journal.specs.declared.journal.TheConstants.{LONGEST_JOURNAL};
+ghost use Rattle.zp_model.specs.Zone.{workers_of};
 ghost use Rattle.zp_share.specs.Shares.{IsShareOf, key_of};
 ghost use Rattle.zp_shared.specs.Rows.{AreReadersOf, opened_board, opened_key};
-ghost use Rattle.zp_zone.specs.Seats.{IsSeatOf, IsUnused};
 
 use std::alloc::Global;
 use std::marker::Brand;
@@ -12,7 +13,7 @@ use zp_journal::{Journal, LONGEST_JOURNAL, counts_after};
 use zp_model::{Counts, Largest, Mark, MigrateType, Order, Refused};
 use zp_share::{Lent, ListConfig, Share, alloc};
 use zp_shared::{BoardReader, LockedZones, Naming, OpenedZone, Reading, close_zones, share_zones};
-use zp_zone::{Seat, Zone, ZoneConfig};
+use zp_zone::{Zone, ZoneConfig};
 
 /// More pages than the worker takes.
 const MOST_PAGES: u32 = 1024;
@@ -48,22 +49,32 @@ pub(super) fn opened_with_lists(
     if capacity > LONGEST_JOURNAL {
         return None;
     }
-    let (zone, mut seats) = Zone::new(alloc, config(), 1).ok()?;
-    let share = share_of(alloc, &zone, seats.pop()?, lists)?;
-    let opened = OpenedZone::new(alloc, zone, capacity).ok()?;
-    Some((opened, share))
+    let (zone, seats) = Zone::new(alloc, config(), 1).ok()?;
+    match Share::new(alloc, seats, lists) {
+        Ok(share) => opened_beside(alloc, zone, share, capacity),
+        Err(_) => None,
+    }
 }
 
-/// The share of the worker of this seat.
-fn share_of(alloc: Global, zone: &Zone, seat: Seat, lists: ListConfig) -> Option<Share>
-    requires seat { IsSeatOf zone.now seat }
-    requires unused { IsUnused seat }
-    ensures fits { IfSome result (IsShareOf (key_of zone.now ∷ [])) }
-    ensures one { IfSome result (λ s. length s.zones ≡ 1) }
+/// The zone, opened with room for so many entries, and the share of its only worker.
+fn opened_beside(
+    alloc: Global,
+    zone: Zone,
+    share: Share,
+    capacity: u32,
+) -> Option<(OpenedZone, Share)>
+    requires new { zone.entries ≡ [] }
+    requires fits { IsShareOf (key_of zone ∷ []) share }
+    requires one { length share.zones ≡ 1 }
+    requires capacity { capacity ≤ LONGEST_JOURNAL }
+    ensures fits { IfSome result (λ o. IsShareOf (opened_key o.0 ∷ []) o.1) }
+    ensures one { IfSome result (λ o. length o.1.zones ≡ 1) }
+    ensures alone { IfSome result (λ o. (opened_key o.0).workers ≡ workers_of zone.plain) }
 {
-    let mut seats = Vec::with_capacity(alloc, 1).ok()?;
-    seats.push_reserved(seat);
-    Share::new(alloc, seats, lists).ok()
+    match OpenedZone::new(alloc, zone, capacity) {
+        Ok(opened) => Some((opened, share)),
+        Err(_) => None,
+    }
 }
 
 /// The counts of the zone after so many entries of the journal. None where it has not so many, or one of them is not legal.
