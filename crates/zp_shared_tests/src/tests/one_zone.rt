@@ -1,9 +1,9 @@
 //! A zone of 4,096 pages from page 0 on that one worker asks, without lists, while another thread reads its board.
-ghost use Rattle.std.specs.Prelude.{◌≡◌, ◌<◌, ◌≤◌, ◌∷◌, [], IfSome, length};
+ghost use Rattle.std.specs.Prelude.{◌≡◌, ◌<◌, ◌≤◌, ◌∷◌, [], All, IfSome, length};
 ghost use Rattle.zp_journal.specs.declared.journal.TheConstants.{LONGEST_JOURNAL};
 ghost use Rattle.zp_model.specs.Zone.{workers_of};
 ghost use Rattle.zp_share.specs.Shares.{IsShareOf, key_of};
-ghost use Rattle.zp_shared.specs.Rows.{AreReadersOf, opened_board, opened_key};
+ghost use Rattle.zp_shared.specs.Rows.{AreReadersOf, IsRowOf, opened_board, opened_key};
 
 use std::alloc::Global;
 use std::marker::Brand;
@@ -12,7 +12,9 @@ use std::thread::{Threads, join};
 use zp_journal::{Journal, LONGEST_JOURNAL, counts_after};
 use zp_model::{Counts, Largest, Mark, MigrateType, Order, Refused};
 use zp_share::{Lent, ListConfig, Share, alloc};
-use zp_shared::{BoardReader, LockedZones, Naming, OpenedZone, Reading, close_zones, share_zones};
+use zp_shared::{
+    BoardReader, LockedZones, Naming, OpenedZone, Reading, SharedZone, close_zones, share_zones,
+};
 use zp_zone::{Zone, ZoneConfig};
 
 /// More pages than the worker takes.
@@ -124,11 +126,61 @@ fn run_as<J: Naming + Send + Sync, R: Sync + Threads + Wait>(
     requires fits { IsShareOf J.zones share }
     requires one { length share.zones ≡ 1 }
 {
-    let mine = alone(alloc, opened.reader())?;
-    let other = alone(alloc, opened.reader())?;
-    let zone_room = Vec::with_capacity(alloc, 1).ok()?;
-    let journal_room = Vec::with_capacity(alloc, 1).ok()?;
-    let row = share_zones::<J, _>(alloc, alone(alloc, opened)?).ok()?;
+    match (alone(alloc, opened.reader()), alone(alloc, opened.reader())) {
+        (Some(mine), Some(other)) => run_with::<J, R>(rt, alloc, opened, share, mine, other, reads),
+        _ => None,
+    }
+}
+
+/// The same with these readers.
+fn run_with<J: Naming + Send + Sync, R: Sync + Threads + Wait>(
+    rt: &R,
+    alloc: Global,
+    opened: OpenedZone,
+    share: Share,
+    mine: Vec<BoardReader>,
+    other: Vec<BoardReader>,
+    reads: u32,
+) -> Option<Ran>
+    requires zones { J.zones ≡ opened_key opened ∷ [] }
+    requires boards { J.boards ≡ opened_board opened ∷ [] }
+    requires fits { IsShareOf J.zones share }
+    requires one { length share.zones ≡ 1 }
+    requires mine { AreReadersOf J.zones J.boards mine.items }
+    requires other { AreReadersOf J.zones J.boards other.items }
+{
+    let opened = alone(alloc, opened)?;
+    match share_zones::<J, _>(alloc, opened) {
+        Ok(row) => run_row(rt, alloc, row, OwnReaders { share, mine, other }, reads),
+        Err(_) => None,
+    }
+}
+
+/// A worker's share, its reader, and that of who reads beside it.
+#[derive(Drop)]
+struct OwnReaders {
+    share: Share,
+    mine: Vec<BoardReader>,
+    other: Vec<BoardReader>,
+}
+
+/// The worker and the reader at the same time, each in a thread.
+fn run_row<J: Naming + Send + Sync, R: Sync + Threads + Wait>(
+    rt: &R,
+    alloc: Global,
+    row: Vec<SharedZone<J>>,
+    own: OwnReaders,
+    reads: u32,
+) -> Option<Ran>
+    requires row { IsRowOf J.zones row.items }
+    requires zones { length J.zones ≡ 1 }
+    requires boards { length J.boards ≡ 1 }
+    requires fits { IsShareOf J.zones own.share }
+    requires one { length own.share.zones ≡ 1 }
+    requires mine { AreReadersOf J.zones J.boards own.mine.items }
+    requires other { AreReadersOf J.zones J.boards own.other.items }
+{
+    let OwnReaders { share, mine, other } = own;
     let view = LockedZones::<J, (), R>::new(rt, row.as_slice(), mine);
     let reading = LockedZones::<J, (), R>::new(rt, row.as_slice(), other);
     let worker = OnlyWorker { share, view };
@@ -137,13 +189,33 @@ fn run_as<J: Naming + Send + Sync, R: Sync + Threads + Wait>(
         move || worker.take_pages(),
         move || read_often(alloc, reading, reads),
     );
-    let mut readers = [mine, other];
-    let (_zones, mut journals) = close_zones(row, &mut readers, zone_room, journal_room)?;
+    let journal = journal_of(alloc, row, [mine, other])?;
     Some(Ran {
         taken,
         readings,
-        journal: journals.pop()?,
+        journal,
     })
+}
+
+/// The journal of the zone, out of its lock, when these readers have seen all. None where there is no memory, or it lay at another's place.
+fn journal_of<J: Naming>(
+    alloc: Global,
+    row: Vec<SharedZone<J>>,
+    mut readers: [Vec<BoardReader>; 2],
+) -> Option<Journal>
+    requires row { IsRowOf J.zones row.items }
+    requires zones { length J.zones ≡ 1 }
+    requires boards { length J.boards ≡ 1 }
+    requires readers { All (λ rs. AreReadersOf J.zones J.boards rs.items) readers }
+{
+    let zones = Vec::with_capacity(alloc, 1);
+    let journals = Vec::with_capacity(alloc, 1);
+    let closed = match (zones, journals) {
+        (Ok(zones), Ok(journals)) => close_zones(row, &mut readers, zones, journals),
+        _ => None,
+    };
+    let (_zones, mut journals) = closed?;
+    journals.pop()
 }
 
 /// A vector of one.
