@@ -36,13 +36,23 @@ use zp_tree::{Meter, OrderTree};
 
 /// A set of free blocks that share no page, on lists by order and type, and further lists of pages that are not free.
 /// Contracts see what is noted of each page, the lists and the types of the pageblocks; the set is what is noted as free.
-#[derive(Drop)]
 pub struct FreeArea {
     blocks: KeptBlocks,
     /// How many pages of isolated pageblocks are in blocks.
     isolated: u32,
     /// What is noted of the pageblocks for a claim.
     noted: Noted,
+}
+
+/// Written out, as it is one call then wherever a free area ends: a derived one is all its parts, in each function again.
+impl Drop for FreeArea {
+    fn drop(self) {
+        let FreeArea {
+            blocks: _blocks,
+            isolated: _isolated,
+            noted: _noted,
+        } = self;
+    }
 }
 
 impl Model for FreeArea {

@@ -33,13 +33,25 @@ mod sections;
 /// counts. A lock forgets what it holds but for the type, so the type says it: what never changes of the zone, and its board, are what
 /// the row's name has at that place; what is kept is of the entries that the zone and its seats agree on; and what is published are the
 /// zone's counts at its opening and after each of these entries.
-#[derive(Drop)]
 pub struct Guarded<J: Naming, K: Keeps = WholeJournal> {
     place: usize,
     zone: Zone,
     journal: K,
     publisher: Publisher,
     of: PhantomData<J>,
+}
+
+/// Written out, as it is one call then wherever such a zone ends.
+impl<J: Naming, K: Keeps> Drop for Guarded<J, K> {
+    fn drop(self) {
+        let Guarded {
+            place: _place,
+            zone: _zone,
+            journal: _journal,
+            publisher: _publisher,
+            of: _of,
+        } = self;
+    }
 }
 
 impl<J: Naming, K: Keeps> Model for Guarded<J, K> {
@@ -162,7 +174,13 @@ impl<J: Naming, K: Keeps> Guarded<J, K> {
         ensures room { K.bounds (board_at J.boards self.place).capacity (K.capacity result.1 (board_at J.boards self.place).capacity) }
         ensures history { IsHistory result.0.plain result.0.entries }
     {
-        let Guarded { zone, journal, .. } = self;
+        let Guarded {
+            zone,
+            journal,
+            place: _place,
+            publisher: _publisher,
+            of: _of,
+        } = self;
         zone.history();
         (zone, journal)
     }

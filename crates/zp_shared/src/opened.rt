@@ -12,12 +12,23 @@ use zp_model::Refused;
 use zp_zone::Zone;
 
 /// A zone with what it keeps, which has no entry, and a board with the zone's counts.
-#[derive(Drop)]
 pub struct OpenedZone<K: Keeps = WholeJournal> {
     zone: Zone,
     journal: K,
     board: Board,
     publisher: Publisher,
+}
+
+/// Written out, as it is one call then wherever an opened zone ends.
+impl<K: Keeps> Drop for OpenedZone<K> {
+    fn drop(self) {
+        let OpenedZone {
+            zone: _zone,
+            journal: _journal,
+            board: _board,
+            publisher: _publisher,
+        } = self;
+    }
 }
 
 impl<K: Keeps> Model for OpenedZone<K> {

@@ -33,10 +33,19 @@ use zp_tie::Keeper;
 
 /// A zone: pages that workers take and give back, each by its seat. Contracts see its name, the plain zone, which is always
 /// lawful, the entries of all requests made so far, and what ties its seats to it.
-#[derive(Drop)]
 pub struct Zone {
     untied: UntiedZone,
     keeper: Keeper<Books, Part, Parts>,
+}
+
+/// Written out, as it is one call then wherever a zone ends.
+impl Drop for Zone {
+    fn drop(self) {
+        let Zone {
+            untied: _untied,
+            keeper: _keeper,
+        } = self;
+    }
 }
 
 impl Model for Zone {
