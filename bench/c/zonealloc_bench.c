@@ -269,6 +269,15 @@ static void run_way(way_t way, uint32_t rounds, uint64_t seed)
         printf("%s\t%.1f\n", (name), least); \
     } while (0)
 
+/* What a gate adds to a call at the least: the compare-exchange that enters it, and the store that leaves it. */
+static inline void bare_gate(void)
+{
+    static uintptr_t word;
+    uintptr_t open = 0;
+    if (__atomic_compare_exchange_n(&word, &open, 1, 0, __ATOMIC_ACQUIRE, __ATOMIC_RELAXED))
+        __atomic_store_n(&word, 0, __ATOMIC_RELEASE);
+}
+
 static void run_calls(uint32_t rounds)
 {
     zone_worker_t *own = &pool.seats[0].worker;
@@ -279,6 +288,7 @@ static void run_calls(uint32_t rounds)
     TIME("take and put, each", 2, rounds, zonealloc_take(own, 0, ZONE_MOVABLE, &page); zonealloc_put(own, 0, page));
     TIME("is_lent, no gate", 1, rounds, zonealloc_is_lent(own, 0, n % PAGES, 0, &lent));
     TIME("page, behind the gate", 1, rounds, zonealloc_page(own, 0, n % PAGES, &noted));
+    TIME("a gate's two instructions, alone", 1, rounds, bare_gate());
 }
 
 int main(int argc, char **argv)
