@@ -3,14 +3,14 @@ ARCHIVE = crates/zonealloc/out/libzonealloc.a
 PREFIX = /usr/local
 CFLAGS = -O2 -std=c99 -Wall -Wextra -Wpedantic
 LIBRARIES = build/libzonealloc.a build/libzonealloc_malloc.a
-HEADERS = include/zonealloc.h include/zonealloc_threads.h
+HEADERS = include/zonealloc.h include/zonealloc_threads.h include/zonealloc_memory.h
 
 all: $(LIBRARIES) build/zonealloc.pc
 
 build/libzonealloc.a: $(ARCHIVE)
 	mkdir -p build && cp $(ARCHIVE) $@
 build/libzonealloc_malloc.a: c/zonealloc_malloc.c
-	mkdir -p build && $(CC) $(CFLAGS) -fPIC -c $< -o build/zonealloc_malloc.o && $(AR) rcs $@ build/zonealloc_malloc.o
+	mkdir -p build && $(CC) $(CFLAGS) -Iinclude -fPIC -c $< -o build/zonealloc_malloc.o && $(AR) rcs $@ build/zonealloc_malloc.o
 build/zonealloc.pc: zonealloc.pc.in
 	mkdir -p build && sed 's|@PREFIX@|$(PREFIX)|' $< > $@
 
@@ -21,7 +21,7 @@ install: all
 	install -m 644 $(HEADERS) $(DESTDIR)$(PREFIX)/include
 	install -m 644 $(LIBRARIES) $(DESTDIR)$(PREFIX)/lib
 	install -m 644 build/zonealloc.pc $(DESTDIR)$(PREFIX)/lib/pkgconfig
-	install -m 644 cmake/zonealloc-config.cmake $(DESTDIR)$(PREFIX)/lib/cmake/zonealloc
+	install -m 644 cmake/zonealloc-config.cmake cmake/zonealloc-config-version.cmake $(DESTDIR)$(PREFIX)/lib/cmake/zonealloc
 clean:
 	rm -rf build
 .PHONY: all check install clean build/libzonealloc.a build/zonealloc.pc

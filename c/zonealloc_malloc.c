@@ -1,14 +1,7 @@
 /* The two memory functions of the archive, over the C library's own. docs/c.md tells what they owe. */
 #define _POSIX_C_SOURCE 200112L
-#include <stdbool.h>
-#include <stddef.h>
+#include "zonealloc_memory.h"
 #include <stdlib.h>
-
-/* Whether there is memory, and where: in two registers. */
-typedef struct { bool ok; void *at; } rattle_memory_t;
-
-rattle_memory_t rattle_alloc(size_t bytes, size_t align);
-void rattle_dealloc(void *at);
 
 static void *memory_of(size_t bytes, size_t align)
 {
@@ -18,11 +11,11 @@ static void *memory_of(size_t bytes, size_t align)
     return posix_memalign(&at, align, bytes) == 0 ? at : NULL;
 }
 
-/* Where there is no memory `at` is some address all the same. */
+/* Where there is no memory `at` is some address all the same. (A small block of malloc's may be aligned to its size alone.) */
 rattle_memory_t rattle_alloc(size_t bytes, size_t align)
 {
     static long double none;
-    void *at = memory_of(bytes != 0 ? bytes : 1, align);
+    void *at = memory_of(bytes > align ? bytes : align, align);
     rattle_memory_t memory;
     memory.ok = at != NULL;
     memory.at = memory.ok ? at : &none;

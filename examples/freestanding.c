@@ -1,20 +1,20 @@
 /* No C library: memory from an array of the program's own, and the functions that move and fill memory. For x86-64 Linux, of which it asks
- * for two system calls, to write and to exit. It ends with status 0, or with the number of the step that went wrong. */
+ * for two system calls, to write and to exit. It ends with status 0, or with the number of the step that went wrong.
+ *
+ *     cc -std=c99 -O2 -ffreestanding -fno-stack-protector -nostdlib -static -I../include freestanding.c libzonealloc.a */
 #include "zonealloc.h"
-#include <stdbool.h>
+#include "zonealloc_memory.h"
 
 enum { WORKERS = 4, ALIGN = 16 };
 
 /* --- memory: docs/c.md tells what these owe --- */
 
-typedef struct { bool ok; void *at; } rattle_memory_t;
-rattle_memory_t rattle_alloc(size_t bytes, size_t align);
-void rattle_dealloc(void *at);
+void *memcpy(void *to, const void *from, size_t bytes);
 
 static union { long double aligned; unsigned char bytes[4 << 20]; } memory;
 static size_t used, lent, asked, calls;
 
-/* Before each block stands its length. What was given back is used again when all is back. */
+/* Before each block stands how much it takes with that. What was given back is used again when all is back. */
 rattle_memory_t rattle_alloc(size_t bytes, size_t align)
 {
     rattle_memory_t got = { false, memory.bytes };
@@ -22,26 +22,27 @@ rattle_memory_t rattle_alloc(size_t bytes, size_t align)
     calls++;
     if (align > ALIGN || bytes > sizeof memory || whole > sizeof memory - used)
         return got;
-    *(size_t *)(void *)(memory.bytes + used) = bytes;
+    memcpy(memory.bytes + used, &whole, sizeof whole);
     got.ok = true;
     got.at = memory.bytes + used + ALIGN;
     used += whole;
-    lent += bytes;
+    lent += whole;
     asked += bytes;
     return got;
 }
 
 void rattle_dealloc(void *at)
 {
+    size_t whole;
     calls++;
-    lent -= *(size_t *)(void *)((unsigned char *)at - ALIGN);
+    memcpy(&whole, (unsigned char *)at - ALIGN, sizeof whole);
+    lent -= whole;
     if (lent == 0)
         used = 0;
 }
 
 /* --- what compilers call of themselves: volatile, or they would make these loops calls of the same functions --- */
 
-void *memcpy(void *to, const void *from, size_t bytes);
 void *memmove(void *to, const void *from, size_t bytes);
 void *memset(void *to, int value, size_t bytes);
 
@@ -100,20 +101,20 @@ static int use_row(void)
     zone_page_t page_told;
     zone_pageblock_t pageblock_told;
     uint32_t page, single, order, number, i;
-    if (zonealloc_alloc(&workers[0], 0, 4, ZONE_MOVABLE, ZONE_LOW, &page) || zonealloc_post(&workers[0], 0, page, 4, 3))
+    if (zonealloc_alloc(&workers[0], 0, 4, ZONE_TYPE_MOVABLE, ZONE_LOW, &page) || zonealloc_post(&workers[0], 0, page, 4, 3))
         return 1;
     if (zonealloc_collect(&workers[3], 0, &page, &order) || order != 4 || zonealloc_free(&workers[3], 0, page, order))
         return 1;
     if (zonealloc_alloc_low(&workers[1], 0, 10, &page) || page != 0 || zonealloc_free(&workers[1], 0, page, 10))
         return 1;
-    if (zonealloc_isolate(&workers[1], 0, 5) || zonealloc_release(&workers[1], 0, 5, ZONE_RECLAIMABLE))
+    if (zonealloc_isolate(&workers[1], 0, 5) || zonealloc_release(&workers[1], 0, 5, ZONE_TYPE_RECLAIMABLE))
         return 1;
     for (i = 0; i < 1000; i++) {
-        if (zonealloc_refill(&workers[2], 0, ZONE_MOVABLE, ZONE_ANY) || zonealloc_take(&workers[2], 0, ZONE_MOVABLE, &single))
+        if (zonealloc_refill(&workers[2], 0, ZONE_TYPE_MOVABLE, ZONE_ANY) || zonealloc_take(&workers[2], 0, ZONE_TYPE_MOVABLE, &single))
             return 1;
         if (zonealloc_is_lent(&workers[2], 0, single, 0, &number) || number != 1 || zonealloc_put(&workers[2], 0, single))
             return 1;
-        if (zonealloc_cached(&workers[2], 0, ZONE_MOVABLE, &number) || number != 31 || zonealloc_drain(&workers[2], 0, ZONE_MOVABLE, 30))
+        if (zonealloc_cached(&workers[2], 0, ZONE_TYPE_MOVABLE, &number) || number != 31 || zonealloc_drain(&workers[2], 0, ZONE_TYPE_MOVABLE, 30))
             return 1;
         if (zonealloc_drain_all(&workers[2], 0))
             return 1;

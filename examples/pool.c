@@ -17,7 +17,7 @@ typedef struct pool {
 
 typedef struct block {
     unsigned char *at;
-    uint32_t order, mark;
+    uint32_t order, stamp;
 } block_t;
 
 static const size_t largest_block = (size_t)PAGE << LARGEST;
@@ -48,10 +48,14 @@ static void unmap_pages(pool_t *pool)
 static uint32_t pool_make(pool_t *pool)
 {
     static const zone_spec_t normal = { 0, PAGES, 256, LARGEST, 6, "Normal" };
+    uint32_t answer;
     memset(pool, 0, sizeof *pool);
     if (!map_pages(pool))
         return ZONE_NO_MEMORY;
-    return zonealloc_make(&pool->row, &pool->worker, 1, &normal, 1, 0, 0);
+    answer = zonealloc_make(&pool->row, &pool->worker, 1, &normal, 1, 0, 0);
+    if (answer != ZONE_OK)
+        unmap_pages(pool);
+    return answer;
 }
 
 static uint32_t pool_unmake(pool_t *pool)
@@ -67,7 +71,7 @@ static uint32_t pool_unmake(pool_t *pool)
 static unsigned char *pool_take(pool_t *pool, uint32_t order)
 {
     uint32_t page;
-    if (zonealloc_alloc(&pool->worker, 0, order, ZONE_MOVABLE, ZONE_LOW, &page) != ZONE_OK)
+    if (zonealloc_alloc(&pool->worker, 0, order, ZONE_TYPE_MOVABLE, ZONE_LOW, &page) != ZONE_OK)
         return NULL;
     return pool->pages + (size_t)page * PAGE;
 }
@@ -85,17 +89,17 @@ static void print_info(pool_t *pool)
         printf("%.*s", (int)len, (const char *)line);
 }
 
-/* The mark stands in the block's first word and in its last. */
-static void write_mark(const block_t *block)
+/* The stamp stands in the block's first word and in its last. */
+static void write_stamp(const block_t *block)
 {
-    memcpy(block->at, &block->mark, sizeof block->mark);
-    memcpy(block->at + ((size_t)PAGE << block->order) - sizeof block->mark, &block->mark, sizeof block->mark);
+    memcpy(block->at, &block->stamp, sizeof block->stamp);
+    memcpy(block->at + ((size_t)PAGE << block->order) - sizeof block->stamp, &block->stamp, sizeof block->stamp);
 }
 
-static int has_mark(const block_t *block)
+static int has_stamp(const block_t *block)
 {
-    const unsigned char *last = block->at + ((size_t)PAGE << block->order) - sizeof block->mark;
-    return memcmp(block->at, &block->mark, sizeof block->mark) == 0 && memcmp(last, &block->mark, sizeof block->mark) == 0;
+    const unsigned char *last = block->at + ((size_t)PAGE << block->order) - sizeof block->stamp;
+    return memcmp(block->at, &block->stamp, sizeof block->stamp) == 0 && memcmp(last, &block->stamp, sizeof block->stamp) == 0;
 }
 
 static uint32_t next_random(uint32_t *seed)
@@ -105,19 +109,19 @@ static uint32_t next_random(uint32_t *seed)
 }
 
 /* Takes a block, or gives back the one that was taken in this place: what was written into it has to be there still. */
-static int take_turn(pool_t *pool, block_t *block, uint32_t mark, uint32_t order)
+static int take_turn(pool_t *pool, block_t *block, uint32_t stamp, uint32_t order)
 {
     if (block->at != NULL) {
-        int is_whole = has_mark(block) && pool_give(pool, block->at, block->order) == ZONE_OK;
+        int is_whole = has_stamp(block) && pool_give(pool, block->at, block->order) == ZONE_OK;
         block->at = NULL;
         return is_whole;
     }
     block->order = order;
-    block->mark = mark;
+    block->stamp = stamp;
     block->at = pool_take(pool, order);
     if (block->at == NULL)
         return 1;
-    write_mark(block);
+    write_stamp(block);
     return (uintptr_t)block->at % ((size_t)PAGE << order) == 0;
 }
 

@@ -33,9 +33,9 @@ typedef struct zone_worker { uint32_t live; unsigned char *at; } zone_worker_t;
 
 enum { ZONE_ZONES = 4, ZONE_WORKERS = 32, ZONE_ORDERS = 11, ZONE_TYPES = 3, ZONE_INFO_LINE = 160 };
 
-/* Migrate types; of a pageblock also ZONE_ISOLATED. */
-enum { ZONE_UNMOVABLE = 0, ZONE_RECLAIMABLE = 1, ZONE_MOVABLE = 2, ZONE_ISOLATED = 3 };
-/* Marks that a request is held to. */
+/* Migrate types; of a pageblock also ZONE_TYPE_ISOLATED. */
+enum { ZONE_TYPE_UNMOVABLE = 0, ZONE_TYPE_RECLAIMABLE = 1, ZONE_TYPE_MOVABLE = 2, ZONE_TYPE_ISOLATED = 3 };
+/* Marks that a request is held to: ZONE_MIN leaves at least the zone's least mark of pages, ZONE_LOW a quarter more, ZONE_ANY is not tested. */
 enum { ZONE_ANY = 0, ZONE_MIN = 1, ZONE_LOW = 2 };
 /* The highest mark that the free pages outside isolated pageblocks are above. */
 enum { ZONE_SHORT = 0, ZONE_ABOVE_MIN = 1, ZONE_ABOVE_LOW = 2, ZONE_ABOVE_HIGH = 3 };
@@ -46,13 +46,13 @@ enum { ZONE_TAIL = 0, ZONE_FREE = 1, ZONE_OUT = 2, ZONE_POSTED = 3 };
 enum {
     ZONE_OK = 0,
     ZONE_BAD_NAME = 1,            /* not 1 to 8 ASCII letters or digits */
-    ZONE_BAD_BASE = 2,            /* no multiple of 1024, or above 2^24 */
+    ZONE_BAD_BASE = 2,            /* no multiple of 1024, or above 2^24; or inside or below the zone before it */
     ZONE_BAD_PAGES = 3,           /* not 1 to 65536 */
     ZONE_BAD_MARK = 4,            /* the least mark is above the pages */
     ZONE_BAD_WORKERS = 5,         /* not 1 to 32 */
     ZONE_NO_MEMORY = 6,
-    ZONE_BELOW_MARK = 10,         /* the request would take the free pages to its mark or below */
-    ZONE_NO_BLOCK = 11,           /* no free block is large enough */
+    ZONE_BELOW_MARK = 10,         /* the request would take the available pages below its mark */
+    ZONE_NO_BLOCK = 11,           /* no free block outside isolated pageblocks is large enough */
     ZONE_NOTHING_POSTED = 12,
     ZONE_BAD_PAGEBLOCK = 13,      /* the zone has none of this number */
     ZONE_ALREADY_ISOLATED = 14,
@@ -70,7 +70,7 @@ enum {
 };
 
 /* What a zone is made with: its first page, its pages, its least mark, the order of its largest block and of its pageblocks (1 to 10), and
- * its name of 1 to 8 letters and digits. */
+ * its name of 1 to 8 letters and digits. (Eight letters leave no room for the zero of a string: { 'H', 'i', .. } then.) */
 typedef struct zone_spec { uint32_t base, pages, min, largest, name_len; uint8_t name[8]; } zone_spec_t;
 typedef struct zone_counts { uint32_t by_order[ZONE_ORDERS]; uint32_t free, posted, level; } zone_counts_t;
 typedef struct zone_page { uint32_t state, order, type, worker; } zone_page_t;   /* what the state does not have is 0 */
@@ -79,14 +79,18 @@ typedef struct zone_totals { uint32_t free, posted, cached, lent; } zone_totals_
 
 /* --- making and unmaking: these alone take and give memory --- */
 
-/* OWN. How many bytes a making takes at most, with so many workers. Refused for how many zones, workers or pages there are alone. */
+/* At any time. How many bytes a making takes at most, with so many workers, without what the memory functions need for themselves. Refused
+ * for how many zones, workers or pages there are alone. */
 uint32_t zonealloc_bytes(const zone_spec_t *zones, size_t n_zones, uint32_t workers, uint64_t *bytes);
-/* ALONE. Fills an empty row and all its empty workers, which are numbered by their place. batch 0 and high_len 0: no lists; else batch is 1
- * to 31 and high_len above it, at most 64. */
+/* ALONE. Fills an empty row and all its empty workers, which are numbered by their place. Each zone begins at the end of the one before it, or
+ * above that. batch 0 and high_len 0: no lists; else batch is 1 to 31 and high_len above it, at most 64. Of what is wrong the first of these is
+ * answered: a handle that is not empty; ZONE_BAD_ARGUMENT for how many zones there are; ZONE_BAD_WORKERS; ZONE_BAD_ARGUMENT for the lists;
+ * zones that are not apart; then zone by zone a name_len above 8, a largest order, and what has the least number. */
 uint32_t zonealloc_make(zone_row_t *row, zone_worker_t *workers, size_t n_workers, const zone_spec_t *zones, size_t n_zones, uint32_t batch,
                         uint32_t high_len);
-/* ZONE, of each zone. Ends a worker. What its lists have and what is lent to it stays noted with the row until that is unmade. ZONE_BUSY:
- * the worker has left the zones behind the busy one, for good; call again. */
+/* ZONE, of each zone. Ends a worker, for good: no other gets its place, and what is posted to it stays. What its lists have and what is lent
+ * to it stays noted with the row until that is unmade. ZONE_BUSY: the worker has left the zones of higher numbers, and calls to those are
+ * answered ZONE_BAD_ARGUMENT; call again. */
 uint32_t zonealloc_dismiss(zone_worker_t *worker);
 /* ALONE. Gives back the row's memory; ZONE_HAS_WORKERS while a worker of it is not dismissed. */
 uint32_t zonealloc_unmake(zone_row_t *row);
@@ -106,9 +110,9 @@ uint32_t zonealloc_cached(zone_worker_t *worker, uint32_t zone, uint32_t type, u
 
 /* ZONE. A block of 2^order pages, which is then lent: its first page. ZONE_BELOW_MARK, ZONE_NO_BLOCK: ask the zone below. */
 uint32_t zonealloc_alloc(zone_worker_t *worker, uint32_t zone, uint32_t order, uint32_t type, uint32_t mark, uint32_t *page);
-/* ZONE. The lowest free block of this order, which is then lent. */
+/* ZONE. The lowest free block of this order, which is then lent. It is held to no mark. */
 uint32_t zonealloc_alloc_low(zone_worker_t *worker, uint32_t zone, uint32_t order, uint32_t *page);
-/* ZONE. Gives back a lent block to the zone, single pages too. */
+/* ZONE. Gives back a block that is lent to this worker to the zone, single pages too. */
 uint32_t zonealloc_free(zone_worker_t *worker, uint32_t zone, uint32_t page, uint32_t order);
 /* ZONE. Posts a lent block to the worker of this number. */
 uint32_t zonealloc_post(zone_worker_t *worker, uint32_t zone, uint32_t page, uint32_t order, uint32_t to);

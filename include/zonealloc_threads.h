@@ -1,4 +1,4 @@
-/* A row for any number of threads, each with a worker of its own. There is no lock: a ZONE call that is answered ZONE_BUSY is made again
+/* A row for up to 32 threads, each with a worker of its own. There is no lock: a ZONE call that is answered ZONE_BUSY is made again
  * after a rest, so the archive's own gate of the zone is the lock. Each rest is longer than the one before: who is in a zone then makes
  * several calls before its memory moves to another processor. With ZONEALLOC_SLEEP defined before the include, a mutex for each zone
  * stands round the call, and who waits for it sleeps.
@@ -37,14 +37,14 @@ static inline uint32_t zone_rest(uint32_t hints) {
     (void)sched_yield();
     return hints;
 }
-/* ANY. A ZONE call, made until it is answered: for those that have no function below, too. */
+/* ANY. A ZONE call, made until it is answered: for those that have no function below, too. (It may read zone twice, or not at all.) */
 #define ZONE_ASK(pool, zone, answer, call) do { \
         uint32_t zone_hints = ZONE_FIRST_REST; \
         ZONE_DOOR(lock, pool, zone); \
         while (((answer) = (call)) == ZONE_BUSY) zone_hints = zone_rest(zone_hints); \
         ZONE_DOOR(unlock, pool, zone); \
     } while (0)
-/* ALONE. Makes a pool where none is. */
+/* ALONE. Makes a pool where none is: over one that was not unmade, that would be lost. */
 static inline uint32_t zone_pool_make(zone_pool_t *pool, uint32_t workers, const zone_spec_t *zones, size_t n_zones, uint32_t batch,
                                       uint32_t high_len) {
     zone_worker_t made[ZONE_WORKERS];
@@ -66,16 +66,16 @@ static inline uint32_t zone_pool_dismiss(zone_pool_t *pool, uint32_t worker) {
     if (worker < pool->workers) ZONE_ASK(pool, 0, answer, zonealloc_dismiss(&pool->seats[worker].worker));
     return answer;
 }
-/* ALONE. Where the pages of a zone are, when all workers were dismissed. */
+/* ALONE, as it does not ask again. Where the pages of a zone are, when all workers were dismissed. */
 static inline uint32_t zone_pool_gather(zone_pool_t *pool, uint32_t zone, zone_totals_t *totals) {
     return zonealloc_gather(&pool->row, zone, totals);
 }
-/* ALONE. Ends the workers that are left, and gives back the memory. */
+/* ALONE. Ends the workers that are left, and gives back the memory. ZONE_BAD_HANDLE where there is no pool. */
 static inline uint32_t zone_pool_unmake(zone_pool_t *pool) {
-    uint32_t i;
-    for (i = 0; i < pool->workers; i++) (void)zone_pool_dismiss(pool, i);
-    for (i = 0; i < ZONE_ZONES; i++) ZONE_DOOR(destroy, pool, i);
-    return zonealloc_unmake(&pool->row);
+    uint32_t i, workers = pool->workers;
+    for (i = 0; i < workers; i++) (void)zone_pool_dismiss(pool, i);
+    for (i = 0; i < ZONE_ZONES && workers != 0; i++) ZONE_DOOR(destroy, pool, i);
+    pool->workers = 0; return zonealloc_unmake(&pool->row);
 }
 /* ANY. Free blocks of each order, free and posted pages, and the level of a zone, all of one moment. */
 static inline uint32_t zone_pool_counts(zone_pool_t *pool, uint32_t worker, uint32_t zone, zone_counts_t *counts) {

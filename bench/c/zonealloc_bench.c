@@ -53,8 +53,8 @@ __attribute__((always_inline)) static inline uintptr_t take_block(way_t way, uin
     if (way == MALLOC)
         return (uintptr_t)aligned_alloc((size_t)4096 << order, (size_t)4096 << order);
     if (way == ZONE)
-        return zonealloc_alloc(&pool.seats[worker].worker, 0, order, ZONE_MOVABLE, ZONE_ANY, &page) == ZONE_OK ? page + 1 : 0;
-    return zone_alloc_pages(&pool, worker, order, ZONE_MOVABLE, ZONE_ANY, &zone, &page) == ZONE_OK ? page + 1 : 0;
+        return zonealloc_alloc(&pool.seats[worker].worker, 0, order, ZONE_TYPE_MOVABLE, ZONE_ANY, &page) == ZONE_OK ? page + 1 : 0;
+    return zone_alloc_pages(&pool, worker, order, ZONE_TYPE_MOVABLE, ZONE_ANY, &zone, &page) == ZONE_OK ? page + 1 : 0;
 }
 
 __attribute__((always_inline)) static inline void give_block(way_t way, uint32_t worker, uintptr_t block, uint32_t order)
@@ -283,9 +283,9 @@ static void run_calls(uint32_t rounds)
     zone_worker_t *own = &pool.seats[0].worker;
     uint32_t page = 0, lent = 0;
     zone_page_t noted;
-    if (zonealloc_refill(own, 0, ZONE_MOVABLE, ZONE_ANY) != ZONE_OK)
+    if (zonealloc_refill(own, 0, ZONE_TYPE_MOVABLE, ZONE_ANY) != ZONE_OK)
         stop("no pages");
-    TIME("take and put, each", 2, rounds, zonealloc_take(own, 0, ZONE_MOVABLE, &page); zonealloc_put(own, 0, page));
+    TIME("take and put, each", 2, rounds, zonealloc_take(own, 0, ZONE_TYPE_MOVABLE, &page); zonealloc_put(own, 0, page));
     TIME("is_lent, no gate", 1, rounds, zonealloc_is_lent(own, 0, n % PAGES, 0, &lent));
     TIME("page, behind the gate", 1, rounds, zonealloc_page(own, 0, n % PAGES, &noted));
     TIME("a gate's two instructions, alone", 1, rounds, bare_gate());

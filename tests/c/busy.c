@@ -77,15 +77,15 @@ typedef struct {
 static told_t told, blank;
 static uint32_t lent;        /* the page at which a block of this order is lent */
 
-static uint32_t alloc(void) { return zonealloc_alloc(mine, 0, 10, ZONE_MOVABLE, ZONE_ANY, &told.page); }
+static uint32_t alloc(void) { return zonealloc_alloc(mine, 0, 10, ZONE_TYPE_MOVABLE, ZONE_ANY, &told.page); }
 static uint32_t alloc_low(void) { return zonealloc_alloc_low(mine, 0, 10, &told.page); }
 static uint32_t give_back(void) { return zonealloc_free(mine, 0, lent, ORDER + 1); }
 static uint32_t post(void) { return zonealloc_post(mine, 0, lent, ORDER + 1, 1); }
 static uint32_t collect(void) { return zonealloc_collect(mine, 0, &told.page, &told.order); }
 static uint32_t isolate(void) { return zonealloc_isolate(mine, 0, 1); }
-static uint32_t release(void) { return zonealloc_release(mine, 0, 0, ZONE_MOVABLE); }
-static uint32_t refill(void) { return zonealloc_refill(mine, 0, ZONE_RECLAIMABLE, ZONE_MIN); }
-static uint32_t drain(void) { return zonealloc_drain(mine, 0, ZONE_MOVABLE, 1); }
+static uint32_t release(void) { return zonealloc_release(mine, 0, 0, ZONE_TYPE_MOVABLE); }
+static uint32_t refill(void) { return zonealloc_refill(mine, 0, ZONE_TYPE_RECLAIMABLE, ZONE_MIN); }
+static uint32_t drain(void) { return zonealloc_drain(mine, 0, ZONE_TYPE_MOVABLE, 1); }
 static uint32_t drain_all(void) { return zonealloc_drain_all(mine, 0); }
 static uint32_t counts(void) { return zonealloc_counts(mine, 0, &told.counts); }
 static uint32_t info(void) { return zonealloc_info(mine, 0, told.line, ZONE_INFO_LINE, &told.len); }
@@ -106,11 +106,11 @@ static const struct { const char *name; uint32_t (*call)(void); uint32_t otherwi
 static void furnish(void)
 {
     uint32_t pages = 0, answer = ZONE_OK;
-    CHECK(zonealloc_cached(mine, 0, ZONE_MOVABLE, &pages) == ZONE_OK);
+    CHECK(zonealloc_cached(mine, 0, ZONE_TYPE_MOVABLE, &pages) == ZONE_OK);
     if (pages > 0)
         return;
     do
-        answer = zonealloc_refill(mine, 0, ZONE_MOVABLE, ZONE_ANY);
+        answer = zonealloc_refill(mine, 0, ZONE_TYPE_MOVABLE, ZONE_ANY);
     while (answer == ZONE_BUSY);
     CHECK(answer == ZONE_OK);
 }
@@ -184,9 +184,10 @@ int main(void)
     pthread_t thread;
     memset(&blank, 0xA5, sizeof blank);
     CHECK(zonealloc_make(&row, workers, ZONE_WORKERS, &spec, 1, BATCH, HIGH_LEN) == ZONE_OK);
-    CHECK(zonealloc_alloc(mine, 0, ORDER, ZONE_MOVABLE, ZONE_ANY, &lent) == ZONE_OK);
+    CHECK(zonealloc_alloc(mine, 0, ORDER, ZONE_TYPE_MOVABLE, ZONE_ANY, &lent) == ZONE_OK);
     furnish();
-    CHECK(pthread_create(&thread, NULL, fill_and_drain, NULL) == 0);
+    if (pthread_create(&thread, NULL, fill_and_drain, NULL) != 0)
+        return 1;
     make_calls();
     dismiss_some();
     end();

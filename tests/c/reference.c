@@ -138,7 +138,7 @@ static void count_pageblock(zone_t *zone, uint32_t number, uint32_t begin, uint3
     for (page = begin; page < end; page++)
         free += zone->pages[page].free;
     zone->free += free - block->free;
-    zone->available += (block->type == ZONE_ISOLATED ? 0 : free) - (was == ZONE_ISOLATED ? 0 : block->free);
+    zone->available += (block->type == ZONE_TYPE_ISOLATED ? 0 : free) - (was == ZONE_TYPE_ISOLATED ? 0 : block->free);
     block->free = free;
 }
 
@@ -173,7 +173,7 @@ static void set_free(zone_t *zone, uint32_t head, uint32_t order, int free)
 /* --- choosing, taking and giving back --- */
 
 static const uint32_t foreign[ZONE_TYPES][2] = {
-    { ZONE_RECLAIMABLE, ZONE_MOVABLE }, { ZONE_UNMOVABLE, ZONE_MOVABLE }, { ZONE_RECLAIMABLE, ZONE_UNMOVABLE }
+    { ZONE_TYPE_RECLAIMABLE, ZONE_TYPE_MOVABLE }, { ZONE_TYPE_UNMOVABLE, ZONE_TYPE_MOVABLE }, { ZONE_TYPE_RECLAIMABLE, ZONE_TYPE_UNMOVABLE }
 };
 
 static uint32_t choose_own(const zone_t *zone, uint32_t order, uint32_t type)
@@ -187,7 +187,7 @@ static uint32_t choose_own(const zone_t *zone, uint32_t order, uint32_t type)
 static int may_be_claimed(const zone_t *zone, uint32_t head, uint32_t order, uint32_t type)
 {
     uint32_t largest = zone->spec.largest;
-    return (order >= largest / 2 || type != ZONE_MOVABLE) && zone->pageblocks[head >> largest].free >= 1u << (largest - 1);
+    return (order >= largest / 2 || type != ZONE_TYPE_MOVABLE) && zone->pageblocks[head >> largest].free >= 1u << (largest - 1);
 }
 
 static uint32_t choose_claim(const zone_t *zone, uint32_t order, uint32_t type)
@@ -230,7 +230,7 @@ static uint32_t choose_lowest(const zone_t *zone, uint32_t order)
     uint32_t head;
     for (head = 0; head < zone->spec.pages; head++) {
         const page_t *page = &zone->pages[head];
-        if (page->state == ZONE_FREE && page->order >= order && zone->pageblocks[head >> zone->spec.largest].type != ZONE_ISOLATED)
+        if (page->state == ZONE_FREE && page->order >= order && zone->pageblocks[head >> zone->spec.largest].type != ZONE_TYPE_ISOLATED)
             return head;
     }
     return NONE;
@@ -331,6 +331,9 @@ static uint32_t check_making(size_t n_workers, const zone_spec_t *zones, size_t 
     size_t i;
     if (n_zones < 1 || n_zones > ZONE_ZONES || !are_lists(batch, high_len))
         return ZONE_BAD_ARGUMENT;
+    for (i = 1; i < n_zones; i++)
+        if ((uint64_t)zones[i - 1].base + zones[i - 1].pages > zones[i].base)
+            return ZONE_BAD_BASE;
     for (i = 0; i < n_zones; i++) {
         uint32_t answer = check_spec(&zones[i]);
         if (answer != ZONE_OK)
@@ -353,8 +356,8 @@ static int open_zone(zone_t *zone, const zone_spec_t *spec)
     for (i = 0; i < spec->pages; i++)
         zone->pages[i].free = 1;
     for (i = 0; i < pageblocks_of(zone); i++) {
-        zone->pageblocks[i].type = ZONE_MOVABLE;
-        settle(zone, i, ZONE_MOVABLE);
+        zone->pageblocks[i].type = ZONE_TYPE_MOVABLE;
+        settle(zone, i, ZONE_TYPE_MOVABLE);
     }
     return 1;
 }
@@ -618,8 +621,8 @@ static uint32_t retype(const reference_worker_t *worker, uint32_t zone, uint32_t
         return answer;
     if (pageblock >= pageblocks_of(at))
         return ZONE_BAD_PAGEBLOCK;
-    is_isolated = at->pageblocks[pageblock].type == ZONE_ISOLATED;
-    if (is_isolated == (type == ZONE_ISOLATED))
+    is_isolated = at->pageblocks[pageblock].type == ZONE_TYPE_ISOLATED;
+    if (is_isolated == (type == ZONE_TYPE_ISOLATED))
         return is_isolated ? ZONE_ALREADY_ISOLATED : ZONE_NOT_ISOLATED;
     set_type(at, pageblock, type);
     return ZONE_OK;
@@ -627,7 +630,7 @@ static uint32_t retype(const reference_worker_t *worker, uint32_t zone, uint32_t
 
 uint32_t reference_isolate(reference_worker_t *worker, uint32_t zone, uint32_t pageblock)
 {
-    return retype(worker, zone, pageblock, ZONE_ISOLATED);
+    return retype(worker, zone, pageblock, ZONE_TYPE_ISOLATED);
 }
 
 uint32_t reference_release(reference_worker_t *worker, uint32_t zone, uint32_t pageblock, uint32_t type)

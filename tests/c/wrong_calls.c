@@ -4,6 +4,7 @@
  * Memory is counted here, so this is linked without another rattle_alloc. Prints one line and answers 0; or tells what was wrong and
  * answers 1. */
 #include "zonealloc.h"
+#include "zonealloc_memory.h"
 #include <inttypes.h>
 #include <stdio.h>
 #include <stdlib.h>
@@ -13,13 +14,9 @@ enum { LOW_ZONE = 40, HIGH_ZONE = 1500, ALL_PAGES = LOW_ZONE + HIGH_ZONE, PAGEBL
 
 /* --- memory, counted, and refused where it is wanted to be --- */
 
-typedef struct { uint64_t ok; void *at; } tried_t;           /* whether there is some, in a register, and where, in the next */
 typedef struct { void *whole; size_t bytes; } before_t;      /* what stands before a block */
 static uint64_t asked, in_use, most_in_use, taken, blocks;
 static uint64_t refuse_from, refuse_to;                      /* by their numbers, from 1 */
-
-tried_t rattle_alloc(size_t bytes, size_t align);
-void rattle_dealloc(void *at);
 
 static void count_block(size_t bytes)
 {
@@ -30,10 +27,10 @@ static void count_block(size_t bytes)
 }
 
 /* What is given is not zeros. Where there is none, some address is told all the same. */
-tried_t rattle_alloc(size_t bytes, size_t align)
+rattle_memory_t rattle_alloc(size_t bytes, size_t align)
 {
     static long double none;
-    tried_t got = { 0, &none };
+    rattle_memory_t got = { false, &none };
     before_t before;
     unsigned char *at;
     asked++;
@@ -48,7 +45,7 @@ tried_t rattle_alloc(size_t bytes, size_t align)
     memcpy(at - sizeof before, &before, sizeof before);
     memset(at, 0xC3, bytes);
     count_block(bytes);
-    got.ok = 1;
+    got.ok = true;
     got.at = at;
     return got;
 }
@@ -168,20 +165,20 @@ static void furnish(world_t *w, known_t *k)
     zone_worker_t *own = w->workers;
     uint32_t i;
     ANSWERS(ZONE_OK, zonealloc_make(&w->row, w->workers, CREW, specs, ZONES, BATCH, HIGH_LEN));
-    ANSWERS(ZONE_OK, zonealloc_alloc(&own[0], 1, 0, ZONE_MOVABLE, ZONE_LOW, &k->lent));
-    ANSWERS(ZONE_OK, zonealloc_alloc(&own[0], 1, 4, ZONE_UNMOVABLE, ZONE_MIN, &k->order4));
-    ANSWERS(ZONE_OK, zonealloc_alloc(&own[1], 1, 0, ZONE_RECLAIMABLE, ZONE_ANY, &k->other));
+    ANSWERS(ZONE_OK, zonealloc_alloc(&own[0], 1, 0, ZONE_TYPE_MOVABLE, ZONE_LOW, &k->lent));
+    ANSWERS(ZONE_OK, zonealloc_alloc(&own[0], 1, 4, ZONE_TYPE_UNMOVABLE, ZONE_MIN, &k->order4));
+    ANSWERS(ZONE_OK, zonealloc_alloc(&own[1], 1, 0, ZONE_TYPE_RECLAIMABLE, ZONE_ANY, &k->other));
     ANSWERS(ZONE_OK, zonealloc_alloc_low(&own[0], 1, 1, &k->posted));
     ANSWERS(ZONE_OK, zonealloc_post(&own[0], 1, k->posted, 1, 2));
-    ANSWERS(ZONE_OK, zonealloc_refill(&own[0], 1, ZONE_MOVABLE, ZONE_LOW));
-    ANSWERS(ZONE_OK, zonealloc_take(&own[0], 1, ZONE_MOVABLE, &k->cached));
+    ANSWERS(ZONE_OK, zonealloc_refill(&own[0], 1, ZONE_TYPE_MOVABLE, ZONE_LOW));
+    ANSWERS(ZONE_OK, zonealloc_take(&own[0], 1, ZONE_TYPE_MOVABLE, &k->cached));
     ANSWERS(ZONE_OK, zonealloc_put(&own[0], 1, k->cached));
-    ANSWERS(ZONE_OK, zonealloc_alloc(&own[0], 1, 0, ZONE_MOVABLE, ZONE_ANY, &k->given));
+    ANSWERS(ZONE_OK, zonealloc_alloc(&own[0], 1, 0, ZONE_TYPE_MOVABLE, ZONE_ANY, &k->given));
     ANSWERS(ZONE_OK, zonealloc_free(&own[0], 1, k->given, 0));
     ANSWERS(ZONE_OK, zonealloc_isolate(&own[1], 0, 4));
     for (i = 0; i < HIGH_LEN; i++) {
         uint32_t page = 0;
-        ANSWERS(ZONE_OK, zonealloc_alloc(&own[1], 0, 0, ZONE_MOVABLE, ZONE_LOW, &page));
+        ANSWERS(ZONE_OK, zonealloc_alloc(&own[1], 0, 0, ZONE_TYPE_MOVABLE, ZONE_LOW, &page));
         ANSWERS(ZONE_OK, zonealloc_put(&own[1], 0, page));
     }
 }
@@ -264,19 +261,19 @@ static void wrong_zones(zone_worker_t *w)
     uint32_t i, zone;
     for (i = 0; i < PASTS; i++) {
         zone = beyond(ZONES, i);
-        REFUSED(ZONE_BAD_ARGUMENT, zonealloc_take(w, zone, ZONE_MOVABLE, &told.page));
+        REFUSED(ZONE_BAD_ARGUMENT, zonealloc_take(w, zone, ZONE_TYPE_MOVABLE, &told.page));
         REFUSED(ZONE_BAD_ARGUMENT, zonealloc_put(w, zone, known.lent));
         REFUSED(ZONE_BAD_ARGUMENT, zonealloc_is_lent(w, zone, known.lent, 0, &told.number));
-        REFUSED(ZONE_BAD_ARGUMENT, zonealloc_cached(w, zone, ZONE_MOVABLE, &told.number));
-        REFUSED(ZONE_BAD_ARGUMENT, zonealloc_alloc(w, zone, 0, ZONE_MOVABLE, ZONE_ANY, &told.page));
+        REFUSED(ZONE_BAD_ARGUMENT, zonealloc_cached(w, zone, ZONE_TYPE_MOVABLE, &told.number));
+        REFUSED(ZONE_BAD_ARGUMENT, zonealloc_alloc(w, zone, 0, ZONE_TYPE_MOVABLE, ZONE_ANY, &told.page));
         REFUSED(ZONE_BAD_ARGUMENT, zonealloc_alloc_low(w, zone, 0, &told.page));
         REFUSED(ZONE_BAD_ARGUMENT, zonealloc_free(w, zone, known.lent, 0));
         REFUSED(ZONE_BAD_ARGUMENT, zonealloc_post(w, zone, known.lent, 0, 1));
         REFUSED(ZONE_BAD_ARGUMENT, zonealloc_collect(w, zone, &told.page, &told.order));
         REFUSED(ZONE_BAD_ARGUMENT, zonealloc_isolate(w, zone, 0));
-        REFUSED(ZONE_BAD_ARGUMENT, zonealloc_release(w, zone, 4, ZONE_MOVABLE));
-        REFUSED(ZONE_BAD_ARGUMENT, zonealloc_refill(w, zone, ZONE_UNMOVABLE, ZONE_ANY));
-        REFUSED(ZONE_BAD_ARGUMENT, zonealloc_drain(w, zone, ZONE_MOVABLE, 1));
+        REFUSED(ZONE_BAD_ARGUMENT, zonealloc_release(w, zone, 4, ZONE_TYPE_MOVABLE));
+        REFUSED(ZONE_BAD_ARGUMENT, zonealloc_refill(w, zone, ZONE_TYPE_UNMOVABLE, ZONE_ANY));
+        REFUSED(ZONE_BAD_ARGUMENT, zonealloc_drain(w, zone, ZONE_TYPE_MOVABLE, 1));
         REFUSED(ZONE_BAD_ARGUMENT, zonealloc_drain_all(w, zone));
         REFUSED(ZONE_BAD_ARGUMENT, zonealloc_counts(w, zone, &told.counts));
         REFUSED(ZONE_BAD_ARGUMENT, zonealloc_info(w, zone, told.line, ZONE_INFO_LINE, &told.len));
@@ -291,7 +288,7 @@ static void wrong_orders(zone_worker_t *w)
     for (i = 0; i < PASTS; i++) {
         order = beyond(ZONE_ORDERS, i);
         REFUSED(ZONE_BAD_ARGUMENT, zonealloc_is_lent(w, 1, known.lent, order, &told.number));
-        REFUSED(ZONE_BAD_ARGUMENT, zonealloc_alloc(w, 1, order, ZONE_MOVABLE, ZONE_ANY, &told.page));
+        REFUSED(ZONE_BAD_ARGUMENT, zonealloc_alloc(w, 1, order, ZONE_TYPE_MOVABLE, ZONE_ANY, &told.page));
         REFUSED(ZONE_BAD_ARGUMENT, zonealloc_alloc_low(w, 1, order, &told.page));
         REFUSED(ZONE_BAD_ARGUMENT, zonealloc_free(w, 1, known.lent, order));
         REFUSED(ZONE_BAD_ARGUMENT, zonealloc_post(w, 1, known.lent, order, 1));
@@ -316,18 +313,18 @@ static void wrong_numbers(zone_worker_t *w)
 {
     uint32_t i;
     for (i = 0; i < PASTS; i++) {
-        REFUSED(ZONE_BAD_ARGUMENT, zonealloc_alloc(w, 1, 0, ZONE_MOVABLE, beyond(ZONE_LOW + 1, i), &told.page));
-        REFUSED(ZONE_BAD_ARGUMENT, zonealloc_refill(w, 1, ZONE_UNMOVABLE, beyond(ZONE_LOW + 1, i)));
+        REFUSED(ZONE_BAD_ARGUMENT, zonealloc_alloc(w, 1, 0, ZONE_TYPE_MOVABLE, beyond(ZONE_LOW + 1, i), &told.page));
+        REFUSED(ZONE_BAD_ARGUMENT, zonealloc_refill(w, 1, ZONE_TYPE_UNMOVABLE, beyond(ZONE_LOW + 1, i)));
         REFUSED(ZONE_BAD_ARGUMENT, zonealloc_post(w, 1, known.lent, 0, beyond(CREW, i)));
-        REFUSED(ZONE_BAD_ARGUMENT, zonealloc_drain(w, 1, ZONE_MOVABLE, beyond(BATCH + 1, i)));
+        REFUSED(ZONE_BAD_ARGUMENT, zonealloc_drain(w, 1, ZONE_TYPE_MOVABLE, beyond(BATCH + 1, i)));
         REFUSED(ZONE_BAD_PAGEBLOCK, zonealloc_isolate(w, 0, beyond(5, i)));
-        REFUSED(ZONE_BAD_PAGEBLOCK, zonealloc_release(w, 0, beyond(5, i), ZONE_MOVABLE));
+        REFUSED(ZONE_BAD_PAGEBLOCK, zonealloc_release(w, 0, beyond(5, i), ZONE_TYPE_MOVABLE));
         REFUSED(ZONE_BAD_PAGEBLOCK, zonealloc_isolate(w, 1, beyond(2, i)));
-        REFUSED(ZONE_BAD_PAGEBLOCK, zonealloc_release(w, 1, beyond(2, i), ZONE_MOVABLE));
+        REFUSED(ZONE_BAD_PAGEBLOCK, zonealloc_release(w, 1, beyond(2, i), ZONE_TYPE_MOVABLE));
         REFUSED(ZONE_BAD_PAGEBLOCK, zonealloc_pageblock(w, 1, beyond(2, i), &told.block));
     }
-    REFUSED(ZONE_BAD_ARGUMENT, zonealloc_drain(w, 1, ZONE_MOVABLE, 0));
-    REFUSED(ZONE_BAD_ARGUMENT, zonealloc_drain(w, 1, ZONE_UNMOVABLE, 1));
+    REFUSED(ZONE_BAD_ARGUMENT, zonealloc_drain(w, 1, ZONE_TYPE_MOVABLE, 0));
+    REFUSED(ZONE_BAD_ARGUMENT, zonealloc_drain(w, 1, ZONE_TYPE_UNMOVABLE, 1));
     REFUSED(ZONE_BAD_ARGUMENT, zonealloc_post(w, 1, known.lent, 0, ZONE_WORKERS));
 }
 
@@ -378,24 +375,24 @@ static void not_lent(zone_worker_t *w)
 static void no_block(zone_worker_t *w)
 {
     uint32_t i;
-    REFUSED(ZONE_BELOW_MARK, zonealloc_alloc(w, 0, 5, ZONE_MOVABLE, ZONE_MIN, &told.page));
-    REFUSED(ZONE_BELOW_MARK, zonealloc_alloc(w, 0, 10, ZONE_UNMOVABLE, ZONE_LOW, &told.page));
+    REFUSED(ZONE_BELOW_MARK, zonealloc_alloc(w, 0, 5, ZONE_TYPE_MOVABLE, ZONE_MIN, &told.page));
+    REFUSED(ZONE_BELOW_MARK, zonealloc_alloc(w, 0, 10, ZONE_TYPE_UNMOVABLE, ZONE_LOW, &told.page));
     for (i = 4; i < ZONE_ORDERS; i++) {
-        REFUSED(ZONE_NO_BLOCK, zonealloc_alloc(w, 0, i, ZONE_MOVABLE, ZONE_ANY, &told.page));
+        REFUSED(ZONE_NO_BLOCK, zonealloc_alloc(w, 0, i, ZONE_TYPE_MOVABLE, ZONE_ANY, &told.page));
         REFUSED(ZONE_NO_BLOCK, zonealloc_alloc_low(w, 0, i, &told.page));
     }
 }
 
 static void wrong_states(zone_worker_t *w)
 {
-    REFUSED(ZONE_LIST_EMPTY, zonealloc_take(w, 1, ZONE_UNMOVABLE, &told.page));
-    REFUSED(ZONE_LIST_EMPTY, zonealloc_take(w, 0, ZONE_MOVABLE, &told.page));
-    REFUSED(ZONE_LIST_NOT_EMPTY, zonealloc_refill(w, 1, ZONE_MOVABLE, ZONE_ANY));
+    REFUSED(ZONE_LIST_EMPTY, zonealloc_take(w, 1, ZONE_TYPE_UNMOVABLE, &told.page));
+    REFUSED(ZONE_LIST_EMPTY, zonealloc_take(w, 0, ZONE_TYPE_MOVABLE, &told.page));
+    REFUSED(ZONE_LIST_NOT_EMPTY, zonealloc_refill(w, 1, ZONE_TYPE_MOVABLE, ZONE_ANY));
     REFUSED(ZONE_NOTHING_POSTED, zonealloc_collect(w, 1, &told.page, &told.order));
     REFUSED(ZONE_NOTHING_POSTED, zonealloc_collect(&world.workers[2], 0, &told.page, &told.order));
     REFUSED(ZONE_ALREADY_ISOLATED, zonealloc_isolate(w, 0, 4));
-    REFUSED(ZONE_NOT_ISOLATED, zonealloc_release(w, 0, 0, ZONE_MOVABLE));
-    REFUSED(ZONE_NOT_ISOLATED, zonealloc_release(w, 1, 1, ZONE_UNMOVABLE));
+    REFUSED(ZONE_NOT_ISOLATED, zonealloc_release(w, 0, 0, ZONE_TYPE_MOVABLE));
+    REFUSED(ZONE_NOT_ISOLATED, zonealloc_release(w, 1, 1, ZONE_TYPE_UNMOVABLE));
     REFUSED(ZONE_HAS_WORKERS, zonealloc_unmake(&world.row));
     REFUSED(ZONE_HAS_WORKERS, zonealloc_gather(&world.row, 0, &told.totals));
     REFUSED(ZONE_HAS_WORKERS, zonealloc_gather(&world.row, 1, &told.totals));
@@ -405,7 +402,7 @@ static void wrong_states(zone_worker_t *w)
 static void full_list(zone_worker_t *w)
 {
     uint32_t page = 0;
-    ANSWERS(ZONE_OK, zonealloc_alloc(w, 0, 0, ZONE_MOVABLE, ZONE_LOW, &page));
+    ANSWERS(ZONE_OK, zonealloc_alloc(w, 0, 0, ZONE_TYPE_MOVABLE, ZONE_LOW, &page));
     see(&world, &before);
     REFUSED(ZONE_LIST_FULL, zonealloc_put(w, 0, page));
     REFUSED(ZONE_NOT_LENT, zonealloc_put(w, 0, page + 1));
@@ -419,7 +416,7 @@ static void no_lists(void)
     zone_worker_t w = ZONE_NONE;
     uint32_t type, page = 0;
     ANSWERS(ZONE_OK, zonealloc_make(&row, &w, 1, specs, ZONES, 0, 0));
-    ANSWERS(ZONE_OK, zonealloc_alloc(&w, 1, 0, ZONE_MOVABLE, ZONE_ANY, &page));
+    ANSWERS(ZONE_OK, zonealloc_alloc(&w, 1, 0, ZONE_TYPE_MOVABLE, ZONE_ANY, &page));
     for (type = 0; type < ZONE_TYPES; type++) {
         forget();
         ANSWERS(ZONE_NO_LISTS, zonealloc_refill(&w, 1, type, ZONE_ANY));
@@ -442,19 +439,19 @@ static void no_lists(void)
 /* Nothing is in these handles. */
 static void dead_handles(zone_worker_t *w, zone_row_t *row)
 {
-    REFUSED(ZONE_BAD_HANDLE, zonealloc_take(w, 0, ZONE_MOVABLE, &told.page));
+    REFUSED(ZONE_BAD_HANDLE, zonealloc_take(w, 0, ZONE_TYPE_MOVABLE, &told.page));
     REFUSED(ZONE_BAD_HANDLE, zonealloc_put(w, 1, known.lent));
     REFUSED(ZONE_BAD_HANDLE, zonealloc_is_lent(w, 1, known.lent, 0, &told.number));
-    REFUSED(ZONE_BAD_HANDLE, zonealloc_cached(w, 1, ZONE_MOVABLE, &told.number));
-    REFUSED(ZONE_BAD_HANDLE, zonealloc_alloc(w, 1, 0, ZONE_MOVABLE, ZONE_ANY, &told.page));
+    REFUSED(ZONE_BAD_HANDLE, zonealloc_cached(w, 1, ZONE_TYPE_MOVABLE, &told.number));
+    REFUSED(ZONE_BAD_HANDLE, zonealloc_alloc(w, 1, 0, ZONE_TYPE_MOVABLE, ZONE_ANY, &told.page));
     REFUSED(ZONE_BAD_HANDLE, zonealloc_alloc_low(w, 1, 0, &told.page));
     REFUSED(ZONE_BAD_HANDLE, zonealloc_free(w, 1, known.lent, 0));
     REFUSED(ZONE_BAD_HANDLE, zonealloc_post(w, 1, known.lent, 0, 0));
     REFUSED(ZONE_BAD_HANDLE, zonealloc_collect(w, 1, &told.page, &told.order));
     REFUSED(ZONE_BAD_HANDLE, zonealloc_isolate(w, 1, 0));
-    REFUSED(ZONE_BAD_HANDLE, zonealloc_release(w, 0, 4, ZONE_MOVABLE));
-    REFUSED(ZONE_BAD_HANDLE, zonealloc_refill(w, 1, ZONE_UNMOVABLE, ZONE_ANY));
-    REFUSED(ZONE_BAD_HANDLE, zonealloc_drain(w, 1, ZONE_MOVABLE, 1));
+    REFUSED(ZONE_BAD_HANDLE, zonealloc_release(w, 0, 4, ZONE_TYPE_MOVABLE));
+    REFUSED(ZONE_BAD_HANDLE, zonealloc_refill(w, 1, ZONE_TYPE_UNMOVABLE, ZONE_ANY));
+    REFUSED(ZONE_BAD_HANDLE, zonealloc_drain(w, 1, ZONE_TYPE_MOVABLE, 1));
     REFUSED(ZONE_BAD_HANDLE, zonealloc_drain_all(w, 1));
     REFUSED(ZONE_BAD_HANDLE, zonealloc_counts(w, 1, &told.counts));
     REFUSED(ZONE_BAD_HANDLE, zonealloc_info(w, 1, told.line, ZONE_INFO_LINE, &told.len));
@@ -586,6 +583,20 @@ static void wrong_sizes(void)
     }
 }
 
+/* Zones of which the second begins below the end of the first. */
+static void wrong_neighbours(void)
+{
+    static const uint32_t bases[] = { 0, 1024, 2048, 3072 };
+    zone_spec_t two[2];
+    size_t i;
+    two[0] = two[1] = specs[1];
+    two[0].base = 2048;
+    for (i = 0; i < sizeof bases / sizeof bases[0]; i++) {
+        two[1].base = bases[i];
+        UNMADE(ZONE_BAD_BASE, zonealloc_make(&made, crew, 2, two, 2, BATCH, HIGH_LEN));
+    }
+}
+
 static void wrong_lists(void)
 {
     static const uint32_t lists[][2] = {
@@ -617,6 +628,7 @@ static void wrong_makings(void)
         UNMADE(ZONE_BAD_WORKERS, zonealloc_bytes(specs, ZONES, many[i], &told.bytes));
     wrong_names();
     wrong_sizes();
+    wrong_neighbours();
     wrong_lists();
 }
 
@@ -679,20 +691,20 @@ static void good_readings(zone_worker_t *w)
     ANSWERS(ZONE_OK, zonealloc_page(w, 0, 1032, &told.noted));
     CHECK(told.noted.state == ZONE_FREE && told.noted.order == 3 && told.noted.type == 0 && told.noted.worker == 0);
     ANSWERS(ZONE_OK, zonealloc_pageblock(w, 0, 4, &told.block));
-    CHECK(told.block.type == ZONE_MOVABLE && told.block.free == 8 && told.block.largest == 3);
+    CHECK(told.block.type == ZONE_TYPE_MOVABLE && told.block.free == 8 && told.block.largest == 3);
 }
 
 static void good_lists(zone_worker_t *w)
 {
-    ANSWERS(ZONE_OK, zonealloc_refill(w, 0, ZONE_MOVABLE, ZONE_LOW));
-    ANSWERS(ZONE_OK, zonealloc_cached(w, 0, ZONE_MOVABLE, &told.number));
+    ANSWERS(ZONE_OK, zonealloc_refill(w, 0, ZONE_TYPE_MOVABLE, ZONE_LOW));
+    ANSWERS(ZONE_OK, zonealloc_cached(w, 0, ZONE_TYPE_MOVABLE, &told.number));
     CHECK(told.number == BATCH);
-    ANSWERS(ZONE_OK, zonealloc_take(w, 0, ZONE_MOVABLE, &told.page));
+    ANSWERS(ZONE_OK, zonealloc_take(w, 0, ZONE_TYPE_MOVABLE, &told.page));
     CHECK(told.page == 1056);
     ANSWERS(ZONE_OK, zonealloc_is_lent(w, 0, 1056, 0, &told.number));
     CHECK(told.number == 1);
     ANSWERS(ZONE_OK, zonealloc_put(w, 0, 1056));
-    ANSWERS(ZONE_OK, zonealloc_drain(w, 0, ZONE_MOVABLE, 1));
+    ANSWERS(ZONE_OK, zonealloc_drain(w, 0, ZONE_TYPE_MOVABLE, 1));
     ANSWERS(ZONE_OK, zonealloc_drain_all(w, 0));
     ANSWERS(ZONE_OK, zonealloc_counts(w, 0, &told.counts));
     CHECK(told.counts.free == LOW_ZONE);
@@ -700,7 +712,7 @@ static void good_lists(zone_worker_t *w)
 
 static void good_requests(zone_worker_t *w)
 {
-    ANSWERS(ZONE_OK, zonealloc_alloc(&w[0], 0, 2, ZONE_MOVABLE, ZONE_LOW, &told.page));
+    ANSWERS(ZONE_OK, zonealloc_alloc(&w[0], 0, 2, ZONE_TYPE_MOVABLE, ZONE_LOW, &told.page));
     CHECK(told.page == 1056);
     ANSWERS(ZONE_OK, zonealloc_post(&w[0], 0, 1056, 2, 1));
     ANSWERS(ZONE_OK, zonealloc_collect(&w[1], 0, &told.page, &told.order));
@@ -709,7 +721,7 @@ static void good_requests(zone_worker_t *w)
     ANSWERS(ZONE_OK, zonealloc_alloc_low(&w[0], 0, 1, &told.page));
     CHECK(told.page == 1024);
     ANSWERS(ZONE_OK, zonealloc_isolate(&w[0], 0, 2));
-    ANSWERS(ZONE_OK, zonealloc_release(&w[0], 0, 2, ZONE_RECLAIMABLE));
+    ANSWERS(ZONE_OK, zonealloc_release(&w[0], 0, 2, ZONE_TYPE_RECLAIMABLE));
 }
 
 static void good_calls(void)

@@ -7,7 +7,7 @@ use Rattle.zonealloc.specs.declared.handles.RowHandle.{RowHandle}
 use Rattle.zonealloc.specs.declared.handles.WorkerHandle.{WorkerHandle}
 use Rattle.zonealloc.specs.declared.rows.ZoneTotals.{ZoneTotals}
 use Rattle.zonealloc.specs.declared.zone_spec.ZoneSpec.{ZoneSpec}
-use Rattle.zonealloc.specs.Zones.{spec_key}
+use Rattle.zonealloc.specs.Zones.{AreApart, spec_key}
 
 abbrev pub IsEmpty : WorkerHandle → Type 0
 IsEmpty h = h.slot.value ≡ None
@@ -16,11 +16,13 @@ IsEmpty h = h.slot.value ≡ None
 abbrev pub HasNewWorker : ℕ → ℕ → ℕ → ℕ → WorkerHandle → Type 0
 HasNewWorker w batch high n h = (v : WorkerState) × (h.slot.value ≡ Some v) × IsNewWorker w batch high n v
 
--- answered 0, all that were empty are full: the row with a zone as each of those described, the handles of the workers in the order of their numbers;
+-- answered 0, all that were empty are full: the row with a zone as each of those described, which share no page, the handles of the workers in the order of
+-- their numbers;
 -- else nothing changed
 pub record IsMakeCall (zones : List ZoneSpec) (batch high code : ℕ) (r s : RowHandle) (ws vs : List WorkerHandle) : Type 0 where
   pub was_empty : code ≡ 0 → (r.slot.value ≡ None) × All IsEmpty ws
   pub row : code ≡ 0 → (x : RowState) × (s.slot.value ≡ Some x) × (map untied x ≡ map (spec_key (length ws)) zones)
+  pub apart : code ≡ 0 → AreApart zones
   pub workers : code ≡ 0 → (length vs ≡ length ws) × ((w : ℕ) (none : WorkerHandle) → w < length vs → HasNewWorker w batch high (length zones) (slice_index_or vs w none))
   pub unchanged : 1 ≤ code → (s ≡ r) × (vs ≡ ws)
 

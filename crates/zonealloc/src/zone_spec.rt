@@ -1,8 +1,8 @@
 //! What C makes a zone with.
-ghost use Rattle.std.specs.Prelude.{ℕ, ◌≡◌, ◌≤◌, IfErr, IfOk, IfSome};
+ghost use Rattle.std.specs.Prelude.{ℕ, ◌≡◌, ◌≤◌, ◌↔◌, true, IfErr, IfOk, IfSome};
 ghost use Rattle.zp_model.specs.declared.constants.TheConstants.{MAX_PAGES};
 ghost use Rattle.zp_gate.specs.Rows.{key_for};
-ghost use Rattle.zonealloc.specs.Zones.{spec_key};
+ghost use Rattle.zonealloc.specs.Zones.{AreApart, spec_key};
 
 use crate::answers::{BAD_ARGUMENT, refused};
 use zp_model::{LONGEST_NAME, Largest, MAX_PAGES, Refused};
@@ -45,6 +45,20 @@ pub fn config_of(spec: &ZoneSpec) -> Result<ZoneConfig<'_>, u32>
         min: spec.min,
         largest,
     })
+}
+
+/// Whether each zone begins at the end of the one before it, or above that: then no two share a page.
+pub fn are_apart(zones: &[ZoneSpec]) -> bool
+    ensures { result ≡ true ↔ AreApart zones.now }
+{
+    let mut end = 0;
+    for zone in zones {
+        if u64::from(zone.base) < end {
+            return false;
+        }
+        end = u64::from(zone.base) + u64::from(zone.pages);
+    }
+    true
 }
 
 /// How many pages the zone is to have, where a zone can have so many.

@@ -13,6 +13,7 @@ returns-in-Ok c =
     record {
       was_empty = λ z. (c.is_live.ensures c.if-is_live.false, c.has_live.ensures c.if-has_live.false);
       row = λ z. (c.in-Ok.row_made.value, c.put_row.ensures, made.keys);
+      apart = λ z. made.apart;
       workers = λ z. (
         put.each,
         λ w none lt.

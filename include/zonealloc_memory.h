@@ -1,0 +1,20 @@
+/* The two functions through which the archive takes memory and gives it back: the program supplies them, or links c/zonealloc_malloc.c.
+ * docs/c.md tells what they owe. */
+#ifndef ZONEALLOC_MEMORY_H
+#define ZONEALLOC_MEMORY_H
+#include <stdbool.h>
+#include <stddef.h>
+#ifdef __cplusplus
+extern "C" {
+#endif
+
+/* Whether there is memory, and where: in two registers. */
+typedef struct rattle_memory { bool ok; void *at; } rattle_memory_t;
+
+rattle_memory_t rattle_alloc(size_t bytes, size_t align);
+void rattle_dealloc(void *at);
+
+#ifdef __cplusplus
+}
+#endif
+#endif
