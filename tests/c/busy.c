@@ -3,6 +3,7 @@
  * its own. The calls are ones that change nothing where nobody is in either, but for drains and dismissals. In the end the pages are where
  * they are known to be. Prints one line and answers 0; or tells what was wrong and answers 1. */
 #include "zonealloc.h"
+#include "checking.h"
 #include <inttypes.h>
 #include <pthread.h>
 #include <stdio.h>
@@ -16,18 +17,6 @@ static zone_row_t row;
 /* The first makes the calls, the last is the other thread's, and those between are dismissed. */
 static zone_worker_t workers[ZONE_WORKERS];
 static zone_worker_t *const mine = &workers[0], *const other = &workers[ZONE_WORKERS - 1];
-
-static unsigned failures, checks;
-
-static void check(int good, const char *what, int line)
-{
-    checks++;
-    if (good)
-        return;
-    failures++;
-    printf("line %d: %s\n", line, what);
-}
-#define CHECK(what) check((what), #what, __LINE__)
 
 /* --- the thread that is in the zone --- */
 

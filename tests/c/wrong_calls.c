@@ -5,6 +5,7 @@
  * answers 1. */
 #include "zonealloc.h"
 #include "zonealloc_memory.h"
+#include "checking.h"
 #include <inttypes.h>
 #include <stdio.h>
 #include <stdlib.h>
@@ -68,18 +69,6 @@ static void refuse(uint64_t number, uint64_t count)
 }
 
 /* --- what is told of a failure --- */
-
-static unsigned failures, checks;
-
-static void check(int good, const char *what, int line)
-{
-    checks++;
-    if (good)
-        return;
-    failures++;
-    printf("line %d: %s\n", line, what);
-}
-#define CHECK(what) check((what), #what, __LINE__)
 
 static void answered(uint32_t answer, uint32_t wanted, const char *call, int line)
 {
