@@ -85,7 +85,8 @@ uint32_t zonealloc_bytes(const zone_spec_t *zones, size_t n_zones, uint32_t work
 /* ALONE. Fills an empty row and all its empty workers, which are numbered by their place. Each zone begins at the end of the one before it, or
  * above that. batch 0 and high_len 0: no lists; else batch is 1 to 31 and high_len above it, at most 64. Of what is wrong the first of these is
  * answered: a handle that is not empty; ZONE_BAD_ARGUMENT for how many zones there are; ZONE_BAD_WORKERS; ZONE_BAD_ARGUMENT for the lists;
- * zones that are not apart; then zone by zone a name_len above 8, a largest order, and what has the least number. */
+ * zones that are not apart; zone by zone a name that is too long or no text, and a largest order; then zone by zone what has the least number.
+ * ZONE_NO_MEMORY comes where memory is refused, which may be before the names are read. */
 uint32_t zonealloc_make(zone_row_t *row, zone_worker_t *workers, size_t n_workers, const zone_spec_t *zones, size_t n_zones, uint32_t batch,
                         uint32_t high_len);
 /* ZONE, of each zone. Ends a worker, for good: no other gets its place, and what is posted to it stays. What its lists have and what is lent
