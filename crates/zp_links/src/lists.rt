@@ -5,7 +5,7 @@ ghost use Rattle.std.specs.Prelude.{◌≡◌, ◌<◌, ◌≤◌, ℕ, true, fa
 ghost use Rattle.zp_model.specs.Rows.{Rows, list_at, state_at, IsOn, IsLoose, IsRow, with_list, with_state, without_page, front, rest, after};
 ghost use Rattle.zp_model.specs.declared.constants.TheConstants.{MAX_PAGES};
 ghost use Rattle.zp_table.specs.Entries.{IsUnlinked};
-ghost use Rattle.zp_table.specs.Packed.{packed};
+ghost use Rattle.zp_table.specs.Packed.{packed, told_layout};
 ghost use Rattle.zp_links.specs.Linked.{states_of, At, entry_in, loose_entry};
 ghost use Rattle.zp_links.specs.Moved.{StandAsBefore};
 
@@ -268,11 +268,12 @@ impl Lists {
         self.table.forward(at).page()
     }
 
-    /// The word that the page's entry is packed in: what is noted of it, and its neighbours in its list.
+    /// The word of the page's entry, in the layout that is told of so many pages: what is noted of it, and its neighbours in
+    /// its list.
     pub fn word(&self, at: PageAt) -> u64
         requires { at < length self.now.states }
-        ensures on { (r k : ℕ) → At self.now.lists r k at → result ≡ packed (entry_in self.now r k at) }
-        ensures loose { IsLoose self.now.lists at → result ≡ packed (loose_entry (state_at self.now.states at)) }
+        ensures on { (r k : ℕ) → At self.now.lists r k at → result ≡ packed (told_layout (length self.now.states)) (entry_in self.now r k at) }
+        ensures loose { IsLoose self.now.lists at → result ≡ packed (told_layout (length self.now.states)) (loose_entry (state_at self.now.states at)) }
     {
         self.table.word(at)
     }

@@ -34,8 +34,9 @@ filled hi j k lo v low fits =
     rw split (omega (arith, sum, add-mul (hi * 2 ^ j) v (2 ^ k)))
 
 -- a word whose field of j bits from k on is masked out, and other bits put there
-pub replaced : (w j k to v : ℕ) → to ≡ j + k → to ≤ 64 → j < 64 → w < 2 ^ 64 → v < 2 ^ j →
-    bit_or (bit_and w (2 ^ 64 - 1 - (1 * 2 ^ j % 2 ^ 64 - 1) * 2 ^ k % 2 ^ 64)) (v * 2 ^ k % 2 ^ 64) ≡ with_field w k to v
-replaced w j k to v e le lt fits small =
+pub replaced : (w k j v : ℕ) → j < 64 → k + j ≤ 64 → w < 2 ^ 64 → v < 2 ^ j →
+    bit_or (bit_and w (2 ^ 64 - 1 - (1 * 2 ^ j % 2 ^ 64 - 1) * 2 ^ k % 2 ^ 64)) (v * 2 ^ k % 2 ^ 64) ≡ with_field w k j v
+replaced w k j v lt le fits small =
+    let e : k + j ≡ j + k = omega arith in
     let within : j + k ≤ 64 = omega arith in
     rw (e, mask_there j k lt within, cleared w j k fits within, shl_whole v j k 64 small within) (filled (w / 2 ^ (j + k)) j k (w % 2 ^ k) v (mod_below w (2 ^ k) (pow_pos k)) small)

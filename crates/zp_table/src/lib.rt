@@ -7,6 +7,7 @@ mod entry;
 mod field;
 mod layout;
 mod link;
+mod narrow_word;
 mod packed_entry;
 mod packed_state;
 mod packing_law;

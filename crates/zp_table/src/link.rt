@@ -19,13 +19,13 @@ impl Model for Link {
 
     ghost Value = { Option ℕ };
 
-    ghost view = { λ l. page_of l.number };
+    ghost view = { λ l. page_of MAX_PAGES l.number };
 
     ghost invariant = { λ l. l.number ≤ MAX_PAGES };
 
-    ghost inverse = { λ o. record { number = number_of o } };
+    ghost inverse = { λ o. record { number = number_of MAX_PAGES o } };
 
-    ghost inverse_ok = { λ l h i. record { number = number_of-page_of l.number h i } };
+    ghost inverse_ok = { λ l h i. record { number = number_of-page_of MAX_PAGES l.number h i } };
 }
 
 impl Link {
@@ -58,16 +58,26 @@ impl Link {
 
     /// The page's number, or `MAX_PAGES`.
     pub(crate) fn number(self) -> u32
-        ensures same { result ≡ number_of self }
+        ensures same { result ≡ number_of MAX_PAGES self }
+        ensures within { result ≤ MAX_PAGES }
         ensures fits { IfSome self (λ page. page < MAX_PAGES) }
     {
         self.number
     }
 
+    /// The page's number, or `none` where there is no page, or none below that.
+    pub(crate) fn number_below(self, none: u32) -> u32
+        requires { none ≤ MAX_PAGES }
+        ensures same { result ≡ number_of none self }
+        ensures within { result ≤ none }
+    {
+        self.number.min(none)
+    }
+
     /// The link of this number.
     pub(crate) fn numbered(number: u32) -> Link
         requires { number ≤ MAX_PAGES }
-        ensures { result ≡ page_of number }
+        ensures { result ≡ page_of MAX_PAGES number }
     {
         Link { number }
     }

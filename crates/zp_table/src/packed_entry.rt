@@ -1,10 +1,17 @@
 //! The entry of a page in one word.
-ghost use Rattle.std.specs.Prelude.{◌≡◌, ◌↔◌, IsTrue};
-ghost use Rattle.zp_table.specs.Packed.{packed};
+ghost use Rattle.std.specs.Prelude.{◌≡◌, ◌↔◌, ◌<◌, IfSome, IsTrue};
+ghost use Rattle.zp_model.specs.declared.constants.TheConstants.{MAX_PAGES};
+ghost use Rattle.zp_table.specs.declared.layout.TheConstants.{LINK_BITS};
+ghost use Rattle.zp_table.specs.Fields.{IsField, field, with_field};
+ghost use Rattle.zp_table.specs.Links.{number_of};
+ghost use Rattle.zp_table.specs.Packed.{packed, wide};
 
 use crate::entry::PageEntry;
 use crate::field::{field, with_field};
-use crate::layout::{BACK_AT, FORWARD_AT, ORDER_AT, TYPE_AT, WORD_BITS, WORKER_AT};
+use crate::layout::{
+    BACK_AT, FORWARD_AT, LINK_BITS, ORDER_AT, ORDER_BITS, STATE_AT, STATE_BITS, TYPE_AT, TYPE_BITS,
+    WHICH_BITS, WORKER_AT, WORKER_BITS,
+};
 use crate::link::Link;
 use crate::packed_state::packed_state;
 use std::marker::Model;
@@ -18,15 +25,15 @@ pub struct PackedEntry {
 
 impl Model for PackedEntry {
     ghost use Rattle.zp_table.specs.declared.entry.PageEntry.{PageEntry};
-    ghost use Rattle.zp_table.specs.Packed.{IsPacked, packed, unpacked};
+    ghost use Rattle.zp_table.specs.Packed.{IsPacked, packed, unpacked, wide};
 
     ghost Value = { PageEntry };
 
-    ghost view = { λ e. unpacked e.word };
+    ghost view = { λ e. unpacked wide e.word };
 
-    ghost invariant = { λ e. IsPacked e.word };
+    ghost invariant = { λ e. IsPacked wide e.word };
 
-    ghost inverse = { λ v. record { word = packed v } };
+    ghost inverse = { λ v. record { word = packed wide v } };
 
     ghost inverse_ok = { λ e h i. record { word = h.1 i } };
 }
@@ -35,15 +42,16 @@ impl PackedEntry {
     pub fn new(entry: PageEntry) -> PackedEntry
         ensures { result ≡ entry }
     {
-        let word = packed_state(entry.state);
-        let word = with_field(word, FORWARD_AT, BACK_AT, entry.forward.number() as u64);
-        let word = with_field(word, BACK_AT, WORD_BITS, entry.back.number() as u64);
+        // from the top down, so that nothing lies yet where a field is put
+        let word = with_link(0, FORWARD_AT, entry.forward);
+        let word = with_field(word, STATE_AT, STATE_BITS, packed_state(entry.state));
+        let word = with_link(word, BACK_AT, entry.back);
         PackedEntry { word }
     }
 
     /// The word itself.
     pub fn word(self) -> u64
-        ensures { result ≡ packed self }
+        ensures { result ≡ packed wide self }
     {
         self.word
     }
@@ -61,17 +69,18 @@ impl PackedEntry {
     pub fn state(self) -> State
         ensures { result ≡ self.state }
     {
+        let state = field(self.word, STATE_AT, STATE_BITS);
         // each part is read before the match, so that no branch is taken for it
-        let order = Order::new(field(self.word, ORDER_AT, TYPE_AT) as u8).unwrap_or(Order::zero());
-        let migrate_type = match field(self.word, TYPE_AT, WORKER_AT) {
+        let order = Order::new(field(state, ORDER_AT, ORDER_BITS) as u8).unwrap_or(Order::zero());
+        let migrate_type = match field(state, TYPE_AT, TYPE_BITS) {
             0 => MigrateType::Unmovable,
             1 => MigrateType::Reclaimable,
             _ => MigrateType::Movable,
         };
-        let worker = Worker::new(field(self.word, WORKER_AT, FORWARD_AT) as u8).unwrap_or(
+        let worker = Worker::new(field(state, WORKER_AT, WORKER_BITS) as u8).unwrap_or(
             Worker::first(),
         );
-        match field(self.word, 0, ORDER_AT) {
+        match field(state, 0, WHICH_BITS) {
             0 => State::Tail,
             1 => State::Free(order),
             2 => State::Out(order, migrate_type, worker),
@@ -83,37 +92,37 @@ impl PackedEntry {
     pub fn is_state(self, state: State) -> bool
         ensures { IsTrue result ↔ (self.state ≡ state) }
     {
-        field(self.word, 0, FORWARD_AT) == packed_state(state)
+        field(self.word, STATE_AT, STATE_BITS) == packed_state(state)
     }
 
     pub fn back(self) -> Link
         ensures { result ≡ self.back }
     {
-        Link::numbered(field(self.word, BACK_AT, WORD_BITS) as u32)
+        Link::numbered(link_number(self.word, BACK_AT))
     }
 
     pub fn forward(self) -> Link
         ensures { result ≡ self.forward }
     {
-        Link::numbered(field(self.word, FORWARD_AT, BACK_AT) as u32)
+        Link::numbered(link_number(self.word, FORWARD_AT))
     }
 
     pub fn set_state(&mut self, state: State)
         ensures { self.new ≡ record self.old { state = state } }
     {
-        self.word = with_field(self.word, 0, FORWARD_AT, packed_state(state));
+        self.word = with_field(self.word, STATE_AT, STATE_BITS, packed_state(state));
     }
 
     pub fn set_back(&mut self, back: Link)
         ensures { self.new ≡ record self.old { back = back } }
     {
-        self.word = with_field(self.word, BACK_AT, WORD_BITS, back.number() as u64);
+        self.word = with_link(self.word, BACK_AT, back);
     }
 
     pub fn set_forward(&mut self, forward: Link)
         ensures { self.new ≡ record self.old { forward = forward } }
     {
-        self.word = with_field(self.word, FORWARD_AT, BACK_AT, forward.number() as u64);
+        self.word = with_link(self.word, FORWARD_AT, forward);
     }
 
     pub fn set_links(&mut self, back: Link, forward: Link)
@@ -122,4 +131,21 @@ impl PackedEntry {
         self.set_back(back);
         self.set_forward(forward);
     }
+}
+
+/// The number of the link that begins at this bit of a word.
+fn link_number(word: u64, at: u32) -> u32
+    requires { IsField at LINK_BITS }
+    ensures { result ≡ field word at LINK_BITS }
+{
+    field(word, at, LINK_BITS) as u32
+}
+
+/// A word with another link there.
+fn with_link(word: u64, at: u32, link: Link) -> u64
+    requires { IsField at LINK_BITS }
+    ensures same { result ≡ with_field word at LINK_BITS (number_of MAX_PAGES link) }
+    ensures fits { IfSome link (λ page. page < MAX_PAGES) }
+{
+    with_field(word, at, LINK_BITS, link.number() as u64)
 }

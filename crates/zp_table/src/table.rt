@@ -4,10 +4,12 @@
 ghost use Rattle.std.specs.Prelude.{◌≡◌, ◌<◌, ◌≤◌, ◌↔◌, length, replicate, IfOk, IsTrue};
 ghost use Rattle.zp_model.specs.declared.constants.TheConstants.{MAX_PAGES};
 ghost use Rattle.zp_table.specs.Entries.{blank, entry_at, IsUnlinked, with_entry_at, with_state_at, with_links_at, with_back_at, with_forward_at};
-ghost use Rattle.zp_table.specs.Packed.{packed};
+ghost use Rattle.zp_table.specs.Packed.{packed, told_layout};
 
 use crate::entry::PageEntry;
+use crate::layout::NARROW_PAGES;
 use crate::link::Link;
+use crate::narrow_word::narrow_word;
 use crate::packed_entry::PackedEntry;
 use std::alloc::{AllocError, Global};
 use std::marker::Model;
@@ -95,12 +97,18 @@ impl PageTable {
         self.entries[at.index()].forward()
     }
 
-    /// The word that the entry of a page is packed in.
+    /// The word of a page's entry: in the narrow layout, where that has numbers for all pages of the table, and else as it
+    /// lies in memory. A link to a page that the layout has no number for is told as none.
     pub fn word(&self, at: PageAt) -> u64
         requires { at < length self.now }
-        ensures { result ≡ packed (entry_at self.now at) }
+        ensures { result ≡ packed (told_layout (length self.now)) (entry_at self.now at) }
     {
-        self.entries[at.index()].word()
+        let packed = self.entries[at.index()];
+        if self.entries.len() <= NARROW_PAGES as usize {
+            narrow_word(packed.entry())
+        } else {
+            packed.word()
+        }
     }
 
     /// Gives a page another entry, which is written whole.
