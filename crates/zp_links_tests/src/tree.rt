@@ -1,4 +1,4 @@
-//! The first block of the largest order and the last page, in a status tree of the largest zone.
+//! The first block of the largest order and the last page, in status trees of one and of two rows of ranks.
 ghost use Rattle.std.specs.Prelude.{◌≡◌, ◌≤◌};
 ghost use Rattle.zp_model.specs.declared.constants.TheConstants.{LARGEST_ORDER, MAX_PAGES};
 
@@ -7,9 +7,6 @@ use std::process::Abort;
 use std::test::*;
 use zp_model::{MAX_PAGES, Order, PageAt};
 use zp_tree::{Meter, OrderTree};
-
-/// The most words that `lowest` may read.
-const MOST_READS: u64 = 34;
 
 fn order(number: u8) -> Order
     requires { number ≤ LARGEST_ORDER }
@@ -23,10 +20,11 @@ fn order_from(rt: &impl Abort, number: u8) -> Order {
     Order::new(number).expect(rt, "there is no such order")
 }
 
-/// Compares the largest order, and for each order asked for the head and the order of the lowest block.
+/// Compares the largest order, and for each order asked for the head and the order of the lowest block, and sees how many words are read.
 fn expect_blocks(
     rt: &impl Abort,
     tree: &OrderTree,
+    most_reads: u64,
     largest: u8,
     lowest: &[(u8, Option<(u32, u8)>)],
 ) {
@@ -36,7 +34,7 @@ fn expect_blocks(
         let found = tree.lowest(order_from(rt, least), &mut meter);
         let found = found.map(|(at, order)| (at.number(), order.number()));
         assert!(rt; found == wanted);
-        assert!(rt; meter.count() <= MOST_READS);
+        assert!(rt; meter.count() <= most_reads);
     }
 }
 
@@ -51,23 +49,38 @@ fn expect_largest_in(rt: &impl Abort, tree: &OrderTree, ranges: &[(u32, u8, Opti
     }
 }
 
-/// The pages are those of the largest zone.
-fn compare_two_blocks(rt: &(impl Abort + AllocGlobal), pages: u32) -> Result<(), Fail>
-    requires { pages ≡ MAX_PAGES }
+/// The pages are those of two groups or more.
+fn compare_two_blocks(
+    rt: &(impl Abort + AllocGlobal),
+    pages: u32,
+    most_reads: u64,
+) -> Result<(), Fail>
+    requires least { 2048 ≤ pages }
+    requires most { pages ≤ MAX_PAGES }
 {
+    let last = pages - 1;
     let mut tree = OrderTree::new(rt.alloc(), pages)?;
-    tree.set(PageAt::at(65535), order(0));
-    expect_blocks(rt, &tree, 0, &[(0, Some((65535, 0))), (1, None)]);
+    tree.set(PageAt::at(last), order(0));
+    expect_blocks(rt, &tree, most_reads, 0, &[(0, Some((last, 0))), (1, None)]);
     tree.set(PageAt::at(0), order(10));
-    expect_blocks(rt, &tree, 10, &[(0, Some((0, 10)))]);
-    let ranges = [(64512, 10, Some(0)), (1024, 10, None), (512, 9, None)];
+    expect_blocks(rt, &tree, most_reads, 10, &[(0, Some((0, 10)))]);
+    let ranges = [
+        (pages - 1024, 10, Some(0)),
+        (1024, 10, None),
+        (512, 9, None),
+    ];
     expect_largest_in(rt, &tree, &ranges);
     tree.clear(PageAt::at(0), order(10));
-    expect_blocks(rt, &tree, 0, &[(0, Some((65535, 0)))]);
+    expect_blocks(rt, &tree, most_reads, 0, &[(0, Some((last, 0)))]);
     Ok(())
 }
 
 #[test]
-fn two_blocks_of_the_largest_zone(rt: HostRuntime) -> Result<(), Fail> {
-    compare_two_blocks(&rt, MAX_PAGES)
+fn two_blocks_under_one_row_of_ranks(rt: HostRuntime) -> Result<(), Fail> {
+    compare_two_blocks(&rt, 8_192, 33)
+}
+
+#[test]
+fn two_blocks_under_two_rows_of_ranks(rt: HostRuntime) -> Result<(), Fail> {
+    compare_two_blocks(&rt, 65_536, 34)
 }

@@ -13,6 +13,11 @@ pub row_pos : (j : ℕ) → 0 < FAN ^ j
 row_pos zero = omega arith
 row_pos (suc j) = let e : j + 1 ≡ suc j = omega arith in omega (arith, row_pos j, eight_of j, ap (λ n. FAN ^ n) e)
 
+-- a row has more nodes than there are rows above it
+pub row_large : (j : ℕ) → j < FAN ^ j
+row_large zero = omega arith
+row_large (suc j) = let e : j + 1 ≡ suc j = omega arith in omega (arith, row_large j, eight_of j, ap (λ n. FAN ^ n) e)
+
 -- of a larger row the nodes come later
 pub row_grows : (j k : ℕ) → j < k → FAN ^ j + FAN ^ j ≤ FAN ^ k
 row_grows j zero lt = absurd (omega arith)

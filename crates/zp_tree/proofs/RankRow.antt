@@ -5,11 +5,15 @@ use Rattle.std.proofs.lemmas.List.{get_or-drop, get_or_past, length-drop, length
 use Rattle.zp_model.proofs.RowLists.{replicated}
 use Rattle.zp_tree.specs.declared.constants.TheConstants.{FAN}
 use Rattle.zp_tree.specs.RankRows.{best_from, IsInRow, IsRanked, IsFirstRank, IsTopRank}
-use Rattle.zp_tree.proofs.RankNodes.{root_row}
+use Rattle.zp_tree.proofs.RankNodes.{root_row, row_number}
 use Rattle.zp_tree.proofs.RankWays.{IsOnWay, above, last_below, last_some, last_row, row_last}
 
 row_length : (d : ℕ) (ns : List ℕ) → IsRanked d ns → length (drop (FAN ^ d) ns) ≡ FAN ^ d
 row_length d ns r = omega (arith, length-drop (FAN ^ d) ns, r.size)
+
+-- its length tells how many rows there are
+pub row_told : (d e f : ℕ) (ns rs : List ℕ) → IsRanked d ns → f ≡ FAN ^ d → drop f ns ≡ rs → length rs ≡ FAN ^ e → d ≡ e
+row_told d e f ns rs r first view long = row_number d e (omega (arith, first, ap length view, length-drop f ns, r.size, long))
 
 row_read : (d g : ℕ) (ns : List ℕ) → slice_index (drop (FAN ^ d) ns) g ≡ slice_index ns (FAN ^ d + g)
 row_read d g ns = get_or-drop (FAN ^ d) ns g 0

@@ -33,6 +33,7 @@ another m pages ls hs rs ms gs ts s r t w n o l x y z = record {
   words = w;
   marked = y;
   rows = omega (arith, t.rows, n, o);
+  row = o ∙ t.row;
   ranked = z;
 }
 

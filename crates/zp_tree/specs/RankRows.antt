@@ -1,7 +1,7 @@
 -- A tree of ranks (this profile): its last row has one for each group, and each node above it the largest of the eight below. The root is node
 -- 1, and below node n are 8 n to 8 n + 7.
 use Rattle.std.specs.Prelude.{ℕ, suc, zero, ◌+◌, ◌*◌, ◌/◌, ◌^◌, ◌≡◌, ◌≢◌, ◌≤◌, ◌<◌, List, drop, length, max, slice_index, Option, None, Some}
-use Rattle.zp_tree.specs.declared.constants.TheConstants.{FAN, MOST_ROWS}
+use Rattle.zp_tree.specs.declared.constants.TheConstants.{FAN}
 
 -- the largest of n ranks from node x on
 abbrev pub best_from : List ℕ → ℕ → ℕ → ℕ
@@ -12,6 +12,14 @@ best_from ns x (suc n) = max (slice_index ns (x + n)) (best_from ns x n)
 pub record IsInRow (j x : ℕ) : Type 0 where
   pub from : FAN ^ j ≤ x
   pub to : x < FAN ^ j + FAN ^ j
+
+-- a row of n ranks is the shortest of those below the root that have room for g groups
+pub record IsLeastRow (g n : ℕ) : Type 0 where
+  pub d : ℕ
+  pub below : 0 < d
+  pub row : n ≡ FAN ^ d
+  pub room : g ≤ FAN ^ d
+  pub least : (e : ℕ) → 0 < e → g ≤ FAN ^ e → d ≤ e
 
 -- each node of the rows above row d holds the largest of those below it, but node x
 pub record IsRankedBut (d : ℕ) (ns : List ℕ) (x : ℕ) : Type 0 where
@@ -25,7 +33,6 @@ IsRanked d ns = IsRankedBut d ns 0
 -- the rank at node x of the last row fell, and only the node above it may not hold what it should: it holds as much, or more
 pub record IsOpen (ns : List ℕ) (x : ℕ) : Type 0 where
   pub d : ℕ
-  pub few : d ≤ MOST_ROWS
   pub row : IsInRow d x
   pub but : IsRankedBut d ns (x / FAN)
   pub most : 0 < d → best_from ns (FAN * (x / FAN)) FAN ≤ slice_index ns (x / FAN)
@@ -33,7 +40,6 @@ pub record IsOpen (ns : List ℕ) (x : ℕ) : Type 0 where
 -- the rank at node x of the last row rose to v, and only the node above it may not hold what it should: the larger of v and what it holds
 pub record IsRaised (ns : List ℕ) (x v : ℕ) : Type 0 where
   pub d : ℕ
-  pub few : d ≤ MOST_ROWS
   pub row : IsInRow d x
   pub but : IsRankedBut d ns (x / FAN)
   pub next : 0 < d → max (slice_index ns (x / FAN)) v ≡ best_from ns (FAN * (x / FAN)) FAN

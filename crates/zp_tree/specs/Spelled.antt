@@ -3,9 +3,10 @@ use Rattle.std.specs.Prelude.{ℕ, ◌+◌, ◌*◌, ◌/◌, ◌^◌, ◌%◌, 
 use Rattle.std.specs.List.{range_with_len, find}
 use Rattle.zp_model.specs.BlockSet.{Starts}
 use Rattle.zp_model.specs.declared.constants.TheConstants.{MAX_PAGES}
-use Rattle.zp_tree.specs.declared.constants.TheConstants.{GROUP_ORDER, GROUP_PAGES, MOST_GROUPS}
+use Rattle.zp_tree.specs.declared.constants.TheConstants.{FAN, GROUP_ORDER, GROUP_PAGES, MOST_GROUPS}
 use Rattle.zp_tree.specs.Blocks.{IsBlockSet}
 use Rattle.zp_tree.specs.Marks.{mark, IsWords, IsInGroups}
+use Rattle.zp_tree.specs.Reads.{rows_of}
 
 -- whether a block of order k starts at page i
 abbrev pub begins : List ℕ → List ℕ → ℕ → ℕ → Bool
@@ -31,4 +32,5 @@ pub record IsTreeOf (m pages : ℕ) (ls hs rs : List ℕ) (s : List (Option ℕ)
   pub words : IsWords ls hs
   pub marked : (i k : ℕ) → IsInGroups hs i k → (mark ls hs i k ≡ 1) ↔ Starts s i k
   pub rows : length hs ≤ length rs
+  pub row : length rs ≡ FAN ^ rows_of pages
   pub ranked : (g : ℕ) → IsRankIn s g (slice_index rs g)

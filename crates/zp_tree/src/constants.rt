@@ -20,16 +20,14 @@ const _: () = prove!(LARGEST_ORDER <= GROUP_ORDER);
 /// How many nodes of the tree of ranks stand below one. They lie side by side, and count as one word.
 pub const FAN: usize = 8;
 
-/// The most rows of the tree of ranks below its root.
-pub const MOST_ROWS: u8 = 2;
-
 /// The most groups of a zone.
-pub const MOST_GROUPS: usize = 64;
+pub const MOST_GROUPS: usize = (MAX_PAGES / GROUP_PAGES) as usize;
 
 const _: () = prove!(MOST_GROUPS as u32 * GROUP_PAGES == MAX_PAGES);
 
-const _: () = prove!(FAN * FAN == MOST_GROUPS);
+/// The most pages over which two rows of ranks are enough.
+pub const TWO_ROWS_PAGES: u32 = (FAN * FAN) as u32 * GROUP_PAGES;
 
-/// The most words that are read to find the lowest block: one of each row of ranks, and of one group the high word and 31 low ones, or
-/// all 32 low ones.
-pub const MOST_READS: u64 = MOST_ROWS as u64 + PLACES as u64;
+/// The most words that are read to find the lowest block of so many pages: one of each of the two rows, and of one group the high word and
+/// 31 low ones, or all 32 low ones.
+pub const MOST_READS: u64 = 2 + PLACES as u64;

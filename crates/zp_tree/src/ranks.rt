@@ -1,9 +1,9 @@
 //! The ranks of groups, and a tree over them.
 ghost use Rattle.std.specs.Prelude.{◌≡◌, ◌≤◌, ◌<◌, ◌+◌, ◌^◌, ℕ, IfOk, length, slice_index, slice_set};
-ghost use Rattle.zp_tree.specs.declared.constants.TheConstants.{FAN, MOST_ROWS, MOST_GROUPS};
-ghost use Rattle.zp_tree.specs.RankRows.{best_from, IsFirstAmong, IsFirstOfEight, IsFirstRank, IsTopRank, IsOpen, IsRaised, IsMended};
+ghost use Rattle.zp_tree.specs.declared.constants.TheConstants.{FAN, MOST_GROUPS};
+ghost use Rattle.zp_tree.specs.RankRows.{best_from, IsFirstAmong, IsFirstOfEight, IsFirstRank, IsTopRank, IsLeastRow, IsOpen, IsRaised, IsMended};
 
-use crate::constants::{FAN, MOST_ROWS};
+use crate::constants::FAN;
 use crate::meter::Meter;
 use crate::metered::MeteredRanks;
 use crate::rank::Rank;
@@ -22,15 +22,15 @@ pub struct RankTree {
 }
 
 impl Model for RankTree {
-    ghost use Rattle.std.specs.Prelude.{ℕ, List, drop, ◌≡◌, ◌≤◌, ◌<◌, ◌^◌};
-    ghost use Rattle.zp_tree.specs.declared.constants.TheConstants.{FAN, MOST_ROWS};
+    ghost use Rattle.std.specs.Prelude.{ℕ, List, drop, ◌≡◌, ◌≤◌, ◌<◌, ◌*◌, ◌^◌};
+    ghost use Rattle.zp_tree.specs.declared.constants.TheConstants.{FAN, MOST_GROUPS};
     ghost use Rattle.zp_tree.specs.RankRows.{IsRanked};
 
     ghost Value = { List ℕ };
 
     ghost view = { λ t. drop t.first t.nodes };
 
-    ghost invariant = { λ t. (d : ℕ) × (0 < d) × (d ≤ MOST_ROWS) × (t.first ≡ FAN ^ d) × IsRanked d t.nodes };
+    ghost invariant = { λ t. (d : ℕ) × (0 < d) × (FAN ^ d ≤ FAN * MOST_GROUPS) × (t.first ≡ FAN ^ d) × IsRanked d t.nodes };
 }
 
 /// The largest of the ranks that stand side by side from a node on. They are one read.
@@ -108,17 +108,15 @@ fn raise(nodes: &mut MeteredRanks, place: usize, rank: Rank)
 }
 
 impl RankTree {
-    /// So many ranks of no block, or some more.
+    /// So many ranks of no block, or some more: the row is the shortest that has room for them.
     pub fn new(alloc: Global, groups: usize) -> Result<RankTree, AllocError>
         requires { groups ≤ MOST_GROUPS }
-        ensures room { IfOk result (λ t. groups ≤ length t) }
+        ensures row { IfOk result (λ t. IsLeastRow groups (length t)) }
         ensures none { IfOk result (λ t. (g : ℕ) → slice_index t g ≡ 0) }
     {
         let mut first = FAN;
-        'rows: for _row in 1..MOST_ROWS {
-            if first < groups {
-                first *= FAN;
-            }
+        'rows: while first < groups {
+            first *= FAN;
         }
         let nodes = MeteredRanks::new(alloc, 2 * first)?;
         Ok(RankTree { first, nodes })
@@ -164,12 +162,12 @@ impl RankTree {
         self.nodes.read(ROOT, &mut meter)
     }
 
-    /// The first group of this rank or more, and its rank. The meter rises by one for each word of ranks read.
+    /// The first group of this rank or more, and its rank. The meter rises by one for each word of ranks read, one of a row at most.
     pub fn first(&self, rank: Rank, meter: &mut Meter) -> Option<(usize, Rank)>
         requires rank { 0 < rank }
         requires count { meter.old < 2 ^ 32 }
         ensures first { IsFirstRank self.now rank result }
-        ensures counted { meter.new ≤ meter.old + MOST_ROWS }
+        ensures counted { (d : ℕ) → length self.now ≡ FAN ^ d → meter.new ≤ meter.old + d }
         ensures read { meter.old < meter.new }
     {
         let mut node = ROOT;

@@ -25,7 +25,6 @@ mend-requires c =
     sym (get_or-drop c.self.inside.first c.self.inside.nodes c.args.group 0) ∙ ap (λ rs. slice_index rs c.args.group) c.self.view_is in
     rw c.write.ensures (record {
       d = v.0;
-      few = v.2;
       row = row;
       but = rank_written v.0 x c.args.rank c.self.inside.nodes v.4 row;
       most = λ _. rank_lowered v.0 x c.args.rank c.self.inside.nodes v.4 row v.1 (omega (arith, held, c.requires.down));

@@ -1,17 +1,31 @@
-use Rattle.std.proofs.Common.{ℕ, ◌*◌, ◌^◌, ◌≡◌, ◌≤◌, ◌∙◌, inl, inr, ap, subst, sym, arith, replicate, rules, length, drop, slice_index, List}
+use Rattle.std.proofs.Common.{ℕ, ◌+◌, ◌*◌, ◌^◌, ◌≡◌, ◌∙◌, inl, inr, ap, subst, sym, arith, replicate, length, drop, slice_index, List}
+use Rattle.std.proofs.lemmas.Bool.{cases_eq, cases_lt}
 use Rattle.std.proofs.lemmas.List.{length-drop, length-replicate}
-use Rattle.zp_tree.specs.declared.constants.TheConstants.{FAN, MOST_ROWS, MOST_GROUPS}
+use Rattle.zp_tree.specs.declared.constants.TheConstants.{FAN}
 use Rattle.zp_tree.specs.RankRows.{IsRanked}
-use Rattle.zp_tree.proofs.RankWays.{row_le}
+use Rattle.zp_tree.proofs.RankNodes.{eight_of, row_pos}
 use Rattle.zp_tree.proofs.RankRow.{no_ranks, no_ranks_row}
-use Rattle.zp_tree.proofs.ranks.RankTree.new.Goals.{After-rows, In_ok-nodes}
+use Rattle.zp_tree.proofs.ranks.RankTree.new.Goals.{In_ok-nodes}
 use Rattle.zp_tree.proofs.ranks.RankTree.new.Goals as goal
 
-few : (c : After-rows) → (c.rows.invariant.0 ≤ MOST_ROWS) × (c.rows.first ≤ MOST_GROUPS)
-few c = let le : c.rows.invariant.0 ≤ MOST_ROWS = omega (arith, c.rows.invariant.2, c.rows.auto) in (le, omega (arith, c.rows.invariant.3, row_le c.rows.invariant.0 MOST_ROWS le))
+pub rows-init : goal.rows-init
+rows-init c = (1, omega arith, omega arith, omega arith, λ e pos lt. absurd (omega arith))
 
-pub overflow_mul-first-2 : goal.overflow_mul-first-2
-overflow_mul-first-2 c = let f = (few (goal.at.overflow_mul-first-2 c).After-rows).1 in search rules
+pub rows-preserved : goal.rows-preserved
+rows-preserved c =
+    let v = c.rows.invariant in (
+      v.0 + 1,
+      omega arith,
+      omega (arith, v.2, eight_of v.0),
+      omega (arith, c.requires),
+      λ e pos lt. elim (cases_eq e v.0) [
+        | inl same ↦ omega (arith, v.2, ap (λ d. FAN ^ d) same)
+        | inr ne ↦ v.4 e pos (omega arith)
+      ],
+    )
+
+pub rows-smaller : goal.rows-smaller
+rows-smaller c = omega (arith, c.rows.invariant.2, row_pos c.rows.invariant.0)
 
 items : (c : In_ok-nodes) → c.in_ok-nodes.nodes ≡ replicate (2 * c.rows.first) 0
 items c = c.in_ok-nodes.ensures
@@ -20,14 +34,19 @@ pub invariant_of-result : goal.invariant_of-result
 invariant_of-result c =
     let v = c.rows.invariant in
     let P : List ℕ → Type 0 = λ ns. IsRanked v.0 ns in
-    (v.0, v.1, (few (goal.at.invariant_of-result c).After-rows).0, v.3, subst P (sym (items (goal.at.invariant_of-result c).In_ok-nodes)) (no_ranks v.0 (2 * c.rows.first) (omega (arith, v.3))))
+    (v.0, v.1, omega (arith, v.2, v.3), v.2, subst P (sym (items (goal.at.invariant_of-result c).In_ok-nodes)) (no_ranks v.0 (2 * c.rows.first) (omega (arith, v.2))))
 
-pub returns-clause-room : goal.returns-clause-room
-returns-clause-room c =
+pub returns-clause-row : goal.returns-clause-row
+returns-clause-row c =
     let v = c.rows.invariant in
-    let n : length c.in_ok-nodes.nodes ≡ 2 * c.rows.first = ap length (items (goal.at.returns-clause-room c).In_ok-nodes) ∙ length-replicate (2 * c.rows.first) 0 in
-    let enough : c.args.groups ≤ c.rows.first = elim v.4 [ inl le ↦ le | inr last ↦ let two : v.0 ≡ 2 = omega (arith, last, c.rows.auto) in omega (arith, v.3, ap (λ d. FAN ^ d) two, c.requires) ] in
-    omega (arith, length-drop c.rows.first c.in_ok-nodes.nodes, n, enough)
+    let n : length c.in_ok-nodes.nodes ≡ 2 * c.rows.first = ap length (items (goal.at.returns-clause-row c).In_ok-nodes) ∙ length-replicate (2 * c.rows.first) 0 in
+    record {
+      d = v.0;
+      below = v.1;
+      row = omega (arith, length-drop c.rows.first c.in_ok-nodes.nodes, n, v.2);
+      room = omega (arith, v.2);
+      least = λ e pos room. elim (cases_lt e v.0) [ inl lt ↦ absurd (omega (arith, v.4 e pos lt, room)) | inr ge ↦ ge ];
+    }
 
 pub returns-clause-none : goal.returns-clause-none
 returns-clause-none c g =
