@@ -1,6 +1,7 @@
 //! What is noted of the pageblocks for a claim, so that none has to look at all of them. A change of a pageblock marks it alone; it is
 //! looked at when a claim asks, or when too many are marked.
-ghost use Rattle.std.specs.Prelude.{ℕ, ◌≡◌, ◌<◌, length, slice_set};
+ghost use Rattle.std.specs.Prelude.{ℕ, ◌≡◌, ◌<◌, ◌↔◌, length, slice_index, slice_set, IsTrue};
+ghost use Rattle.zp_model.specs.Choose.{claim_pages};
 ghost use Rattle.zp_claims.specs.Noted.{noted_at};
 ghost use Rattle.zp_area.specs.Claims.{claim_of, IsClaimed, IsClaimedBut, IsPageblock};
 
@@ -8,13 +9,22 @@ use crate::kept_blocks::KeptBlocks;
 use zp_claims::{Claim, ClaimTable, StaleSet};
 use zp_model::PageAt;
 
+/// Whether a pageblock has fewer free pages than a claim needs.
+#[inline(always)]
+fn has_few(blocks: &KeptBlocks, pageblock: usize) -> bool
+    requires { pageblock < length blocks.now.free_in.items }
+    ensures { IsTrue result ↔ (slice_index blocks.now.free_in.items pageblock < claim_pages blocks.now.largest) }
+{
+    blocks.free_in[pageblock] < blocks.largest.claim_pages()
+}
+
 /// What is to be noted of a pageblock: nothing, where it is isolated. Mostly its number of free pages or its largest block says so.
 #[inline(always)]
 fn claim_of(blocks: &KeptBlocks, pageblock: usize) -> Option<Claim>
     requires { IsPageblock blocks.now.largest blocks.now.tree blocks.now.kinds.items blocks.now.free_in.items pageblock }
     ensures { result ≡ claim_of blocks.now.largest blocks.now.tree blocks.now.kinds.items pageblock }
 {
-    if blocks.free_in[pageblock] < blocks.largest.claim_pages() {
+    if has_few(blocks, pageblock) {
         return None;
     }
     let first = PageAt::at(pageblock as u32 * blocks.largest.pageblock_pages());
@@ -43,7 +53,8 @@ fn note(claims: &mut ClaimTable, blocks: &KeptBlocks, pageblock: usize)
     claims.note(pageblock, claim);
 }
 
-/// Marks a pageblock that has changed. Where too many are marked then, another one is looked at.
+/// Marks a pageblock that has changed. Where too many are marked then, another one is looked at; but where nothing is noted of this one,
+/// and it has too few free pages for a claim, what is noted of it is right as it is, and none is.
 // (out of line: most changes are of a pageblock that is marked)
 #[cold]
 #[inline(never)]
@@ -53,6 +64,9 @@ fn mark(noted: &mut Noted, blocks: &KeptBlocks, pageblock: usize)
     requires others { IsClaimedBut pageblock blocks.now.largest blocks.now.tree blocks.now.kinds.items noted.old.claims noted.old.stale.marks }
     ensures { IsClaimed blocks.now.largest blocks.now.tree blocks.now.kinds.items noted.new.claims noted.new.stale.marks }
 {
+    if noted.stale.is_full() && has_few(blocks, pageblock) && !noted.claims.has(pageblock) {
+        return;
+    }
     if let Some(other) = noted.stale.mark(pageblock) {
         note(&mut noted.claims, blocks, other);
     }

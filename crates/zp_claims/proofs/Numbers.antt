@@ -1,6 +1,7 @@
 -- The codes of what is noted of pageblocks, and how many pageblocks have each.
-use Rattle.std.proofs.Common.{ℕ, zero, suc, ◌+◌, ◌-◌, ◌*◌, ◌/◌, ◌%◌, ◌≡◌, ◌≤◌, ◌<◌, ◌==◌, ◌↔◌, inl, inr, refl, sym, ◌∙◌, ap, arith, cond, List, [], ◌∷◌, length, map, get_or, set, replicate, Option, None, Some}
+use Rattle.std.proofs.Common.{ℕ, zero, suc, ◌+◌, ◌-◌, ◌*◌, ◌/◌, ◌%◌, ◌≡◌, ◌≤◌, ◌<◌, ◌==◌, ◌↔◌, not, inl, inr, refl, sym, ◌∙◌, ap, arith, cond, List, [], ◌∷◌, length, map, get_or, set, replicate, Option, None, Some}
 use Rattle.std.specs.List.{count_by, sum_by}
+use Rattle.std.specs.Option.{is_some}
 use Rattle.std.proofs.Math.ListN.{get_or-map}
 use Rattle.std.proofs.lemmas.Bool.{eqb-true, eq-eqb, cases_eq, cases_lt, false_from_ne_true}
 use Rattle.std.proofs.lemmas.List.{get_or_past, get_or-set_same, get_or-set_other, length-set, length-replicate, set-get_or, length-map}
@@ -49,6 +50,14 @@ code-of_claim (suc r) =
 -- what is noted of a pageblock is what its code says
 pub noted-code : (codes : List ℕ) (b : ℕ) → noted_at (map claim_of codes) b ≡ claim_of (get_or codes b 0)
 noted-code codes b = get_or-map claim_of codes b 0
+
+some-code : (d : ℕ) → is_some (claim_of d) ≡ not (d == 0)
+some-code zero = refl
+some-code (suc r) = ap not (sym (false_from_ne_true (suc r == 0) (λ e. omega (arith, eqb-true (suc r) 0 e))))
+
+-- where its code is not 0 something is noted of a pageblock, and only there
+pub some-noted : (codes : List ℕ) (b : ℕ) → is_some (noted_at (map claim_of codes) b) ≡ not (get_or codes b 0 == 0)
+some-noted codes b = ap is_some (noted-code codes b) ∙ some-code (get_or codes b 0)
 
 -- a pageblock of the table has a code
 pub code-within : (codes : List ℕ) (s : List (Option Claim)) (b : ℕ) → map claim_of codes ≡ s → b < length s → b < length codes

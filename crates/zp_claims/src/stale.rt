@@ -1,5 +1,5 @@
 //! The pageblocks that have changed since they were looked at.
-ghost use Rattle.std.specs.Prelude.{ℕ, ◌≡◌, ◌+◌, ◌<◌, ◌≤◌, false, true, length, replicate, slice_set, IfNone, IfOk, IfSome};
+ghost use Rattle.std.specs.Prelude.{ℕ, ◌≡◌, ◌+◌, ◌<◌, ◌≤◌, ◌↔◌, false, true, length, replicate, slice_set, IfNone, IfOk, IfSome, IsTrue};
 ghost use Rattle.zp_model.specs.declared.constants.TheConstants.{MAX_PAGES};
 ghost use Rattle.zp_claims.specs.Stale.{cleared, is_marked};
 
@@ -50,6 +50,13 @@ impl StaleSet {
         ensures { result ≡ is_marked self.now.marks pageblock }
     {
         self.marks[pageblock]
+    }
+
+    /// Whether as many wait as there is room for. One more then takes the place of another.
+    pub fn is_full(&self) -> bool
+        ensures { IsTrue result ↔ (self.now.waiting ≡ MOST_STALE) }
+    {
+        self.waiting.is_full()
     }
 
     /// Puts a pageblock that is not in the set into it. Where the set is full another one is taken out, and answered.

@@ -1,5 +1,5 @@
 //! What is noted of each pageblock.
-ghost use Rattle.std.specs.Prelude.{ℕ, ◌≡◌, ◌<◌, ◌≤◌, ◌↔◌, length, replicate, slice_set, None, Some, IfOk, IsTrue};
+ghost use Rattle.std.specs.Prelude.{ℕ, ◌≡◌, ◌<◌, ◌≤◌, ◌↔◌, length, replicate, slice_set, is_some, None, Some, IfOk, IsTrue};
 ghost use Rattle.zp_model.specs.declared.constants.TheConstants.{MAX_PAGES};
 ghost use Rattle.zp_claims.specs.Noted.{noted_at, IsBeside, IsLargestBeside};
 ghost use Rattle.zp_claims.specs.Codes.{claim_of};
@@ -42,6 +42,15 @@ impl ClaimTable {
         let mut numbers = [0; CODES];
         numbers[nothing as usize] = pageblocks as u32;
         Ok(ClaimTable { codes, numbers })
+    }
+
+    /// Whether anything is noted of a pageblock.
+    pub fn has(&self, pageblock: usize) -> bool
+        requires { pageblock < length self.now }
+        ensures { result ≡ is_some (noted_at self.now pageblock) }
+    {
+        let nothing = code_of(None);
+        self.codes[pageblock] != nothing
     }
 
     /// Notes this of a pageblock.
