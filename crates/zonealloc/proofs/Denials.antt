@@ -7,16 +7,15 @@ use Rattle.zp_model.specs.declared.request.Reply.{Reply}
 use Rattle.zp_model.specs.declared.refused.Refused.{Refused as Refusal}
 use Rattle.zp_model.specs.declared.refused.Refused.TheVariants as refusal
 use Rattle.zp_model.specs.Refused.{refused_number}
-use Rattle.zp_share.specs.Shares.{ShareState}
 use Rattle.zp_gate.specs.declared.denied.Denied.{Denied}
 use Rattle.zp_gate.specs.declared.denied.Denied.TheVariants.{NoZone, Busy, NoWorker, NoLists, NotEmpty, TooFew, Refused}
-use Rattle.zp_gate.specs.Workers.{WorkerState, IsAt, IsDenial, IsDeniedOf, desk_at, no_share}
+use Rattle.zp_gate.specs.Workers.{DeskState, WorkerState, IsAtDesk, IsDenial, IsDeniedOf, desk_at, no_desk}
 use Rattle.zonealloc.specs.Numbers.{denial_number}
 use Rattle.zonealloc.specs.Calls.{IsCall}
 
--- where the one share stayed, so did all
+-- where the one desk stayed, so did all
 all_stay : (i : ℕ) (v w : WorkerState) → desk_at w i ≡ desk_at v i → w ≡ slice_set v i (desk_at w i) → w ≡ v
-all_stay i v w same is = is ∙ ap (λ (s : ShareState). slice_set v i s) same ∙ set-get_or v i no_share
+all_stay i v w same is = is ∙ ap (λ (d : DeskState). slice_set v i d) same ∙ set-get_or v i no_desk
 
 -- each refusal has a number of its own below 40, and none is 0
 refusal_small : (e : Refusal) → (1 ≤ refused_number e) × (refused_number e < 40)
@@ -42,7 +41,7 @@ module _ (asks : Option WorkerState → Request → Type 0) (told : Reply → Ty
   unasked code v w big k e =
       record { done = λ z. absurd (omega (arith, big, z)); refused = λ low small. absurd (omega (arith, big, small)); unasked = λ b. (k, ap Some e) }
 
-  at_denied : (d : Denied) (v w : WorkerState) → asks (Some v) r → kept → IsAt i (IsDenial r d) v w → IsCall asks told kept i (denial_number d) (Some v) (Some w)
+  at_denied : (d : Denied) (v w : WorkerState) → asks (Some v) r → kept → IsAtDesk i (IsDenial r d) v w → IsCall asks told kept i (denial_number d) (Some v) (Some w)
   at_denied NoZone v w a k x = unasked 40 v w (omega arith) k (all_stay i v w x.1.1 x.2)
   at_denied Busy v w a k x = unasked 42 v w (omega arith) k (all_stay i v w x.1.1 x.2)
   at_denied NoWorker v w a k x = unasked 40 v w (omega arith) k (all_stay i v w x.1.1 x.2)

@@ -11,7 +11,7 @@ use Rattle.zp_model.specs.Refused.{refused_number}
 use Rattle.zp_share.specs.PlainShares.{back}
 use Rattle.zp_share.specs.Shares.{share_at}
 use Rattle.zp_share.specs.ZoneShares.{cached_of, is_lent}
-use Rattle.zp_gate.specs.Workers.{WorkerState, AreDrained, AreSomeDrained, HasPages, HasTooFew, IsAskedOf, IsAt, IsPut, IsTaken, desk_at}
+use Rattle.zp_gate.specs.Workers.{WorkerState, AreDrained, AreSomeDrained, HasPages, HasTooFew, IsAskedOf, IsAt, IsPut, IsTaken, desk_at, desk_share}
 use Rattle.zonealloc.specs.Numbers.{mark_number}
 
 -- there is a worker in the handle, and this is so of it
@@ -24,6 +24,10 @@ HasNoZone i v = length v ≤ i
 
 abbrev pub HasZone : ℕ → WorkerState → Type 0
 HasZone i v = i < length v
+
+-- there is no such zone; or it has no worker of this number
+abbrev pub HasNoWorker : ℕ → ℕ → WorkerState → Type 0
+HasNoWorker i n v = HasNoZone i v ⊎ (HasZone i v × ((desk_at v i).key.workers ≤ n))
 
 -- When a call is denied for what is seen without a zone. 40: a number of it names nothing, whatever the handle, or is out of the worker's range;
 -- beside these, 40 comes only where what is `hidden` is so. 41: the numbers name something, and nothing is in the handle. What is answered beside 0,
@@ -65,11 +69,11 @@ AsksRelease n t b r = (kind : MigrateType) × (type_number kind ≡ t) × (r ≡
 
 abbrev pub AsksRefill : ℕ → ℕ → ℕ → Option WorkerState → Request → Type 0
 AsksRefill i t m b r =
-    (v : WorkerState) × (kind : MigrateType) × (mark : Mark) × (b ≡ Some v) × (type_number kind ≡ t) × (mark_number mark ≡ m) × (r ≡ Request.Refill kind mark (desk_at v i).batch)
+    (v : WorkerState) × (kind : MigrateType) × (mark : Mark) × (b ≡ Some v) × (type_number kind ≡ t) × (mark_number mark ≡ m) × (r ≡ Request.Refill kind mark (desk_share v i).batch)
 
 abbrev pub AsksDrain : ℕ → ℕ → ℕ → Option WorkerState → Request → Type 0
 AsksDrain i t n b r =
-    (v : WorkerState) × (kind : MigrateType) × (b ≡ Some v) × (type_number kind ≡ t) × (r ≡ Request.Drain kind (back n (cached_of (share_at (desk_at v i) 0) kind)))
+    (v : WorkerState) × (kind : MigrateType) × (b ≡ Some v) × (type_number kind ≡ t) × (r ≡ Request.Drain kind (back n (cached_of (share_at (desk_share v i) 0) kind)))
 
 -- a refill tells no pages
 abbrev pub IsPages : Reply → Type 0
@@ -81,18 +85,18 @@ IsBlockAt p k q = (x : Block) × (q ≡ Reply.Block x) × (x.page ≡ p) × (x.o
 
 -- a refill is also answered 46, exactly where the worker has no lists, and 45, exactly where it has and the list that is to be filled has pages
 pub record IsRefillDenied (i t : ℕ) (named : Type 0) (code : ℕ) (b : Option WorkerState) : Type 0 where
-  pub lists : (code ≡ 46) ↔ (named × IsOf (λ v. HasZone i v × ((desk_at v i).batch ≡ 0)) b)
-  pub empty : (code ≡ 45) ↔ (named × IsOf (λ v. HasZone i v × ((k : MigrateType) × (type_number k ≡ t) × HasPages k (desk_at v i))) b)
+  pub lists : (code ≡ 46) ↔ (named × IsOf (λ v. HasZone i v × ((desk_share v i).batch ≡ 0)) b)
+  pub empty : (code ≡ 45) ↔ (named × IsOf (λ v. HasZone i v × ((k : MigrateType) × (type_number k ≡ t) × HasPages k (desk_share v i))) b)
 
 -- there is no such zone; or in that zone the list of the type of this number has not so many pages, or none are asked for
 abbrev pub HasNotSoMany : ℕ → ℕ → ℕ → WorkerState → Type 0
-HasNotSoMany i t n v = HasNoZone i v ⊎ (HasZone i v × ((k : MigrateType) × (type_number k ≡ t) × HasTooFew k n (desk_at v i)))
+HasNotSoMany i t n v = HasNoZone i v ⊎ (HasZone i v × ((k : MigrateType) × (type_number k ≡ t) × HasTooFew k n (desk_share v i)))
 
 -- answered 0, the page in front of the list of this type was taken; else nothing changed, and 44 is answered exactly where the list is empty
 pub record IsTakeCall (i t code before after : ℕ) (b a : Option WorkerState) : Type 0 where
   pub done : code ≡ 0 → (v : WorkerState) × (w : WorkerState) × (k : MigrateType) × (b ≡ Some v) × (a ≡ Some w) × (type_number k ≡ t) × IsAt i (IsTaken k after) v w
   pub unchanged : 1 ≤ code → (after ≡ before) × (a ≡ b)
-  pub empty : (code ≡ 44) ↔ IsOf (λ v. HasZone i v × ((k : MigrateType) × (type_number k ≡ t) × (cached_of (share_at (desk_at v i) 0) k ≡ []))) b
+  pub empty : (code ≡ 44) ↔ IsOf (λ v. HasZone i v × ((k : MigrateType) × (type_number k ≡ t) × (cached_of (share_at (desk_share v i) 0) k ≡ []))) b
 
 -- the number of what a put answers
 abbrev pub put_number : Result (Unit {0}) Refused → ℕ
@@ -111,10 +115,10 @@ pub record IsAsking (tells : WorkerState → ℕ → Type 0) (code before after 
   pub kept : 1 ≤ code → after ≡ before
 
 abbrev pub TellsLent : ℕ → ℕ → ℕ → WorkerState → ℕ → Type 0
-TellsLent i p k v n = (i < length v) × (n ≡ cond (is_lent (share_at (desk_at v i) 0) p k) 1 0)
+TellsLent i p k v n = (i < length v) × (n ≡ cond (is_lent (share_at (desk_share v i) 0) p k) 1 0)
 
 abbrev pub TellsCached : ℕ → ℕ → WorkerState → ℕ → Type 0
-TellsCached i t v n = (i < length v) × ((k : MigrateType) × (type_number k ≡ t) × (n ≡ length (cached_of (share_at (desk_at v i) 0) k)))
+TellsCached i t v n = (i < length v) × ((k : MigrateType) × (type_number k ≡ t) × (n ≡ length (cached_of (share_at (desk_share v i) 0) k)))
 
 -- answered 0, all lists were drained; else some may have been, from the first on
 pub record IsDrainAllCall (i code : ℕ) (b a : Option WorkerState) : Type 0 where

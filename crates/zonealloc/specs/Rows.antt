@@ -12,18 +12,21 @@ use Rattle.zonealloc.specs.Zones.{AreApart, spec_key}
 abbrev pub IsEmpty : WorkerHandle → Type 0
 IsEmpty h = h.slot.value ≡ None
 
--- worker w of a new row of n zones is in the handle, with lists of these sizes
-abbrev pub HasNewWorker : ℕ → ℕ → ℕ → ℕ → WorkerHandle → Type 0
-HasNewWorker w batch high n h = (v : WorkerState) × (h.slot.value ≡ Some v) × IsNewWorker w batch high n v
+-- worker w of a new row is in the handle, with lists of these sizes
+abbrev pub HasNewWorker : ℕ → ℕ → ℕ → RowState → WorkerHandle → Type 0
+HasNewWorker w batch high x h = (v : WorkerState) × (h.slot.value ≡ Some v) × IsNewWorker w batch high x v
+
+-- of the row x, of as many workers as there were handles, each handle has the worker whose number is its place
+abbrev pub HaveWorkers : ℕ → ℕ → RowState → List WorkerHandle → List WorkerHandle → Type 0
+HaveWorkers batch high x ws vs = (length vs ≡ length ws) × ((w : ℕ) (none : WorkerHandle) → w < length vs → HasNewWorker w batch high x (slice_index_or vs w none))
 
 -- answered 0, all that were empty are full: the row with a zone as each of those described, which share no page, the handles of the workers in the order of
 -- their numbers;
 -- else nothing changed
 pub record IsMakeCall (zones : List ZoneSpec) (batch high code : ℕ) (r s : RowHandle) (ws vs : List WorkerHandle) : Type 0 where
   pub was_empty : code ≡ 0 → (r.slot.value ≡ None) × All IsEmpty ws
-  pub row : code ≡ 0 → (x : RowState) × (s.slot.value ≡ Some x) × (map untied x ≡ map (spec_key (length ws)) zones)
+  pub made : code ≡ 0 → (x : RowState) × (s.slot.value ≡ Some x) × (map untied x ≡ map (spec_key (length ws)) zones) × HaveWorkers batch high x ws vs
   pub apart : code ≡ 0 → AreApart zones
-  pub workers : code ≡ 0 → (length vs ≡ length ws) × ((w : ℕ) (none : WorkerHandle) → w < length vs → HasNewWorker w batch high (length zones) (slice_index_or vs w none))
   pub unchanged : 1 ≤ code → (s ≡ r) × (vs ≡ ws)
 
 -- answered 0, there was a worker and is none; answered 42, it has left some of its last zones; else nothing changed

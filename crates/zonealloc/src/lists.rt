@@ -3,7 +3,7 @@ ghost use Rattle.std.specs.Prelude.{◌≡◌, ◌<◌, ◌≤◌, ◌⊎◌, []
 ghost use Rattle.zp_model.specs.declared.request.Reply.TheVariants as reply;
 ghost use Rattle.zp_share.specs.Shares.{share_at};
 ghost use Rattle.zp_share.specs.ZoneShares.{cached_of};
-ghost use Rattle.zp_gate.specs.Workers.{IsAt, IsTaken, desk_at};
+ghost use Rattle.zp_gate.specs.Workers.{IsAt, IsTaken, desk_share};
 ghost use Rattle.zonealloc.specs.Calls.{AsksDrain, AsksRefill, HasNotSoMany, HasNoZone, IsAsking, IsCall, IsDenied, IsDrainAllCall, IsNever, IsPages, IsPutCall, IsRefillDenied, IsRefusedOrBusy, IsTakeCall, TellsCached, TellsLent};
 ghost use Rattle.zonealloc.specs.Numbers.{IsNoMark, IsNoOrder, IsNoType};
 
@@ -49,7 +49,7 @@ pub extern "C" fn zonealloc_take(
 fn taken(worker: &mut Worker, zone: usize, kind: MigrateType) -> Result<PageNo, u32>
     ensures ok { IfOk result (λ page. IsAt zone (IsTaken kind page) worker.old worker.new) }
     ensures same { IfErr result (λ n. worker.new ≡ worker.old) }
-    ensures why { IfErr result (λ n. ((n ≡ 40) × (length worker.old ≤ zone)) ⊎ ((n ≡ 44) × (zone < length worker.old) × (cached_of (share_at (desk_at worker.old zone) 0) kind ≡ []))) }
+    ensures why { IfErr result (λ n. ((n ≡ 40) × (length worker.old ≤ zone)) ⊎ ((n ≡ 44) × (zone < length worker.old) × (cached_of (share_at (desk_share worker.old zone) 0) kind ≡ []))) }
 {
     if zone >= worker.zones() {
         return Err(BAD_ARGUMENT);

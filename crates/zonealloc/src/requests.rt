@@ -2,7 +2,7 @@
 ghost use Rattle.std.specs.Prelude.{◌≡◌, ◌⊎◌};
 ghost use Rattle.zp_model.specs.declared.request.Request.TheVariants as request;
 ghost use Rattle.zp_model.specs.declared.request.Reply.TheVariants as reply;
-ghost use Rattle.zonealloc.specs.Calls.{Asks, AsksAlloc, AsksRelease, HasNoZone, HasZone, IsBlockAt, IsCall, IsDenied, IsNever, IsRefusedOrBusy};
+ghost use Rattle.zonealloc.specs.Calls.{Asks, AsksAlloc, AsksRelease, HasNoWorker, HasNoZone, IsBlockAt, IsCall, IsDenied, IsNever, IsRefusedOrBusy};
 ghost use Rattle.zonealloc.specs.Numbers.{IsNoMark, IsNoOrder, IsNoType, IsNoWorker};
 
 use crate::answers::{
@@ -116,7 +116,7 @@ pub extern "C" fn zonealloc_post(
     to: u32,
 ) -> u32
     ensures call { IsCall (Asks (request.Post page order to)) (λ q. q ≡ reply.Posted) (Unit {0}) zone result worker.old.slot.value worker.new.slot.value }
-    ensures denied { IsDenied (IsNoOrder order ⊎ IsNoWorker to) (HasNoZone zone) (HasZone zone) IsRefusedOrBusy result worker.old.slot.value }
+    ensures denied { IsDenied (IsNoOrder order ⊎ IsNoWorker to) (HasNoWorker zone to) IsNever IsRefusedOrBusy result worker.old.slot.value }
 {
     let Some(order) = order_of(order) else {
         return BAD_ARGUMENT;

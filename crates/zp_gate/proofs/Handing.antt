@@ -1,7 +1,7 @@
 -- A list whose last value is handed out into the next place of another.
-use Rattle.std.proofs.Common.{ℕ, ◌≡◌, ◌<◌, ◌+◌, ◌++◌, ◌∷◌, ◌∙◌, List, [], All, length, slice_set, slice_index_or, ap, refl, sym, subst, inl, inr, arith}
+use Rattle.std.proofs.Common.{ℕ, ◌≡◌, ◌<◌, ◌+◌, ◌++◌, ◌∷◌, ◌∙◌, List, [], All, length, map, slice_set, slice_index_or, take, ap, refl, sym, subst, inl, inr, arith}
 use Rattle.std.proofs.lemmas.Bool.{cases_lt}
-use Rattle.std.proofs.lemmas.List.{length-append, get_or_push, get_or-set_same, get_or-set_other}
+use Rattle.std.proofs.lemmas.List.{length-append, map_more, map_push, get_or_push, get_or-set_same, get_or-set_other}
 
 -- a list is longer by its last value
 pub one_more : {A : Type 0} (all rest : List A) (last : A) → all ≡ rest ++ last ∷ [] → length all ≡ length rest + 1
@@ -21,3 +21,9 @@ next_so P xs i x long below here k d lt = elim (cases_lt k i) [
   | inr not ↦ let same : k ≡ i = omega (arith, not, lt) in
       subst (λ j. P (slice_index_or (slice_set xs i x) j d)) (sym same) (subst P (sym (get_or-set_same xs i x d long)) here)
 ]
+
+-- what is the same of two lists so far is so with one value more of each
+pub same_next : {A B K : Type 0} (f : A → K) (g : B → K) (xs now : List A) (a : A) (bs : List B) (i : ℕ) (d : B) → i < length bs → now ≡ xs ++ a ∷ [] → map f xs ≡ map g (take i bs) → f a ≡ g (slice_index_or bs i d) →
+    map f now ≡ map g (take (i + 1) bs)
+same_next f g xs now a bs i d lt is same here =
+    ap (map f) is ∙ map_push f xs a ∙ ap (λ ks. ks ++ f a ∷ []) same ∙ ap (λ k. map g (take i bs) ++ k ∷ []) here ∙ sym (map_more g bs i d lt)

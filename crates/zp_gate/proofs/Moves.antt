@@ -165,6 +165,8 @@ same_behind key was now zones left behind =
     }
 
 -- the zone that is looked at there is the one that was known
-pub seen_zone : (s : ShareState) (was now : Room) (z : ZoneState) → length was.zones.items ≡ 1 → now.zones.items ≡ was.zones.items → z ≡ slice_index_or now.zones.items 0 z → IsZoneOf s (zone_in was) → IsZoneOf s z
-seen_zone s was now z one zones is known =
-    subst (IsZoneOf s) (sym (is ∙ ap (λ (zs : List ZoneState). slice_index_or zs 0 z) zones ∙ any_first was.zones.items z one)) known
+pub seen_zone : (key : ZoneKey) (s : ShareState) (was now : Room) (z : ZoneState) → IsBehind key was → now.zones.items ≡ was.zones.items → z ≡ slice_index_or now.zones.items 0 z →
+    IsZoneOf (record { key = key_of (zone_in was); share = s }) (zone_in was) → IsZoneOf (record { key = key; share = s }) z
+seen_zone key s was now z behind zones is known =
+    subst (IsZoneOf (record { key = key; share = s })) (sym (is ∙ ap (λ (zs : List ZoneState). slice_index_or zs 0 z) zones ∙ any_first was.zones.items z behind.one))
+    (subst (λ (k : ZoneKey). IsZoneOf (record { key = k; share = s }) (zone_in was)) behind.known known)

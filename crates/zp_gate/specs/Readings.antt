@@ -9,20 +9,23 @@ use Rattle.zp_zone.specs.NamedZone.{IsPageOf, IsPageblockOf, IsToldOf}
 use Rattle.zp_zone.specs.Seats.{ZoneState}
 use Rattle.zp_zone.specs.declared.page.ZonePage.{ZonePage}
 use Rattle.zp_zone.specs.declared.pageblock.Pageblock.{Pageblock}
-use Rattle.zp_share.specs.Shares.{ShareState, share_at}
+use Rattle.zp_share.specs.Shares.{key_of, share_at}
 use Rattle.zp_share.specs.ZoneShares.{SharesIn}
 use Rattle.zp_gate.specs.declared.told.Told.{Told}
+use Rattle.zp_gate.specs.Workers.{DeskState}
 
--- the zone of a worker's share: it is of the share's tie and has its first page, what is out in the worker's name is what the share has, page by
--- page of the zone, and it is what its requests, the worker's sections among them, made of it, so a lawful zone
-pub record IsZoneOf (s : ShareState) (z : ZoneState) : Type 0 where
-  pub agrees : SharesIn z (share_at s 0)
-  pub base : z.plain.base ≡ (share_at s 0).seat.part.base
+-- the zone of a worker's desk: it has the desk's key, so its name and all else that never changes, and the first page of the share; what is out in
+-- the worker's name is what the share has, page by page of the zone; and it is what its requests, the worker's sections among them, made of it, so
+-- a lawful zone
+pub record IsZoneOf (d : DeskState) (z : ZoneState) : Type 0 where
+  pub key : key_of z ≡ d.key
+  pub agrees : SharesIn z (share_at d.share 0)
+  pub base : z.plain.base ≡ (share_at d.share 0).seat.part.base
   pub history : IsHistory z.plain z.entries
 
--- it is so of the zone of this share, as it is then
-abbrev pub IsThen : ShareState → (ZoneState → Type 0) → Type 0
-IsThen s P = (z : ZoneState) × IsZoneOf s z × P z
+-- it is so of the zone of this desk, as it is then
+abbrev pub IsThen : DeskState → (ZoneState → Type 0) → Type 0
+IsThen d P = (z : ZoneState) × IsZoneOf d z × P z
 
 -- its free blocks and pages, its level, and its posted pages
 abbrev pub TellsZone : Told → ZoneState → Type 0

@@ -14,8 +14,9 @@ ghost use Rattle.zp_share.specs.Shares.{share_at};
 ghost use Rattle.zp_share.specs.ZoneShares.{cached_of, is_lent};
 ghost use Rattle.zp_gate.specs.Gates.{IsOneShare, IsSeatBy};
 ghost use Rattle.zp_gate.specs.Readings.{IsThen, TellsLine, TellsPage, TellsPageblock, TellsZone};
-ghost use Rattle.zp_gate.specs.declared.denied.Denied.TheVariants.{NoLists, NotEmpty, TooFew};
-ghost use Rattle.zp_gate.specs.Workers.{HasPages, HasTooFew, IsAnswer, IsDenial, IsDrained, IsFilled, IsNewShare, IsPut, IsTaken};
+ghost use Rattle.zp_gate.specs.declared.denied.Denied.TheVariants.{NoLists, NotEmpty, NoWorker, TooFew};
+ghost use Rattle.zp_gate.specs.Rows.{gate_key};
+ghost use Rattle.zp_gate.specs.Workers.{HasPages, HasTooFew, HasTurned, IsAnswer, IsDenial, IsDrained, IsFilled, IsNewShare, IsPut, IsTaken};
 
 use crate::denied::Denied;
 use crate::gate::Gate;
@@ -28,7 +29,7 @@ use zp_share::{ListConfig, Share};
 use zp_text::{INFO_LINE, TextBuffer};
 use zp_zone::{Pageblock, Seat, ZonePage};
 
-/// One worker's place at one zone: the gate of the zone, and the worker's share of it. Contracts see the share.
+/// One worker's place at one zone: the gate of the zone, and the worker's share of it. Contracts see the zone's key and the share.
 #[derive(Drop)]
 pub struct Desk {
     gate: Arc<Gate, Global>,
@@ -37,14 +38,15 @@ pub struct Desk {
 
 impl Model for Desk {
     ghost use Rattle.std.specs.Arc.{arc_value};
-    ghost use Rattle.zp_share.specs.Shares.{ShareState};
     ghost use Rattle.zp_gate.specs.Gates.{IsOneShare};
+    ghost use Rattle.zp_gate.specs.Rows.{gate_key};
+    ghost use Rattle.zp_gate.specs.Workers.{DeskState};
 
-    ghost Value = { ShareState };
+    ghost Value = { DeskState };
 
-    ghost view = { λ d. d.share };
+    ghost view = { λ d. record { key = gate_key (arc_value d.gate); share = d.share } };
 
-    ghost invariant = { λ d. IsOneShare (arc_value d.gate).table.shared.key d.share };
+    ghost invariant = { λ d. IsOneShare (gate_key (arc_value d.gate)) d.share };
 }
 
 /// A block for a share of the zone. Nothing where somebody is with the zone.
@@ -239,8 +241,9 @@ impl Desk {
         lists: ListConfig,
     ) -> Result<Desk, Refused>
         requires unused { IsUnused seat }
-        requires of { IsSeatBy (arc_value gate.now).table.shared.key seat }
-        ensures new { IfOk result (IsNewShare seat.worker lists.batch lists.high_len) }
+        requires of { IsSeatBy (gate_key (arc_value gate.now)) seat }
+        ensures new { IfOk result (λ d. IsNewShare seat.worker lists.batch lists.high_len d.share) }
+        ensures key { IfOk result (λ d. d.key ≡ gate_key (arc_value gate.now)) }
         ensures why { IfErr result (λ e. e ≡ Memory) }
     {
         let Ok(seats) = Vec::from_array(alloc, [seat]) else {
@@ -260,7 +263,7 @@ impl Desk {
         kind: MigrateType,
         mark: Mark,
     ) -> Result<PageNo, Denied>
-        ensures ok { IfOk result (λ page. IsAnswer (request.Alloc order kind mark) (reply.Page page) self.old self.new) }
+        ensures ok { IfOk result (λ page. HasTurned (IsAnswer (request.Alloc order kind mark) (reply.Page page)) self.old self.new) }
         ensures denied { IfErr result (λ d. IsDenial (request.Alloc order kind mark) d self.old self.new) }
     {
         told!(ask_alloc(&self.gate, &mut self.share, order, kind, mark))
@@ -268,7 +271,7 @@ impl Desk {
 
     /// The lowest block of this order, which is then lent. Refused 11 or 30.
     pub(crate) fn alloc_low(&mut self, order: Order) -> Result<Block, Denied>
-        ensures ok { IfOk result (λ block. IsAnswer (request.AllocLow order) (reply.Block block) self.old self.new) }
+        ensures ok { IfOk result (λ block. HasTurned (IsAnswer (request.AllocLow order) (reply.Block block)) self.old self.new) }
         ensures denied { IfErr result (λ d. IsDenial (request.AllocLow order) d self.old self.new) }
     {
         told!(ask_alloc_low(&self.gate, &mut self.share, order))
@@ -276,7 +279,7 @@ impl Desk {
 
     /// Gives back a lent block. Refused 20 or 30.
     pub(crate) fn free(&mut self, page: PageNo, order: Order) -> Result<(), Denied>
-        ensures ok { OnOk result (IsAnswer (request.Free page order) reply.Freed self.old self.new) }
+        ensures ok { OnOk result (HasTurned (IsAnswer (request.Free page order) reply.Freed) self.old self.new) }
         ensures denied { IfErr result (λ d. IsDenial (request.Free page order) d self.old self.new) }
     {
         told!(ask_free(&self.gate, &mut self.share, page, order))
@@ -284,7 +287,8 @@ impl Desk {
 
     /// Posts a lent block to a worker. Refused 20 or 30.
     pub(crate) fn post(&mut self, page: PageNo, order: Order, to: Worker) -> Result<(), Denied>
-        ensures ok { OnOk result (IsAnswer (request.Post page order to) reply.Posted self.old self.new) }
+        ensures ok { OnOk result (HasTurned (IsAnswer (request.Post page order to) reply.Posted) self.old self.new) }
+        ensures worker { (result ≡ Err NoWorker) ↔ (self.old.key.workers ≤ to) }
         ensures denied { IfErr result (λ d. IsDenial (request.Post page order to) d self.old self.new) }
     {
         if u32::from(to.number()) >= self.gate.workers {
@@ -295,7 +299,7 @@ impl Desk {
 
     /// The block in front of those posted to the worker, which is then lent. Refused 12 or 30.
     pub(crate) fn collect(&mut self) -> Result<Block, Denied>
-        ensures ok { IfOk result (λ block. IsAnswer request.Collect (reply.Block block) self.old self.new) }
+        ensures ok { IfOk result (λ block. HasTurned (IsAnswer request.Collect (reply.Block block)) self.old self.new) }
         ensures denied { IfErr result (λ d. IsDenial request.Collect d self.old self.new) }
     {
         told!(ask_collect(&self.gate, &mut self.share))
@@ -303,7 +307,7 @@ impl Desk {
 
     /// Isolates the pageblock of this number. Refused 13, 14 or 30.
     pub(crate) fn isolate(&mut self, pageblock: u32) -> Result<(), Denied>
-        ensures ok { OnOk result (IsAnswer (request.Isolate pageblock) reply.Isolated self.old self.new) }
+        ensures ok { OnOk result (HasTurned (IsAnswer (request.Isolate pageblock) reply.Isolated) self.old self.new) }
         ensures denied { IfErr result (λ d. IsDenial (request.Isolate pageblock) d self.old self.new) }
     {
         told!(ask_isolate(&self.gate, &mut self.share, pageblock))
@@ -311,7 +315,7 @@ impl Desk {
 
     /// Gives an isolated pageblock a type. Refused 13, 15 or 30.
     pub(crate) fn release(&mut self, pageblock: u32, kind: MigrateType) -> Result<(), Denied>
-        ensures ok { OnOk result (IsAnswer (request.Release pageblock kind) reply.Released self.old self.new) }
+        ensures ok { OnOk result (HasTurned (IsAnswer (request.Release pageblock kind) reply.Released) self.old self.new) }
         ensures denied { IfErr result (λ d. IsDenial (request.Release pageblock kind) d self.old self.new) }
     {
         told!(ask_release(&self.gate, &mut self.share, pageblock, kind))
@@ -319,10 +323,10 @@ impl Desk {
 
     /// Fills the worker's empty list of this type with up to a batch of pages. Refused 10, 11 or 30.
     pub(crate) fn refill(&mut self, kind: MigrateType, mark: Mark) -> Result<(), Denied>
-        ensures ok { OnOk result (IsFilled kind mark self.old self.new) }
-        ensures lists { self.old.batch ≡ 0 → result ≡ Err NoLists }
-        ensures empty { HasPages kind self.old → result ≡ Err NotEmpty }
-        ensures denied { IfErr result (λ d. IsDenial (request.Refill kind mark self.old.batch) d self.old self.new) }
+        ensures ok { OnOk result (HasTurned (IsFilled kind mark) self.old self.new) }
+        ensures lists { self.old.share.batch ≡ 0 → result ≡ Err NoLists }
+        ensures empty { HasPages kind self.old.share → result ≡ Err NotEmpty }
+        ensures denied { IfErr result (λ d. IsDenial (request.Refill kind mark self.old.share.batch) d self.old self.new) }
     {
         if self.share.lists().batch() == 0 {
             return Err(Denied::NoLists);
@@ -335,9 +339,9 @@ impl Desk {
 
     /// Gives back so many pages from the back of the worker's list of this type. Refused 30.
     pub(crate) fn drain(&mut self, kind: MigrateType, count: usize) -> Result<(), Denied>
-        ensures ok { OnOk result (IsDrained kind count self.old self.new) }
-        ensures few { (result ≡ Err TooFew) ↔ HasTooFew kind count self.old }
-        ensures denied { IfErr result (λ d. IsDenial (request.Drain kind (back count (cached_of (share_at self.old 0) kind))) d self.old self.new) }
+        ensures ok { OnOk result (HasTurned (IsDrained kind count) self.old self.new) }
+        ensures few { (result ≡ Err TooFew) ↔ HasTooFew kind count self.old.share }
+        ensures denied { IfErr result (λ d. IsDenial (request.Drain kind (back count (cached_of (share_at self.old.share 0) kind))) d self.old self.new) }
     {
         if count == 0 || self.share.cached_len(0, kind) < count {
             return Err(Denied::TooFew);
@@ -347,7 +351,7 @@ impl Desk {
 
     /// How many pages the worker's list of this type has.
     pub(crate) fn cached_len(&self, kind: MigrateType) -> usize
-        ensures same { result ≡ length (cached_of (share_at self.now 0) kind) }
+        ensures same { result ≡ length (cached_of (share_at self.now.share 0) kind) }
         ensures within { result ≤ LONGEST_LIST }
     {
         self.share.cached_len(0, kind)
@@ -355,7 +359,7 @@ impl Desk {
 
     /// Whether the block at this page, of this order, is lent to the worker.
     pub(crate) fn is_lent(&self, page: PageNo, order: Order) -> bool
-        ensures { result ≡ is_lent (share_at self.now 0) page order }
+        ensures { result ≡ is_lent (share_at self.now.share 0) page order }
     {
         self.share.is_lent(0, page, order)
     }
@@ -363,8 +367,8 @@ impl Desk {
     /// Takes the page in front of the worker's list of this type, and lends it.
     #[inline(always)]
     pub(crate) fn take(&mut self, kind: MigrateType) -> Option<PageNo>
-        ensures some { IfSome result (λ page. IsTaken kind page self.old self.new) }
-        ensures none { IfNone result ((self.new ≡ self.old) × (cached_of (share_at self.old 0) kind ≡ [])) }
+        ensures some { IfSome result (λ page. HasTurned (IsTaken kind page) self.old self.new) }
+        ensures none { IfNone result ((self.new ≡ self.old) × (cached_of (share_at self.old.share 0) kind ≡ [])) }
     {
         self.share.take_cached(0, kind)
     }
@@ -372,7 +376,7 @@ impl Desk {
     /// Puts a lent page at the front of the worker's list of its type. Refused 20, and 21 where the list is full.
     #[inline(always)]
     pub(crate) fn put(&mut self, page: PageNo) -> Result<(), Refused>
-        ensures { IsPut page result self.old self.new }
+        ensures { HasTurned (IsPut page result) self.old self.new }
     {
         self.share.put_cached(0, page)
     }

@@ -139,7 +139,7 @@ impl Gate {
     pub(crate) fn tell(&self, share: &mut Share) -> Option<Told>
         requires share { IsOneShare self.now.table.shared.key share.old }
         ensures same { share.new ≡ share.old }
-        ensures told { IfSome result (λ t. IsThen share.old (TellsZone t)) }
+        ensures told { IfSome result (λ t. IsThen (record { key = self.now.table.shared.key; share = share.old }) (TellsZone t)) }
     {
         let mut pass = self.enter()?;
         let room = pass.slot_mut(&self.table.shared, 0);
@@ -158,7 +158,7 @@ impl Gate {
     pub(crate) fn info(&self, share: &mut Share) -> Option<TextBuffer<INFO_LINE>>
         requires share { IsOneShare self.now.table.shared.key share.old }
         ensures same { share.new ≡ share.old }
-        ensures told { IfSome result (λ line. IsThen share.old (TellsLine line)) }
+        ensures told { IfSome result (λ line. IsThen (record { key = self.now.table.shared.key; share = share.old }) (TellsLine line)) }
     {
         let mut line = TextBuffer::new();
         let mut pass = self.enter()?;
@@ -174,7 +174,7 @@ impl Gate {
     pub(crate) fn entry(&self, share: &mut Share, page: PageNo) -> Option<Option<ZonePage>>
         requires share { IsOneShare self.now.table.shared.key share.old }
         ensures same { share.new ≡ share.old }
-        ensures told { IfSome result (λ e. IsThen share.old (TellsPage page e)) }
+        ensures told { IfSome result (λ e. IsThen (record { key = self.now.table.shared.key; share = share.old }) (TellsPage page e)) }
     {
         let mut pass = self.enter()?;
         let room = pass.slot_mut(&self.table.shared, 0);
@@ -188,7 +188,7 @@ impl Gate {
     pub(crate) fn pageblock(&self, share: &mut Share, pageblock: u32) -> Option<Option<Pageblock>>
         requires share { IsOneShare self.now.table.shared.key share.old }
         ensures same { share.new ≡ share.old }
-        ensures told { IfSome result (λ e. IsThen share.old (TellsPageblock pageblock e)) }
+        ensures told { IfSome result (λ e. IsThen (record { key = self.now.table.shared.key; share = share.old }) (TellsPageblock pageblock e)) }
     {
         let mut pass = self.enter()?;
         let room = pass.slot_mut(&self.table.shared, 0);

@@ -180,7 +180,7 @@ impl Room {
         ensures zone { self.new.zones.items ≡ self.old.zones.items }
         ensures left { self.new.left.items ≡ self.old.left.items }
         ensures share { share.new ≡ share.old }
-        ensures known { IsZoneOf share.old (zone_in self.old) }
+        ensures known { IsZoneOf (record { key = key_of (zone_in self.old); share = share.old }) (zone_in self.old) }
     {
         let zone = &mut self.zones[0];
         share.check(zone, 0);

@@ -76,7 +76,7 @@ pub fn open_row(
 ) -> Result<(Row, Vec<Box<Worker>>), Refused>
     ensures keys { IfOk result (λ r. map untied r.0 ≡ map (key_for workers) configs.now) }
     ensures crew { IfOk result (λ r. length r.1.items ≡ workers) }
-    ensures new { IfOk result (λ r. AllDown (λ w b. IsNewWorker w lists.batch lists.high_len (length configs.now) b.value) workers r.1.items) }
+    ensures new { IfOk result (λ r. AllDown (λ w b. IsNewWorker w lists.batch lists.high_len r.0 b.value) workers r.1.items) }
 {
     let mut zones = opened_zones(alloc, configs, workers)?;
     let crew = crew_of(alloc, zones.as_mut_slice(), workers, lists)?;
@@ -147,7 +147,7 @@ fn crew_of(
     requires seats { All (λ z. length z.seats.items ≡ workers) zones.old }
     ensures keys { IfOk result (λ _. map (λ z. gate_key (arc_value z.gate)) zones.new ≡ map (λ z. gate_key (arc_value z.gate)) zones.old) }
     ensures crew { IfOk result (λ crew. length crew.items ≡ workers) }
-    ensures new { IfOk result (λ crew. AllDown (λ w b. IsNewWorker w lists.batch lists.high_len (length zones.old) b.value) workers crew.items) }
+    ensures new { IfOk result (λ crew. AllDown (λ w b. IsNewWorker w lists.batch lists.high_len (map (λ z. gate_key (arc_value z.gate)) zones.old) b.value) workers crew.items) }
 {
     let Ok(mut crew) = Vec::with_capacity(alloc, workers as usize) else {
         return Err(Refused::Memory);
@@ -169,7 +169,7 @@ fn next_worker(
     lists: ListConfig,
 ) -> Result<Worker, Refused>
     ensures keys { IfOk result (λ _. map (λ z. gate_key (arc_value z.gate)) zones.new ≡ map (λ z. gate_key (arc_value z.gate)) zones.old) }
-    ensures new { IfOk result (λ v. (w : ℕ) → All (λ z. length z.seats.items ≡ w + 1) zones.old → IsNewWorker w lists.batch lists.high_len (length zones.old) v) }
+    ensures new { IfOk result (λ v. (w : ℕ) → All (λ z. length z.seats.items ≡ w + 1) zones.old → IsNewWorker w lists.batch lists.high_len (map (λ z. gate_key (arc_value z.gate)) zones.old) v) }
     ensures left { IsOk result → (w : ℕ) → All (λ z. length z.seats.items ≡ w + 1) zones.old → All (λ z. length z.seats.items ≡ w) zones.new }
 {
     let Ok(mut desks) = Vec::with_capacity(alloc, zones.len()) else {

@@ -6,8 +6,8 @@ ghost use Rattle.zp_model.specs.declared.constants.TheConstants.{LONGEST_LIST};
 ghost use Rattle.zp_share.specs.PlainShares.{back};
 ghost use Rattle.zp_share.specs.Shares.{share_at};
 ghost use Rattle.zp_share.specs.ZoneShares.{cached_of, is_lent};
-ghost use Rattle.zp_gate.specs.declared.denied.Denied.TheVariants.{NoLists, NoZone, NotEmpty, TooFew};
-ghost use Rattle.zp_gate.specs.Workers.{AreDrained, AreSomeDrained, HasPages, HasTooFew, IsAskedOf, IsAt, IsDeniedOf, IsListDrained, IsDrained, IsFilled, IsOfZone, IsPut, IsTaken, desk_at};
+ghost use Rattle.zp_gate.specs.declared.denied.Denied.TheVariants.{NoLists, NotEmpty, NoWorker, NoZone, TooFew};
+ghost use Rattle.zp_gate.specs.Workers.{AreDrained, AreSomeDrained, HasPages, HasTooFew, IsAskedOf, IsAt, IsDeniedOf, IsListDrained, IsDrained, IsFilled, IsOfZone, IsPut, IsTaken, desk_at, desk_share};
 ghost use Rattle.zp_gate.specs.Readings.{IsThen, TellsLine, TellsPage, TellsPageblock, TellsZone};
 
 use crate::denied::Denied;
@@ -18,7 +18,7 @@ use zp_model::{Block, Mark, MigrateType, Order, PageNo, Refused, Worker as Numbe
 use zp_text::{INFO_LINE, TextBuffer};
 use zp_zone::{Pageblock, ZonePage};
 
-/// A worker of a row, with a place at each of its zones. Contracts see its shares, one of each zone.
+/// A worker of a row, with a place at each of its zones. Contracts see of each zone its key and the worker's share.
 #[derive(Drop)]
 pub struct Worker {
     pub(crate) desks: Vec<Desk>,
@@ -81,6 +81,7 @@ impl Worker {
         to: Number,
     ) -> Result<(), Denied>
         ensures ok { OnOk result (IsAskedOf zone (request.Post page order to) reply.Posted self.old self.new) }
+        ensures worker { (result ≡ Err NoWorker) ↔ ((zone < length self.old) × ((desk_at self.old zone).key.workers ≤ to)) }
         ensures denied { IfErr result (λ d. IsDeniedOf zone (request.Post page order to) d self.old self.new) }
     {
         let Some(desk) = self.desks.get_mut(zone) else {
@@ -125,9 +126,9 @@ impl Worker {
     /// Fills the worker's empty list of this type with up to a batch of pages. Refused 10, 11 or 30.
     pub fn refill(&mut self, zone: usize, kind: MigrateType, mark: Mark) -> Result<(), Denied>
         ensures ok { OnOk result (IsAt zone (IsFilled kind mark) self.old self.new) }
-        ensures lists { zone < length self.old → (desk_at self.old zone).batch ≡ 0 → result ≡ Err NoLists }
-        ensures empty { zone < length self.old → HasPages kind (desk_at self.old zone) → result ≡ Err NotEmpty }
-        ensures denied { IfErr result (λ d. IsDeniedOf zone (request.Refill kind mark (desk_at self.old zone).batch) d self.old self.new) }
+        ensures lists { zone < length self.old → (desk_share self.old zone).batch ≡ 0 → result ≡ Err NoLists }
+        ensures empty { zone < length self.old → HasPages kind (desk_share self.old zone) → result ≡ Err NotEmpty }
+        ensures denied { IfErr result (λ d. IsDeniedOf zone (request.Refill kind mark (desk_share self.old zone).batch) d self.old self.new) }
     {
         let Some(desk) = self.desks.get_mut(zone) else {
             return Err(Denied::NoZone);
@@ -138,8 +139,8 @@ impl Worker {
     /// Gives back so many pages from the back of the worker's list of this type. Refused 30.
     pub fn drain(&mut self, zone: usize, kind: MigrateType, count: usize) -> Result<(), Denied>
         ensures ok { OnOk result (IsAt zone (IsDrained kind count) self.old self.new) }
-        ensures few { (result ≡ Err TooFew) ↔ ((zone < length self.old) × HasTooFew kind count (desk_at self.old zone)) }
-        ensures denied { IfErr result (λ d. IsDeniedOf zone (request.Drain kind (back count (cached_of (share_at (desk_at self.old zone) 0) kind))) d self.old self.new) }
+        ensures few { (result ≡ Err TooFew) ↔ ((zone < length self.old) × HasTooFew kind count (desk_share self.old zone)) }
+        ensures denied { IfErr result (λ d. IsDeniedOf zone (request.Drain kind (back count (cached_of (share_at (desk_share self.old zone) 0) kind))) d self.old self.new) }
     {
         let Some(desk) = self.desks.get_mut(zone) else {
             return Err(Denied::NoZone);
@@ -182,7 +183,7 @@ impl Worker {
     pub fn take(&mut self, zone: usize, kind: MigrateType) -> Option<PageNo>
         requires { zone < length self.old }
         ensures some { IfSome result (λ page. IsAt zone (IsTaken kind page) self.old self.new) }
-        ensures none { IfNone result ((self.new ≡ self.old) × (cached_of (share_at (desk_at self.old zone) 0) kind ≡ [])) }
+        ensures none { IfNone result ((self.new ≡ self.old) × (cached_of (share_at (desk_share self.old zone) 0) kind ≡ [])) }
     {
         self.desks[zone].take(kind)
     }
@@ -206,7 +207,7 @@ impl Worker {
     /// How many pages the worker's list of this type has.
     pub fn cached_len(&self, zone: usize, kind: MigrateType) -> usize
         requires { zone < length self.now }
-        ensures same { result ≡ length (cached_of (share_at (desk_at self.now zone) 0) kind) }
+        ensures same { result ≡ length (cached_of (share_at (desk_share self.now zone) 0) kind) }
         ensures within { result ≤ LONGEST_LIST }
     {
         self.desks[zone].cached_len(kind)
@@ -215,7 +216,7 @@ impl Worker {
     /// Whether the block at this page, of this order, is lent to the worker.
     pub fn is_lent(&self, zone: usize, page: PageNo, order: Order) -> bool
         requires { zone < length self.now }
-        ensures { result ≡ is_lent (share_at (desk_at self.now zone) 0) page order }
+        ensures { result ≡ is_lent (share_at (desk_share self.now zone) 0) page order }
     {
         self.desks[zone].is_lent(page, order)
     }

@@ -12,16 +12,20 @@ returns-in-Ok c =
     let put = c.put_all.ensures in
     record {
       was_empty = λ z. (c.is_live.ensures c.if-is_live.false, c.has_live.ensures c.if-has_live.false);
-      row = λ z. (c.in-Ok.row_made.value, c.put_row.ensures, made.keys);
       apart = λ z. made.apart;
-      workers = λ z. (
-        put.each,
-        λ w none lt.
-            let few : w < length crew = omega (arith, lt, put.each, made.crew) in
-            let k : ℕ = length crew - (w + 1) in
-            let within : k < length crew = omega (arith, few) in
-            let boxed = slice_index_or crew k (one_of crew w few) in
-            (boxed.value, put.put k w (one_of crew w few) within (omega (arith, few, made.crew)) none, made.new k w (one_of crew w few) within (omega (arith, few, made.crew))),
+      made = λ z. (
+        c.in-Ok.row_made.value,
+        c.put_row.ensures,
+        made.keys,
+        (
+          put.each,
+          λ w none lt.
+              let few : w < length crew = omega (arith, lt, put.each, made.crew) in
+              let k : ℕ = length crew - (w + 1) in
+              let within : k < length crew = omega (arith, few) in
+              let boxed = slice_index_or crew k (one_of crew w few) in
+              (boxed.value, put.put k w (one_of crew w few) within (omega (arith, few, made.crew)) none, made.new k w (one_of crew w few) within (omega (arith, few, made.crew))),
+        ),
       );
       unchanged = λ n. absurd (omega (arith, n));
     }

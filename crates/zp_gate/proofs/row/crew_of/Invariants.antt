@@ -10,5 +10,5 @@ invariant-loop l = record {
   same : length l.zones ≡ length l.fn.zones;
   keys : map key_in l.zones ≡ map key_in l.fn.zones;
   left : (n : ℕ) → n + l.counter ≡ l.workers → All (λ z. length z.seats.items ≡ n) l.zones;
-  new : AllDown (λ w b. IsNewWorker w l.lists.batch l.lists.high_len (length l.fn.zones) b.value) l.workers l.crew.items;
+  new : AllDown (λ w b. IsNewWorker w l.lists.batch l.lists.high_len (map key_in l.fn.zones) b.value) l.workers l.crew.items;
 }

@@ -1,6 +1,6 @@
-use Rattle.std.proofs.Common.{ℕ, ◌≡◌, ◌≤◌, ◌<◌, ◌+◌, All, length, map, slice_index_or, vec_len, vec_capacity}
+use Rattle.std.proofs.Common.{ℕ, ◌≡◌, ◌≤◌, ◌<◌, ◌+◌, All, length, map, slice_index_or, take, vec_len, vec_capacity}
 use Rattle.zp_gate.specs.declared.row.OpenedZone.{OpenedZone}
-use Rattle.zp_gate.specs.Workers.{IsNewShare}
+use Rattle.zp_gate.specs.Workers.{IsNewShare, keys_of}
 use Rattle.zp_gate.proofs.Keys.{key_in}
 use Rattle.zp_gate.proofs.row.next_worker.Given as goal
 
@@ -9,7 +9,8 @@ invariant-loop-zone l = record {
   many : vec_len l.desks ≡ l.zone-index;
   room : l.zone-index-end ≤ vec_capacity l.desks;
   keys : map key_in l.zone-items ≡ map key_in l.initial.zone-items;
-  new : (w : ℕ) → All (λ z. length z.seats.items ≡ w + 1) l.fn.zones → All (IsNewShare w l.lists.batch l.lists.high_len) l.desks.items;
+  at : keys_of l.desks.items ≡ map key_in (take l.zone-index l.fn.zones);
+  new : (w : ℕ) → All (λ z. length z.seats.items ≡ w + 1) l.fn.zones → All (λ d. IsNewShare w l.lists.batch l.lists.high_len d.share) l.desks.items;
   left : (w : ℕ) → All (λ z. length z.seats.items ≡ w + 1) l.fn.zones → (k : ℕ) (d : OpenedZone) → k < l.zone-index → length (slice_index_or l.zone-items k d).seats.items ≡ w;
   rest : (k : ℕ) (d : OpenedZone) → l.zone-index ≤ k → slice_index_or l.zone-items k d ≡ slice_index_or l.fn.zones k d;
 }

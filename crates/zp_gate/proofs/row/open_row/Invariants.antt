@@ -1,11 +1,11 @@
 use Rattle.std.proofs.Common.{◌≡◌, ◌≤◌, ◌+◌, ◌++◌, length, map, vec_len, vec_capacity}
 use Rattle.std.specs.Arc.{arc_value}
-use Rattle.zp_gate.specs.Rows.{gate_key, key_for, untied}
+use Rattle.zp_gate.specs.Rows.{gate_key}
 use Rattle.zp_gate.proofs.Keys.{key_in}
 use Rattle.zp_gate.proofs.row.open_row.Given as goal
 
 abbrev pub invariant-loop-zone : goal.invariant-loop-zone
 invariant-loop-zone l = record {
   room : vec_len l.gates + length l.zone-iterator.rest.items ≤ vec_capacity l.gates;
-  keys : map untied (map (λ g. gate_key (arc_value g)) l.gates.items ++ map key_in l.zone-iterator.rest.items) ≡ map (key_for l.workers) l.configs;
+  keys : map (λ g. gate_key (arc_value g)) l.gates.items ++ map key_in l.zone-iterator.rest.items ≡ map key_in l.initial.zone-iterator.rest.items;
 }

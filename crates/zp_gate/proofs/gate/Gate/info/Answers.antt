@@ -29,5 +29,5 @@ pub returns-clause-told : goal.returns-clause-told
 returns-clause-told c =
     let key = c.args.self.now.table.shared.key in
     let behind = in_room _ key c.in_ok-pass.pass c.slot_mut-room.result.now c.in_ok-pass.ensures c.slot_mut-room.ensures.value in
-    let known = seen_zone c.args.share.now c.slot_mut-room.result.now c.check.new.self c.index-zone.result.now behind.one c.check.ensures.zone c.index-zone.ensures c.check.ensures.known in
+    let known = seen_zone key c.args.share.now c.slot_mut-room.result.now c.check.new.self c.index-zone.result.now behind c.check.ensures.zone c.index-zone.ensures c.check.ensures.known in
     (c.index-zone.result.now, known, line_told _ _ _ _ _ _ _ _ c.push_counts.ensures.bytes c.new-line.ensures c.name.ensures.name c.largest.ensures c.counts.ensures.counts)
