@@ -1,4 +1,4 @@
-//! The words that entries are packed in, worked by hand from the layout.
+//! The words that are told of entries, worked by hand from the narrow layout.
 
 use std::process::Abort;
 use std::test::*;
