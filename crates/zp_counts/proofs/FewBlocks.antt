@@ -6,12 +6,13 @@ use Rattle.std.proofs.lemmas.Nat.{div-add-mod', mod-mul-add, pow_pos}
 use Rattle.std.proofs.lemmas.Bool.{false_from_ne_true}
 use Rattle.std.proofs.lemmas.List.Sums.{count_by-le-length, sum_by-cons}
 use Rattle.std.proofs.lemmas.List.FromFn.{get_or-map-range_with_len, length-range_with_len}
-use Rattle.zp_model.specs.declared.constants.TheConstants.{MAX_PAGES, ORDERS}
+use Rattle.zp_model.specs.declared.constants.TheConstants.{ORDERS}
 use Rattle.zp_model.specs.Block.{is_max, size}
 use Rattle.zp_model.specs.Info.{blocks_of_order, counts_of}
 use Rattle.zp_model.proofs.Heads.{aligned_down}
 use Rattle.zp_model.proofs.Pages.{is_max-to}
 use Rattle.zp_counts.specs.CountBoards.{ArePackable}
+use Rattle.zp_counts.specs.declared.packed.TheConstants.{NARROW_PAGES}
 
 abbrev one_if : Bool → ℕ
 one_if b = cond b 1 0
@@ -68,8 +69,8 @@ size_within : (free : List Bool) → size free ≤ length free
 unfolding size
 size_within free = count_by-le-length (λ b. b) free
 
--- the counts of a zone that has no more pages than a zone can have fit into packed words
-pub few_blocks : (m : ℕ) (free : List Bool) → length free ≤ MAX_PAGES → ArePackable (counts_of m free)
+-- the counts of a zone of so few pages fit into packed words
+pub few_blocks : (m : ℕ) (free : List Bool) → length free ≤ NARROW_PAGES → ArePackable (counts_of m free)
 few_blocks m free le = (
   omega (arith, le, size_within free),
   λ k lo hi. rw (counted k (omega (arith, hi))) (omega (arith, le, blocks_within m free k)),

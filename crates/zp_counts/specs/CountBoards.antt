@@ -5,7 +5,7 @@ use Rattle.zp_model.specs.declared.constants.TheConstants.{ORDERS}
 use Rattle.zp_model.specs.declared.counts.Counts.{Counts}
 use Rattle.zp_ring.specs.Rings.{AreLooks, WasMet, WerePassed}
 use Rattle.zp_counts.specs.declared.kinds.TheConstants.{SLOTS}
-use Rattle.zp_counts.specs.declared.packed.TheConstants.{WIDE, MIDDLE, NARROW}
+use Rattle.zp_counts.specs.declared.packed.TheConstants.{WIDE, MIDDLE, NARROW, NARROW_PAGES}
 use Rattle.zp_counts.specs.declared.reading.Reading.{Reading}
 
 -- the number that a word of one count stands for: a count has 32 bits
@@ -24,10 +24,15 @@ StayBelow c from to limit = (k : ℕ) → from ≤ k → k < to → slice_index 
 abbrev pub ArePackable : Counts → Type 0
 ArePackable c = (c.free < WIDE) × StayBelow c 0 2 WIDE × StayBelow c 2 6 MIDDLE × StayBelow c 6 ORDERS NARROW
 
--- what ties a board to its publisher and its readers: its row of words, and whether the board turns
+-- what ties a board to its publisher and its readers: its row of words, whether the board turns, and whether its words are packed
 pub record CountTie : Type 0 where
   pub table : TableId
   pub turns : Bool
+  pub packed : Bool
+
+-- the words of a board have room for the counts of a zone of so many pages: where they are packed, it has few
+abbrev pub HoldsCounts : CountTie → ℕ → Type 0
+HoldsCounts tie pages = tie.packed ≡ true → pages ≤ NARROW_PAGES
 
 -- a board, to a contract: it has room for the opening counts and for as many more as its capacity
 pub record BoardState : Type 0 where

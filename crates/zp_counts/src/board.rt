@@ -2,7 +2,7 @@
 ghost use Rattle.std.specs.Prelude.{◌≡◌, ◌+◌, ◌*◌, ◌^◌, ◌<◌, ◌≤◌, ◌↔◌, true, false, [], ◌∷◌, ◌++◌, length, IfOk, IsTrue};
 ghost use mathlib.Core.List.{IsPrefix};
 ghost use Rattle.zp_counts.specs.CountBoards.{ArePackable, IsFreshRead, IsReadingOf, last_reading};
-ghost use Rattle.zp_counts.specs.Kinds.{fixed_tie, turning_tie};
+ghost use Rattle.zp_counts.specs.Kinds.{fixed_tie, turning_tie, wide_tie};
 ghost use Rattle.zp_counts.specs.Packing.{packed_in, paired_in};
 ghost use Rattle.zp_counts.specs.declared.reading.Reading.{Reading};
 ghost use Rattle.zp_counts.specs.declared.words.TheConstants.{PAIR_WORDS};
@@ -81,6 +81,7 @@ pub fn new_board(
     requires { PAIR_WORDS * (capacity + 1) + 1 < 2 ^ 32 }
     ensures tie { IfOk result (λ r. r.1.tie ≡ r.0.tie) }
     ensures turns { IfOk result (λ r. r.0.tie.turns ≡ false) }
+    ensures packed { IfOk result (λ r. r.0.tie.packed ≡ false) }
     ensures capacity { IfOk result (λ r. r.0.capacity ≡ capacity) }
     ensures published { IfOk result (λ r. r.1.published ≡ opening.now ∷ []) }
 {
@@ -96,7 +97,7 @@ pub fn new_board(
 }
 
 /// A board with the opening counts, and its publisher. It turns: it has room for some counts, and the oldest give way to the newest. So it
-/// takes the same memory whatever the capacity is, and no later call takes any.
+/// takes the same memory whatever the capacity is, and no later call takes any. Its words are packed, and hold counts that fit into them.
 pub fn new_turning_board(
     alloc: Global,
     capacity: u64,
@@ -105,6 +106,7 @@ pub fn new_turning_board(
     requires packable { ArePackable opening.now }
     ensures tie { IfOk result (λ r. r.1.tie ≡ r.0.tie) }
     ensures turns { IfOk result (λ r. r.0.tie.turns ≡ true) }
+    ensures packed { IfOk result (λ r. r.0.tie.packed ≡ true) }
     ensures capacity { IfOk result (λ r. r.0.capacity ≡ capacity) }
     ensures published { IfOk result (λ r. r.1.published ≡ opening.now ∷ []) }
 {
@@ -118,6 +120,28 @@ pub fn new_turning_board(
     Ok((board, publisher))
 }
 
+/// The same with words that hold any counts, twice as many.
+pub fn new_wide_board(
+    alloc: Global,
+    capacity: u64,
+    opening: &Counts,
+) -> Result<(Board, Publisher), AllocError>
+    ensures tie { IfOk result (λ r. r.1.tie ≡ r.0.tie) }
+    ensures turns { IfOk result (λ r. r.0.tie.turns ≡ true) }
+    ensures packed { IfOk result (λ r. r.0.tie.packed ≡ false) }
+    ensures capacity { IfOk result (λ r. r.0.capacity ≡ capacity) }
+    ensures published { IfOk result (λ r. r.1.published ≡ opening.now ∷ []) }
+{
+    let (ring, entries) = Ring::new(alloc, &paired_words(opening))?;
+    let board = Board {
+        kind: BoardKind::Wide(ring, capacity),
+    };
+    let publisher = Publisher {
+        kind: PublisherKind::Wide(entries),
+    };
+    Ok((board, publisher))
+}
+
 impl Board {
     /// The words of a board that does not turn.
     fn fixed(&self) -> &WordBoard<PAIR_WORDS>
@@ -127,19 +151,32 @@ impl Board {
     {
         match &self.kind {
             BoardKind::Fixed(words) => words,
-            BoardKind::Turning(..) => unreachable!(),
+            BoardKind::Turning(..) | BoardKind::Wide(..) => unreachable!(),
         }
     }
 
-    /// The words of one that turns.
+    /// The words of one that turns, where they are packed.
     fn turning(&self) -> &Ring<PACKED_WORDS, SLOTS>
-        requires { self.now.tie.turns ≡ true }
+        requires { self.now.tie.packed ≡ true }
         ensures tie { self.now.tie ≡ turning_tie result.now.tie }
         ensures capacity { self.now.capacity < 2 ^ 64 }
     {
         match &self.kind {
-            BoardKind::Fixed(_) => unreachable!(),
             BoardKind::Turning(ring, _) => ring,
+            BoardKind::Fixed(_) | BoardKind::Wide(..) => unreachable!(),
+        }
+    }
+
+    /// The words of one that turns, where they hold any counts.
+    fn wide(&self) -> &Ring<PAIR_WORDS, SLOTS>
+        requires turns { self.now.tie.turns ≡ true }
+        requires any { self.now.tie.packed ≡ false }
+        ensures tie { self.now.tie ≡ wide_tie result.now.tie }
+        ensures capacity { self.now.capacity < 2 ^ 64 }
+    {
+        match &self.kind {
+            BoardKind::Wide(ring, _) => ring,
+            BoardKind::Fixed(_) | BoardKind::Turning(..) => unreachable!(),
         }
     }
 
@@ -149,7 +186,7 @@ impl Board {
     {
         match &self.kind {
             BoardKind::Fixed(words) => u64::from(words.capacity()),
-            BoardKind::Turning(_, capacity) => *capacity,
+            BoardKind::Turning(_, capacity) | BoardKind::Wide(_, capacity) => *capacity,
         }
     }
 }
@@ -170,6 +207,7 @@ impl Publisher {
         match &self.kind {
             PublisherKind::Fixed(entries) => entries.count() - 1,
             PublisherKind::Turning(entries) => entries.place(),
+            PublisherKind::Wide(entries) => entries.place(),
         }
     }
 
@@ -177,7 +215,7 @@ impl Publisher {
     pub fn publish(&mut self, board: &Board, counts: &Counts)
         requires tie { self.old.tie ≡ board.now.tie }
         requires room { length self.old.published ≤ board.now.capacity }
-        requires packable { self.old.tie.turns ≡ true → ArePackable counts.now }
+        requires packable { self.old.tie.packed ≡ true → ArePackable counts.now }
         ensures tie { self.new.tie ≡ self.old.tie }
         ensures published { self.new.published ≡ self.old.published ++ counts.now ∷ [] }
     {
@@ -186,6 +224,7 @@ impl Publisher {
             PublisherKind::Turning(entries) => {
                 entries.publish(board.turning(), &packed_words(counts))
             }
+            PublisherKind::Wide(entries) => entries.publish(board.wide(), &paired_words(counts)),
         }
     }
 
@@ -200,6 +239,7 @@ impl Publisher {
             PublisherKind::Turning(entries) => {
                 ReaderKind::Turning(entries.reader(board.turning()))
             }
+            PublisherKind::Wide(entries) => ReaderKind::Wide(entries.reader(board.wide())),
         };
         BoardReader { kind }
     }
@@ -225,6 +265,9 @@ impl Publisher {
             (PublisherKind::Turning(entries), ReaderKind::Turning(seen)) => {
                 turned_reading_of(&entries.read_board(board.turning(), seen))
             }
+            (PublisherKind::Wide(entries), ReaderKind::Wide(seen)) => {
+                wide_reading_of(&entries.read_board(board.wide(), seen))
+            }
             _ => unreachable!(),
         }
     }
@@ -249,6 +292,9 @@ impl Publisher {
             (PublisherKind::Turning(entries), ReaderKind::Turning(seen)) => {
                 entries.show_board(board.turning(), seen);
             }
+            (PublisherKind::Wide(entries), ReaderKind::Wide(seen)) => {
+                entries.show_board(board.wide(), seen);
+            }
             _ => unreachable!(),
         }
     }
@@ -272,6 +318,7 @@ impl BoardReader {
         match &mut self.kind {
             ReaderKind::Fixed(entries) => reading_of(&entries.read(board.fixed())),
             ReaderKind::Turning(entries) => turned_reading_of(&entries.read(board.turning())),
+            ReaderKind::Wide(entries) => wide_reading_of(&entries.read(board.wide())),
         }
     }
 }
@@ -294,6 +341,17 @@ fn turned_reading_of(found: &RingReading<PACKED_WORDS>) -> Reading
 {
     Reading {
         counts: packed_in(&found.words),
+        place: found.place,
+    }
+}
+
+/// The same of a board that turns, where they are not.
+fn wide_reading_of(found: &RingReading<PAIR_WORDS>) -> Reading
+    ensures counts { result.counts ≡ paired_in found.now.words }
+    ensures place { result.place ≡ found.now.place }
+{
+    Reading {
+        counts: paired_in(&found.words),
         place: found.place,
     }
 }

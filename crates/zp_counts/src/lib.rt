@@ -10,9 +10,9 @@ mod packed;
 mod reading;
 mod words;
 
-pub use board::{Board, BoardReader, Publisher, new_board, new_turning_board};
+pub use board::{Board, BoardReader, Publisher, new_board, new_turning_board, new_wide_board};
 pub use kinds::SLOTS;
-pub use packed::{PACKED_WORDS, are_packable};
+pub use packed::{NARROW_PAGES, PACKED_WORDS, are_packable};
 pub use reading::Reading;
 pub use words::PAIR_WORDS;
 

@@ -78,6 +78,25 @@ fn readers_see_the_last_counts_of_a_board_that_turns(rt: HostRuntime) -> Result<
 }
 
 #[test]
+fn readers_see_the_last_counts_of_a_wide_board(rt: HostRuntime) -> Result<(), Fail> {
+    let (board, mut publisher) = new_wide_board(rt.alloc(), 1, &single_pages(7))?;
+    let mut first = publisher.reader(&board);
+    let mut second = publisher.reader(&board);
+    assert_eq!(rt; first.read(&board), single_pages_at(0, 7));
+    let counts = Counts {
+        by_order: [1, 2, 3, 4, 5, 6, 7, 8, 9, 10, u32::MAX],
+        free: u32::MAX - 1,
+    };
+    publisher.publish(&board, &counts);
+    assert!(rt; publisher.is_full(&board));
+    let all = Reading { counts, place: 1 };
+    // what was published before its first read, it sees
+    assert_eq!(rt; second.read(&board), all);
+    assert_eq!(rt; publisher.read_board(&board, &mut first), all);
+    Ok(())
+}
+
+#[test]
 fn a_board_that_turns_goes_on_after_its_slots(rt: HostRuntime) -> Result<(), Fail> {
     let opening = single_pages(0);
     assert!(rt; are_packable(&opening));
@@ -168,6 +187,8 @@ fn a_reader_that_slept_sees_the_newest_counts(rt: HostRuntime) -> Result<(), Fai
     expect_newest_counts(&rt, &board, publisher);
     assert!(rt; are_packable(&opening));
     let (board, publisher) = new_turning_board(rt.alloc(), u64::MAX, &opening)?;
+    expect_newest_counts(&rt, &board, publisher);
+    let (board, publisher) = new_wide_board(rt.alloc(), u64::MAX, &opening)?;
     expect_newest_counts(&rt, &board, publisher);
     Ok(())
 }

@@ -13,14 +13,15 @@ use Rattle.zp_model.specs.declared.request.Request.{Request}
 use Rattle.zp_model.specs.declared.request.Reply.{Reply}
 use Rattle.zp_model.specs.Books.{entry_of, made_by}
 use Rattle.zp_model.specs.Info.{counts_of}
-use Rattle.zp_model.specs.Zone.{PlainZone}
+use Rattle.zp_model.specs.Zone.{PlainZone, pages_of}
 use Rattle.zp_model.specs.Step.{step}
 use Rattle.zp_model.specs.Run.{IsHistory, opening_of, run}
 use Rattle.zp_laws.proofs.Histories.{opening-step, run_more}
 use Rattle.zp_laws.proofs.Sameness.{step-same}
 use Rattle.zp_zone.specs.Seats.{ZoneState, IsSeatOf}
 use Rattle.zp_counts.specs.CountBoards.{BoardState}
-use Rattle.zp_counts.specs.CountBoards.{CountsPublished}
+use Rattle.zp_counts.specs.CountBoards.{CountTie, CountsPublished, HoldsCounts}
+use Rattle.zp_counts.specs.declared.packed.TheConstants.{NARROW_PAGES}
 use Rattle.zp_journal.specs.Journals.{counts_after}
 use Rattle.zp_share.specs.declared.sections_made.TheConstants.{LAST_SECTION}
 use Rattle.zp_share.specs.PlainShares.{lends, lends_for, refusal, refused_full}
@@ -44,6 +45,12 @@ seat_at keys i z s key fits =
 key_kept : (r : Request) (q : Reply) (z y : ZoneState) (a b : ZoneShareState) → IsSection r q z y a b → key_of y ≡ key_of z
 key_kept r q z y a b made =
     ap key_of made.zone ∙ same-key z (step z.plain a.seat.worker r).zone (step-same z.plain a.seat.worker r)
+
+-- and so where nothing was asked
+key_stays : (lent last : Bool) (r : Request) (q : Reply) (z y : ZoneState) (a b : ZoneShareState) → ComesOf (refusal lent last) r q z y a b → key_of y ≡ key_of z
+key_stays false last r q z y a b x = ap key_of x.1.zone
+key_stays true true r q z y a b x = ap key_of x.1.zone
+key_stays true false r q z y a b x = key_kept r q z y a b x
 
 -- the share is one of the row still
 share_kept : (keys : List ZoneKey) (r : Request) (q : Reply) (z y : ZoneState) (s t : ShareState) (i : ℕ) → IsShareOf keys s →
@@ -204,6 +211,7 @@ module _ {X : Type 0} (capacity : X → ℕ → ℕ) (bounds : ℕ → ℕ → T
       × bounds (board_at boards p.place).capacity (room_of boards p)
       × (length p.zone.entries ≤ room_of boards p)
       × IsPublished p.zone p.publisher.published
+      × HoldsCounts (board_at boards p.place).tie (key_at keys p.place).pages
 
   -- whether there is room, as the board and what is kept tell it
   pub record IsRoomTold (boards : List BoardState) (p : Parts X) (board : BoardState) (board_is_full is_full : Bool) : Type 0 where
@@ -239,6 +247,14 @@ module _ {X : Type 0} (capacity : X → ℕ → ℕ) (bounds : ℕ → ℕ → T
         leb-false (room_of boards p) (length p.zone.entries) (sym (told_full keys boards p board b f guarded t) ∙ free),
         omega (arith, room, at),
       )
+
+  -- the board has room for the counts of the zone after a request, too
+  pub counts_held : (keys : List ZoneKey) (boards : List BoardState) (r : Request) (q : Reply) (p : Parts X) (y : ZoneState) (s t : ShareState) → AreGuarded keys boards p →
+      IsAsked r q p.zone y (share_at s p.place) (share_at t p.place) → HoldsCounts p.publisher.tie (pages_of y.plain)
+  counts_held keys boards r q p y s t guarded asked packed =
+      let own = plain_share (share_at s p.place) in
+      let key : key_of y ≡ key_at keys p.place = key_stays (lends_for r own) (own.sections.made == LAST_SECTION) r q p.zone y (share_at s p.place) (share_at t p.place) asked.made ∙ guarded.0 in
+      subst (λ (k : ZoneKey). k.pages ≤ NARROW_PAGES) (sym key) (guarded.6 (ap (λ (u : CountTie). u.packed) (sym guarded.2) ∙ packed))
 
   -- a share turned to the guarded zone at its place, with which the zone, what is kept of it, and what the share has of it alone became
   -- others: one section was made, and kept; then the zone's counts were published
@@ -286,6 +302,7 @@ module _ {X : Type 0} (capacity : X → ℕ → ℕ) (bounds : ℕ → ℕ → T
           subst (bounds b) (sym room) c.guarded.3,
           omega (arith, lt, room, ap length more, length-append p.zone.entries (e ∷ [])),
           still_published r q p.zone y (share_at s i) (share_at t i) p.publisher.published u.published c.guarded.5 c.history made.0 c.published,
+          c.guarded.6,
         );
         asked =
             record {

@@ -76,7 +76,7 @@ abbrev pub key_at : List ZoneKey → ℕ → ZoneKey
 key_at keys place = slice_index_or keys place no_key
 
 abbrev pub no_board : BoardState
-no_board = record { tie = record { table = no_tie; turns = false }; capacity = 0 }
+no_board = record { tie = record { table = no_tie; turns = false; packed = false }; capacity = 0 }
 
 -- the board at a place of the row
 abbrev pub board_at : List BoardState → ℕ → BoardState

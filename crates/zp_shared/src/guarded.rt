@@ -14,7 +14,7 @@ ghost use Rattle.zp_share.specs.Shares.{IsShareOf, key_of, share_at};
 ghost use Rattle.zp_share.specs.ZoneShares.{IsShare, SharesIn};
 ghost use mathlib.Core.List.{IsPrefix};
 ghost use Rattle.zp_counts.specs.declared.reading.Reading.{Reading};
-ghost use Rattle.zp_counts.specs.CountBoards.{IsReadingOf, last_counts};
+ghost use Rattle.zp_counts.specs.CountBoards.{HoldsCounts, IsReadingOf, last_counts};
 ghost use Rattle.zp_shared.specs.Rows.{IsCountsOf, IsPublished, board_at, key_at, opened_key, zone_counts};
 
 use crate::naming::Naming;
@@ -32,7 +32,8 @@ mod sections;
 /// A zone that says its place in the row, what is kept of all that was asked of it since its opening, and the right to publish its
 /// counts. A lock forgets what it holds but for the type, so the type says it: what never changes of the zone, and its board, are what
 /// the row's name has at that place; what is kept is of the entries that the zone and its seats agree on; and what is published are the
-/// zone's counts at its opening and after each of these entries.
+/// zone's counts at its opening and after each of these entries. The board has room for them: where its words are packed, the zone has
+/// few enough pages.
 pub struct Guarded<J: Naming, K: Keeps = WholeJournal> {
     place: usize,
     zone: Zone,
@@ -57,14 +58,14 @@ impl<J: Naming, K: Keeps> Drop for Guarded<J, K> {
 impl<J: Naming, K: Keeps> Model for Guarded<J, K> {
     ghost use Rattle.std.specs.Prelude.{◌≡◌, ◌≤◌, length};
     ghost use Rattle.zp_share.specs.Shares.{key_of};
-    ghost use Rattle.zp_counts.specs.CountBoards.{BoardState};
+    ghost use Rattle.zp_counts.specs.CountBoards.{BoardState, HoldsCounts};
     ghost use Rattle.zp_shared.specs.Rows.{GuardedZone, IsPublished, key_at, board_at};
 
     ghost Value = { GuardedZone };
 
     ghost view = { λ g. record { place = g.place; capacity = K.capacity g.journal (board_at J.boards g.place).capacity; handed = K.handed g.journal; zone = g.zone; published = g.publisher.published } };
 
-    ghost invariant = { λ g. (key_of g.zone ≡ key_at J.zones g.place) × K.keeps g.zone g.journal × (g.publisher.tie ≡ (board_at J.boards g.place).tie) × K.bounds (board_at J.boards g.place).capacity (K.capacity g.journal (board_at J.boards g.place).capacity) × (length g.zone.entries ≤ K.capacity g.journal (board_at J.boards g.place).capacity) × IsPublished g.zone g.publisher.published };
+    ghost invariant = { λ g. (key_of g.zone ≡ key_at J.zones g.place) × K.keeps g.zone g.journal × (g.publisher.tie ≡ (board_at J.boards g.place).tie) × K.bounds (board_at J.boards g.place).capacity (K.capacity g.journal (board_at J.boards g.place).capacity) × (length g.zone.entries ≤ K.capacity g.journal (board_at J.boards g.place).capacity) × IsPublished g.zone g.publisher.published × HoldsCounts (board_at J.boards g.place).tie (key_at J.zones g.place).pages };
 }
 
 impl<J: Naming, K: Keeps> Guarded<J, K> {
@@ -212,15 +213,15 @@ fn note<K: Keeps>(
     requires room { (n : ℕ) × (z : ZoneState) × K.keeps z journal.old × (length z.entries < K.capacity journal.old n) }
     requires board { publisher.old.tie ≡ board.now.tie }
     requires board_room { length publisher.old.published ≤ board.now.capacity }
+    requires counts { HoldsCounts publisher.old.tie (pages_of zone.now.plain) }
     ensures kept { (z : ZoneState) (e : Entry) → K.keeps z journal.old → (share_at share.now place).sections.last ≡ Some e → zone.now.entries ≡ z.entries ++ e ∷ [] → K.keeps zone.now journal.new }
     ensures capacity { (e : Entry) → (share_at share.now place).sections.last ≡ Some e → (n : ℕ) → K.capacity journal.new n ≡ K.capacity journal.old n }
     ensures handed { (e : Entry) → (share_at share.now place).sections.last ≡ Some e → K.handed journal.new ≡ K.handed journal.old }
     ensures tie { publisher.new.tie ≡ publisher.old.tie }
     ensures published { publisher.new.published ≡ publisher.old.published ++ zone_counts zone.now ∷ [] }
 {
-    // clauses of these calls say that the zone is the run of its entries, and that its counts are small
+    // a clause of this call says that the zone is the run of its entries
     zone.history();
-    let _pages = zone.pages();
     if let Some(entry) = share.last(place) {
         journal.keep(entry);
     }

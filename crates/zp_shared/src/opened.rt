@@ -1,12 +1,16 @@
 //! A zone that is opened for threads, before the row that it is in has a name.
-ghost use Rattle.std.specs.Prelude.{◌≡◌, ◌≤◌, true, false, [], ◌∷◌, length, min, IfOk, IfErr};
+ghost use Rattle.std.specs.Prelude.{◌≡◌, ◌≤◌, true, false, [], ◌∷◌, length, min, nat_le, IfOk, IfErr};
 ghost use Rattle.zp_model.specs.declared.refused.Refused.TheVariants.{Memory};
+ghost use Rattle.zp_model.specs.Zone.{pages_of};
+ghost use Rattle.zp_counts.specs.CountBoards.{HoldsCounts};
 ghost use Rattle.zp_journal.specs.declared.journal.TheConstants.{LONGEST_JOURNAL};
 ghost use Rattle.zp_shared.specs.Rows.{OpenedState, IsPublished, opened_reader, zone_counts};
 
-use std::alloc::Global;
+use std::alloc::{AllocError, Global};
 use std::marker::Model;
-use zp_counts::{Board, BoardReader, Publisher, new_board, new_turning_board};
+use zp_counts::{
+    Board, BoardReader, NARROW_PAGES, Publisher, new_board, new_turning_board, new_wide_board,
+};
 use zp_journal::{CutJournal, Journal, Keeps, NoJournal, WholeJournal};
 use zp_model::Refused;
 use zp_zone::Zone;
@@ -33,13 +37,15 @@ impl<K: Keeps> Drop for OpenedZone<K> {
 
 impl<K: Keeps> Model for OpenedZone<K> {
     ghost use Rattle.std.specs.Prelude.{◌≡◌, ◌≤◌, length};
+    ghost use Rattle.zp_model.specs.Zone.{pages_of};
+    ghost use Rattle.zp_counts.specs.CountBoards.{HoldsCounts};
     ghost use Rattle.zp_shared.specs.Rows.{OpenedState, IsPublished};
 
     ghost Value = { OpenedState };
 
     ghost view = { λ o. record { zone = o.zone; board = o.board; published = o.publisher.published; capacity = K.capacity o.journal o.board.capacity; handed = K.handed o.journal } };
 
-    ghost invariant = { λ o. K.keeps o.zone o.journal × K.bounds o.board.capacity (K.capacity o.journal o.board.capacity) × (length o.zone.entries ≤ K.capacity o.journal o.board.capacity) × (o.publisher.tie ≡ o.board.tie) × IsPublished o.zone o.publisher.published };
+    ghost invariant = { λ o. K.keeps o.zone o.journal × K.bounds o.board.capacity (K.capacity o.journal o.board.capacity) × (length o.zone.entries ≤ K.capacity o.journal o.board.capacity) × (o.publisher.tie ≡ o.board.tie) × IsPublished o.zone o.publisher.published × HoldsCounts o.board.tie (pages_of o.zone.plain) };
 }
 
 impl OpenedZone<WholeJournal> {
@@ -132,10 +138,9 @@ impl<K: Keeps> OpenedZone<K> {
         ensures published { IfOk result (λ o. o.published ≡ zone_counts zone ∷ []) }
         ensures why { IfErr result (λ e. e ≡ Memory) }
     {
-        // clauses of these calls say that the zone is the run of its entries, and that its counts are small
+        // a clause of this call says that the zone is the run of its entries
         zone.history();
-        let _pages = zone.pages();
-        let Ok((board, publisher)) = new_turning_board(alloc, sections, &zone.counts()) else {
+        let Ok((board, publisher)) = turning_board(alloc, &zone, sections) else {
             return Err(Refused::Memory);
         };
         Ok(OpenedZone {
@@ -163,6 +168,7 @@ impl<K: Keeps> OpenedZone<K> {
         ensures board { result.2 ≡ self.board }
         ensures publisher { (result.3.tie ≡ self.board.tie) × (result.3.published ≡ self.published) }
         ensures published { IsPublished self.zone self.published }
+        ensures counts { HoldsCounts self.board.tie (pages_of self.zone.plain) }
     {
         let OpenedZone {
             zone,
@@ -172,4 +178,23 @@ impl<K: Keeps> OpenedZone<K> {
         } = self;
         (zone, journal, board, publisher)
     }
+}
+
+/// A board that turns, with the counts of a zone, and its publisher. Its words are packed where the zone has few enough pages for that.
+fn turning_board(
+    alloc: Global,
+    zone: &Zone,
+    sections: u64,
+) -> Result<(Board, Publisher), AllocError>
+    ensures tie { IfOk result (λ r. r.1.tie ≡ r.0.tie) }
+    ensures turns { IfOk result (λ r. r.0.tie.turns ≡ true) }
+    ensures packed { IfOk result (λ r. r.0.tie.packed ≡ nat_le (pages_of zone.now.plain) NARROW_PAGES) }
+    ensures capacity { IfOk result (λ r. r.0.capacity ≡ sections) }
+    ensures published { IfOk result (λ r. r.1.published ≡ zone_counts zone.now ∷ []) }
+{
+    let counts = zone.counts();
+    if zone.pages() > NARROW_PAGES {
+        return new_wide_board(alloc, sections, &counts);
+    }
+    new_turning_board(alloc, sections, &counts)
 }

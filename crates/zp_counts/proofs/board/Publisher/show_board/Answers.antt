@@ -2,7 +2,7 @@ use Rattle.std.proofs.Common.{sym, ap, ◌∙◌}
 use Rattle.zp_counts.specs.Kinds.{published_counts, seen_counts}
 use Rattle.zp_counts.specs.Packing.{packed_in, paired_in}
 use Rattle.zp_counts.proofs.CountLists.{prefix_counts, reading_kept}
-use Rattle.zp_counts.proofs.board.Publisher.show_board.Goals.{in-Fixed-Fixed, in-Turning-Turning}
+use Rattle.zp_counts.proofs.board.Publisher.show_board.Goals.{in-Fixed-Fixed, in-Turning-Turning, in-Wide-Wide}
 use Rattle.zp_counts.proofs.board.Publisher.show_board.Goals as goal
 
 pub returns-clause-before : goal.returns-clause-before
@@ -14,6 +14,8 @@ returns-clause-before c =
           prefix_counts paired_in _ _ (before ∙ ap (λ k. (seen_counts k).seen) i.is-1) (after ∙ ap (λ k. (published_counts k).published) i.is-0) w.show_board.ensures.before
       | in-Turning-Turning w ↦ let i = w.in-Turning-Turning in
           prefix_counts packed_in _ _ (before ∙ ap (λ k. (seen_counts k).seen) i.is-1) (after ∙ ap (λ k. (published_counts k).published) i.is-0) w.show_board-in-Turning-Turning.ensures.before
+      | in-Wide-Wide w ↦ let i = w.in-Wide-Wide in
+          prefix_counts paired_in _ _ (before ∙ ap (λ k. (seen_counts k).seen) i.is-1) (after ∙ ap (λ k. (published_counts k).published) i.is-0) w.show_board-in-Wide-Wide.ensures.before
     ]
 
 pub returns-clause-kept : goal.returns-clause-kept

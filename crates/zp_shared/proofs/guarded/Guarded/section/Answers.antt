@@ -5,7 +5,7 @@ use Rattle.zp_counts.specs.CountBoards.{BoardState}
 use Rattle.zp_share.specs.Shares.{ZoneKey, share_at, workers_at}
 use Rattle.zp_share.proofs.Asking.{may_more}
 use Rattle.zp_shared.specs.Rows.{GuardedZone, board_at}
-use Rattle.zp_shared.proofs.Guarding.{IsAfter, Parts, after, has_room, not_lent_left, seat_at, told, told_full}
+use Rattle.zp_shared.proofs.Guarding.{IsAfter, Parts, after, counts_held, has_room, not_lent_left, seat_at, told, told_full}
 use Rattle.zp_shared.proofs.guarded.Guarded.section.Given.{Over}
 use Rattle.zp_shared.proofs.guarded.Guarded.section.Goals as goal
 
@@ -31,6 +31,12 @@ note-requires-clause-board_room g c =
     let room =
     has_room g.K.Keeps.capacity g.K.Keeps.bounds g.K.Keeps.handed g.K.Keeps.keeps g.J.Naming.zones g.J.Naming.boards p c.args.board.now c.is_full-board_is_full.result c.is_full.result c.self.invariant (told g.K.Keeps.capacity g.K.Keeps.bounds g.K.Keeps.handed g.K.Keeps.keeps g.J.Naming.boards c.args.self.now p c.args.board.now c.is_full-board_is_full.result c.is_full.result c.self.view_is c.requires.board c.is_full-board_is_full.ensures.full c.is_full.ensures.full c.is_full.ensures.within) c.if-is_full.false in
     omega (arith, room.0, room.1, c.self.invariant.5.many)
+
+pub note-requires-clause-counts : goal.note-requires-clause-counts
+note-requires-clause-counts g c =
+    let p : Parts _ = record { place = c.self.inside.place; zone = c.self.inside.zone; journal = c.self.inside.journal; publisher = c.self.inside.publisher } in
+    counts_held g.K.Keeps.capacity g.K.Keeps.bounds g.K.Keeps.handed g.K.Keeps.keeps g.J.Naming.zones g.J.Naming.boards c.args.request.now c.section-reply.result p c.section-reply.new.zone c.args.share.now c.section-reply.new.self
+    c.self.invariant c.section-reply.ensures.section
 
 -- where no section was made
 left : (g : Over) (c : goal.After-check g) →
