@@ -3,7 +3,7 @@ use Rattle.std.proofs.Common.{ℕ, ◌≡◌, ◌<◌, ◌≤◌, ◌+◌, ◌-�
 use Rattle.std.proofs.Math.Nat.{mul_assoc, mul_comm, mul-sub, add-mul, add-zero, pow-le-pow_right}
 use Rattle.std.proofs.lemmas.Nat.{pow_pos, pow-add, one_shl, shl_whole, and_comm, and_le_r, and-not, or_block, or_shifted, or_disjoint, mod-pow-add, shr_split, mod_below}
 use Rattle.std.proofs.lemmas.Nat.Bits.{and_high}
-use Rattle.zp_table.specs.Fields.{with_field}
+use Rattle.zp_table.specs.Fields.{field, with_field}
 
 pub mask : (j : ℕ) → j < 64 → 1 * 2 ^ j % 2 ^ 64 - 1 ≡ 2 ^ j - 1
 mask j lt = rw (one_shl j 64 lt) refl
@@ -13,6 +13,10 @@ mask_there j k lt le =
     let p = pow_pos j in
     let small : 2 ^ j - 1 < 2 ^ j = omega arith in
     rw (mask j lt, shl_whole (2 ^ j - 1) j k 64 small le, pow-add 2 j k) (omega (arith, mul_comm (2 ^ j - 1) (2 ^ k), mul-sub (2 ^ k) (2 ^ j) 1, mul_comm (2 ^ k) (2 ^ j)))
+
+-- the bits of a field where they stand
+pub left_there : (w j k : ℕ) → j < 64 → k + j ≤ 64 → bit_and w ((1 * 2 ^ j % 2 ^ 64 - 1) * 2 ^ k % 2 ^ 64) ≡ field w k j * 2 ^ k
+left_there w j k lt le = let within : j + k ≤ 64 = omega arith in rw (mask_there j k lt within) (and_high w j k)
 
 -- a word without the bits of a field
 cleared : (w j k : ℕ) → w < 2 ^ 64 → j + k ≤ 64 → bit_and w (2 ^ 64 - 1 - (2 ^ (j + k) - 2 ^ k)) ≡ w / 2 ^ (j + k) * 2 ^ (j + k) + w % 2 ^ k

@@ -1,5 +1,5 @@
 -- Packing and unpacking undo each other.
-use Rattle.std.proofs.Common.{ℕ, ◌≡◌, ◌<◌, ◌≤◌, ◌+◌, ◌*◌, ◌/◌, ◌%◌, ◌^◌, refl, sym, ◌∙◌, subst, ap, arith, true, false, min, Option, Some, None}
+use Rattle.std.proofs.Common.{ℕ, ◌≡◌, ◌<◌, ◌≤◌, ◌+◌, ◌*◌, ◌/◌, ◌%◌, ◌^◌, ◌↔◌, refl, sym, ◌∙◌, subst, ap, arith, true, false, min, Option, Some, None}
 use Rattle.std.specs.Prelude.{IfSome, ltb}
 use Rattle.std.proofs.lemmas.Bool.{lt-ltb, le-ltb}
 use Rattle.zp_model.specs.declared.constants.TheConstants.{MAX_PAGES}
@@ -96,6 +96,15 @@ pub packed_is : (e : PageEntry) (word : ℕ) → Fits wide e → word ≡ packed
 packed_is e word fits is =
     let same = wide_undone e fits in
     rw is ((subst (Fits wide) (sym same) fits, ap (λ (d : PageEntry). packed wide d) same), same)
+
+-- the bits of a state in a packed word are those of the state that it tells
+pub state_tells : (word : ℕ) (s : State) → IsPacked wide word → StateFits s → (field word STATE_AT STATE_BITS * 2 ^ STATE_AT ≡ with_field 0 STATE_AT STATE_BITS (packed_state s)) ↔ ((unpacked wide word).state ≡ s)
+state_tells word s p fits = (
+  λ same. let bits : field word STATE_AT STATE_BITS ≡ packed_state s = omega arith in state_back s (field word STATE_AT STATE_BITS) fits bits,
+  λ told.
+      let bits = ap (λ (w : ℕ). field w STATE_AT STATE_BITS) (sym p.1) ∙ (wide_fields (unpacked wide word) p.0.state).0 ∙ ap (λ (d : State). packed_state d) told in
+      omega arith,
+)
 
 -- another state, or another link, in the word of an entry
 pub state_put : (word : ℕ) (s : State) → IsPacked wide word → StateFits s →

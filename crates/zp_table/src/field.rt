@@ -1,5 +1,5 @@
 //! Fields of a word. Masks and shifts stand here alone.
-ghost use Rattle.std.specs.Prelude.{◌≡◌, ◌<◌, ◌^◌};
+ghost use Rattle.std.specs.Prelude.{◌≡◌, ◌<◌, ◌*◌, ◌^◌};
 ghost use Rattle.zp_table.specs.Fields.{IsField, field, with_field};
 
 /// So many bits of a word, from one on.
@@ -10,6 +10,15 @@ pub fn field(word: u64, from: u32, bits: u32) -> u64
 {
     let mask = (1 << bits) - 1;
     (word >> from) & mask
+}
+
+/// The same bits, left where they stand, and no others.
+pub fn field_there(word: u64, from: u32, bits: u32) -> u64
+    requires { IsField from bits }
+    ensures { result ≡ field word from bits * 2 ^ from }
+{
+    let mask = ((1 << bits) - 1) << from;
+    word & mask
 }
 
 /// A word with other bits there.

@@ -7,7 +7,7 @@ ghost use Rattle.zp_table.specs.Links.{number_of};
 ghost use Rattle.zp_table.specs.Packed.{packed, wide};
 
 use crate::entry::PageEntry;
-use crate::field::{field, with_field};
+use crate::field::{field, field_there, with_field};
 use crate::layout::{
     BACK_AT, FORWARD_AT, LINK_BITS, ORDER_AT, ORDER_BITS, STATE_AT, STATE_BITS, TYPE_AT, TYPE_BITS,
     WHICH_BITS, WORKER_AT, WORKER_BITS,
@@ -88,11 +88,13 @@ impl PackedEntry {
         }
     }
 
-    /// Whether this is the state. Its bits are compared, and nothing is unpacked.
+    /// Whether this is the state. Its bits are compared where they stand, and nothing is unpacked.
+    #[tactic(auto, using(crate::proofs::Packing::state_tells))]
     pub fn is_state(self, state: State) -> bool
         ensures { IsTrue result ↔ (self.state ≡ state) }
     {
-        field(self.word, STATE_AT, STATE_BITS) == packed_state(state)
+        let bits = with_field(0, STATE_AT, STATE_BITS, packed_state(state));
+        field_there(self.word, STATE_AT, STATE_BITS) == bits
     }
 
     pub fn back(self) -> Link
