@@ -23,6 +23,7 @@ pub enum Making {
     Journal,
     Board,
     TurningBoard,
+    WideBoard,
     OpenedZone,
     Readers,
     SharedZone,
@@ -50,7 +51,7 @@ pub struct MakingWord {
 }
 
 /// All words, the lower layers first.
-pub const WORDS: [MakingWord; 27] = [
+pub const WORDS: [MakingWord; 28] = [
     MakingWord {
         name: "nothing",
         making: Making::Nothing,
@@ -109,6 +110,11 @@ pub const WORDS: [MakingWord; 27] = [
     MakingWord {
         name: "new_turning_board",
         making: Making::TurningBoard,
+        has_calls: true,
+    },
+    MakingWord {
+        name: "new_wide_board",
+        making: Making::WideBoard,
         has_calls: true,
     },
     MakingWord {
@@ -218,6 +224,7 @@ pub fn make<R: Threads + Wait + Sync>(
         Making::Journal => boards::journal(alloc),
         Making::Board => boards::board(alloc, calls),
         Making::TurningBoard => boards::turning_board(alloc, calls),
+        Making::WideBoard => boards::wide_board(alloc, calls),
         Making::OpenedZone => locked::opened(alloc),
         Making::Readers => locked::readers(alloc),
         Making::SharedZone => locked::shared(rt, alloc, calls),

@@ -3,7 +3,9 @@
 ghost use Rattle.std.specs.Prelude.{◌≡◌};
 
 use std::alloc::Global;
-use zp_counts::{Board, BoardReader, Publisher, are_packable, new_board, new_turning_board};
+use zp_counts::{
+    Board, BoardReader, Publisher, are_packable, new_board, new_turning_board, new_wide_board,
+};
 use zp_journal::Journal;
 use zp_loads::{Unmade, expect};
 use zp_model::Counts;
@@ -30,6 +32,12 @@ pub fn turning_board(alloc: Global, calls: u32) -> Result<(), Unmade> {
         return Err(Unmade::Other);
     }
     let (board, publisher) = new_turning_board(alloc, u64::MAX, &opening)?;
+    publish_and_read(board, publisher, calls)
+}
+
+/// One whose words hold any counts, with as many.
+pub fn wide_board(alloc: Global, calls: u32) -> Result<(), Unmade> {
+    let (board, publisher) = new_wide_board(alloc, u64::MAX, &Counts::default())?;
     publish_and_read(board, publisher, calls)
 }
 
