@@ -1,6 +1,6 @@
 /* A zoned page allocator. docs/c.md tells how to begin.
  *
- * Two kinds of handle. A ROW is 1 to 4 zones, the lowest first. A WORKER is one worker's share of a row: its own lists of single pages, and
+ * Two kinds of handle. A ROW is 1 to 64 zones, the lowest first. A WORKER is one worker's share of a row: its own lists of single pages, and
  * what is lent to it. A handle begins as zeros and is then written by these calls alone. It may be moved; it is never used as two copies.
  *
  * Who may call at the same time. Each handle is in one call at a time. Beside that:
@@ -31,7 +31,7 @@ typedef struct zone_row { uint32_t live; unsigned char *at; } zone_row_t;
 typedef struct zone_worker { uint32_t live; unsigned char *at; } zone_worker_t;
 #define ZONE_NONE { 0, NULL }
 
-enum { ZONE_ZONES = 4, ZONE_WORKERS = 32, ZONE_ORDERS = 11, ZONE_TYPES = 3, ZONE_INFO_LINE = 160 };
+enum { ZONE_ZONES = 64, ZONE_WORKERS = 32, ZONE_ORDERS = 11, ZONE_TYPES = 3, ZONE_INFO_LINE = 160 };
 
 /* Migrate types; of a pageblock also ZONE_TYPE_ISOLATED. */
 enum { ZONE_TYPE_UNMOVABLE = 0, ZONE_TYPE_RECLAIMABLE = 1, ZONE_TYPE_MOVABLE = 2, ZONE_TYPE_ISOLATED = 3 };
@@ -46,8 +46,8 @@ enum { ZONE_TAIL = 0, ZONE_FREE = 1, ZONE_OUT = 2, ZONE_POSTED = 3 };
 enum {
     ZONE_OK = 0,
     ZONE_BAD_NAME = 1,            /* not 1 to 8 ASCII letters or digits */
-    ZONE_BAD_BASE = 2,            /* no multiple of 1024, or above 2^24; or inside or below the zone before it */
-    ZONE_BAD_PAGES = 3,           /* not 1 to 65536 */
+    ZONE_BAD_BASE = 2,            /* no multiple of 1024, or above 2^30; or inside or below the zone before it */
+    ZONE_BAD_PAGES = 3,           /* not 1 to 16777216 */
     ZONE_BAD_MARK = 4,            /* the least mark is above the pages */
     ZONE_BAD_WORKERS = 5,         /* not 1 to 32 */
     ZONE_NO_MEMORY = 6,

@@ -365,28 +365,31 @@ static void move_handles(void)
 
 /* --- a row from its making to its end --- */
 
+/* Of a row of many zones each is small; else one in forty is larger than a narrow one can be. */
 static uint32_t pick_pages(void)
 {
+    if (n_zones > 4)
+        return 1 + below(64);
     switch (below(8)) {
     case 0: case 1: case 2: return 1 + below(64);
     case 3: case 4: case 5: return 1 + below(3000);
     case 6: return 1 + below(65536);
-    default: return 65536 - below(3);
+    default: return one_in(5) ? 65537 + below(65536) : 65536 - below(3);
     }
 }
 
 static void pick_specs(void)
 {
-    uint32_t i, next = 1024 * below(16);
+    uint32_t i, next = 1024 * (one_in(2) ? below(16) : below(1 << 19));
     memset(specs, 0, sizeof specs);
-    n_zones = 1 + below(ZONE_ZONES);
+    n_zones = one_in(12) ? 1 + below(ZONE_ZONES) : 1 + below(4);
     for (i = 0; i < n_zones; i++) {
         specs[i].base = next;
         specs[i].pages = pick_pages();
         specs[i].min = one_in(2) ? 0 : below(specs[i].pages / (one_in(8) ? 1 : 8) + 1);
         specs[i].largest = one_in(3) ? 10 : 1 + below(10);
         specs[i].name_len = 1 + below(8);
-        memset(specs[i].name, 'A' + (int)i, specs[i].name_len);
+        memset(specs[i].name, 'A' + (int)(i % 26), specs[i].name_len);
         next = (next + specs[i].pages + 1023) / 1024 * 1024 + 1024 * below(3);
     }
 }

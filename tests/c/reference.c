@@ -3,7 +3,7 @@
 #include <stdlib.h>
 #include <string.h>
 
-enum { MOST_PAGES = 65536, MOST_BASE = 1 << 24, BASE_STEP = 1024, MOST_BATCH = 31, LONGEST_LIST = 64, KINDS = 4 };
+enum { MOST_PAGES = 1 << 24, MOST_BASE = 1 << 30, BASE_STEP = 1024, MOST_BATCH = 31, LONGEST_LIST = 64, KINDS = 4 };
 /* No page. */
 static const uint32_t NONE = UINT32_MAX;
 

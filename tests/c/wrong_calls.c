@@ -548,8 +548,8 @@ static void wrong_names(void)
 
 static void wrong_sizes(void)
 {
-    static const uint32_t bases[] = { 1025, 2047, 0x7FFFFFFF, (1u << 24) + 1024, 0x80000000, 0xFFFFFC00, 0xFFFFFFFF };
-    static const uint32_t pages[] = { 0, 65537, 131072, 0x80000000, 0xFFFFFFFF };
+    static const uint32_t bases[] = { 1025, 2047, 0x7FFFFFFF, (1u << 30) + 1024, 0x80000000, 0xFFFFFC00, 0xFFFFFFFF };
+    static const uint32_t pages[] = { 0, (1u << 24) + 1, 1u << 25, 0x80000000, 0xFFFFFFFF };
     static const uint32_t mins[] = { HIGH_ZONE + 1, 65536, 0x80000000, 0xFFFFFFFF };
     static const uint32_t orders[] = { 0, 11, 12, 256, 257, 266, 0x80000000, 0xFFFFFFFF };
     zone_spec_t wrong;
@@ -599,18 +599,18 @@ static void wrong_lists(void)
 
 static void wrong_makings(void)
 {
-    zone_spec_t five[ZONE_ZONES + 1];
+    static zone_spec_t too_many[ZONE_ZONES + 1];
     static const uint32_t many[] = { 0, ZONE_WORKERS + 1, 256, 257, 0x80000000, 0xFFFFFFFF };
     size_t i;
     for (i = 0; i <= ZONE_ZONES; i++) {
-        five[i] = specs[0];
-        five[i].base += 1024 * (uint32_t)i;
-        five[i].name[0] = (uint8_t)('A' + i);
+        too_many[i] = specs[0];
+        too_many[i].base += 1024 * (uint32_t)i;
+        too_many[i].name[0] = (uint8_t)('A' + i % 26);
     }
-    UNMADE(ZONE_BAD_ARGUMENT, zonealloc_make(&made, crew, 2, five, 0, BATCH, HIGH_LEN));
-    UNMADE(ZONE_BAD_ARGUMENT, zonealloc_make(&made, crew, 2, five, ZONE_ZONES + 1, BATCH, HIGH_LEN));
-    UNMADE(ZONE_BAD_ARGUMENT, zonealloc_bytes(five, 0, 2, &told.bytes));
-    UNMADE(ZONE_BAD_ARGUMENT, zonealloc_bytes(five, ZONE_ZONES + 1, 2, &told.bytes));
+    UNMADE(ZONE_BAD_ARGUMENT, zonealloc_make(&made, crew, 2, too_many, 0, BATCH, HIGH_LEN));
+    UNMADE(ZONE_BAD_ARGUMENT, zonealloc_make(&made, crew, 2, too_many, ZONE_ZONES + 1, BATCH, HIGH_LEN));
+    UNMADE(ZONE_BAD_ARGUMENT, zonealloc_bytes(too_many, 0, 2, &told.bytes));
+    UNMADE(ZONE_BAD_ARGUMENT, zonealloc_bytes(too_many, ZONE_ZONES + 1, 2, &told.bytes));
     UNMADE(ZONE_BAD_WORKERS, zonealloc_make(&made, crew, 0, specs, ZONES, BATCH, HIGH_LEN));
     UNMADE(ZONE_BAD_WORKERS, zonealloc_make(&made, crew, ZONE_WORKERS + 1, specs, ZONES, BATCH, HIGH_LEN));
     for (i = 0; i < sizeof many / sizeof many[0]; i++)

@@ -5,12 +5,14 @@
 mod cut_zone;
 mod endless_zone;
 mod locked_page;
+mod machine;
 mod reading_in_history;
 mod replayed_pieces;
 
 pub use cut_zone::{CutRun, PIECE, work_in_pieces};
 pub use endless_zone::{EndlessRun, work_without_end};
 pub use locked_page::touch_a_page;
+pub use machine::{MachineRun, MachineZones, SeatedZone, machine_zones, run_machine};
 pub use reading_in_history::read_before_the_lock;
 pub use replayed_pieces::replayed_zone;
 

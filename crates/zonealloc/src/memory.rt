@@ -1,6 +1,7 @@
 //! How much memory a row takes.
 ghost use Rattle.std.specs.Prelude.{◌≡◌, ◌≤◌, IfErr, IfOk, length};
 ghost use Rattle.std.specs.List.{sum_by};
+ghost use Rattle.zp_model.specs.declared.constants.TheConstants.{MAX_ZONES};
 ghost use Rattle.zonealloc.specs.Memory.{IsBytesCall, zone_bytes};
 
 use crate::answers::{BAD_ARGUMENT, DONE, refused};
@@ -38,7 +39,7 @@ pub extern "C" fn zonealloc_bytes(zones: &[ZoneSpec], workers: u32, bytes: &mut 
 
 /// The sum over the zones; else the number of why a zone has none.
 fn bytes_of(zones: &[ZoneSpec], workers: u32) -> Result<u64, u32>
-    requires zones { length zones.now ≤ 4 }
+    requires zones { length zones.now ≤ MAX_ZONES }
     requires workers { workers ≤ 32 }
     ensures ok { IfOk result (λ n. n ≡ sum_by (zone_bytes workers) zones.now) }
     ensures why { IfErr result (λ n. 1 ≤ n) }

@@ -1,7 +1,7 @@
 //! The checksums of the workloads: what another allocator with the same rules answers too.
 
 use crate::workload::{SIZES, Workload};
-use crate::worst;
+use crate::{entries, worst};
 use std::alloc::Global;
 use zp_loads::{BlockSource, Cached, Load, PastLists, Seated, Unmade};
 use zp_model::Order;
@@ -13,7 +13,8 @@ pub struct Sum {
     pub checksum: u64,
 }
 
-/// A workload in a zone of so many pages.
+/// A workload in a zone of so many pages. What is lent at its end is not given back: of two numbers of calls the difference in
+/// instructions is that of the calls alone.
 pub fn sum_of<S: BlockSource>(
     alloc: Global,
     workload: &Workload,
@@ -23,7 +24,6 @@ pub fn sum_of<S: BlockSource>(
     let mut bench = Load::<S>::new(alloc, pages)?;
     workload.prepare(&mut bench)?;
     let calls = workload.run(&mut bench, ops)?;
-    bench.give_all();
     Ok(Sum {
         calls,
         checksum: bench.checksum(),
@@ -39,9 +39,22 @@ fn print_sums<S: BlockSource>(
     ops: u32,
 ) -> anyhow::Result<()> {
     for pages in SIZES {
-        let sum = sum_of::<S>(alloc, workload, pages, ops)?;
-        println!(rt; "{name} {pages} {ops} {:016x}", sum.checksum)?;
+        print_sum::<S>(rt, alloc, name, workload, pages, ops)?;
     }
+    Ok(())
+}
+
+/// Prints the checksum of a workload in a zone of so many pages.
+fn print_sum<S: BlockSource>(
+    rt: &impl Print,
+    alloc: Global,
+    name: &str,
+    workload: &Workload,
+    pages: u32,
+    ops: u32,
+) -> anyhow::Result<()> {
+    let sum = sum_of::<S>(alloc, workload, pages, ops)?;
+    println!(rt; "{name} {pages} {ops} {:016x}", sum.checksum)?;
     Ok(())
 }
 
@@ -50,6 +63,15 @@ fn print_pairs(rt: &impl Print, alloc: Global, name: &str, order: u8) -> anyhow:
     if let Some(order) = Order::new(order) {
         print_sums::<Seated<10>>(rt, alloc, name, &Workload::Pairs(order), 1000)?;
     }
+    Ok(())
+}
+
+/// Prints what is checked of wide zones: all pages of one taken one by one and given back at random, and what is told of the pages at
+/// the end of the narrow ones, and of the last page.
+fn print_wide(rt: &impl Print, alloc: Global) -> anyhow::Result<()> {
+    print_sum::<Seated<10>>(rt, alloc, "burst", &Workload::Burst, 1 << 20, 1)?;
+    entries::follow(alloc)?;
+    println!(rt; "entries of wide pages: as they should be")?;
     Ok(())
 }
 
@@ -73,5 +95,6 @@ pub fn print_all(rt: &impl Print, alloc: Global) -> anyhow::Result<()> {
     worst::print_sums(rt, alloc)?;
     print_sums::<Seated<9>>(rt, alloc, "largest 9 pairs 0", &hot, 1000)?;
     print_sums::<Seated<4>>(rt, alloc, "largest 4 pairs 0", &hot, 1000)?;
-    print_sums::<Seated<1>>(rt, alloc, "largest 1 pairs 0", &hot, 1000)
+    print_sums::<Seated<1>>(rt, alloc, "largest 1 pairs 0", &hot, 1000)?;
+    print_wide(rt, alloc)
 }

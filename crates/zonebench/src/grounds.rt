@@ -3,7 +3,7 @@
 use zp_loads::{BlockSource, Load, Unmade};
 use zp_model::{LARGEST_BLOCK_PAGES, MigrateType, Order};
 
-/// The pages of the zone.
+/// The pages of the zone, but where a request names them.
 pub const PAGES: u32 = 65_536;
 
 /// The pages of a pageblock, at the usual largest order.
@@ -29,7 +29,7 @@ pub enum Ground {
 }
 
 impl Ground {
-    /// Brings a zone of `PAGES` pages there.
+    /// Brings a zone there.
     pub fn prepare<S: BlockSource>(&self, bench: &mut Load<S>) -> Result<(), Unmade> {
         match self {
             Ground::Whole => settle(bench, MigrateType::Movable),

@@ -123,7 +123,7 @@ pub fn time<R: Threads + Wait + Clock + Sync>(
     plan: Plan,
 ) -> anyhow::Result<TimedWork> {
     let stint = plan.stint()?;
-    match Zone::new(alloc, config(pages), plan.workers) {
+    match Zone::wide(alloc, config(pages), plan.workers) {
         Ok((zone, seats)) => match kept {
             Kept::Whole => time_whole(rt, alloc, zone, seats, &stint),
             Kept::Nothing => time_nothing(rt, alloc, zone, seats, &stint),

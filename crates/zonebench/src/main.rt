@@ -1,19 +1,24 @@
-//! `zonebench [check | worst | count WORKLOAD PAGES CALLS]`: workloads over a zone, each with its seed, by a seat of the zone and by a
+//! `zonebench [check | worst | sizes | makings | count WORKLOAD PAGES CALLS]`: workloads over a zone, each with its seed, by a seat of the zone and by a
 //! worker with lists of its own, which threads run over a shared zone too.
 //!
 //! With no word it prints how long a call of each takes, and a section on a zone behind its lock by what the zone keeps, and what is
 //! published on a board and read off it, with a line of progress for each on standard error. With `check` it prints the checksums of
 //! the pages answered, which do not depend on the machine, and starts no thread. With `worst` it prints how long the dearest requests
-//! that are known take. With `count` it makes so many calls of one workload, so that a tool can count their instructions.
+//! that are known take. With `sizes` it prints how long a call of each workload takes in zones of up to 2^24 pages, and with `makings`
+//! how long the making of such zones takes. With `count` it makes so many calls of one workload, so that a tool can count their
+//! instructions.
 #![tactic(auto)]
 
 mod board;
 mod check;
 mod counting;
+mod entries;
 mod grounds;
 mod locked;
+mod makings;
 mod reading;
 mod shapes;
+mod sizes;
 mod threads;
 mod times;
 mod timing;
@@ -28,9 +33,13 @@ fn main(rt: HostRuntime) -> anyhow::Result<()> {
         [] => timing::print_all(&rt, rt.alloc()),
         [word] if word.as_str() == "check" => check::print_all(&rt, rt.alloc()),
         [word] if word.as_str() == "worst" => worst::print_all(&rt, rt.alloc()),
+        [word] if word.as_str() == "sizes" => sizes::print_all(&rt, rt.alloc()),
+        [word] if word.as_str() == "makings" => makings::print_all(&rt, rt.alloc()),
         [word, name, pages, calls] if word.as_str() == "count" => {
             counting::print_count(&rt, rt.alloc(), name, pages, calls)
         }
-        _ => anyhow::bail!("zonebench: the words are check, worst, or count WORKLOAD PAGES CALLS"),
+        _ => anyhow::bail!(
+            "zonebench: the words are check, worst, sizes, makings, or count WORKLOAD PAGES CALLS"
+        ),
     }
 }

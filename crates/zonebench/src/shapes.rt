@@ -5,7 +5,7 @@ use std::alloc::Global;
 use zp_loads::{BlockSource, LentBlock, Load, PastLists, Seated, Unmade};
 use zp_model::{MigrateType, Order, PageNo};
 
-/// A request in a zone of `PAGES` pages.
+/// A request that is dear.
 pub trait Shape: Drop {
     /// Makes the request.
     fn ask(&mut self);
@@ -70,15 +70,19 @@ pub fn wishes() -> [(&'static str, Wish); 6] {
     // the free pages are of another type each time
     let in_turn = Wish::page(Ground::OnePageblock, [unmovable, movable]);
     let retype = Wish::page(Ground::HalfPageblock, [unmovable, reclaimable]);
-    let list_end = Wish::page(Ground::LongList, [unmovable; 2]);
     [
         ("ten splits", Wish::page(Ground::Whole, [movable; 2])),
         ("claim that fails beside 64 pageblocks", too_small),
         ("borrow after such a claim", borrow),
         ("claims in turn", in_turn),
         ("retype of 512 single pages", retype),
-        ("claim at the end of a long list", list_end),
+        ("claim at the end of a long list", list_end()),
     ]
+}
+
+/// A claim of the last block of a list none of whose other blocks may be claimed.
+pub fn list_end() -> Wish {
+    Wish::page(Ground::LongList, [MigrateType::Unmovable; 2])
 }
 
 /// A wish, asked of a zone.
@@ -90,8 +94,9 @@ pub struct Taking {
 }
 
 impl Taking {
-    pub fn new(alloc: Global, wish: Wish) -> Result<Taking, Unmade> {
-        let mut bench = Load::new(alloc, PAGES)?;
+    /// In a zone of so many pages.
+    pub fn new(alloc: Global, pages: u32, wish: Wish) -> Result<Taking, Unmade> {
+        let mut bench = Load::new(alloc, pages)?;
         wish.ground.prepare(&mut bench)?;
         Ok(Taking {
             bench,

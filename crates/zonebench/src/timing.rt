@@ -17,7 +17,7 @@ use zp_loads::{BlockSource, Cached, Load, PastLists, Seated, Unmade};
 use zp_model::Order;
 
 /// The calls that are timed, about.
-const CALLS: u32 = 2_000_000;
+pub const CALLS: u32 = 2_000_000;
 
 /// The samples of sections on a locked zone, each with a zone of its own.
 const SAMPLES: u32 = 8;
@@ -26,7 +26,7 @@ const SAMPLES: u32 = 8;
 const SHARED_PAGES: u32 = SIZES[1];
 
 /// Tenths of a nanosecond that a call of a workload takes in a zone of so many pages.
-fn tenths_a_call<S: BlockSource>(
+pub fn tenths_a_call<S: BlockSource>(
     rt: &impl Clock,
     alloc: Global,
     workload: &Workload,
@@ -57,14 +57,14 @@ fn tenths_each(time: Duration, calls: u64) -> u128 {
 }
 
 /// Begins a line of the table, and tells so on standard error.
-fn print_name(rt: &(impl Print + Eprint), name: &str) -> anyhow::Result<()> {
+pub fn print_name(rt: &(impl Print + Eprint), name: &str) -> anyhow::Result<()> {
     eprintln!(rt; "{name} ..")?;
     print!(rt; "{name:<40}")?;
     Ok(())
 }
 
 /// Prints the time at one size of a zone.
-fn print_tenths(rt: &impl Print, tenths: u128) -> anyhow::Result<()> {
+pub fn print_tenths(rt: &impl Print, tenths: u128) -> anyhow::Result<()> {
     print!(rt; "{:>10}.{}", tenths / 10, tenths % 10)?;
     Ok(())
 }

@@ -4,12 +4,13 @@ ghost use Rattle.std.specs.Prelude.{◌≡◌, ◌≤◌};
 ghost use Rattle.zonebench.specs.Calls.{ops};
 
 use zp_loads::{BlockSource, Load, Unmade, below};
-use zp_model::{MigrateType, Order};
+use zp_model::{MigrateType, NARROW_PAGES, Order};
 
 /// The sizes of the zones, in pages.
 pub const SIZES: [u32; 3] = [1024, 4096, 65_536];
 
-/// The calls of a churn before the ones that count.
+/// The calls of a churn before the ones that count, where the zone has at most 65,536 pages; a wide zone has as many for each 65,536
+/// pages, so that half of it is lent, and well mixed.
 const WARMING: u32 = 40_000;
 
 /// The blocks of a run.
@@ -58,7 +59,7 @@ impl Workload {
         }
     }
 
-    /// The number for `run` that makes about so many calls, in a zone of so many pages.
+    /// The number for `run` that makes about so many calls, in a zone of so many pages; one burst at least.
     pub fn ops(&self, pages: u32, calls: u32) -> u32
         requires { 1 ≤ pages }
         ensures { result ≡ ops self.now pages calls }
@@ -66,7 +67,7 @@ impl Workload {
         match self {
             Workload::Pairs(_) | Workload::Scattered => calls / 2,
             Workload::Runs | Workload::Churn | Workload::Press => calls,
-            Workload::Burst => calls / 2 / pages,
+            Workload::Burst => (calls / 2 / pages).max(1),
             Workload::Claims => calls / 4,
         }
     }
@@ -74,9 +75,7 @@ impl Workload {
     /// What comes before the calls that count.
     pub fn prepare<S: BlockSource>(&self, bench: &mut Load<S>) -> Result<(), Unmade> {
         match self {
-            Workload::Churn => {
-                churn(bench, WARMING)?;
-            }
+            Workload::Churn => warm(bench)?,
             Workload::Press => press_down(bench)?,
             Workload::Burst => burst(bench)?,
             Workload::Scattered => scatter(bench)?,
@@ -127,6 +126,14 @@ fn churn<S: BlockSource>(bench: &mut Load<S>, ops: u32) -> Result<u64, Unmade> {
         churn_once(bench)?;
     }
     Ok(u64::from(ops))
+}
+
+/// The calls of a churn before the ones that count.
+fn warm<S: BlockSource>(bench: &mut Load<S>) -> Result<(), Unmade> {
+    for _ in 0..(bench.pages() / u64::from(NARROW_PAGES)).max(1) {
+        churn(bench, WARMING)?;
+    }
+    Ok(())
 }
 
 /// A block of a drawn order is taken where fewer than half of the pages are lent; else a drawn one is given back.

@@ -1,7 +1,9 @@
 //! How long the dearest requests that are known take, each call by itself.
 
 use crate::grounds::{Ground, PAGES};
-use crate::shapes::{Draining, Giving, Isolating, Nothing, Refilling, Shape, Taking, wishes};
+use crate::shapes::{
+    Draining, Giving, Isolating, Nothing, Refilling, Shape, Taking, list_end, wishes,
+};
 use crate::times::Times;
 use std::alloc::Global;
 use std::rt::Clock;
@@ -16,6 +18,9 @@ const CALLS_ANEW: u32 = 1000;
 
 /// The calls whose answers are summed.
 const CALLS_SUMMED: u32 = 10;
+
+/// The pages of zones in which the list that a claim walks is longer, and the calls: laying the ground takes all pages.
+const LONG_LISTS: [(u32, u32); 2] = [(1 << 20, 100), (1 << 24, 10)];
 
 const GIVING: &str = "ten joins";
 
@@ -76,6 +81,16 @@ fn print_times_of(
     Ok(())
 }
 
+/// Prints the lines of the claim at the end of a list, in wide zones.
+fn print_long_lists(rt: &(impl Print + Eprint + Clock), alloc: Global) -> anyhow::Result<()> {
+    for (pages, calls) in LONG_LISTS {
+        let name = format!(in alloc; "the same of {pages} pages")?;
+        let made = Taking::new(alloc, pages, list_end());
+        print_times(rt, alloc, name.as_str(), made, calls)?;
+    }
+    Ok(())
+}
+
 /// Prints the table: of each request the median and the 99.9th percentile, the time of the clock with them.
 pub fn print_all(rt: &(impl Print + Eprint + Clock), alloc: Global) -> anyhow::Result<()> {
     println!(rt;
@@ -89,8 +104,9 @@ pub fn print_all(rt: &(impl Print + Eprint + Clock), alloc: Global) -> anyhow::R
         } else {
             CALLS
         };
-        print_times(rt, alloc, name, Taking::new(alloc, wish), calls)?;
+        print_times(rt, alloc, name, Taking::new(alloc, PAGES, wish), calls)?;
     }
+    print_long_lists(rt, alloc)?;
     print_times(rt, alloc, GIVING, Giving::new(alloc), CALLS)?;
     print_times(rt, alloc, REFILLING, Refilling::new(alloc), CALLS)?;
     for (name, ground) in ISOLATING {
@@ -123,7 +139,7 @@ fn print_sum_of(rt: &impl Print, name: &str, shape: &mut impl Shape) -> anyhow::
 /// Prints the checksums of all requests: the request, the pages of the zone, the calls, and the checksum of the answers.
 pub fn print_sums(rt: &impl Print, alloc: Global) -> anyhow::Result<()> {
     for (name, wish) in wishes() {
-        print_sum(rt, name, Taking::new(alloc, wish))?;
+        print_sum(rt, name, Taking::new(alloc, PAGES, wish))?;
     }
     print_sum(rt, GIVING, Giving::new(alloc))?;
     print_sum(rt, REFILLING, Refilling::new(alloc))?;

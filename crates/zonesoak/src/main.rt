@@ -8,6 +8,7 @@
 mod cut;
 mod ended;
 mod endless;
+mod machine;
 mod soak;
 mod stint;
 mod watch;
@@ -18,5 +19,6 @@ const WORKERS: u32 = 4;
 fn main(rt: HostRuntime) -> anyhow::Result<()> {
     soak::print(&rt, rt.alloc())?;
     ended::print(&rt, rt.alloc())?;
-    cut::print(&rt, rt.alloc())
+    cut::print(&rt, rt.alloc())?;
+    machine::print(&rt, rt.alloc())
 }

@@ -14,7 +14,7 @@ use std::marker::Brand;
 use std::sync::Wait;
 use std::thread::{Threads, join, map_vec};
 use zp_loads::Unmade;
-use zp_model::{MAX_PAGES, MAX_WORKERS};
+use zp_model::{MAX_WORKERS, NARROW_PAGES};
 use zp_share::ListConfig;
 use zp_shared::{Crew, Naming, NoJournal, OneZone, OpenedZone};
 use zp_zone::Seat;
@@ -127,7 +127,7 @@ fn run_as<J: Naming + Send + Sync, R: Threads + Wait + Sync>(
 
 /// Makes a zone, and all the requests of it.
 fn run<R: Threads + Wait + Sync>(rt: &R, alloc: Global, load: Load) -> Result<Soak, Unmade> {
-    match endless(alloc, MAX_PAGES, load.workers, u64::MAX) {
+    match endless(alloc, NARROW_PAGES, load.workers, u64::MAX) {
         Ok((opened, seats)) => run_as::<Brand, R>(rt, alloc, opened, seats, load),
         Err(unmade) => Err(unmade),
     }

@@ -12,7 +12,7 @@ use Rattle.zp_model.specs.Info.{blocks_of_order, counts_of}
 use Rattle.zp_model.proofs.Heads.{aligned_down}
 use Rattle.zp_model.proofs.Pages.{is_max-to}
 use Rattle.zp_counts.specs.CountBoards.{ArePackable}
-use Rattle.zp_counts.specs.declared.packed.TheConstants.{NARROW_PAGES}
+use Rattle.zp_model.specs.declared.constants.TheConstants.{NARROW_PAGES}
 
 abbrev one_if : Bool → ℕ
 one_if b = cond b 1 0

@@ -1,11 +1,11 @@
 -- The counts of a zone on a board (this profile).
 use Rattle.std.specs.Prelude.{ℕ, ◌≡◌, ◌+◌, ◌-◌, ◌<◌, ◌≤◌, ◌⊎◌, Bool, true, false, Some, slice_get, List, [], ◌∷◌, ◌++◌, length, map, min, take, slice_index, slice_index_or}
 use Rattle.atomic_table.specs.Seated.{TableId}
-use Rattle.zp_model.specs.declared.constants.TheConstants.{ORDERS}
+use Rattle.zp_model.specs.declared.constants.TheConstants.{NARROW_PAGES, ORDERS}
 use Rattle.zp_model.specs.declared.counts.Counts.{Counts}
 use Rattle.zp_ring.specs.Rings.{AreLooks, WasMet, WerePassed}
 use Rattle.zp_counts.specs.declared.kinds.TheConstants.{SLOTS}
-use Rattle.zp_counts.specs.declared.packed.TheConstants.{WIDE, MIDDLE, NARROW, NARROW_PAGES}
+use Rattle.zp_counts.specs.declared.packed.TheConstants.{WIDE, MIDDLE, NARROW}
 use Rattle.zp_counts.specs.declared.reading.Reading.{Reading}
 
 -- the number that a word of one count stands for: a count has 32 bits

@@ -12,7 +12,7 @@ mod words;
 
 pub use board::{Board, BoardReader, Publisher, new_board, new_turning_board, new_wide_board};
 pub use kinds::SLOTS;
-pub use packed::{NARROW_PAGES, PACKED_WORDS, are_packable};
+pub use packed::{PACKED_WORDS, are_packable};
 pub use reading::Reading;
 pub use words::PAIR_WORDS;
 

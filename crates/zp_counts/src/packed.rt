@@ -7,9 +7,6 @@ ghost use Rattle.zp_counts.specs.Packing.{digits_of, number_of, packed_in, packe
 
 use zp_model::{Counts, ORDERS};
 
-/// The counts of a zone of so many pages at most fit into packed words.
-pub const NARROW_PAGES: u32 = 65_536;
-
 /// How many words packed counts take.
 pub const PACKED_WORDS: usize = 3;
 

@@ -116,7 +116,7 @@ fn opened_zone(alloc: Global, config: &ZoneConfig<'_>, workers: u32) -> Result<O
     let Some(name) = Name::new(config.name.as_bytes()) else {
         return Err(Refused::BadName);
     };
-    let (zone, mut seats) = Zone::new(alloc, ZoneConfig { ..*config }, workers)?;
+    let (zone, mut seats) = Zone::wide(alloc, ZoneConfig { ..*config }, workers)?;
     let Some(seat) = seats.pop() else {
         return Err(Refused::BadWorkers);
     };

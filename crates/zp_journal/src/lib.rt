@@ -17,6 +17,9 @@ pub use cut_journal::CutJournal;
 pub use journal::{Journal, LONGEST_JOURNAL};
 pub use keeps::Keeps;
 pub use no_journal::NoJournal;
-pub use pieces::{Piece, are_adjoining, replay_pieces};
-pub use replay::{JournalCheck, counts_after, replay_further, replay_journal, replay_opening};
+pub use pieces::{Piece, are_adjoining, replay_pieces, replay_pieces_from};
+pub use replay::{
+    JournalCheck, counts_after, counts_after_from, replay_further, replay_journal,
+    replay_journal_from, replay_opening, replay_wide_opening,
+};
 pub use whole_journal::WholeJournal;

@@ -1,5 +1,5 @@
 //! The pieces of a zone's journal that was handed over one after another: whether they adjoin, and their replay.
-ghost use Rattle.std.specs.Prelude.{◌≡◌, ◌<◌, ◌^◌, ◌↔◌, length, IsTrue, OnOk, IfOk, IfErr};
+ghost use Rattle.std.specs.Prelude.{◌≡◌, ◌<◌, ◌^◌, ◌↔◌, [], length, IsTrue, OnOk, IfOk, IfErr};
 ghost use Rattle.zp_model.specs.Zone.{zone_opening};
 ghost use Rattle.zp_zone.specs.Making.{wanted, IsGood, IsWhy};
 ghost use Rattle.zp_journal.specs.Asking.{AreSeatsOf};
@@ -61,11 +61,21 @@ pub fn replay_pieces(
     ensures why { IfErr result (IsWhy (wanted config.entry.name.now config.entry.base config.entry.pages config.entry.min workers)) }
     ensures replayed { IfOk result (IsReplayedWhole config.entry.name.now (zone_opening config.entry.largest config.entry.base config.entry.pages config.entry.min workers) (entries_of pieces.now)) }
 {
-    let (mut zone, mut seats) = replay_opening(alloc, ZoneConfig { ..config }, workers)?;
+    let (zone, seats) = replay_opening(alloc, ZoneConfig { ..config }, workers)?;
+    Ok(replay_pieces_from(zone, seats, pieces))
+}
+
+/// The zone that the pieces lead to from this one, of which nothing was asked: it is asked for all their entries, in order. None where one of
+/// these is not what it would have made.
+pub fn replay_pieces_from(mut zone: Zone, mut seats: Vec<Seat>, pieces: &[Piece]) -> Option<Zone>
+    requires seats { AreSeatsOf zone seats.items }
+    requires unasked { zone.entries ≡ [] }
+    ensures { IsReplayedWhole zone.name zone.plain (entries_of pieces.now) result }
+{
     if go_on_all(&mut zone, &mut seats, pieces) {
-        Ok(Some(zone))
+        Some(zone)
     } else {
-        Ok(None)
+        None
     }
 }
 

@@ -2,7 +2,7 @@
 //! where it is.
 ghost use Rattle.std.specs.Prelude.{◌≡◌, ◌↔◌, ◌≤◌, [], length, IsTrue, OnOk, IfOk, IfErr};
 ghost use Rattle.zp_model.specs.Zone.{zone_opening};
-ghost use Rattle.zp_zone.specs.Making.{wanted, IsGood, IsWhy};
+ghost use Rattle.zp_zone.specs.Making.{wanted, IsGood, IsWhy, IsWideGood, IsWideWhy};
 ghost use Rattle.zp_journal.specs.Journals.{IsChecked, IsCountedAfter, IsRepeatedUpTo, IsReplayedFurther};
 ghost use Rattle.zp_journal.specs.Asking.{AreSeatsOf, IsRepeated};
 
@@ -37,6 +37,21 @@ pub fn replay_opening(
     Ok((zone, seats))
 }
 
+/// As `replay_opening`, but a wide zone. Refused 1 to 6 as the making of a wide zone is.
+pub fn replay_wide_opening(
+    alloc: Global,
+    config: ZoneConfig<'_>,
+    workers: u32,
+) -> Result<(Zone, Vec<Seat>), Refused>
+    ensures good { OnOk result (IsWideGood (wanted config.entry.name.now config.entry.base config.entry.pages config.entry.min workers)) }
+    ensures why { IfErr result (IsWideWhy (wanted config.entry.name.now config.entry.base config.entry.pages config.entry.min workers)) }
+    ensures zone { IfOk result (λ z. z.0 ≡ record { tie = z.0.tie; name = config.entry.name.now; plain = zone_opening config.entry.largest config.entry.base config.entry.pages config.entry.min workers; entries = [] }) }
+    ensures seats { IfOk result (λ z. AreSeatsOf z.0 z.1.items) }
+{
+    let (zone, seats) = Zone::wide(alloc, ZoneConfig { ..config }, workers)?;
+    Ok((zone, seats))
+}
+
 /// A zone goes on as a journal says: it is asked for what the entries say, one after another, from where it is. None where each of
 /// them is what the zone would have made. Else the number of the first whose request cannot be made, or is answered otherwise,
 /// counted from 1: the zone was asked for those before it, and for that one where its worker may ask for it.
@@ -59,10 +74,19 @@ pub fn replay_journal(
     ensures why { IfErr result (IsWhy (wanted config.entry.name.now config.entry.base config.entry.pages config.entry.min workers)) }
     ensures check { IfOk result (IsChecked config.entry.name.now (zone_opening config.entry.largest config.entry.base config.entry.pages config.entry.min workers) journal.now.entries) }
 {
-    let (mut zone, mut seats) = replay_opening(alloc, ZoneConfig { ..config }, workers)?;
+    let (zone, seats) = replay_opening(alloc, ZoneConfig { ..config }, workers)?;
+    Ok(replay_journal_from(zone, seats, journal))
+}
+
+/// Whether this zone, of which nothing was asked, could have made the journal.
+pub fn replay_journal_from(mut zone: Zone, mut seats: Vec<Seat>, journal: &Journal) -> JournalCheck
+    requires seats { AreSeatsOf zone seats.items }
+    requires unasked { zone.entries ≡ [] }
+    ensures { IsChecked zone.name zone.plain journal.now.entries result }
+{
     match replay_further(&mut zone, &mut seats, journal) {
-        None => Ok(JournalCheck::Legal(zone)),
-        Some(number) => Ok(JournalCheck::Differs(number)),
+        None => JournalCheck::Legal(zone),
+        Some(number) => JournalCheck::Differs(number),
     }
 }
 
@@ -79,13 +103,27 @@ pub fn counts_after(
     ensures why { IfErr result (IsWhy (wanted config.entry.name.now config.entry.base config.entry.pages config.entry.min workers)) }
     ensures counts { IfOk result (IsCountedAfter (zone_opening config.entry.largest config.entry.base config.entry.pages config.entry.min workers) journal.now.entries place) }
 {
-    let (mut zone, mut seats) = replay_opening(alloc, ZoneConfig { ..config }, workers)?;
+    let (zone, seats) = replay_opening(alloc, ZoneConfig { ..config }, workers)?;
+    Ok(counts_after_from(zone, seats, journal, place))
+}
+
+/// The counts of this zone after the first `place` entries of the journal: none where it has not so many, or where one of them is not
+/// legal there.
+pub fn counts_after_from(
+    mut zone: Zone,
+    mut seats: Vec<Seat>,
+    journal: &Journal,
+    place: u64,
+) -> Option<Counts>
+    requires { AreSeatsOf zone seats.items }
+    ensures { IsCountedAfter zone.plain journal.now.entries place result }
+{
     if place > u64::from(journal.len()) {
-        return Ok(None);
+        return None;
     }
     match repeat_first(&mut zone, &mut seats, journal, place as u32) {
-        None => Ok(Some(zone.counts())),
-        Some(_) => Ok(None),
+        None => Some(zone.counts()),
+        Some(_) => None,
     }
 }
 

@@ -1,4 +1,4 @@
-//! The words that are told of entries, worked by hand from the narrow layout.
+//! The words that are told of entries, worked by hand from the layouts: the narrow one up to 65,536 pages, else the one in memory.
 
 use std::process::Abort;
 use std::test::*;
@@ -43,7 +43,7 @@ fn state_of(noted: Noted) -> State {
 /// How many pages there are, which of them stand on the one list, a page, what is noted of it, and the word of its entry.
 type Case = (u32, &'static [u32], u32, Noted, u64);
 
-const CASES: [Case; 6] = [
+const CASES: [Case; 9] = [
     (8, &[], 5, Noted::Tail, 0x0000_4000_2000_0000),
     (8, &[], 5, Noted::Largest, 0x0000_4000_2000_0029),
     (8, &[], 5, Noted::Out, 0x0000_4000_2000_1F82),
@@ -67,6 +67,15 @@ const CASES: [Case; 6] = [
         2048,
         Noted::Largest,
         0x0000_0300_0080_0029,
+    ),
+    (131_072, &[], 70_000, Noted::Tail, 0x8000_0000_0100_0000),
+    (131_072, &[], 70_000, Noted::Out, 0x8000_003F_0500_0000),
+    (
+        131_072,
+        &[3, 65_536, 131_071],
+        65_536,
+        Noted::Single,
+        0x00FF_FF80_0200_0003,
     ),
 ];
 

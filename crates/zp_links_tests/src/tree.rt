@@ -75,12 +75,20 @@ fn compare_two_blocks(
     Ok(())
 }
 
-#[test]
-fn two_blocks_under_one_row_of_ranks(rt: HostRuntime) -> Result<(), Fail> {
-    compare_two_blocks(&rt, 8_192, 33)
-}
+/// How many pages there are, and how many words are read at most: each row of ranks more has eight times as many pages below it.
+const SIZES: [(u32, u64); 5] = [
+    (8_192, 33),
+    (65_536, 34),
+    (524_288, 35),
+    (4_194_304, 36),
+    (16_777_216, 37),
+];
 
 #[test]
-fn two_blocks_under_two_rows_of_ranks(rt: HostRuntime) -> Result<(), Fail> {
-    compare_two_blocks(&rt, 65_536, 34)
+fn two_blocks_under_one_to_five_rows_of_ranks(rt: HostRuntime) -> Result<(), Fail> {
+    for (pages, most_reads) in SIZES {
+        assert!(rt; 2048 <= pages && pages <= MAX_PAGES);
+        compare_two_blocks(&rt, pages, most_reads)?;
+    }
+    Ok(())
 }

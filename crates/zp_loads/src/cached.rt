@@ -34,7 +34,7 @@ impl Hand {
     /// Over a zone of so many pages, marks 0, with lists of the longest settings.
     fn new(alloc: Global, pages: u32) -> Result<Hand, Unmade> {
         let mut zones = Vec::with_capacity(alloc, 1)?;
-        let (zone, seats) = Zone::new(alloc, config(pages), 1)?;
+        let (zone, seats) = Zone::wide(alloc, config(pages), 1)?;
         zones.push_reserved(zone);
         let share = Share::new(alloc, seats, longest_lists()?)?;
         Ok(Hand {

@@ -1,12 +1,14 @@
 //! A zone in one hand, with its one seat.
 
+ghost use Rattle.std.specs.Prelude.{◌↔◌, IfSome, IsSome};
+ghost use Rattle.zp_zone.specs.NamedZone.{IsPageOf, IsToldOf};
 ghost use Rattle.zp_zone.specs.Seats.{IsSeatOf, Agrees};
 
 use crate::source::{BlockSource, config_of};
 use crate::unmade::Unmade;
 use std::alloc::Global;
 use zp_model::{Largest, Mark, MigrateType, Order, PageNo};
-use zp_zone::{Seat, Zone};
+use zp_zone::{Seat, Zone, ZonePage};
 
 /// A zone's requests, by its seat. The zone is of this largest order: at 9 its largest blocks are of 2 MiB, where pages have 4 KiB.
 #[derive(Drop)]
@@ -24,12 +26,20 @@ impl<const LARGEST: u8> Seated<LARGEST> {
         let released = self.zone.release(&mut self.seat, 0, MigrateType::Movable);
         isolated.is_ok() && released.is_ok()
     }
+
+    /// What the zone tells of a page.
+    pub fn entry(&self, page: PageNo) -> Option<ZonePage>
+        ensures when { IsSome result ↔ IsPageOf self.now.zone.plain page }
+        ensures described { IfSome result (λ e. IsToldOf self.now.zone.plain page e.state e.back e.forward) }
+    {
+        self.zone.entry(page)
+    }
 }
 
 impl<const LARGEST: u8> BlockSource for Seated<LARGEST> {
     fn new(alloc: Global, pages: u32) -> Result<Seated<LARGEST>, Unmade> {
         let largest = Largest::new(LARGEST).ok_or(Unmade::Other)?;
-        let (mut zone, mut seats) = Zone::new(alloc, config_of(pages, largest), 1)?;
+        let (mut zone, mut seats) = Zone::wide(alloc, config_of(pages, largest), 1)?;
         let Some(mut seat) = seats.pop() else {
             return Err(Unmade::Other);
         };

@@ -1,12 +1,20 @@
 -- What may be a zone's base, how many pages it may have, its largest order, and how many workers; and what may be the settings of workers' lists.
+-- The base and the pages of a narrow zone, one that a trace declares, have lower bounds than those of others.
 use Rattle.std.specs.Prelude.{ℕ, ◌%◌, ◌≡◌, ◌≤◌, ◌<◌}
-use Rattle.zp_model.specs.declared.constants.TheConstants.{BASE_LIMIT, BASE_STEP, LARGEST_ORDER, LONGEST_LIST, MAX_BATCH, MAX_PAGES, MAX_WORKERS}
+use Rattle.zp_model.specs.declared.constants.TheConstants.{BASE_STEP, LARGEST_ORDER, LONGEST_LIST, MAX_BATCH, MAX_WORKERS, NARROW_BASE_LIMIT, NARROW_PAGES}
 
+abbrev pub IsBaseUpTo : ℕ → ℕ → Type 0
+IsBaseUpTo limit base = (base % BASE_STEP ≡ 0) × (base ≤ limit)
+
+abbrev pub IsPagesUpTo : ℕ → ℕ → Type 0
+IsPagesUpTo most pages = (0 < pages) × (pages ≤ most)
+
+-- of a narrow zone
 abbrev pub IsBase : ℕ → Type 0
-IsBase base = (base % BASE_STEP ≡ 0) × (base ≤ BASE_LIMIT)
+IsBase base = IsBaseUpTo NARROW_BASE_LIMIT base
 
 abbrev pub IsPages : ℕ → Type 0
-IsPages pages = (0 < pages) × (pages ≤ MAX_PAGES)
+IsPages pages = IsPagesUpTo NARROW_PAGES pages
 
 -- the order of a zone's largest block
 abbrev pub IsLargest : ℕ → Type 0

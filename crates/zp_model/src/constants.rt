@@ -17,20 +17,29 @@ pub const TYPES: usize = 3;
 /// How many types a pageblock can have: the migrate types, and Isolate.
 pub const PAGEBLOCK_TYPES: usize = TYPES + 1;
 
-/// The largest number of pages of a zone.
-pub const MAX_PAGES: u32 = 65536;
+/// The largest number of pages of a zone. (The buddy of a page is one bit away, so it is a power of two.)
+pub const MAX_PAGES: u32 = 1 << 24;
+
+/// The largest number of pages of a narrow zone: one that a trace declares.
+pub const NARROW_PAGES: u32 = 65_536;
 
 /// The largest number of workers of a zone.
 pub const MAX_WORKERS: u32 = 32;
 
 /// The most zones of a row.
-pub const MAX_ZONES: usize = 4;
+pub const MAX_ZONES: usize = 64;
+
+/// The most zones that a trace declares.
+pub const TRACE_ZONES: usize = 4;
 
 /// What the base of a zone is a multiple of, so that blocks of all orders start at their multiples in absolute numbers too.
 pub const BASE_STEP: u32 = LARGEST_BLOCK_PAGES;
 
 /// The largest base of a zone.
-pub const BASE_LIMIT: u32 = 16_777_216;
+pub const BASE_LIMIT: u32 = 1 << 30;
+
+/// The largest base of a narrow zone.
+pub const NARROW_BASE_LIMIT: u32 = 16_777_216;
 
 /// The places of a zone's name in the info line, and of a number there.
 pub const NAME_PLACES: usize = 8;

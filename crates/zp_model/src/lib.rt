@@ -27,8 +27,8 @@ pub use block::Block;
 pub use blocks_law::{each_page_in_one_block, unjoined_blocks_are_maximal};
 pub use constants::{
     BASE_LIMIT, BASE_STEP, LARGEST_BLOCK_PAGES, LARGEST_ORDER, LONGEST_LIST, LONGEST_NAME,
-    MAX_BATCH, MAX_PAGES, MAX_WORKERS, MAX_ZONES, NAME_PLACES, NUMBER_PLACES, ORDERS,
-    PAGEBLOCK_TYPES, TYPES,
+    MAX_BATCH, MAX_PAGES, MAX_WORKERS, MAX_ZONES, NAME_PLACES, NARROW_BASE_LIMIT, NARROW_PAGES,
+    NUMBER_PLACES, ORDERS, PAGEBLOCK_TYPES, TRACE_ZONES, TYPES,
 };
 pub use counts::Counts;
 pub use entry::{Answered, Asked, Entry};

@@ -8,7 +8,7 @@ use crate::Order;
 use crate::constants::MAX_PAGES;
 use std::marker::Model;
 
-/// A page, counted from the zone's base: 0 to 65,535.
+/// A page, counted from the zone's base: 0 to 16,777,215.
 #[derive(Clone, Copy, PartialEq, Eq, Debug, Drop)]
 pub struct PageAt {
     number: u32,

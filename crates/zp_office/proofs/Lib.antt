@@ -8,6 +8,7 @@ pub mod Makings
 pub mod Seating
 pub mod DeskNumbers
 pub mod Turns
+pub mod Bases
 pub mod Commands
 pub mod Leaving
 pub mod OpenedDesks

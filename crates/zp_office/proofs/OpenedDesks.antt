@@ -5,6 +5,7 @@ use Rattle.std.proofs.lemmas.Simd.{map-map}
 use Rattle.std.proofs.lemmas.List.{length-map, map_push}
 use Rattle.std.proofs.lemmas.List.Elements.{All-map}
 use Rattle.std.proofs.lemmas.List.FromFn.{get_or-map-range_with_len, length-map-range_with_len}
+use Rattle.zp_model.specs.declared.constants.TheConstants.{TRACE_ZONES}
 use Rattle.zp_model.specs.Zone.{workers_of}
 use Rattle.zp_laws.proofs.Counting.{one_if}
 use Rattle.zp_trace.specs.declared.line.CommandLine.{CommandLine as Line}
@@ -57,10 +58,10 @@ desks_opened t ss e f =
     desks_from t 0 t.header.workers ss e (f ∙ ap (range_with_len 0) (shares_count t.header.workers ss t.header e))
 
 -- a worker's script names what is in the row of zones that the header declares
-script_fits : (t : Trace) (keys : List ZoneKey) (w : ℕ) → IsBeginning (lines_of t) → length keys ≡ length t.header.zones →
+script_fits : (t : Trace) (keys : List ZoneKey) (w : ℕ) → IsBeginning (lines_of t) → length keys ≡ length t.header.zones → length keys ≤ TRACE_ZONES →
     All (λ (k : ZoneKey). k.workers ≡ t.header.workers) keys → IsScriptFor keys (script_of t w)
-script_fits t keys w begins count crew =
-    script_for keys (length t.header.zones) t.header.workers (script_of t w) count crew
+script_fits t keys w begins count few crew =
+    script_for keys (length t.header.zones) t.header.workers (script_of t w) count few crew
     (names_there t.header t.commands w (calls_of t.commands w) (each_command t.header t.commands begins))
 
 -- the desks are those of the zones' workers
@@ -71,6 +72,7 @@ desks_fit t zs ss begins declared opened are =
     let keys = map key_of zs in
     let long : length (map (desk_for t) ss) ≡ length ss = length-map ss (desk_for t) in
     let count : length keys ≡ length t.header.zones = length-map zs key_of ∙ zones_count t.header.workers t.header.zones zs declared in
+    let few : length keys ≤ TRACE_ZONES = omega (arith, length-map zs key_of, are.few) in
     let many : length ss ≡ t.header.workers = shares_count t.header.workers ss t.header opened in
     let crew : All (λ (k : ZoneKey). k.workers ≡ t.header.workers) keys =
     All-map (λ (k : ZoneKey). k.workers ≡ t.header.workers) key_of zs (λ k d lt. are.crew k d lt ∙ many) in
@@ -79,7 +81,7 @@ desks_fit t zs ss begins declared opened are =
       fit = All-map (λ (d : DeskState). IsShareOf keys d.share) (desk_for t) ss are.fit;
       scripts =
           All-map (λ (d : DeskState). IsScriptFor keys d.script) (desk_for t) ss
-          (λ k d lt. script_fits t keys (get_or ss k d).worker begins count crew);
+          (λ k d lt. script_fits t keys (get_or ss k d).worker begins count few crew);
       workers = map-map (λ (d : DeskState). d.share.worker) (desk_for t) ss ∙ are.workers ∙ ap (range_with_len 0) (sym long);
       crew = subst (λ n. All (λ (z : ZoneState). workers_of z.plain ≡ n) zs) (sym long) are.crew;
     }

@@ -1,7 +1,8 @@
 -- A script, carried out command by command, over each row of as many zones, with as many workers, as the trace's header declares.
-use Rattle.std.proofs.Common.{ℕ, ◌+◌, ◌≡◌, ◌<◌, ◌∙◌, refl, sym, ap, subst, List, [], ◌∷◌, ◌++◌, length, take, get_or, Option, Some, All, arith}
+use Rattle.std.proofs.Common.{ℕ, ◌+◌, ◌≡◌, ◌<◌, ◌≤◌, ◌∙◌, refl, sym, ap, subst, List, [], ◌∷◌, ◌++◌, length, take, get_or, Option, Some, All, arith}
 use Rattle.std.specs.List.{AllZip}
 use Rattle.std.proofs.lemmas.List.{take_more}
+use Rattle.zp_model.specs.declared.constants.TheConstants.{TRACE_ZONES}
 use Rattle.zp_zone.specs.NamedZone.{NamedZone}
 use Rattle.zp_shared.proofs.Places.{zip_more}
 use Rattle.zp_office.specs.declared.command.Command.{Command}
@@ -37,18 +38,18 @@ answers_more R cs i rs qs c d r lt is e all one =
     subst (λ bs. AllZip R bs qs) (ap (λ b. take i cs ++ b ∷ []) is ∙ sym (take_more cs i d lt))
     (subst (λ ps. AllZip R (take i cs ++ c ∷ []) ps) (sym e) (zip_more R (take i cs) rs c r all one))
 
-command_for : (keys : List ZoneKey) (workers : ℕ) (c : Command) → All (λ (k : ZoneKey). k.workers ≡ workers) keys → NamesBelow (length keys) workers c → IsCommandFor keys c
-command_for keys workers (Alloc s k t i m) crew below = below
-command_for keys workers (Low s k i) crew below = below
-command_for keys workers (Free s) crew below = tt
-command_for keys workers (Post s to) crew below = λ i lt. omega (arith, below, crew i no_key lt)
-command_for keys workers (Collect s i) crew below = below
-command_for keys workers Drain crew below = tt
-command_for keys workers (Isolate i b) crew below = below
-command_for keys workers (Release i b t) crew below = below
-command_for keys workers Info crew below = tt
+command_for : (keys : List ZoneKey) (workers : ℕ) (c : Command) → length keys ≤ TRACE_ZONES → All (λ (k : ZoneKey). k.workers ≡ workers) keys → NamesBelow (length keys) workers c → IsCommandFor keys c
+command_for keys workers (Alloc s k t i m) few crew below = below
+command_for keys workers (Low s k i) few crew below = below
+command_for keys workers (Free s) few crew below = tt
+command_for keys workers (Post s to) few crew below = λ i lt. omega (arith, below, crew i no_key lt)
+command_for keys workers (Collect s i) few crew below = below
+command_for keys workers Drain few crew below = tt
+command_for keys workers (Isolate i b) few crew below = below
+command_for keys workers (Release i b t) few crew below = below
+command_for keys workers Info few crew below = few
 
-pub script_for : (keys : List ZoneKey) (zones workers : ℕ) (script : List Command) → length keys ≡ zones → All (λ (k : ZoneKey). k.workers ≡ workers) keys →
+pub script_for : (keys : List ZoneKey) (zones workers : ℕ) (script : List Command) → length keys ≡ zones → length keys ≤ TRACE_ZONES → All (λ (k : ZoneKey). k.workers ≡ workers) keys →
     All (NamesBelow zones workers) script → IsScriptFor keys script
-script_for keys zones workers script count crew below k d lt =
-    command_for keys workers (get_or script k d) crew (subst (λ n. NamesBelow n workers (get_or script k d)) (sym count) (below k d lt))
+script_for keys zones workers script count few crew below k d lt =
+    command_for keys workers (get_or script k d) few crew (subst (λ n. NamesBelow n workers (get_or script k d)) (sym count) (below k d lt))

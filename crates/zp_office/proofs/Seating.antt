@@ -5,7 +5,7 @@ use Rattle.std.proofs.lemmas.List.{map_push, map_more, map-id, drop_more, drop-d
 use Rattle.std.proofs.lemmas.List.Elements.{All-map}
 use Rattle.std.proofs.lemmas.List.FromFn.{get_or-map-range_with_len, length-map-range_with_len, map-range_with_len_more}
 use Rattle.std.proofs.lemmas.Simd.{map-map}
-use Rattle.zp_model.specs.declared.constants.TheConstants.{MAX_ZONES}
+use Rattle.zp_model.specs.declared.constants.TheConstants.{TRACE_ZONES}
 use Rattle.zp_model.specs.Books.{part, only}
 use Rattle.zp_model.specs.Zone.{Holding, PostedBlock, workers_of}
 use Rattle.zp_trace.specs.declared.line.ZoneLine.{ZoneLine}
@@ -200,7 +200,7 @@ pub shares_count : (w : ℕ) (ss : List ShareState) (h : Header) → map plain s
 shares_count w ss h e = sym (length-map ss plain) ∙ ap length e ∙ length-map-range_with_len (opening_share h) 0 w
 
 -- when each worker has a share, they are the crew of the zones
-pub crew_is : (h : Header) (zs : List ZoneState) (ss : List ShareState) → length h.zones ≤ MAX_ZONES → map named_zone zs ≡ map (declared_zone h.workers) h.zones →
+pub crew_is : (h : Header) (zs : List ZoneState) (ss : List ShareState) → length h.zones ≤ TRACE_ZONES → map named_zone zs ≡ map (declared_zone h.workers) h.zones →
     map plain ss ≡ map (opening_share h) (range_with_len 0 h.workers) → map (λ (x : ShareState). x.worker) ss ≡ range_with_len 0 h.workers →
     All (IsShareOf (map key_of zs)) ss → AreSharesOf zs ss
 crew_is h zs ss most e f g fit =

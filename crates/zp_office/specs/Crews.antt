@@ -1,7 +1,7 @@
 -- A row of zones with the shares of all its workers.
 use Rattle.std.specs.Prelude.{ℕ, ◌≡◌, ◌≤◌, List, All, length, map}
 use Rattle.std.specs.List.{range_with_len}
-use Rattle.zp_model.specs.declared.constants.TheConstants.{MAX_ZONES}
+use Rattle.zp_model.specs.declared.constants.TheConstants.{TRACE_ZONES}
 use Rattle.zp_model.specs.Zone.{workers_of}
 use Rattle.zp_zone.specs.NamedZone.{NamedZone}
 use Rattle.zp_zone.specs.Seats.{ZoneState, SeatState, IsUnused, books, seats_of}
@@ -24,7 +24,7 @@ pub record AreSeatsOf (workers : ℕ) (zones : List ZoneState) (rows : List (Lis
 
 -- these are the shares of the workers of the zones, in order
 pub record AreSharesOf (zones : List ZoneState) (shares : List ShareState) : Type 0 where
-  pub few : length zones ≤ MAX_ZONES
+  pub few : length zones ≤ TRACE_ZONES
   pub fit : All (IsShareOf (map key_of zones)) shares
   pub workers : map (λ (s : ShareState). s.worker) shares ≡ range_with_len 0 (length shares)
   pub crew : All (λ (z : ZoneState). workers_of z.plain ≡ length shares) zones

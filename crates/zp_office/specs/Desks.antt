@@ -1,7 +1,8 @@
 -- Workers' desks, and what carrying out a script makes of them (this profile).
-use Rattle.std.specs.Prelude.{ℕ, ◌≡◌, ◌<◌, ◌+◌, ◌⊎◌, List, [], ◌∷◌, ◌++◌, All, IfSome, ⊤, length, map, replicate, slice_index_or, slice_set, Option, None, Some, Result, Ok, Err}
+use Rattle.std.specs.Prelude.{ℕ, ◌≡◌, ◌<◌, ◌≤◌, ◌+◌, ◌⊎◌, List, [], ◌∷◌, ◌++◌, All, IfSome, ⊤, length, map, replicate, slice_index_or, slice_set, Option, None, Some, Result, Ok, Err}
 use Rattle.std.specs.List.{AllZip, range_with_len}
 use Rattle.zp_model.specs.declared.block.Block.{Block}
+use Rattle.zp_model.specs.declared.constants.TheConstants.{TRACE_ZONES}
 use Rattle.zp_model.specs.declared.counts.Counts.{Counts}
 use Rattle.zp_model.specs.declared.refused.Refused.{Refused}
 use Rattle.zp_model.specs.declared.refused.Refused.TheVariants.{NoBlock, NothingPosted, NotLent, JournalFull}
@@ -55,7 +56,7 @@ IsInRow n kept = IfSome kept (λ l. l.zone < n)
 abbrev pub HaveWorker : List ZoneKey → ℕ → Type 0
 HaveWorker keys w = (i : ℕ) → i < length keys → HasWorkerAt keys i w
 
--- the zone and the worker that a command names are there
+-- the zone and the worker that a command names are there; a reply has room for the counts of as many zones as a trace declares
 abbrev pub IsCommandFor : List ZoneKey → Command → Type 0
 IsCommandFor keys (Alloc s k t i m) = i < length keys
 IsCommandFor keys (Low s k i) = i < length keys
@@ -63,6 +64,7 @@ IsCommandFor keys (Post s to) = HaveWorker keys to
 IsCommandFor keys (Collect s i) = i < length keys
 IsCommandFor keys (Isolate i b) = i < length keys
 IsCommandFor keys (Release i b t) = i < length keys
+IsCommandFor keys Info = length keys ≤ TRACE_ZONES
 IsCommandFor keys c = ⊤
 
 abbrev pub IsScriptFor : List ZoneKey → List Command → Type 0

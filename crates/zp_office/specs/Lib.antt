@@ -4,4 +4,5 @@ pub mod Slots
 pub mod Crews
 pub mod Opening
 pub mod Offices
+pub mod Bases
 pub mod Runs

@@ -1,7 +1,7 @@
 -- A row of zones with the desks of all its workers, and what carrying out their commands makes of it (this profile).
 use Rattle.std.specs.Prelude.{ℕ, ◌≡◌, ◌≤◌, ◌<◌, ◌+◌, ◌==◌, List, [], ◌∷◌, All, None, length, map, replicate, slice_index_or, slice_set}
 use Rattle.std.specs.List.{count_by, range_with_len}
-use Rattle.zp_model.specs.declared.constants.TheConstants.{MAX_ZONES}
+use Rattle.zp_model.specs.declared.constants.TheConstants.{TRACE_ZONES}
 use Rattle.zp_model.specs.Zone.{workers_of}
 use Rattle.zp_trace.specs.declared.line.CommandLine.{CommandLine}
 use Rattle.zp_trace.specs.declared.trace.Trace.{Trace}
@@ -66,7 +66,7 @@ pub record HaveCommands (o : OfficeState) (ws : List ℕ) : Type 0 where
 
 -- each desk's share is one of the zones, and its script names what is there; the desks are those of the zones' workers, in order
 pub record AreDesksOf (zones : List ZoneState) (desks : List DeskState) : Type 0 where
-  pub few : length zones ≤ MAX_ZONES
+  pub few : length zones ≤ TRACE_ZONES
   pub fit : All (λ (d : DeskState). IsShareOf (map key_of zones) d.share) desks
   pub scripts : All (λ (d : DeskState). IsScriptFor (map key_of zones) d.script) desks
   pub workers : map (λ (d : DeskState). d.share.worker) desks ≡ range_with_len 0 (length desks)

@@ -1,6 +1,7 @@
 //! One command, carried out.
-ghost use Rattle.std.specs.Prelude.{ℕ, ◌≡◌, List, length, map, All, Some};
+ghost use Rattle.std.specs.Prelude.{ℕ, ◌≡◌, ◌≤◌, List, length, map, All, Some};
 ghost use Rattle.std.specs.List.{range_with_len};
+ghost use Rattle.zp_model.specs.declared.constants.TheConstants.{TRACE_ZONES};
 ghost use Rattle.zp_model.specs.declared.counts.Counts.{Counts};
 ghost use Rattle.zp_zone.specs.NamedZone.{NamedZone};
 ghost use Rattle.zp_share.specs.Readings.{CoversOwn};
@@ -144,7 +145,8 @@ fn post_kept<Z: Zones>(
 
 /// The counts of each zone.
 fn counts_in<Z: Zones>(share: &Share, zones: &mut Z) -> CountsRow
-    requires { IsShareOf (Z.keys zones.old) share.now }
+    requires fits { IsShareOf (Z.keys zones.old) share.now }
+    requires few { length share.now.zones ≤ TRACE_ZONES }
     ensures keys { Z.keys zones.new ≡ Z.keys zones.old }
     ensures each { length result ≡ length share.now.zones }
     ensures covered { (i n : ℕ) → Z.covers zones.old i n → Z.covers zones.new i n }

@@ -47,6 +47,6 @@ pub enum Command {
         pageblock: u32,
         kind: MigrateType,
     },
-    /// The counts of each zone.
+    /// The counts of each zone, of a row of as many zones as a trace can declare.
     Info,
 }

@@ -1,15 +1,15 @@
 //! The counts of a row of zones.
 ghost use Rattle.std.specs.Prelude.{◌≡◌, ◌<◌, ◌≤◌, [], ◌∷◌, ◌++◌, length};
-ghost use Rattle.zp_model.specs.declared.constants.TheConstants.{MAX_ZONES};
+ghost use Rattle.zp_model.specs.declared.constants.TheConstants.{TRACE_ZONES};
 
 use arrayvec::ArrayVec;
 use std::marker::Model;
-use zp_model::{Counts, MAX_ZONES};
+use zp_model::{Counts, TRACE_ZONES};
 
-/// The counts of up to `MAX_ZONES` zones, in place: making one takes no memory.
+/// The counts of up to `TRACE_ZONES` zones, in place: making one takes no memory.
 #[derive(PartialEq, Eq, Debug, Drop)]
 pub struct CountsRow {
-    counts: ArrayVec<Counts, MAX_ZONES>,
+    counts: ArrayVec<Counts, TRACE_ZONES>,
 }
 
 impl Model for CountsRow {
@@ -34,7 +34,7 @@ impl CountsRow {
 
     /// Puts the counts of one zone more at the end.
     pub fn push(&mut self, counts: Counts)
-        requires { length self.old < MAX_ZONES }
+        requires { length self.old < TRACE_ZONES }
         ensures { self.new ≡ self.old ++ counts ∷ [] }
     {
         self.counts.push(counts);
@@ -42,7 +42,7 @@ impl CountsRow {
 
     pub fn as_slice(&self) -> &[Counts]
         ensures same { result.now ≡ self.now }
-        ensures within { length result.now ≤ MAX_ZONES }
+        ensures within { length result.now ≤ TRACE_ZONES }
     {
         self.counts.as_slice()
     }

@@ -1,8 +1,10 @@
 //! A row of zones with the desks of all its workers, in one hand.
 ghost use Rattle.std.specs.Prelude.{◌≡◌, ◌<◌, ◌≤◌, [], IfOk, IfErr, length, map, vec_capacity};
-ghost use Rattle.zp_model.specs.declared.constants.TheConstants.{MAX_ZONES};
+ghost use Rattle.zp_model.specs.declared.constants.TheConstants.{TRACE_ZONES};
 ghost use Rattle.zp_trace.specs.Grammar.{IsBeginning, lines_of};
 ghost use Rattle.zp_share.specs.Shares.{named_zone};
+ghost use Rattle.zp_share.specs.PlainShares.{lends, own_at};
+ghost use Rattle.zp_office.specs.Bases.{bases_of};
 ghost use Rattle.zp_office.specs.Crews.{AreSharesOf, crew_of};
 ghost use Rattle.zp_office.specs.Offices.{AreDesksOf, HaveCommands, crew_in, desk_of, in_order, next_done, office_of, opened_office, workers_in};
 
@@ -12,7 +14,7 @@ use crate::reply::CommandReply;
 use crate::working::work_next;
 use std::alloc::Global;
 use std::marker::Model;
-use zp_model::{Refused, Worker};
+use zp_model::{Order, PageNo, Refused, Worker};
 use zp_share::{PlainZones, Share};
 use zp_trace::{CommandLine, Trace};
 use zp_zone::Zone;
@@ -59,7 +61,7 @@ impl Office {
 
     pub fn zones(&self) -> &[Zone]
         ensures zones { map named_zone result.now ≡ self.now.zones }
-        ensures few { length result.now ≤ MAX_ZONES }
+        ensures few { length result.now ≤ TRACE_ZONES }
     {
         self.zones.as_slice()
     }
@@ -79,11 +81,23 @@ impl Office {
         self.desks[usize::from(worker.number())].replies()
     }
 
+    /// Whether the block of this order at this page of a zone is lent to a worker. What is out to a worker and is not lent to it is in one
+    /// of its lists. Past the last worker, and past the last zone, nothing is lent.
+    pub fn is_lent(&self, worker: Worker, zone: usize, page: PageNo, order: Order) -> bool
+        ensures { result ≡ lends (own_at (desk_of self.now worker).share zone) page order }
+    {
+        match self.desks.get(usize::from(worker.number())) {
+            Some(desk) if zone < desk.share().zones() => desk.share().is_lent(zone, page, order),
+            _ => false,
+        }
+    }
+
     /// The worker carries out the command of its script that comes next.
     pub fn carry_out_next(&mut self, worker: Worker)
         requires worker { worker < length self.old.desks }
         requires next { length (desk_of self.old worker).replies < length (desk_of self.old worker).script }
-        ensures { self.new ≡ next_done worker self.old }
+        ensures office { self.new ≡ next_done worker self.old }
+        ensures bases { bases_of self.new ≡ bases_of self.old }
     {
         let desk = &mut self.desks[usize::from(worker.number())];
         work_next(desk, &mut self.zones);

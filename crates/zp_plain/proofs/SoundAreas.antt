@@ -1,6 +1,6 @@
 -- Areas that are opened, changed and settled are sound.
 use Rattle.std.proofs.Common.{ℕ, ◌≡◌, ◌≤◌, refl, sym, ◌∙◌, ap, arith, Bool, List, length, length-set, ◌==◌, true, [], replicate}
-use Rattle.zp_model.specs.declared.constants.TheConstants.{MAX_PAGES}
+use Rattle.zp_plain.specs.declared.room.TheConstants.{PLAIN_PAGES}
 use Rattle.zp_model.specs.declared.pageblock_type.PageblockType.{PageblockType}
 use Rattle.zp_model.specs.Area.{Area, pageblocks_of, settle, lists_count, opening}
 use Rattle.zp_model.specs.Take.{give, leave, retype}
@@ -58,7 +58,7 @@ distinct-nil : IsDistinct (λ x y. x == y) []
 unfolding IsDistinct
 distinct-nil = tt
 
-pub table_none : (m pages : ℕ) → pages ≤ MAX_PAGES → IsTable m (replicate pages true) (replicate (pageblocks_of m pages) Movable) (replicate (lists_count m) [])
+pub table_none : (m pages : ℕ) → pages ≤ PLAIN_PAGES → IsTable m (replicate pages true) (replicate (pageblocks_of m pages) Movable) (replicate (lists_count m) [])
 table_none m pages le = record {
   small = omega (arith, length-replicate pages true);
   typed = rw (length-replicate (pageblocks_of m pages) Movable, length-replicate pages true) refl;
@@ -67,7 +67,7 @@ table_none m pages le = record {
   inside = λ r p lt e. absurd (none_on (lists_count m) r p e);
 }
 
-pub sound_opening : (m pages : ℕ) → pages ≤ MAX_PAGES → IsSoundArea (opening m pages)
+pub sound_opening : (m pages : ℕ) → pages ≤ PLAIN_PAGES → IsSoundArea (opening m pages)
 sound_opening m pages le =
     let n : length (opening m pages).free ≡ pages = ap length (free-opening m pages) ∙ length-replicate pages true in
     record { small = omega arith; typed = rw (kinds-opening m pages, largest-opening m pages, n) (length-replicate (pageblocks_of m pages) Movable); lists = opening_lists m pages }

@@ -2,6 +2,7 @@
 ghost use Rattle.std.specs.Prelude.{◌≡◌, ◌<◌, ◌≤◌, ◌==◌, ◌&&◌, ◌/◌, ℕ, true, not, [], ◌++◌, length, filter};
 ghost use Rattle.std.specs.List.{IsDistinct};
 ghost use Rattle.zp_model.specs.declared.constants.TheConstants.{MAX_PAGES};
+ghost use Rattle.zp_plain.specs.declared.room.TheConstants.{PLAIN_PAGES};
 ghost use Rattle.zp_model.specs.Block.{has, size};
 ghost use Rattle.zp_model.specs.Rows.{stands_in};
 ghost use Rattle.zp_model.specs.Area.{Area, belongs, falling, available, is_isolated, kind_at, list_number, lists_count, pageblock_pages, pageblocks_of, settle, settled, size_in};
@@ -9,8 +10,9 @@ ghost use Rattle.zp_plain.specs.Sound.{IsTable};
 
 use crate::block::{has, is_max, order_of};
 use crate::page_row::PageRow;
+use crate::room::PLAIN_PAGES;
 use std::mem;
-use zp_model::{Largest, MAX_PAGES, Order, PAGEBLOCK_TYPES, PageAt, PageblockType};
+use zp_model::{Largest, Order, PAGEBLOCK_TYPES, PageAt, PageblockType};
 
 /// The number of the free list of an order and a type.
 pub fn list_of(order: Order, kind: PageblockType) -> usize
@@ -69,7 +71,7 @@ fn is_fresh(
     old: &[PageAt],
     head: PageAt,
 ) -> bool
-    requires small { length free.now ≤ MAX_PAGES }
+    requires small { length free.now ≤ PLAIN_PAGES }
     requires head { head < length free.now }
     requires typed { length kinds.now ≡ pageblocks_of largest (length free.now) }
     requires list { list < lists_count largest }
@@ -87,7 +89,7 @@ fn put_fresh(
     old: &[PageAt],
     new: &mut PageRow,
 )
-    requires small { length free.now ≤ MAX_PAGES }
+    requires small { length free.now ≤ PLAIN_PAGES }
     requires typed { length kinds.now ≡ pageblocks_of largest (length free.now) }
     requires list { list < lists_count largest }
     requires empty { new.old ≡ [] }
@@ -115,7 +117,7 @@ fn put_kept(
     requires typed { length kinds.now ≡ pageblocks_of largest (length free.now) }
     requires list { list < lists_count largest }
     requires inside { (p : ℕ) → stands_in p old.now ≡ true → p < length free.now }
-    requires room { length (new.old ++ filter (belongs largest free.now kinds.now list) old.now) ≤ MAX_PAGES }
+    requires room { length (new.old ++ filter (belongs largest free.now kinds.now list) old.now) ≤ PLAIN_PAGES }
     ensures { new.new ≡ new.old ++ filter (belongs largest free.now kinds.now list) old.now }
 {
     'kept: for head in old {
@@ -135,7 +137,7 @@ fn settle_list(
     old: &[PageAt],
     new: &mut PageRow,
 )
-    requires small { length free.now ≤ MAX_PAGES }
+    requires small { length free.now ≤ PLAIN_PAGES }
     requires typed { length kinds.now ≡ pageblocks_of largest (length free.now) }
     requires list { list < lists_count largest }
     requires distinct { IsDistinct (λ x y. x == y) old.now }
@@ -192,7 +194,7 @@ fn is_available(largest: Largest, set: &[bool], kinds: &[PageblockType], page: P
 
 /// How many pages of the set lie outside isolated pageblocks.
 pub fn available_size(largest: Largest, set: &[bool], kinds: &[PageblockType]) -> u32
-    requires small { length set.now ≤ MAX_PAGES }
+    requires small { length set.now ≤ PLAIN_PAGES }
     requires typed { length kinds.now ≡ pageblocks_of largest (length set.now) }
     ensures { result ≡ size (available largest kinds.now set.now) }
 {

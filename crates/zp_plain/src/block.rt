@@ -1,6 +1,7 @@
 //! Sets of pages: what `Block.antt` says, page by page.
 ghost use Rattle.std.specs.Prelude.{◌≡◌, ◌<◌, ◌≤◌, ◌+◌, length};
-ghost use Rattle.zp_model.specs.declared.constants.TheConstants.{LARGEST_ORDER, MAX_PAGES};
+ghost use Rattle.zp_model.specs.declared.constants.TheConstants.{LARGEST_ORDER};
+ghost use Rattle.zp_plain.specs.declared.room.TheConstants.{PLAIN_PAGES};
 ghost use Rattle.zp_model.specs.Block.{has, has_run, in_run, is_max, head as head_of, size, with_run, without};
 
 use zp_model::{Largest, Order, PageAt};
@@ -84,7 +85,7 @@ pub fn remove_run(set: &mut Vec<bool>, head: PageAt, order: Order)
 /// How many pages the set has.
 #[tactic(auto, unfolding(zp_model::specs::Block::size))]
 pub fn size(set: &[bool]) -> u32
-    requires { length set.now ≤ MAX_PAGES }
+    requires { length set.now ≤ PLAIN_PAGES }
     ensures { result ≡ size set.now }
 {
     let mut pages = 0;

@@ -2,6 +2,7 @@
 ghost use Rattle.std.specs.Prelude.{◌≡◌, ◌≤◌, ◌<◌, ◌+◌, ◌*◌, ◌^◌, leb, length, slice_index_or, None};
 ghost use Rattle.std.specs.List.{find};
 ghost use Rattle.zp_model.specs.declared.constants.TheConstants.{MAX_PAGES};
+ghost use Rattle.zp_plain.specs.declared.room.TheConstants.{PLAIN_PAGES};
 ghost use Rattle.zp_model.specs.Area.{available_blocks, pageblock_pages, pageblocks_of};
 ghost use Rattle.zp_model.specs.Block.{is_max};
 ghost use Rattle.zp_model.specs.BlockSet.{block_if, larger, largest_in, lowest, max_blocks, order_of, orders_from};
@@ -64,7 +65,7 @@ pub fn lowest(
     kinds: &[PageblockType],
     order: Order,
 ) -> Option<(PageAt, Order)>
-    requires small { length free.now ≤ MAX_PAGES }
+    requires small { length free.now ≤ PLAIN_PAGES }
     requires typed { length kinds.now ≡ pageblocks_of largest (length free.now) }
     ensures { result ≡ lowest (available_blocks largest kinds.now (max_blocks largest free.now)) order }
 {
@@ -93,7 +94,7 @@ fn larger(one: Option<Order>, other: Option<Order>) -> Option<Order>
 
 /// The order of the maximal block that a page heads, if the zone has the page and it heads one.
 fn max_block_at(largest: Largest, free: &[bool], page: usize) -> Option<Order>
-    requires { length free.now ≤ MAX_PAGES }
+    requires { length free.now ≤ PLAIN_PAGES }
     ensures { result ≡ slice_index_or (max_blocks largest free.now) page None }
 {
     if page < free.len() {
@@ -122,7 +123,7 @@ fn order_before(page: usize, block: Option<Order>, end: usize) -> Option<Order>
 
 /// The order of the largest maximal block in a pageblock.
 pub fn largest_in(largest: Largest, free: &[bool], pageblock: usize) -> Option<Order>
-    requires small { length free.now ≤ MAX_PAGES }
+    requires small { length free.now ≤ PLAIN_PAGES }
     requires pageblock { pageblock < MAX_PAGES }
     ensures { result ≡ largest_in (max_blocks largest free.now) (pageblock * pageblock_pages largest) largest }
 {

@@ -14,10 +14,11 @@ use crate::choose::choose;
 use crate::frames::{is_clear, restate_all};
 use crate::info::counts;
 use crate::page_row::{PageRow, empty_rows};
+use crate::room::PLAIN_PAGES;
 use crate::take::PlainArea;
 use std::alloc::{AllocError, Global};
 use std::marker::Model;
-use zp_model::{Counts, Largest, MAX_PAGES, MigrateType, Order, PageAt, PageblockType, State};
+use zp_model::{Counts, Largest, MigrateType, Order, PageAt, PageblockType, State};
 
 /// The free area of a zone, what is noted of its pages, and further lists of pages that are not free. Contracts see the
 /// plain free area with these.
@@ -46,7 +47,7 @@ impl Buddy {
         largest: Largest,
         side: usize,
     ) -> Result<Buddy, AllocError>
-        requires pages { pages ≤ MAX_PAGES }
+        requires pages { pages ≤ PLAIN_PAGES }
         requires side { side < 2 ^ 32 }
         ensures { IfOk result (λ b. b ≡ frames_opening largest pages side) }
     {
@@ -129,7 +130,7 @@ impl Buddy {
     /// How many pages the zone has. What is noted as free is what is free.
     pub fn pages(&self) -> u32
         ensures pages { result ≡ length self.now.states }
-        ensures within { result ≤ MAX_PAGES }
+        ensures within { result ≤ PLAIN_PAGES }
         ensures framed { IsFramed self.now }
     {
         // a clause of this call says that the zone is no larger than a zone can be

@@ -1,6 +1,6 @@
 //! What is noted of each page, and which blocks are clear: what `Frames.antt` says, page by page.
 ghost use Rattle.std.specs.Prelude.{◌≡◌, ◌≤◌, ◌+◌, ◌^◌, ◌↔◌, ℕ, true, length, IsTrue};
-ghost use Rattle.zp_model.specs.declared.constants.TheConstants.{MAX_PAGES};
+ghost use Rattle.zp_plain.specs.declared.room.TheConstants.{PLAIN_PAGES};
 ghost use Rattle.zp_model.specs.Block.{IsBlock};
 ghost use Rattle.zp_model.specs.Rows.{list_at, stands_in};
 ghost use Rattle.zp_model.specs.Frames.{restate, restated, IsClear};
@@ -10,7 +10,8 @@ use crate::area::stands_in;
 use crate::block::has;
 use crate::block_set::block_at;
 use crate::page_row::PageRow;
-use zp_model::{Largest, MAX_PAGES, Order, PageAt, State};
+use crate::room::PLAIN_PAGES;
+use zp_model::{Largest, Order, PageAt, State};
 
 /// What is noted of a page that heads this free block, or none.
 fn restate(block: Option<Order>, note: State) -> State
@@ -30,7 +31,7 @@ fn restate(block: Option<Order>, note: State) -> State
 /// Notes of each page whether it heads a free block.
 pub fn restate_all(largest: Largest, free: &[bool], notes: &mut Vec<State>)
     requires pages { length notes.old.items ≡ length free.now }
-    requires small { length free.now ≤ MAX_PAGES }
+    requires small { length free.now ≤ PLAIN_PAGES }
     ensures { notes.new.items ≡ restated largest free.now notes.old.items }
 {
     'pages: for i in 0..notes.len() {
@@ -61,7 +62,7 @@ fn is_aside(sides: &[PageRow], page: PageAt) -> bool
 
 /// Whether no page of the run is free or on a further list.
 fn is_clear_run(free: &[bool], sides: &[PageRow], head: PageAt, order: Order) -> bool
-    requires { head + 2 ^ order ≤ MAX_PAGES }
+    requires { head + 2 ^ order ≤ PLAIN_PAGES }
     ensures { IsTrue result ↔ IsClearRun free.now sides.now head order }
 {
     'pages: for i in head.index()..head.index() + order.pages() as usize {
@@ -80,7 +81,7 @@ pub fn is_clear(
     head: PageAt,
     order: Order,
 ) -> bool
-    requires { length free.now ≤ MAX_PAGES }
+    requires { length free.now ≤ PLAIN_PAGES }
     ensures { IsTrue result ↔ IsClear (open_frames largest free.now sides.now) head order }
 {
     is_block(largest, free.len(), head, order) && is_clear_run(free, sides, head, order)

@@ -1,6 +1,6 @@
 //! Counts of free blocks: what `Info.antt` says.
 ghost use Rattle.std.specs.Prelude.{◌≡◌, ◌≤◌, length};
-ghost use Rattle.zp_model.specs.declared.constants.TheConstants.{MAX_PAGES};
+ghost use Rattle.zp_plain.specs.declared.room.TheConstants.{PLAIN_PAGES};
 ghost use Rattle.zp_model.specs.Info.{blocks_of_order, counts_of};
 
 use crate::block::{is_max, order_of, size};
@@ -8,7 +8,7 @@ use zp_model::{Counts, Largest, ORDERS, Order, PageAt};
 
 /// How many maximal blocks of this order the set has.
 fn blocks_of_order(largest: Largest, set: &[bool], order: Order) -> u32
-    requires { length set.now ≤ MAX_PAGES }
+    requires { length set.now ≤ PLAIN_PAGES }
     ensures { result ≡ blocks_of_order largest set.now order }
 {
     let mut blocks = 0;
@@ -22,7 +22,7 @@ fn blocks_of_order(largest: Largest, set: &[bool], order: Order) -> u32
 
 /// How many maximal blocks of each order the free pages have, none above the largest, and how many free pages there are.
 pub fn counts(largest: Largest, free: &[bool]) -> Counts
-    requires { length free.now ≤ MAX_PAGES }
+    requires { length free.now ≤ PLAIN_PAGES }
     ensures { result ≡ counts_of largest free.now }
 {
     let mut by_order = [0u32; ORDERS];

@@ -3,7 +3,8 @@
 //! that of the buddy allocator, so that the two can be compared: this one is slow, and is read beside the definitions.
 //!
 //! A file runs the definitions of the file of its name in `zp_model/specs`: `block`, `block_set`, `area`, `choose`, `take`, `frames` and
-//! `info`. Each function's contract is an equation with one of them. `page_row` has the lists, and `buddy` the calls.
+//! `info`. Each function's contract is an equation with one of them. `page_row` has the lists, `room` how
+//! many pages there may be, and `buddy` the calls.
 #![tactic(auto)]
 
 mod area;
@@ -14,6 +15,8 @@ mod choose;
 mod frames;
 mod info;
 mod page_row;
+mod room;
 mod take;
 
 pub use buddy::Buddy;
+pub use room::PLAIN_PAGES;

@@ -1,11 +1,12 @@
 //! A list of pages with room for all pages that a zone can have.
 ghost use Rattle.std.specs.Prelude.{◌≡◌, ◌<◌, ◌≤◌, [], ◌∷◌, ◌++◌, length, replicate, IfOk};
-ghost use Rattle.zp_model.specs.declared.constants.TheConstants.{MAX_PAGES};
+ghost use Rattle.zp_plain.specs.declared.room.TheConstants.{PLAIN_PAGES};
 ghost use Rattle.zp_model.specs.Rows.{after, front};
 
+use crate::room::PLAIN_PAGES;
 use std::alloc::{AllocError, Global};
 use std::marker::Model;
-use zp_model::{MAX_PAGES, PageAt};
+use zp_model::PageAt;
 
 /// A list of pages, the front first. It takes memory only when it is made.
 #[derive(Drop)]
@@ -15,20 +16,20 @@ pub struct PageRow {
 
 impl Model for PageRow {
     ghost use Rattle.std.specs.Prelude.{List, ℕ, vec_capacity, ◌≤◌};
-    ghost use Rattle.zp_model.specs.declared.constants.TheConstants.{MAX_PAGES};
+    ghost use Rattle.zp_plain.specs.declared.room.TheConstants.{PLAIN_PAGES};
 
     ghost Value = { List ℕ };
 
     ghost view = { λ r. r.pages.items };
 
-    ghost invariant = { λ r. MAX_PAGES ≤ vec_capacity r.pages };
+    ghost invariant = { λ r. PLAIN_PAGES ≤ vec_capacity r.pages };
 }
 
 impl PageRow {
     pub fn new(alloc: Global) -> Result<PageRow, AllocError>
         ensures { IfOk result (λ r. r ≡ []) }
     {
-        let pages = Vec::with_capacity(alloc, MAX_PAGES as usize)?;
+        let pages = Vec::with_capacity(alloc, PLAIN_PAGES as usize)?;
         Ok(PageRow { pages })
     }
 
@@ -66,7 +67,7 @@ impl PageRow {
 
     /// Puts a page at the end.
     pub fn push(&mut self, page: PageAt)
-        requires { length self.old < MAX_PAGES }
+        requires { length self.old < PLAIN_PAGES }
         ensures { self.new ≡ self.old ++ page ∷ [] }
     {
         let _ = self.pages.push(page);

@@ -1,6 +1,7 @@
 //! The free area: what `Take.antt` says of giving and taking. Marks or types change, and the lists are settled anew.
 ghost use Rattle.std.specs.Prelude.{◌≡◌, ◌<◌, ◌≤◌, ◌+◌, ◌*◌, length, slice_index_or, IfOk, Some};
-ghost use Rattle.zp_model.specs.declared.constants.TheConstants.{MAX_PAGES, ORDERS};
+ghost use Rattle.zp_model.specs.declared.constants.TheConstants.{ORDERS};
+ghost use Rattle.zp_plain.specs.declared.room.TheConstants.{PLAIN_PAGES};
 ghost use Rattle.zp_model.specs.Rows.{after, front};
 ghost use Rattle.zp_model.specs.Area.{available, free_list, kind_at, opening, pageblock_pages, size_in};
 ghost use Rattle.zp_model.specs.Block.{size};
@@ -15,9 +16,10 @@ use crate::block::{add_run, remove_run};
 use crate::block_set::{largest_in, lowest};
 use crate::choose::Choice;
 use crate::page_row::{PageRow, empty_rows};
+use crate::room::PLAIN_PAGES;
 use std::alloc::{AllocError, Global};
 use std::marker::Model;
-use zp_model::{Largest, MAX_PAGES, MigrateType, Order, PageAt, PageblockType};
+use zp_model::{Largest, MigrateType, Order, PageAt, PageblockType};
 
 /// A free area, as the definitions have it, and a list where lists are settled.
 #[derive(Drop)]
@@ -43,7 +45,7 @@ impl Model for PlainArea {
 impl PlainArea {
     /// All pages free, and all pageblocks Movable, where this is the largest order.
     pub fn new(alloc: Global, pages: u32, largest: Largest) -> Result<PlainArea, AllocError>
-        requires { pages ≤ MAX_PAGES }
+        requires { pages ≤ PLAIN_PAGES }
         ensures { IfOk result (λ a. a ≡ opening largest pages) }
     {
         let free = Vec::from_elem(alloc, true, pages as usize)?;

@@ -8,7 +8,7 @@ use Rattle.zp_model.specs.declared.migrate_type.MigrateType.TheVariants.{Unmovab
 use Rattle.zp_model.specs.declared.mark.Mark.{Mark}
 use Rattle.zp_model.specs.declared.mark.Mark.TheVariants as mark
 use Rattle.zp_model.specs.Bounds.{IsCrew, IsLargest, AreLists}
-use Rattle.zp_model.specs.declared.constants.TheConstants.{LARGEST_ORDER, MAX_PAGES, MAX_WORKERS, BASE_LIMIT, LONGEST_NAME}
+use Rattle.zp_model.specs.declared.constants.TheConstants.{LARGEST_ORDER, NARROW_PAGES, MAX_WORKERS, NARROW_BASE_LIMIT, LONGEST_NAME}
 use Rattle.zp_trace.specs.declared.bounds.TheConstants.{LARGEST_PAGEBLOCK, MOST_LINES}
 use Rattle.zp_trace.specs.declared.line.ZoneLine.{ZoneLine}
 use Rattle.zp_trace.specs.declared.line.Call.{Call}
@@ -50,8 +50,8 @@ pageblock_short b le = length-decimal-le 5 b (omega arith) (omega arith) (omega 
 zone_short : (z : ZoneLine) → IsZoneLine z → length (line_text (line.Zone z)) ≤ 40
 zone_short z is =
     let name : length z.name ≤ LONGEST_NAME = is.0.1 in
-    let base : z.base ≤ BASE_LIMIT = is.1.1 in
-    let pages : z.pages ≤ MAX_PAGES = is.2.1 in
+    let base : z.base ≤ NARROW_BASE_LIMIT = is.1.1 in
+    let pages : z.pages ≤ NARROW_PAGES = is.2.1 in
     let min : z.min ≤ z.pages = is.3 in
     let b : length (decimal z.base) ≤ 8 = length-decimal-le 8 z.base (omega arith) (omega arith) (omega arith) in
     let p : length (decimal z.pages) ≤ 5 = length-decimal-le 5 z.pages (omega arith) (omega arith) (omega arith) in

@@ -12,7 +12,7 @@ use crate::ending::ReplayFault;
 use std::alloc::Global;
 use std::marker::Model;
 use zp_journal::{Journal, JournalCheck, replay_journal};
-use zp_model::{MAX_ZONES, Name, Refused};
+use zp_model::{Name, Refused, TRACE_ZONES};
 use zp_text::{
     TextBuffer, VERDICT_LINE, Verdict, WriteFault, Writer, make_room, push_verdict, write_gathered,
     write_journal,
@@ -21,7 +21,7 @@ use zp_trace::{Header, ZoneLine};
 use zp_zone::ZoneConfig;
 
 /// The most bytes of what the replays of all journals found, a line for each zone.
-const VERDICTS: usize = MAX_ZONES * VERDICT_LINE;
+const VERDICTS: usize = TRACE_ZONES * VERDICT_LINE;
 
 /// The journal of a zone, under the zone's name, with what its replay found.
 #[derive(Drop)]

@@ -13,7 +13,7 @@ ghost use Rattle.zp_replay.specs.Output.{replies_text, reply_at, report, total_l
 ghost use Rattle.zp_replay.specs.Replies.{info_lines, info_of, reply_text};
 
 use crate::lines::{LINE, push_reply_line, push_total_of};
-use zp_model::{Counts, MAX_WORKERS, MAX_ZONES, Worker};
+use zp_model::{Counts, MAX_WORKERS, TRACE_ZONES, Worker};
 use zp_office::{CommandReply, Office};
 use zp_share::{PlainZones, Share, Totals};
 use zp_text::{
@@ -23,7 +23,7 @@ use zp_trace::CommandLine;
 use zp_zone::Zone;
 
 /// The most bytes of a reply: those of an info, a line for each zone.
-const REPLY: usize = MAX_ZONES * INFO_LINE;
+const REPLY: usize = TRACE_ZONES * INFO_LINE;
 
 /// Writes the replies to these commands, the total lines and the info lines. The room is for the shares of all workers, so that
 /// no memory is taken.
@@ -107,7 +107,7 @@ fn push_reply<const CAP: usize>(
 
 /// Appends the info line of each zone, with these counts.
 fn push_info_lines<const CAP: usize>(text: &mut TextBuffer<CAP>, zones: &[Zone], counts: &[Counts])
-    requires counts { length counts.now ≤ MAX_ZONES }
+    requires counts { length counts.now ≤ TRACE_ZONES }
     requires room { length text.old + REPLY ≤ CAP }
     ensures { text.new ≡ text.old ++ info_lines (map named_zone zones.now) counts.now }
 {

@@ -21,7 +21,7 @@ use Rattle.zp_laws.proofs.Sameness.{step-same}
 use Rattle.zp_zone.specs.Seats.{ZoneState, IsSeatOf}
 use Rattle.zp_counts.specs.CountBoards.{BoardState}
 use Rattle.zp_counts.specs.CountBoards.{CountTie, CountsPublished, HoldsCounts}
-use Rattle.zp_counts.specs.declared.packed.TheConstants.{NARROW_PAGES}
+use Rattle.zp_model.specs.declared.constants.TheConstants.{NARROW_PAGES}
 use Rattle.zp_journal.specs.Journals.{counts_after}
 use Rattle.zp_share.specs.declared.sections_made.TheConstants.{LAST_SECTION}
 use Rattle.zp_share.specs.PlainShares.{lends, lends_for, refusal, refused_full}

@@ -8,11 +8,9 @@ ghost use Rattle.zp_shared.specs.Rows.{OpenedState, IsPublished, opened_reader, 
 
 use std::alloc::{AllocError, Global};
 use std::marker::Model;
-use zp_counts::{
-    Board, BoardReader, NARROW_PAGES, Publisher, new_board, new_turning_board, new_wide_board,
-};
+use zp_counts::{Board, BoardReader, Publisher, new_board, new_turning_board, new_wide_board};
 use zp_journal::{CutJournal, Journal, Keeps, NoJournal, WholeJournal};
-use zp_model::Refused;
+use zp_model::{NARROW_PAGES, Refused};
 use zp_zone::Zone;
 
 /// A zone with what it keeps, which has no entry, and a board with the zone's counts.

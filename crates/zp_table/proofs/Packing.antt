@@ -2,14 +2,14 @@
 use Rattle.std.proofs.Common.{ℕ, ◌≡◌, ◌<◌, ◌≤◌, ◌+◌, ◌*◌, ◌/◌, ◌%◌, ◌^◌, ◌↔◌, refl, sym, ◌∙◌, subst, ap, arith, true, false, min, Option, Some, None}
 use Rattle.std.specs.Prelude.{IfSome, ltb}
 use Rattle.std.proofs.lemmas.Bool.{lt-ltb, le-ltb}
-use Rattle.zp_model.specs.declared.constants.TheConstants.{MAX_PAGES}
+use Rattle.zp_model.specs.declared.constants.TheConstants.{MAX_PAGES, NARROW_PAGES}
 use Rattle.zp_model.specs.declared.migrate_type.MigrateType.{MigrateType}
 use Rattle.zp_model.specs.declared.migrate_type.MigrateType.TheVariants.{Unmovable, Reclaimable, Movable}
 use Rattle.zp_model.specs.declared.state.State.{State}
 use Rattle.zp_model.specs.declared.state.State.TheVariants.{Tail, Free, Out, Posted}
 use Rattle.zp_model.specs.MigrateType.{type_number}
 use Rattle.zp_table.specs.declared.entry.PageEntry.{PageEntry}
-use Rattle.zp_table.specs.declared.layout.TheConstants.{STATE_BITS, LINK_BITS, BACK_AT, STATE_AT, FORWARD_AT, NARROW_PAGES}
+use Rattle.zp_table.specs.declared.layout.TheConstants.{STATE_BITS, LINK_BITS, BACK_AT, STATE_AT, FORWARD_AT}
 use Rattle.zp_table.specs.Fields.{field, with_field}
 use Rattle.zp_table.specs.Links.{page_of, number_of}
 use Rattle.zp_table.specs.Packed.{Layout, narrow, wide, packed_state, packed, type_of, state_of, unpacked_state, unpacked, StateFits, Fits, IsPacked, UnpackingUndoesPacking}

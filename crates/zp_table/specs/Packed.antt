@@ -1,13 +1,13 @@
 -- A page's entry as one word, and the entry that a word stands for (this profile's layouts).
 use Rattle.std.specs.Prelude.{ℕ, zero, suc, ◌+◌, ◌*◌, ◌^◌, ◌≡◌, ◌<◌, ◌≤◌, IfSome, cond, ltb}
-use Rattle.zp_model.specs.declared.constants.TheConstants.{LARGEST_ORDER, MAX_PAGES, MAX_WORKERS}
+use Rattle.zp_model.specs.declared.constants.TheConstants.{LARGEST_ORDER, MAX_PAGES, MAX_WORKERS, NARROW_PAGES}
 use Rattle.zp_model.specs.declared.migrate_type.MigrateType.{MigrateType}
 use Rattle.zp_model.specs.declared.migrate_type.MigrateType.TheVariants.{Unmovable, Reclaimable, Movable}
 use Rattle.zp_model.specs.declared.state.State.{State}
 use Rattle.zp_model.specs.declared.state.State.TheVariants.{Tail, Free, Out, Posted}
 use Rattle.zp_model.specs.MigrateType.{type_number}
 use Rattle.zp_table.specs.declared.entry.PageEntry.{PageEntry}
-use Rattle.zp_table.specs.declared.layout.TheConstants.{WHICH_BITS, ORDER_AT, ORDER_BITS, TYPE_AT, TYPE_BITS, WORKER_AT, WORKER_BITS, STATE_BITS, LINK_BITS, BACK_AT, STATE_AT, FORWARD_AT, NARROW_PAGES, NARROW_LINK_BITS, NARROW_STATE_AT, NARROW_FORWARD_AT, NARROW_BACK_AT}
+use Rattle.zp_table.specs.declared.layout.TheConstants.{WHICH_BITS, ORDER_AT, ORDER_BITS, TYPE_AT, TYPE_BITS, WORKER_AT, WORKER_BITS, STATE_BITS, LINK_BITS, BACK_AT, STATE_AT, FORWARD_AT, NARROW_LINK_BITS, NARROW_STATE_AT, NARROW_FORWARD_AT, NARROW_BACK_AT}
 use Rattle.zp_table.specs.Fields.{field}
 use Rattle.zp_table.specs.Links.{page_of, number_of}
 

@@ -4,7 +4,7 @@
 //! and not shifted, and the forward link is read by one shift. The narrow layout is the one that is told of a table whose
 //! pages it has numbers for.
 
-use zp_model::MAX_PAGES;
+use zp_model::{MAX_PAGES, NARROW_PAGES};
 
 /// The bits of which state it is. With them a state begins; what it says is counted from there.
 pub const WHICH_BITS: u32 = 2;
@@ -39,9 +39,6 @@ pub const STATE_AT: u32 = BACK_AT + LINK_BITS;
 
 /// The page after this one in its list. Its bits are the last of the word.
 pub const FORWARD_AT: u32 = WORD_BITS - LINK_BITS;
-
-/// The most pages of a table whose words are told in the narrow layout.
-pub const NARROW_PAGES: u32 = 65_536;
 
 /// The bits of a link in the narrow layout.
 pub const NARROW_LINK_BITS: u32 = 17;

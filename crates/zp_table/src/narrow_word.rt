@@ -4,8 +4,9 @@ ghost use Rattle.zp_table.specs.Packed.{narrow, packed};
 
 use crate::entry::PageEntry;
 use crate::field::with_field;
-use crate::layout::{NARROW_BACK_AT, NARROW_FORWARD_AT, NARROW_LINK_BITS, NARROW_PAGES};
+use crate::layout::{NARROW_BACK_AT, NARROW_FORWARD_AT, NARROW_LINK_BITS};
 use crate::packed_state::packed_state;
+use zp_model::NARROW_PAGES;
 
 /// The word of an entry, as it is told of a table whose pages the narrow layout can number.
 pub fn narrow_word(entry: PageEntry) -> u64

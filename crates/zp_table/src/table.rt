@@ -7,13 +7,12 @@ ghost use Rattle.zp_table.specs.Entries.{blank, entry_at, IsUnlinked, with_entry
 ghost use Rattle.zp_table.specs.Packed.{packed, told_layout};
 
 use crate::entry::PageEntry;
-use crate::layout::NARROW_PAGES;
 use crate::link::Link;
 use crate::narrow_word::narrow_word;
 use crate::packed_entry::PackedEntry;
 use std::alloc::{AllocError, Global};
 use std::marker::Model;
-use zp_model::{PageAt, State};
+use zp_model::{NARROW_PAGES, PageAt, State};
 
 /// An entry for each page.
 #[derive(Drop)]

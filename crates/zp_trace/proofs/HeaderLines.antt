@@ -7,7 +7,7 @@ use Rattle.zp_trace.specs.Spelling.{line_text, text_of}
 use Rattle.zp_trace.specs.Grammar.{IsAllowedAfter, IsBeginning, IsZoneLine, IsHeader, lines_of}
 use Rattle.std.proofs.lemmas.List.Elements.{All-from_recursion}
 use Rattle.std.specs.List.{AllByRecursion}
-use Rattle.zp_model.specs.declared.constants.TheConstants.{MAX_ZONES}
+use Rattle.zp_model.specs.declared.constants.TheConstants.{TRACE_ZONES}
 use Rattle.zp_trace.specs.declared.line.ZoneLine.{ZoneLine}
 use Rattle.zp_trace.specs.declared.line.CommandLine.{CommandLine}
 use Rattle.zp_trace.specs.declared.trace.Header.{Header}
@@ -100,11 +100,11 @@ zones_are : (before zs : List ZoneLine) (rest : List Line) → IsBeginning (map 
 zones_are before [] rest begins = tt
 zones_are before (z ∷ zs) rest begins = ((begins (map line.Zone before) (line.Zone z) (map line.Zone zs ++ rest) refl).2.1, zones_are (before ++ (z ∷ [])) zs rest (rw (zone_moved before z (map line.Zone zs ++ rest)) at begins))
 
-pub zones_are_few : (before zs : List ZoneLine) (rest : List Line) → length before ≤ MAX_ZONES → IsBeginning (map line.Zone before ++ (map line.Zone zs ++ rest)) → length before + length zs ≤ MAX_ZONES
+pub zones_are_few : (before zs : List ZoneLine) (rest : List Line) → length before ≤ TRACE_ZONES → IsBeginning (map line.Zone before ++ (map line.Zone zs ++ rest)) → length before + length zs ≤ TRACE_ZONES
 zones_are_few before [] rest few begins = omega (arith, few)
 zones_are_few before (z ∷ zs) rest few begins =
     let next = begins (map line.Zone before) (line.Zone z) (map line.Zone zs ++ rest) refl in
-    let room : length (before ++ (z ∷ [])) ≤ MAX_ZONES = omega (arith, next.2.0, ap length (zones_alone before next.0 next.1), length-append before (z ∷ [])) in
+    let room : length (before ++ (z ∷ [])) ≤ TRACE_ZONES = omega (arith, next.2.0, ap length (zones_alone before next.0 next.1), length-append before (z ∷ [])) in
     let more = zones_are_few (before ++ (z ∷ [])) zs rest room (rw (zone_moved before z (map line.Zone zs ++ rest)) at begins) in
     omega (arith, more, length-append before (z ∷ []))
 

@@ -1,6 +1,6 @@
 -- Which lines may stand after which, what the text of a trace is, and which line of a text is its bad line.
 use Rattle.std.specs.Prelude.{ℕ, ◌+◌, ◌≡◌, ◌≢◌, ◌<◌, ◌≤◌, List, [], ◌∷◌, ◌++◌, length, map, All, Any, Option, Some, None, IfSome, unwrap_or}
-use Rattle.zp_model.specs.declared.constants.TheConstants.{LARGEST_ORDER, MAX_ZONES}
+use Rattle.zp_model.specs.declared.constants.TheConstants.{LARGEST_ORDER, TRACE_ZONES}
 use Rattle.zp_model.specs.Bounds.{IsBase, IsPages, IsLargest, IsCrew, AreLists}
 use Rattle.zp_model.specs.Naming.{IsName}
 use Rattle.zp_trace.specs.declared.bounds.TheConstants.{LARGEST_PAGEBLOCK, MOST_LINES}
@@ -27,12 +27,12 @@ IsAbove z other = (other.name ≢ z.name) × (other.base + other.pages ≤ z.bas
 
 -- a zone that may be declared after these: not too many, each another name, and each below it
 abbrev pub IsNextZone : List ZoneLine → ZoneLine → Type 0
-IsNextZone zones z = (length zones < MAX_ZONES) × IsZoneLine z × All (IsAbove z) zones
+IsNextZone zones z = (length zones < TRACE_ZONES) × IsZoneLine z × All (IsAbove z) zones
 
 -- what each trace begins with
 pub record IsHeader (h : Header) : Type 0 where
   pub some : 0 < length h.zones
-  pub few : length h.zones ≤ MAX_ZONES
+  pub few : length h.zones ≤ TRACE_ZONES
   pub zones : All IsZoneLine h.zones
   pub workers : IsCrew h.workers
   pub lists : AreLists h.batch h.high

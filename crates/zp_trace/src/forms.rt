@@ -1,6 +1,6 @@
 //! The lines before the worker lines, from their words.
 ghost use Rattle.std.specs.Prelude.{◌≡◌, ◌<◌, ◌≤◌, ◌+◌, ◌↔◌, ℕ, Option, length, All, IsTrue, IfSome, IfNone};
-ghost use Rattle.zp_model.specs.declared.constants.TheConstants.{MAX_ZONES};
+ghost use Rattle.zp_model.specs.declared.constants.TheConstants.{TRACE_ZONES};
 ghost use Rattle.zp_trace.specs.declared.line.ZoneLine.{ZoneLine};
 ghost use Rattle.zp_model.specs.Bounds.{IsCrew, IsLargest, AreLists};
 ghost use Rattle.zp_trace.specs.Spelling.{spelled, largest_words, zone_words, workers_words, lists_words};
@@ -9,7 +9,7 @@ ghost use Rattle.zp_trace.specs.Grammar.{IsZoneLine, IsAbove};
 use crate::line::ZoneLine;
 use crate::number::parse_number;
 use crate::values::{base_of, crew_of, is_text, largest_of, min_of, pages_of};
-use zp_model::{LONGEST_LIST, Largest, MAX_BATCH, MAX_ZONES, Name};
+use zp_model::{LONGEST_LIST, Largest, MAX_BATCH, Name, TRACE_ZONES};
 
 /// The largest order that such words name, which are no words where a line names none.
 fn named_largest(words: &[&[u8]]) -> Option<Option<Largest>>
@@ -64,9 +64,9 @@ fn is_above(zone: &ZoneLine, other: &ZoneLine) -> bool
 
 /// Whether there may be one zone more after these, and this zone is above each of them.
 pub fn may_follow(before: &[ZoneLine], zone: &ZoneLine) -> bool
-    ensures { IsTrue result ↔ ((length before.now < MAX_ZONES) × All (IsAbove zone.now) before.now) }
+    ensures { IsTrue result ↔ ((length before.now < TRACE_ZONES) × All (IsAbove zone.now) before.now) }
 {
-    before.len() < MAX_ZONES && before.iter().all(|other| is_above(zone, other))
+    before.len() < TRACE_ZONES && before.iter().all(|other| is_above(zone, other))
 }
 
 /// How many workers such words say that there are.

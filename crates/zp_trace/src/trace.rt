@@ -1,6 +1,6 @@
 //! A trace, and why a text is none.
 ghost use Rattle.std.specs.Prelude.{◌≡◌, ◌<◌, ◌≤◌, ◌↔◌, [], ◌∷◌, ◌+◌, ◌++◌, length, IsTrue, OnOk, OnErr};
-ghost use Rattle.zp_model.specs.declared.constants.TheConstants.{MAX_ZONES};
+ghost use Rattle.zp_model.specs.declared.constants.TheConstants.{TRACE_ZONES};
 ghost use Rattle.zp_trace.specs.Spelling.{header_of};
 
 use crate::line::{CommandLine, ZoneLine};
@@ -15,14 +15,14 @@ pub struct ZoneLines {
 
 impl Model for ZoneLines {
     ghost use Rattle.std.specs.Prelude.{List, length, ◌≤◌};
-    ghost use Rattle.zp_model.specs.declared.constants.TheConstants.{MAX_ZONES};
+    ghost use Rattle.zp_model.specs.declared.constants.TheConstants.{TRACE_ZONES};
     ghost use Rattle.zp_trace.specs.declared.line.ZoneLine.{ZoneLine};
 
     ghost Value = { List ZoneLine };
 
     ghost view = { λ z. z.lines.items };
 
-    ghost invariant = { λ z. length z.lines.items ≤ MAX_ZONES };
+    ghost invariant = { λ z. length z.lines.items ≤ TRACE_ZONES };
 }
 
 impl ZoneLines {
@@ -36,7 +36,7 @@ impl ZoneLines {
 
     /// Puts a zone at the end. Where memory is wanting, the list stays as it was.
     pub(crate) fn push(&mut self, line: ZoneLine) -> Result<(), AllocError>
-        requires { length self.old < MAX_ZONES }
+        requires { length self.old < TRACE_ZONES }
         ensures ok { OnOk result (self.new ≡ self.old ++ line ∷ []) }
         ensures err { OnErr result (self.new ≡ self.old) }
     {
@@ -59,7 +59,7 @@ impl ZoneLines {
 
     pub fn as_slice(&self) -> &[ZoneLine]
         ensures same { result.now ≡ self.now }
-        ensures within { length result.now ≤ MAX_ZONES }
+        ensures within { length result.now ≤ TRACE_ZONES }
     {
         &self.lines
     }
@@ -121,7 +121,7 @@ impl Header {
     /// How many lines write it.
     pub(crate) fn lines(&self) -> usize
         ensures same { result ≡ length (header_of self.now) }
-        ensures within { result ≤ MAX_ZONES + 2 }
+        ensures within { result ≤ TRACE_ZONES + 2 }
     {
         self.zones.as_slice().len() + 2
     }

@@ -9,8 +9,8 @@ ghost use Rattle.zp_trace.specs.Spelling.{kind_word, mark_word};
 use crate::bounds::LARGEST_PAGEBLOCK;
 use crate::number::parse_number;
 use zp_model::{
-    BASE_LIMIT, BASE_STEP, LARGEST_ORDER, Largest, MAX_PAGES, MAX_WORKERS, Mark, MigrateType,
-    Order, Worker,
+    BASE_STEP, LARGEST_ORDER, Largest, MAX_WORKERS, Mark, MigrateType, NARROW_BASE_LIMIT,
+    NARROW_PAGES, Order, Worker,
 };
 
 pub fn is_word(word: &[u8], other: &[u8]) -> bool
@@ -32,7 +32,7 @@ pub fn base_of(word: &[u8]) -> Option<u32>
     ensures none { IfNone result ((n : ℕ) → IsBase n → word.now ≡ decimal n → ⊥) }
 {
     let base = parse_number(word)?;
-    if base % BASE_STEP == 0 && base <= BASE_LIMIT {
+    if base % BASE_STEP == 0 && base <= NARROW_BASE_LIMIT {
         Some(base)
     } else {
         None
@@ -45,7 +45,7 @@ pub fn pages_of(word: &[u8]) -> Option<u32>
     ensures none { IfNone result ((n : ℕ) → IsPages n → word.now ≡ decimal n → ⊥) }
 {
     let pages = parse_number(word)?;
-    if 0 < pages && pages <= MAX_PAGES {
+    if 0 < pages && pages <= NARROW_PAGES {
         Some(pages)
     } else {
         None

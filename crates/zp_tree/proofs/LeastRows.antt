@@ -3,7 +3,8 @@ use Rattle.std.proofs.Common.{ℕ, suc, zero, ◌+◌, ◌-◌, ◌*◌, ◌/◌
 use Rattle.std.proofs.Math.Nat.{pow-suc, pow-le-pow_right}
 use Rattle.std.proofs.lemmas.Bool.{both_ways, cases_Bool, leb-true, le-leb}
 use Rattle.std.proofs.lemmas.Nat.{pow-add}
-use Rattle.zp_tree.specs.declared.constants.TheConstants.{FAN, GROUP_ORDER, GROUP_PAGES, MOST_READS, TWO_ROWS_PAGES}
+use Rattle.zp_tree.specs.declared.constants.TheConstants.{FAN, GROUP_ORDER, GROUP_PAGES, MOST_READS}
+use Rattle.zp_model.specs.declared.constants.TheConstants.{NARROW_PAGES}
 use Rattle.zp_tree.specs.RankRows.{IsLeastRow}
 use Rattle.zp_tree.specs.Reads.{least_from, rows_of, most_reads, height_of}
 use Rattle.zp_tree.proofs.RankNodes.{eight_of, row_large}
@@ -70,7 +71,7 @@ least_row n g r x room whole =
     x.row ∙ ap (λ d. FAN ^ d) same
 
 -- where two rows are enough
-pub reads_of_two : (n : ℕ) → n ≤ TWO_ROWS_PAGES → most_reads n ≤ MOST_READS
+pub reads_of_two : (n : ℕ) → n ≤ NARROW_PAGES → most_reads n ≤ MOST_READS
 reads_of_two n le = let two : rows_of n ≤ 2 = rows_enough n 2 (omega arith) (omega arith) in omega arith
 
 above_number : (n : ℕ) → n < 2 ^ n

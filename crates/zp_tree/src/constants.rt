@@ -1,6 +1,6 @@
 //! The bounds of a status tree.
 
-use zp_model::{LARGEST_ORDER, MAX_PAGES};
+use zp_model::{LARGEST_ORDER, MAX_PAGES, NARROW_PAGES};
 
 /// The levels of a word below its root: it stands for 2 to this many places.
 pub const WORD_LEVELS: u8 = 5;
@@ -25,9 +25,9 @@ pub const MOST_GROUPS: usize = (MAX_PAGES / GROUP_PAGES) as usize;
 
 const _: () = prove!(MOST_GROUPS as u32 * GROUP_PAGES == MAX_PAGES);
 
-/// The most pages over which two rows of ranks are enough.
-pub const TWO_ROWS_PAGES: u32 = (FAN * FAN) as u32 * GROUP_PAGES;
+// over the pages of a narrow zone two rows of ranks are enough
+const _: () = prove!(NARROW_PAGES <= (FAN * FAN) as u32 * GROUP_PAGES);
 
-/// The most words that are read to find the lowest block of so many pages: one of each of the two rows, and of one group the high word and
+/// The most words that are read to find the lowest block of a narrow zone: one of each of the two rows, and of one group the high word and
 /// 31 low ones, or all 32 low ones.
 pub const MOST_READS: u64 = 2 + PLACES as u64;

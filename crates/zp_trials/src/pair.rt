@@ -1,12 +1,11 @@
 //! The two allocators side by side.
 ghost use Rattle.std.specs.Prelude.{◌≡◌, ◌≤◌, IfSome};
-ghost use Rattle.zp_model.specs.declared.constants.TheConstants.{MAX_PAGES};
+ghost use Rattle.zp_plain.specs.declared.room.TheConstants.{PLAIN_PAGES};
 
 use std::alloc::{AllocError, AllocGlobal, Global};
 use std::process::Abort;
-use zp_model::{
-    Largest, MAX_PAGES, MigrateType, ORDERS, Order, PageAt, PageblockType, State, Worker,
-};
+use zp_model::{Largest, MigrateType, ORDERS, Order, PageAt, PageblockType, State, Worker};
+use zp_plain::PLAIN_PAGES;
 
 /// The order of this number.
 pub fn order_of(rt: &impl Abort, number: u8) -> Order {
@@ -25,7 +24,7 @@ pub fn new_pair(
     pages: u32,
 ) -> Result<Pair, AllocError> {
     let largest = Largest::new(largest).expect(rt, "no largest order");
-    assert!(rt; pages <= MAX_PAGES);
+    assert!(rt; pages <= PLAIN_PAGES);
     Pair::new(rt.alloc(), pages, largest)
 }
 
@@ -42,7 +41,7 @@ pub struct Pair {
 impl Pair {
     /// Two new zones of so many pages, whose largest blocks have this order.
     pub fn new(alloc: Global, pages: u32, largest: Largest) -> Result<Pair, AllocError>
-        requires { pages ≤ MAX_PAGES }
+        requires { pages ≤ PLAIN_PAGES }
     {
         Ok(Pair {
             buddy: zp_buddy::Buddy::new(alloc, pages, largest, SIDES)?,
@@ -186,7 +185,7 @@ impl Pair {
         let mut head = self.buddy.front(order, kind);
         let mut plain_head = self.plain.front(order, kind);
         // No list has more blocks than a zone has pages.
-        'blocks: for _ in 0..=MAX_PAGES {
+        'blocks: for _ in 0..=PLAIN_PAGES {
             if head != plain_head {
                 return false;
             }

@@ -195,7 +195,13 @@ fn zones_of_a_few_pageblocks_agree(rt: HostRuntime) -> Result<(), Fail> {
 }
 
 #[test]
-fn the_largest_zone_agrees(rt: HostRuntime) -> Result<(), Fail> {
+fn the_largest_narrow_zone_agrees(rt: HostRuntime) -> Result<(), Fail> {
     compare_cases(&rt, &[(10, 65_536, 300, 11, 50)])?;
+    Ok(())
+}
+
+#[test]
+fn a_wide_zone_with_a_short_last_pageblock_agrees(rt: HostRuntime) -> Result<(), Fail> {
+    compare_cases(&rt, &[(10, 131_085, 60, 11, 20)])?;
     Ok(())
 }

@@ -11,13 +11,13 @@ ghost use Rattle.zp_model.specs.Lawful.{IsLawful};
 ghost use Rattle.zp_model.specs.Naming.{IsName};
 ghost use Rattle.zp_model.specs.Area.{pageblocks_of};
 ghost use Rattle.zp_zone.specs.NamedZone.{IsPageOf, IsPageblockOf, IsToldOf};
-ghost use Rattle.zp_zone.specs.Making.{wanted, IsGood, IsWhy};
+ghost use Rattle.zp_zone.specs.Making.{wanted, AreBounds, IsGoodWithin, IsWhyWithin};
 
 mod batches;
 mod blocks;
 mod pageblocks;
 
-use crate::config::{ZoneConfig, checked_name};
+use crate::config::{ZoneBounds, ZoneConfig, checked_name};
 use crate::page::ZonePage;
 use crate::pageblock::Pageblock;
 use std::alloc::Global;
@@ -54,9 +54,15 @@ impl Model for UntiedZone {
 impl UntiedZone {
     /// A zone with all its pages free. Refused 1 to 5 where the config is wrong, the least number that applies, and 6 where
     /// it is not and there is no memory.
-    pub fn new(alloc: Global, config: ZoneConfig<'_>, workers: u32) -> Result<UntiedZone, Refused>
-        ensures good { OnOk result (IsGood (wanted config.entry.name.now config.entry.base config.entry.pages config.entry.min workers)) }
-        ensures why { IfErr result (IsWhy (wanted config.entry.name.now config.entry.base config.entry.pages config.entry.min workers)) }
+    pub fn new(
+        alloc: Global,
+        bounds: ZoneBounds,
+        config: ZoneConfig<'_>,
+        workers: u32,
+    ) -> Result<UntiedZone, Refused>
+        requires { AreBounds bounds }
+        ensures good { OnOk result (IsGoodWithin bounds (wanted config.entry.name.now config.entry.base config.entry.pages config.entry.min workers)) }
+        ensures why { IfErr result (IsWhyWithin bounds (wanted config.entry.name.now config.entry.base config.entry.pages config.entry.min workers)) }
         ensures zone { IfOk result (λ z. z ≡ record { name = config.entry.name.now; plain = zone_opening config.entry.largest config.entry.base config.entry.pages config.entry.min workers }) }
     {
         let ZoneConfig {
@@ -66,7 +72,7 @@ impl UntiedZone {
             min,
             largest,
         } = config;
-        let name = checked_name(name, base, pages, min, workers)?;
+        let name = checked_name(bounds, name, base, pages, min, workers)?;
         let Ok(buddy) = Buddy::new(alloc, pages, largest, workers as usize) else {
             return Err(Refused::Memory);
         };

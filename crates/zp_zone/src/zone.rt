@@ -12,7 +12,7 @@ ghost use Rattle.zp_model.specs.Naming.{IsName};
 ghost use Rattle.zp_model.specs.Area.{pageblocks_of};
 ghost use Rattle.zp_zone.specs.NamedZone.{IsPageOf, IsPageblockOf, IsToldOf};
 ghost use Rattle.zp_zone.specs.Seats.{IsSeatOf, IsUnused, Agrees, books, has, seats_of};
-ghost use Rattle.zp_zone.specs.Making.{wanted, IsGood, IsWhy};
+ghost use Rattle.zp_zone.specs.Making.{wanted, AreBounds, IsGood, IsGoodWithin, IsWhy, IsWhyWithin, IsWideGood, IsWideWhy};
 
 mod asking;
 mod batches;
@@ -20,7 +20,7 @@ mod blocks;
 mod pageblocks;
 
 use crate::books::{Books, Opens, Part, Parts};
-use crate::config::ZoneConfig;
+use crate::config::{NARROW, WIDE, ZoneBounds, ZoneConfig};
 use crate::page::ZonePage;
 use crate::pageblock::Pageblock;
 use crate::seat::{Seat, seats};
@@ -61,7 +61,8 @@ impl Model for Zone {
 
 impl Zone {
     /// A zone with all its pages free, and a seat for each of its workers. Refused 1 to 5 where the config is wrong, the
-    /// least number that applies, and 6 where it is not and there is no memory.
+    /// least number that applies, and 6 where it is not and there is no memory. It is a narrow one: at most 65,536 pages, and a
+    /// base of at most 16,777,216.
     pub fn new(
         alloc: Global,
         config: ZoneConfig<'_>,
@@ -74,7 +75,41 @@ impl Zone {
         ensures fits { IfOk result (λ z. All (IsSeatOf z.0) z.1.items) }
         ensures unused { IfOk result (λ z. All IsUnused z.1.items) }
     {
-        let untied = UntiedZone::new(alloc, ZoneConfig { ..config }, workers)?;
+        Zone::within(alloc, NARROW, ZoneConfig { ..config }, workers)
+    }
+
+    /// As `new`, but for a wide zone: at most 16,777,216 pages, and a base of at most 2^30.
+    pub fn wide(
+        alloc: Global,
+        config: ZoneConfig<'_>,
+        workers: u32,
+    ) -> Result<(Zone, Vec<Seat>), Refused>
+        ensures good { OnOk result (IsWideGood (wanted config.entry.name.now config.entry.base config.entry.pages config.entry.min workers)) }
+        ensures why { IfErr result (IsWideWhy (wanted config.entry.name.now config.entry.base config.entry.pages config.entry.min workers)) }
+        ensures zone { IfOk result (λ z. z.0 ≡ record { tie = z.0.tie; name = config.entry.name.now; plain = zone_opening config.entry.largest config.entry.base config.entry.pages config.entry.min workers; entries = [] }) }
+        ensures seats { IfOk result (λ z. z.1.items ≡ seats_of z.0.tie (books z.0) workers) }
+        ensures fits { IfOk result (λ z. All (IsSeatOf z.0) z.1.items) }
+        ensures unused { IfOk result (λ z. All IsUnused z.1.items) }
+    {
+        Zone::within(alloc, WIDE, ZoneConfig { ..config }, workers)
+    }
+
+    /// As `new`, but within these bounds.
+    fn within(
+        alloc: Global,
+        bounds: ZoneBounds,
+        config: ZoneConfig<'_>,
+        workers: u32,
+    ) -> Result<(Zone, Vec<Seat>), Refused>
+        requires { AreBounds bounds }
+        ensures good { OnOk result (IsGoodWithin bounds (wanted config.entry.name.now config.entry.base config.entry.pages config.entry.min workers)) }
+        ensures why { IfErr result (IsWhyWithin bounds (wanted config.entry.name.now config.entry.base config.entry.pages config.entry.min workers)) }
+        ensures zone { IfOk result (λ z. z.0 ≡ record { tie = z.0.tie; name = config.entry.name.now; plain = zone_opening config.entry.largest config.entry.base config.entry.pages config.entry.min workers; entries = [] }) }
+        ensures seats { IfOk result (λ z. z.1.items ≡ seats_of z.0.tie (books z.0) workers) }
+        ensures fits { IfOk result (λ z. All (IsSeatOf z.0) z.1.items) }
+        ensures unused { IfOk result (λ z. All IsUnused z.1.items) }
+    {
+        let untied = UntiedZone::new(alloc, bounds, ZoneConfig { ..config }, workers)?;
         let Ok(mut keeper) = Keeper::<Books, Part, Parts>::new(alloc) else {
             return Err(Refused::Memory);
         };

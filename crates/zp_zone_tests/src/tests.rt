@@ -24,27 +24,32 @@ struct Making<'a> {
     min: u32,
 }
 
-/// Name, base, pages, least mark and workers of a making, and the number that it is refused with, or 0 where the zone is made.
-type Made = (&'static str, u32, u32, u32, u32, u8);
+/// Name, base, pages, least mark and workers of a making, and the number that it is refused with, or 0 where the zone is made: of a narrow
+/// zone, and of a wide one.
+type Made = (&'static str, u32, u32, u32, u32, u8, u8);
 
-const MAKINGS: [Made; 12] = [
-    ("a", 0, 1, 1, 1, 0),
-    ("Movable8", 16_777_216, 65_536, 65_536, 32, 0),
-    ("", 0, 4096, 0, 1, 1),
-    ("Movables9", 0, 4096, 0, 1, 1),
-    ("DMA 32", 7, 0, 1, 0, 1),
-    ("DMA32", 512, 4096, 0, 1, 2),
-    ("DMA32", 16_778_240, 0, 1, 0, 2),
-    ("DMA32", 0, 0, 1, 0, 3),
-    ("DMA32", 0, 65_537, 0, 1, 3),
-    ("DMA32", 0, 4096, 4097, 33, 4),
-    ("DMA32", 0, 4096, 0, 0, 5),
-    ("DMA32", 0, 4096, 0, 33, 5),
+const MAKINGS: [Made; 16] = [
+    ("a", 0, 1, 1, 1, 0, 0),
+    ("Movable8", 16_777_216, 65_536, 65_536, 32, 0, 0),
+    ("", 0, 4096, 0, 1, 1, 1),
+    ("Movables9", 0, 4096, 0, 1, 1, 1),
+    ("DMA 32", 7, 0, 1, 0, 1, 1),
+    ("DMA32", 512, 4096, 0, 1, 2, 2),
+    ("DMA32", 16_778_240, 0, 1, 0, 2, 3),
+    ("DMA32", 0, 0, 1, 0, 3, 3),
+    ("DMA32", 0, 65_537, 0, 1, 3, 0),
+    ("DMA32", 0, 4096, 4097, 33, 4, 4),
+    ("DMA32", 0, 4096, 0, 0, 5, 5),
+    ("DMA32", 0, 4096, 0, 33, 5, 5),
+    ("Normal", 1_073_741_824, 65_537, 65_537, 32, 2, 0),
+    ("Normal", 1_073_742_848, 0, 1, 0, 2, 2),
+    ("Normal", 4_294_966_272, 4096, 0, 1, 2, 2),
+    ("Normal", 0, 16_777_217, 0, 1, 3, 3),
 ];
 
-/// The number that such a making is refused with, or 0.
-fn refusal(alloc: Global, made: &Made) -> u8 {
-    let (name, base, pages, min, workers, _) = *made;
+/// What such a making is asked with.
+fn config_of(made: &Made) -> (ZoneConfig<'static>, u32) {
+    let (name, base, pages, min, workers, ..) = *made;
     let config = ZoneConfig {
         name,
         base,
@@ -52,7 +57,12 @@ fn refusal(alloc: Global, made: &Made) -> u8 {
         min,
         largest: Largest::usual(),
     };
-    match Zone::new(alloc, config, workers) {
+    (config, workers)
+}
+
+/// The number of a refusal, or 0.
+fn number_of(made: Result<(Zone, Vec<Seat>), Refused>) -> u8 {
+    match made {
         Ok(_) => 0,
         Err(refused) => refused.number(),
     }
@@ -61,18 +71,33 @@ fn refusal(alloc: Global, made: &Made) -> u8 {
 #[test]
 fn zones_are_made_or_refused_with_the_least_number(rt: HostRuntime) {
     for (place, made) in MAKINGS.iter().enumerate() {
-        assert!(rt; refusal(rt.alloc(), made) == made.5, "making {place}");
+        let (config, workers) = config_of(made);
+        let narrow = number_of(Zone::new(rt.alloc(), config, workers));
+        assert!(rt; narrow == made.5, "making {place}");
+    }
+}
+
+#[test]
+fn wide_zones_are_made_or_refused_with_the_least_number(rt: HostRuntime) {
+    for (place, made) in MAKINGS.iter().enumerate() {
+        let (config, workers) = config_of(made);
+        let wide = number_of(Zone::wide(rt.alloc(), config, workers));
+        assert!(rt; wide == made.6, "making {place}");
     }
 }
 
 /// The bounds, as numbers: what the clauses cite are these constants, so no clause would notice another number.
-const BOUNDS: [(u32, u32); 12] = [
+const BOUNDS: [(u32, u32); 16] = [
     (zp_model::LARGEST_ORDER as u32, 10),
     (zp_model::ORDERS as u32, 11),
     (zp_model::TYPES as u32, 3),
-    (zp_model::MAX_PAGES, 65_536),
+    (zp_model::MAX_PAGES, 16_777_216),
+    (zp_model::NARROW_PAGES, 65_536),
     (zp_model::MAX_WORKERS, 32),
-    (zp_model::BASE_LIMIT, 16_777_216),
+    (zp_model::BASE_LIMIT, 1_073_741_824),
+    (zp_model::NARROW_BASE_LIMIT, 16_777_216),
+    (zp_model::MAX_ZONES as u32, 64),
+    (zp_model::TRACE_ZONES as u32, 4),
     (zp_model::BASE_STEP, 1_024),
     (zp_model::NAME_PLACES as u32, 8),
     (zp_model::NUMBER_PLACES as u32, 6),

@@ -9,8 +9,8 @@ use Rattle.zp_gate.proofs.InOrder.{made_in_order, many_seats}
 use Rattle.zp_gate.proofs.Keys.{opening_key, seats_by}
 use Rattle.zp_gate.proofs.row.opened_zone.Goals as goal
 
-pub new-requires-3 : goal.new-requires-3
-new-requires-3 c =
+pub new-requires-2 : goal.new-requires-2
+new-requires-2 c =
     let config = c.args.config.now in let zone = c.in_ok-zone.zone in
     let tie = last_so (IsSeatOf zone) c.in_ok-zone.seats.items c.pop.new.self.items c.in-Some-pop.seat c.in-Some-pop.ensures.items c.in_ok-zone.ensures.fits in
     let named = c.in-Some.ensures.some ∙ c.as_bytes.ensures.value in

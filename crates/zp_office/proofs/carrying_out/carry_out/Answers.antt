@@ -1,11 +1,25 @@
-use Rattle.std.proofs.Common.{ap, subst}
+use Rattle.std.proofs.Common.{ap, arith, length, map, subst, ◌≡◌, ◌≤◌, ◌∙◌, sym}
+use Rattle.std.proofs.lemmas.List.{length-map}
+use Rattle.zp_model.specs.declared.constants.TheConstants.{TRACE_ZONES}
 use Rattle.zp_share.specs.declared.commands.Lent.{Lent}
 use Rattle.zp_model.specs.declared.request.Request.TheVariants as request
 use Rattle.zp_zone.specs.NamedZone.{block_reply, isolate_reply, release_reply}
 use Rattle.zp_share.proofs.Covering.{covers_one}
+use Rattle.zp_share.specs.Shares.{ZoneKey}
+use Rattle.zp_share.specs.ZoneShares.{ZoneShareState}
 use Rattle.zp_office.specs.Desks.{IsCommandFor}
 use Rattle.zp_office.proofs.CarriedOut.{kept-set}
 use Rattle.zp_office.proofs.carrying_out.carry_out.Goals as goal
+
+-- the share is of as many zones as the row has keys
+pub counts_in-requires-clause-few : goal.counts_in-requires-clause-few
+counts_in-requires-clause-few g c =
+    let keys = g.Z.Zones.keys c.args.zones.now in
+    let zones = c.args.share.now.zones in
+    let few : length keys ≤ TRACE_ZONES = subst (IsCommandFor keys) c.in-Info.is c.requires.command in
+    let same : length zones ≡ length keys =
+    sym (length-map zones (λ (z : ZoneShareState). z.seat.tie)) ∙ ap length c.requires.fits ∙ length-map keys (λ (k : ZoneKey). k.tie) in
+    omega (arith, few, same)
 
 pub returns-in-Ok-alloc_low-clause-kept : goal.returns-in-Ok-alloc_low-clause-kept
 returns-in-Ok-alloc_low-clause-kept g c =

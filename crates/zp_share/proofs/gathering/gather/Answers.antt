@@ -1,5 +1,6 @@
-use Rattle.std.proofs.Common.{ℕ, ◌≡◌, All, map, get_or, set, sym, ◌∙◌, ap, subst, below_more}
+use Rattle.std.proofs.Common.{ℕ, ◌≡◌, All, map, get_or, set, length, sym, ◌∙◌, ap, subst, below_more, arith, lit<}
 use Rattle.std.proofs.lemmas.List.{set-get_or}
+use Rattle.std.proofs.lemmas.List.FromFn.{length-map-range_with_len}
 use Rattle.zp_zone.specs.Seats.{IsSeatOf}
 use Rattle.zp_share.specs.declared.gathering.Totals.{Totals}
 use Rattle.zp_share.specs.Commands.{zone_at}
@@ -22,6 +23,13 @@ gather_zone-requires-clause-crew c =
     let r = c.index-zones-place.result in
     subst (λ l. IsCrewOf l (get_or c.loop-place.zones i r)) (sym c.loop-place.invariant.shares)
     (subst (λ zs. IsCrewOf c.args.shares.now (get_or zs i r)) (sym c.loop-place.invariant.zones) (c.requires.crew i r c.loop-place-test.true))
+
+-- as many totals as places were gone over
+pub push-requires : goal.push-requires
+push-requires c =
+    let f : ℕ → Totals = λ j. totals_of (zone_at (map named_zone c.args.zones.now) j).plain (owns_at (map plain c.args.shares.now) j) in
+    let many : length c.loop-place.totals.items ≡ c.loop-place.place = ap length c.loop-place.invariant.totals ∙ length-map-range_with_len f 0 c.loop-place.place in
+    (lit< tt, omega (arith, many, c.requires.few, c.loop-place-test.true, ap length c.loop-place.invariant.zones))
 
 pub loop-place-preserved : goal.loop-place-preserved
 loop-place-preserved c =

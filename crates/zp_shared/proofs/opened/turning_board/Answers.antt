@@ -1,6 +1,6 @@
 use Rattle.std.proofs.Common.{arith, subst, sym, length, ◌≤◌}
 use Rattle.zp_counts.specs.CountBoards.{ArePackable}
-use Rattle.zp_counts.specs.declared.packed.TheConstants.{NARROW_PAGES}
+use Rattle.zp_model.specs.declared.constants.TheConstants.{NARROW_PAGES}
 use Rattle.zp_counts.proofs.FewBlocks.{few_blocks}
 use Rattle.zp_shared.proofs.opened.turning_board.Goals as goal
 

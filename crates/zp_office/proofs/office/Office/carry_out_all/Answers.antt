@@ -17,6 +17,6 @@ pub loop-command-preserved : goal.loop-command-preserved
 loop-command-preserved c =
     let at : c.loop-command.command-index < length c.args.commands.now = omega arith in
     record {
-      done = order_more _ _ _ _ _ _ c.loop-command.invariant.done c.carry_out_next.ensures (turn-last _ _ _ at c.command-item.is);
-      left = subst (λ (o : OfficeState). HaveCommands o (drop (c.loop-command.command-index + 1) (workers_in c.args.commands.now))) (sym c.carry_out_next.ensures) (have_more _ _ _ (have_here _ _ _ _ at c.command-item.is c.loop-command.invariant.left));
+      done = order_more _ _ _ _ _ _ c.loop-command.invariant.done c.carry_out_next.ensures.office (turn-last _ _ _ at c.command-item.is);
+      left = subst (λ (o : OfficeState). HaveCommands o (drop (c.loop-command.command-index + 1) (workers_in c.args.commands.now))) (sym c.carry_out_next.ensures.office) (have_more _ _ _ (have_here _ _ _ _ at c.command-item.is c.loop-command.invariant.left));
     }

@@ -1,5 +1,6 @@
 use Rattle.std.proofs.Common.{◌≡◌, refl, map, arith}
 use Rattle.zp_share.specs.Shares.{named_zone}
+use Rattle.zp_office.proofs.Bases.{bases_after}
 use Rattle.zp_office.proofs.Turns.{IsTurn, desks_after, done_after, next_there}
 use Rattle.zp_office.proofs.office.Office.carry_out_next.Goals as goal
 
@@ -24,5 +25,8 @@ turn c = record {
 pub invariant_of-self : goal.invariant_of-self
 invariant_of-self c = desks_after _ _ _ _ _ _ _ _ _ (turn c)
 
-pub returns : goal.returns
-returns c = done_after _ _ _ _ _ _ _ _ _ (turn c) (c.work_next.ensures.told (map named_zone c.self.inside.zones) refl)
+pub returns-clause-office : goal.returns-clause-office
+returns-clause-office c = done_after _ _ _ _ _ _ _ _ _ (turn c) (c.work_next.ensures.told (map named_zone c.self.inside.zones) refl)
+
+pub returns-clause-bases : goal.returns-clause-bases
+returns-clause-bases c = bases_after c.self.inside.zones c.work_next.new.zones c.self.inside.desks.items c.args.self.now c.self.view_is c.work_next.ensures.keys

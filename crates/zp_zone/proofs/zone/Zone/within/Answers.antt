@@ -6,7 +6,7 @@ use Rattle.zp_laws.proofs.Histories.{opening_history}
 use Rattle.zp_tie.specs.Ties.{Kept}
 use Rattle.zp_zone.specs.NamedZone.{NamedZone}
 use Rattle.zp_zone.proofs.NewSeats.{seats_fit, seats_unused}
-use Rattle.zp_zone.proofs.zone.Zone.new.Goals as goal
+use Rattle.zp_zone.proofs.zone.Zone.within.Goals as goal
 
 pub returns-clause-fits : goal.returns-clause-fits
 returns-clause-fits c =

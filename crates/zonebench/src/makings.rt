@@ -1,0 +1,105 @@
+//! How long the making of a zone takes, and of a worker's share of it.
+
+use crate::timing::print_name;
+use std::alloc::Global;
+use std::rt::Clock;
+use std::time::Instant;
+use zp_loads::{Unmade, config, config_of, longest_lists};
+use zp_model::Largest;
+use zp_share::Share;
+use zp_zone::Zone;
+
+/// The sizes of the zones, in pages.
+const SIZES: [u32; 3] = [1 << 16, 1 << 20, 1 << 24];
+
+/// The largest orders of the zones.
+const LARGEST: [u8; 6] = [10, 9, 6, 5, 4, 1];
+
+/// The makings of which the least time is printed.
+const SAMPLES: u32 = 5;
+
+/// What is made.
+#[derive(Clone, Copy, Drop)]
+enum Made {
+    /// A zone of this largest order.
+    Zone(Largest),
+    /// A worker's share of a zone.
+    Share,
+}
+
+impl Made {
+    /// The nanoseconds of a making, for a zone of so many pages.
+    fn nanos(self, rt: &impl Clock, alloc: Global, pages: u32) -> anyhow::Result<u128> {
+        match self {
+            Made::Zone(largest) => zone_nanos(rt, alloc, pages, largest),
+            Made::Share => share_nanos(rt, alloc, pages),
+        }
+    }
+
+    /// The least of several.
+    fn least_nanos(self, rt: &impl Clock, alloc: Global, pages: u32) -> anyhow::Result<u128> {
+        let mut least = u128::MAX;
+        for _ in 0..SAMPLES {
+            least = least.min(self.nanos(rt, alloc, pages)?);
+        }
+        Ok(least)
+    }
+}
+
+fn zone_nanos(
+    rt: &impl Clock,
+    alloc: Global,
+    pages: u32,
+    largest: Largest,
+) -> anyhow::Result<u128> {
+    let start = Instant::now(rt)?;
+    match Zone::wide(alloc, config_of(pages, largest), 1) {
+        Ok(_made) => Ok(start.elapsed(rt)?.as_nanos()),
+        Err(refused) => Err(Unmade::from(refused).into()),
+    }
+}
+
+fn share_nanos(rt: &impl Clock, alloc: Global, pages: u32) -> anyhow::Result<u128> {
+    let lists = longest_lists()?;
+    match Zone::wide(alloc, config(pages), 1) {
+        Ok((_zone, seats)) => {
+            let start = Instant::now(rt)?;
+            match Share::new(alloc, seats, lists) {
+                Ok(_share) => Ok(start.elapsed(rt)?.as_nanos()),
+                Err(refused) => Err(Unmade::from(refused).into()),
+            }
+        }
+        Err(refused) => Err(Unmade::from(refused).into()),
+    }
+}
+
+/// Prints a line of the table: the time of a making at each size.
+fn print_times(
+    rt: &(impl Print + Eprint + Clock),
+    alloc: Global,
+    name: &str,
+    made: Made,
+) -> anyhow::Result<()> {
+    print_name(rt, name)?;
+    for pages in SIZES {
+        let hundredths = made.least_nanos(rt, alloc, pages)? / 10_000;
+        print!(rt; "{:>9}.{:02}", hundredths / 100, hundredths % 100)?;
+    }
+    println!(rt;)?;
+    Ok(())
+}
+
+/// Prints the table: milliseconds of a making, by the pages of the zone.
+pub fn print_all(rt: &(impl Print + Eprint + Clock), alloc: Global) -> anyhow::Result<()> {
+    println!(rt;
+        "{:<40}{:>12}{:>12}{:>12}",
+        "milliseconds of a making", "65536 pages", "1048576", "16777216"
+    )?;
+    for number in LARGEST {
+        if let Some(largest) = Largest::new(number) {
+            let name = format!(in alloc; "a zone of largest order {number}")?;
+            print_times(rt, alloc, name.as_str(), Made::Zone(largest))?;
+        }
+    }
+    print_times(rt, alloc, "a worker's share", Made::Share)
+}

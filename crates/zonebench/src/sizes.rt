@@ -1,0 +1,69 @@
+//! The time of each workload over the sizes of zones, up to the largest.
+
+use crate::timing::{CALLS, print_name, print_tenths, tenths_a_call};
+use crate::workload::Workload;
+use std::alloc::Global;
+use std::rt::Clock;
+use zp_loads::{BlockSource, Cached, Seated};
+
+/// The sizes of the zones, in pages.
+const SIZES: [u32; 5] = [1 << 16, 1 << 18, 1 << 20, 1 << 22, 1 << 24];
+
+/// The workloads by a seat.
+const SEATED: [&str; 10] = [
+    "pairs-0",
+    "pairs-4",
+    "pairs-9",
+    "pairs-10",
+    "runs",
+    "churn",
+    "press",
+    "burst",
+    "scattered",
+    "claims",
+];
+
+/// The workloads in which a worker's lists have a part.
+const CACHED: [&str; 5] = ["pairs-0", "runs", "churn", "press", "burst"];
+
+/// Prints a line of the table: the time of a workload at each size.
+fn print_times<S: BlockSource>(
+    rt: &(impl Print + Eprint + Clock),
+    alloc: Global,
+    name: &str,
+    workload: &Workload,
+) -> anyhow::Result<()> {
+    print_name(rt, name)?;
+    for pages in SIZES {
+        let ops = workload.ops(pages, CALLS);
+        let tenths = tenths_a_call::<S>(rt, alloc, workload, pages, ops)?;
+        print_tenths(rt, tenths)?;
+    }
+    println!(rt;)?;
+    Ok(())
+}
+
+/// Prints the lines of the workloads of these names.
+fn print_lines<S: BlockSource>(
+    rt: &(impl Print + Eprint + Clock),
+    alloc: Global,
+    names: &[&str],
+) -> anyhow::Result<()> {
+    for name in names {
+        if let Some(workload) = Workload::named(name) {
+            print_times::<S>(rt, alloc, name, &workload)?;
+        }
+    }
+    Ok(())
+}
+
+/// Prints the table: nanoseconds a call, by the pages of the zone; first by a seat, then by a worker's lists.
+pub fn print_all(rt: &(impl Print + Eprint + Clock), alloc: Global) -> anyhow::Result<()> {
+    println!(rt;
+        "{:<40}{:>12}{:>12}{:>12}{:>12}{:>12}",
+        "nanoseconds a call", "65536 pages", "262144", "1048576", "4194304", "16777216"
+    )?;
+    print_lines::<Seated<10>>(rt, alloc, &SEATED)?;
+    println!(rt; "with lists of workers")?;
+    print_lines::<Cached>(rt, alloc, &CACHED)
+}
