@@ -1,0 +1,153 @@
+//! The words that the program takes, and what its help says.
+use clap::{Arg, ArgAction, Command};
+use std::alloc::{AllocError, Global};
+
+const ABOUT: &str = "Shows what the free memory of zones is good for";
+
+const INDEX_ABOUT: &str =
+    "For each zone of /proc/buddyinfo how much of its free memory a request of each order can use";
+
+const INDEX_HELP: &str = "\
+Reads /proc/buddyinfo of any Linux, or lines of its shape, on standard input.
+For each zone and order it tells two figures of Linux, by Linux's arithmetic:
+
+  unusable       The unusable free space index: the share of the free pages
+                 that lie in blocks too small for the order. 0.000 says that a
+                 request of this order could use them all, 1.000 that it could
+                 use none.
+  fragmentation  The fragmentation index: why a request of this order would
+                 fail. -1.000 where it would not, for a block is there; else
+                 towards 0 for want of memory, towards 1 for fragmentation.
+                 0.000 where nothing is free.
+
+Behind each stands its bar: the longer, the worse.
+
+  zoneview index < /proc/buddyinfo
+  zoneview index --page 16K --ascii < buddyinfo.txt
+
+A line that is no line of buddyinfo is told by its number on standard error;
+then nothing is written, and the status is 1.";
+
+const MAP_ABOUT: &str =
+    "Draws each zone of a trace: a line a pageblock, and who stands in the way of a block";
+
+const MAP_HELP: &str = "\
+Reads a trace on standard input, as zonereplay does, and carries out its
+requests one after another, up to --line N or all. Then each pageblock of each
+zone has a line: its number, the letter of its type, and a cell for so many
+pages as fit the width. Free pages, pages of workers, posted ones and those in
+workers' lists have shades or letters of their own, which the last lines tell.
+Beneath stand what each worker has, the largest free block, and what stands in
+the way of a block of --order K: of the aligned runs of 2^K pages the one with
+the fewest pages in use, and who has these.
+
+  zoneview map < trace
+  zoneview map --line 200 --order 9 --ascii < trace";
+
+const TABLES_ABOUT: &str = "Writes the tables of /proc/pagetypeinfo for the zones of a trace";
+
+const TABLES_HELP: &str = "\
+Reads a trace on standard input and carries out its requests, up to --line N or
+all. What is written has the shape of Linux's /proc/pagetypeinfo: the free
+blocks of each migrate type and order, and the pageblocks of each type.";
+
+const FILM_ABOUT: &str = "Draws all zones over all requests of a trace: one picture, as SVG";
+
+const FILM_HELP: &str = "\
+Reads a trace on standard input. Pages go from left to right and requests from
+top to bottom; a colour says what a page is: free by order, out, posted, or in a
+worker's list. At most 2,000 cells stand in each direction: neighbours are put
+together by the state that most pages have.
+
+  zoneview film --svg < trace > film.svg";
+
+const CHART_ABOUT: &str =
+    "Draws the free pages of each zone by order over the requests of a trace, as SVG";
+
+const CHART_HELP: &str = "\
+Reads a trace on standard input. The free pages stand on each other by the order
+of their blocks, with the marks of the zone as lines.
+
+  zoneview chart --svg < trace > chart.svg";
+
+const EXAMPLE: &str = "\
+Examples:
+  zoneview index < /proc/buddyinfo
+  zoneview map --order 9 < trace
+  zoneview film --svg < trace > film.svg
+  zoneview map --help";
+
+/// The program's words.
+pub fn command<'a>(alloc: Global) -> Result<Command<'a>, AllocError> {
+    Command::new(alloc, "zoneview")
+        .about(ABOUT)
+        .after_help(EXAMPLE)
+        .subcommand_required(true)
+        .subcommand(index(alloc)?)?
+        .subcommand(map(alloc)?)?
+        .subcommand(of_trace(alloc, "pagetypeinfo", TABLES_ABOUT, TABLES_HELP)?)?
+        .subcommand(svg(alloc, "film", FILM_ABOUT, FILM_HELP)?)?
+        .subcommand(svg(alloc, "chart", CHART_ABOUT, CHART_HELP)?)
+}
+
+/// The words of `zoneview index`.
+fn index<'a>(alloc: Global) -> Result<Command<'a>, AllocError> {
+    let page = Arg::new(alloc, "page")
+        .long("page")
+        .value_name("SIZE")
+        .default_value("4K")
+        .help("The size of a page: a number of bytes, or of K, M or G");
+    let ascii = Arg::new(alloc, "ascii")
+        .long("ascii")
+        .action(ArgAction::SetTrue)
+        .help("Draw the bars with # and dots");
+    Command::new(alloc, "index")
+        .about(INDEX_ABOUT)
+        .after_help(INDEX_HELP)
+        .arg(page)?
+        .arg(ascii)
+}
+
+/// The words of a command that reads a trace.
+fn of_trace<'a>(
+    alloc: Global,
+    name: &'a str,
+    about: &'a str,
+    help: &'a str,
+) -> Result<Command<'a>, AllocError> {
+    let line = Arg::new(alloc, "line").long("line").value_name("N").help(
+        "Carry out the trace up to its line N; all of it where none is named",
+    );
+    Command::new(alloc, name)
+        .about(about)
+        .after_help(help)
+        .arg(line)
+}
+
+/// The words of a command whose picture is SVG.
+fn svg<'a>(
+    alloc: Global,
+    name: &'a str,
+    about: &'a str,
+    help: &'a str,
+) -> Result<Command<'a>, AllocError> {
+    let svg = Arg::new(alloc, "svg")
+        .long("svg")
+        .action(ArgAction::SetTrue)
+        .help("Write SVG, which is the only form");
+    of_trace(alloc, name, about, help)?.arg(svg)
+}
+
+/// The words of `zoneview map`.
+fn map<'a>(alloc: Global) -> Result<Command<'a>, AllocError> {
+    let order = Arg::new(alloc, "order").long("order").value_name("K").help(
+        "Tell what stands in the way of a block of order K; of the zone's largest where none is named",
+    );
+    let ascii = Arg::new(alloc, "ascii")
+        .long("ascii")
+        .action(ArgAction::SetTrue)
+        .help("Draw with letters and digits");
+    of_trace(alloc, "map", MAP_ABOUT, MAP_HELP)?
+        .arg(order)?
+        .arg(ascii)
+}

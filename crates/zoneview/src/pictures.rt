@@ -1,0 +1,111 @@
+//! `zoneview map`, `pagetypeinfo`, `film` and `chart`: the zones of a trace, as its requests leave them.
+
+use crate::WRONG_WORDS;
+use crate::input::read_input;
+use crate::screen::Screen;
+use clap::ArgMatches;
+use std::alloc::Global;
+use std::io;
+use std::io::{BufWriter, Write};
+use zp_drawing::MapStyle;
+use zp_model::Order;
+use zp_pictures::{MapOptions, Shown, print_chart, print_film, print_map, print_pagetypeinfo};
+
+/// The status of a run whose text is no trace.
+const BAD_TRACE: u8 = 1;
+
+/// What is drawn.
+#[derive(Clone, Copy, PartialEq, Eq, Debug, Drop)]
+pub enum Picture {
+    Map,
+    TypeTables,
+    Film,
+    Chart,
+}
+
+/// Reads a trace on standard input, and draws its zones.
+pub fn run(
+    rt: &(impl Print + Eprint + Input + AllocGlobal),
+    picture: Picture,
+    words: &ArgMatches<'_>,
+    screen: Screen,
+) -> anyhow::Result<u8> {
+    let options = match options_of(picture, words, screen) {
+        Ok(options) => options,
+        Err(wrong) => {
+            eprintln!(rt; "zoneview: {wrong}")?;
+            return Ok(WRONG_WORDS);
+        }
+    };
+    let text = read_input(rt)?;
+    let mut out = BufWriter::new(rt.alloc(), io::writer(rt))?;
+    let shown = draw(rt.alloc(), picture, text.as_slice(), &options, &mut out)?;
+    out.flush()?;
+    match shown {
+        Shown::Picture => Ok(0),
+        Shown::BadLine(_) => Ok(BAD_TRACE),
+    }
+}
+
+fn draw<W: Write>(
+    alloc: Global,
+    picture: Picture,
+    text: &[u8],
+    options: &MapOptions,
+    writer: &mut W,
+) -> anyhow::Result<Shown> {
+    Ok(match picture {
+        Picture::Map => print_map(alloc, text, options, writer)?,
+        Picture::TypeTables => print_pagetypeinfo(alloc, text, options.line, writer)?,
+        Picture::Film => print_film(alloc, text, options.line, writer)?,
+        Picture::Chart => print_chart(alloc, text, options.line, writer)?,
+    })
+}
+
+/// What the words ask for, or what is wrong with them.
+fn options_of(
+    picture: Picture,
+    words: &ArgMatches<'_>,
+    screen: Screen,
+) -> Result<MapOptions, &'static str> {
+    let line = match words.get_str("line") {
+        None => None,
+        Some(word) => match word.parse::<usize>() {
+            Ok(line) => Some(line),
+            Err(_) => return Err("--line: a number of a line of the trace, from 1 on"),
+        },
+    };
+    Ok(MapOptions {
+        line,
+        style: style_of(picture, words, screen)?,
+    })
+}
+
+/// How a map is drawn. (The words of the others have no style.)
+fn style_of(
+    picture: Picture,
+    words: &ArgMatches<'_>,
+    screen: Screen,
+) -> Result<MapStyle, &'static str> {
+    if picture != Picture::Map {
+        return Ok(MapStyle {
+            width: usize::from(screen.columns),
+            ascii: false,
+            colour: false,
+            order: None,
+        });
+    }
+    let order = match words.get_str("order") {
+        None => None,
+        Some(word) => match word.parse::<u8>().ok().and_then(Order::new) {
+            Some(order) => Some(order),
+            None => return Err("--order: an order from 0 to 10"),
+        },
+    };
+    Ok(MapStyle {
+        width: usize::from(screen.columns),
+        ascii: words.get_flag("ascii"),
+        colour: screen.colour,
+        order,
+    })
+}

@@ -1,0 +1,6 @@
+pub mod Made
+pub mod Numbers
+pub mod WordLists
+pub mod TableRows
+pub mod Parts
+pub mod ZoneTexts

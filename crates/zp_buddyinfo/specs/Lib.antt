@@ -1,0 +1,4 @@
+pub mod Figures
+pub mod Rows
+pub mod Report
+pub mod Sizes

@@ -1,0 +1,18 @@
+//! How zones are drawn, as text and as SVG: maps, tables of types, films and charts.
+#![tactic(auto)]
+
+mod cells;
+mod film_rows;
+mod glyphs;
+mod map_lines;
+mod panels;
+mod svg;
+mod type_tables;
+
+pub use cells::{KINDS, Kind, Tally};
+pub use film_rows::{Film, GAP, LEFT, Strip, TOP};
+pub use glyphs::{CellStyle, write_cell};
+pub use map_lines::{MapStyle, write_map};
+pub use panels::{PANEL_HEIGHT, Panel, write_panel};
+pub use svg::{write_classes, write_end, write_head, write_key, write_text};
+pub use type_tables::{TypeCounts, write_type_tables};

@@ -1,0 +1,199 @@
+//! The map of a zone: a line for each pageblock, and beneath it who has how much, and what stands in the way.
+use crate::glyphs::{CellStyle, write_cell};
+use std::io;
+use std::io::Write;
+use zp_model::{Order, PageblockType, Worker};
+use zp_view::{PageState, holdings_in, least_used_run, used_pages};
+use zp_zone::Zone;
+
+/// The places before the first cell of a line: a pageblock's number, its type, and two spaces.
+const MARGIN: usize = 9;
+
+/// How a map is drawn.
+#[derive(Clone, Copy, PartialEq, Eq, Debug, Drop)]
+pub struct MapStyle {
+    /// How many characters a line may have.
+    pub width: usize,
+    /// Letters and digits in place of half blocks and shades.
+    pub ascii: bool,
+    pub colour: bool,
+    /// The order of the block of which it is told what stands in the way: the zone's largest, where none is named.
+    pub order: Option<Order>,
+}
+
+/// How many pages a cell has: the least power of two by which a pageblock fits into the width.
+fn cell_pages(pageblock: usize, width: usize) -> usize {
+    let cells = width.saturating_sub(MARGIN).max(1);
+    let mut pages = 1usize;
+    for _ in 0..16 {
+        if pages.saturating_mul(cells) >= pageblock {
+            return pages;
+        }
+        pages = pages.saturating_mul(2);
+    }
+    pages
+}
+
+/// The letter of a pageblock's type.
+fn type_letter(zone: &Zone, number: usize) -> char {
+    let Ok(number) = u32::try_from(number) else {
+        return '?';
+    };
+    match zone.pageblock(number) {
+        Some(pageblock) => match pageblock.kind {
+            PageblockType::Unmovable => 'U',
+            PageblockType::Reclaimable => 'R',
+            PageblockType::Movable => 'M',
+            PageblockType::Isolate => 'I',
+        },
+        None => '?',
+    }
+}
+
+/// Writes the cells of a pageblock's pages.
+fn write_cells<W: Write>(
+    writer: &mut W,
+    states: &[PageState],
+    pages: usize,
+    style: &CellStyle,
+) -> io::Result<()> {
+    for cell in states.chunks(pages.max(1)) {
+        write_cell(writer, cell, style)?;
+    }
+    Ok(())
+}
+
+/// Writes a line for each pageblock.
+fn write_pageblocks<W: Write>(
+    writer: &mut W,
+    zone: &Zone,
+    row: &[PageState],
+    style: &MapStyle,
+) -> io::Result<()> {
+    let pageblock = zone.largest().pageblock_pages().max(1) as usize;
+    let pages = cell_pages(pageblock, style.width);
+    let cells = CellStyle {
+        ascii: style.ascii,
+        colour: style.colour,
+        largest: zone.largest().order(),
+    };
+    for (number, states) in row.chunks(pageblock).enumerate() {
+        let letter = type_letter(zone, number);
+        write!(writer, "{number:>5} {letter}  ")?;
+        write_cells(writer, states, pages, &cells)?;
+        writeln!(writer)?;
+    }
+    Ok(())
+}
+
+/// Writes what each worker has of these pages, where it has something; each line begins so.
+fn write_holdings<W: Write>(
+    writer: &mut W,
+    row: &[PageState],
+    workers: u8,
+    begin: &str,
+) -> io::Result<()> {
+    for number in 0..workers {
+        let Some(worker) = Worker::new(number) else {
+            return Ok(());
+        };
+        let held = holdings_in(row, worker);
+        if held.out == 0 && held.cached == 0 && held.posted == 0 {
+            continue;
+        }
+        let (out, cached, posted) = (held.out, held.cached, held.posted);
+        writeln!(
+            writer,
+            "{begin}worker {number}: out {out}, cached {cached}, posted {posted}"
+        )?;
+    }
+    Ok(())
+}
+
+/// The order of the largest free block of a row's pages.
+fn largest_free(row: &[PageState]) -> Option<Order> {
+    let mut largest: Option<Order> = None;
+    for state in row {
+        if let PageState::Free(order) = *state {
+            largest = match largest {
+                Some(other) if other.number() >= order.number() => Some(other),
+                _ => Some(order),
+            };
+        }
+    }
+    largest
+}
+
+/// Writes which aligned run of the order has the fewest pages in use, and who has these.
+fn write_way<W: Write>(
+    writer: &mut W,
+    row: &[PageState],
+    first: u32,
+    order: Order,
+    workers: u8,
+) -> io::Result<()> {
+    let number = order.number();
+    let Some(place) = least_used_run(row, order) else {
+        return writeln!(
+            writer,
+            "in the way of order {number}: the zone is too small"
+        );
+    };
+    let pages = order.pages();
+    let run = row
+        .get(place..place.saturating_add(pages as usize))
+        .unwrap_or(row);
+    let used = used_pages(run);
+    let from = u64::from(first).saturating_add(place as u64);
+    let last = from.saturating_add(u64::from(pages)).saturating_sub(1);
+    writeln!(
+        writer,
+        "in the way of order {number}: {used} of {pages} pages in use, {from} to {last}"
+    )?;
+    write_holdings(writer, run, workers, "  ")
+}
+
+/// Writes what the map is of.
+fn write_title<W: Write>(
+    writer: &mut W,
+    zone: &Zone,
+    first: u32,
+    style: &MapStyle,
+) -> io::Result<()> {
+    let name = zone.name();
+    let pages = zone.pages();
+    let pageblock = zone.largest().pageblock_pages();
+    let cell = cell_pages(pageblock as usize, style.width);
+    writeln!(
+        writer,
+        "zone {name}: {pages} pages from {first}, {pageblock} a pageblock, {cell} a cell"
+    )
+}
+
+/// Writes the order of the largest free block.
+fn write_largest<W: Write>(writer: &mut W, row: &[PageState]) -> io::Result<()> {
+    match largest_free(row) {
+        Some(order) => {
+            let (number, pages) = (order.number(), order.pages());
+            writeln!(writer, "largest free block: order {number}, {pages} pages")
+        }
+        None => writeln!(writer, "largest free block: none"),
+    }
+}
+
+/// Writes the map of a zone: `row` has the state of each page, and `first` is the first.
+pub fn write_map<W: Write>(
+    writer: &mut W,
+    zone: &Zone,
+    row: &[PageState],
+    first: u32,
+    workers: u8,
+    style: &MapStyle,
+) -> io::Result<()> {
+    write_title(writer, zone, first, style)?;
+    write_pageblocks(writer, zone, row, style)?;
+    write_holdings(writer, row, workers, "")?;
+    write_largest(writer, row)?;
+    let order = style.order.unwrap_or(zone.largest().order());
+    write_way(writer, row, first, order, workers)
+}

@@ -1,0 +1,8 @@
+//! The state of each page of a trace's zones after its first requests: free, lent to a worker, posted, or in a worker's list.
+#![tactic(auto)]
+
+mod replaying;
+mod states;
+
+pub use replaying::Replay;
+pub use states::{PageBlock, block_at, page_row};
