@@ -1,5 +1,6 @@
 pub mod Made
 pub mod Numbers
+pub mod SizeWords
 pub mod WordLists
 pub mod TableRows
 pub mod Parts

@@ -1,6 +1,6 @@
 //! The size of a page, as a word says it.
-ghost use Rattle.std.specs.Prelude.{◌≡◌, ◌<◌, ◌++◌, IfSome};
-ghost use Rattle.zp_buddyinfo.specs.Sizes.{IsSize, letter_of, bytes_of};
+ghost use Rattle.std.specs.Prelude.{◌≡◌, ◌<◌, ◌++◌, IfSome, IfNone};
+ghost use Rattle.zp_buddyinfo.specs.Sizes.{EndsInNoLetter, IsNoSize, IsSize, letter_of, bytes_of};
 
 use crate::number::parse_number;
 
@@ -29,7 +29,8 @@ impl SizeUnit {
 
 /// What stands before the letter of a unit, and the unit.
 fn split_unit(word: &[u8]) -> (&[u8], SizeUnit)
-    ensures { word.now ≡ result.0.now ++ letter_of result.1 }
+    ensures parts { word.now ≡ result.0.now ++ letter_of result.1 }
+    ensures plain { result.1 ≡ SizeUnit.Byte → EndsInNoLetter result.0.now }
 {
     match word.split_last() {
         Some((b'K', digits)) => (digits, SizeUnit::Kibibyte),
@@ -41,12 +42,10 @@ fn split_unit(word: &[u8]) -> (&[u8], SizeUnit)
 
 /// The bytes that a word says: a number above 0, and K, M or G where it counts 1024 bytes, their square or their cube.
 pub fn parse_size(word: &str) -> Option<u64>
-    ensures { IfSome result (λ bytes. (0 < bytes) × IsSize word.now bytes) }
+    ensures some { IfSome result (λ bytes. (0 < bytes) × IsSize word.now bytes) }
+    ensures none { IfNone result (IsNoSize word.now) }
 {
     let (digits, unit) = split_unit(word.as_bytes());
     let bytes = parse_number(digits)?.checked_mul(unit.bytes())?;
-    if bytes == 0 {
-        return None;
-    }
-    Some(bytes)
+    (bytes > 0).then_some(bytes)
 }
