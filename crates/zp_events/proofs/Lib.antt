@@ -1,0 +1,9 @@
+pub mod Options
+pub mod Numbers
+pub mod Cuts
+pub mod Heads
+pub mod Marks
+pub mod Actions
+pub mod Places
+pub mod Frames
+pub mod Readings

@@ -1,0 +1,5 @@
+pub mod Numbers
+pub mod Words
+pub mod Flags
+pub mod Fields
+pub mod Lines

@@ -1,0 +1,5 @@
+//! Tests of reading lines of page events: what no clause says of them. They stand over the library, so that it is proved once.
+#![tactic(auto)]
+
+#[cfg(test)]
+mod tests;
