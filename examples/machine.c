@@ -1,5 +1,6 @@
 /* A machine of 16 GiB as pages of 4 KiB, cut into zones as Linux cuts it on x86-64, with a worker for each of eight processors: each runs in a
- * thread, takes blocks of all orders out of the highest zone or one below it, and gives them back. At the end all pages are free.
+ * thread, takes blocks of all orders out of the highest zone or one below it, and now and then a page out of the lowest, and gives them back. At
+ * the end all pages are free.
  * Argument: how many blocks a thread takes. */
 #include "zonealloc_threads.h"
 #include <pthread.h>
@@ -25,16 +26,28 @@ typedef struct processor {
 static zone_pool_t pool;
 static processor_t processors[PROCESSORS];
 
-/* Blocks of the orders in turn, so many at a time. */
+/* Each 97th block is a page for a device, out of the lowest zone, which is too small for a large block of each worker; the others have the
+ * orders in turn. */
+static int is_for_device(unsigned long block)
+{
+    return block % 97 == 0;
+}
+
+static uint32_t order_of(unsigned long block)
+{
+    return is_for_device(block) ? 0 : (uint32_t)(block % ZONE_ORDERS);
+}
+
+/* So many blocks at a time. */
 static void hold(processor_t *own, unsigned long first)
 {
     uint32_t zones[HELD], pages[HELD], i;
     for (i = 0; i < HELD; i++) {
-        zones[i] = (first + i) % 97 == 0 ? 0 : HIGHEST;
-        own->wrong += zone_alloc_pages(&pool, own->number, (first + i) % ZONE_ORDERS, ZONE_TYPE_MOVABLE, ZONE_LOW, &zones[i], &pages[i]) != ZONE_OK;
+        zones[i] = is_for_device(first + i) ? 0 : HIGHEST;
+        own->wrong += zone_alloc_pages(&pool, own->number, order_of(first + i), ZONE_TYPE_MOVABLE, ZONE_LOW, &zones[i], &pages[i]) != ZONE_OK;
     }
     for (i = 0; i < HELD; i++)
-        own->wrong += zone_free_pages(&pool, own->number, zones[i], pages[i], (first + i) % ZONE_ORDERS) != ZONE_OK;
+        own->wrong += zone_free_pages(&pool, own->number, zones[i], pages[i], order_of(first + i)) != ZONE_OK;
 }
 
 static void *work(void *given)
