@@ -28,12 +28,10 @@ pub enum Kept {
     Pieces,
 }
 
-impl Kept {
-    /// Each choice.
-    pub fn all() -> [Kept; 3] {
-        [Kept::Whole, Kept::Nothing, Kept::Pieces]
-    }
+/// Each choice.
+pub const KEPT: [Kept; 3] = [Kept::Whole, Kept::Nothing, Kept::Pieces];
 
+impl Kept {
     pub fn name(self) -> &'static str {
         match self {
             Kept::Whole => "whole journal",

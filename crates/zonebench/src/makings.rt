@@ -1,11 +1,12 @@
 //! How long the making of a zone takes, and of a worker's share of it.
 
-use crate::timing::print_name;
+use crate::steps::Steps;
 use std::alloc::Global;
 use std::rt::Clock;
 use std::time::Instant;
 use zp_loads::{Unmade, config, config_of, longest_lists};
 use zp_model::Largest;
+use zp_progress::{Meter, Progress, Task};
 use zp_share::Share;
 use zp_zone::Zone;
 
@@ -17,6 +18,15 @@ const LARGEST: [u8; 6] = [10, 9, 6, 5, 4, 1];
 
 /// The makings of which the least time is printed.
 const SAMPLES: u32 = 5;
+
+/// The times that are taken: of zones, and of a share.
+const MEASUREMENTS: usize = SIZES.len() * (LARGEST.len() + 1);
+
+/// What is told of a table that takes long.
+const TASK: Task<'static> = Task {
+    name: "zonebench makings",
+    unit: "measurements",
+};
 
 /// What is made.
 #[derive(Clone, Copy, Drop)]
@@ -75,14 +85,26 @@ fn share_nanos(rt: &impl Clock, alloc: Global, pages: u32) -> anyhow::Result<u12
 
 /// Prints a line of the table: the time of a making at each size.
 fn print_times(
-    rt: &(impl Print + Eprint + Clock),
+    rt: &(impl Print + Clock),
     alloc: Global,
+    steps: &mut Steps<impl Progress + Drop>,
     name: &str,
     made: Made,
 ) -> anyhow::Result<()> {
-    print_name(rt, name)?;
-    for pages in SIZES {
-        let hundredths = made.least_nanos(rt, alloc, pages)? / 10_000;
+    let mut line = [0; SIZES.len()];
+    for (nanos, pages) in line.iter_mut().zip(SIZES) {
+        *nanos = made.least_nanos(rt, alloc, pages)?;
+        steps.step();
+    }
+    steps.clear();
+    print_line(rt, name, &line)
+}
+
+/// Prints a line of the table, in milliseconds.
+fn print_line(rt: &impl Print, name: &str, nanos: &[u128]) -> anyhow::Result<()> {
+    print!(rt; "{name:<40}")?;
+    for nanos in nanos {
+        let hundredths = *nanos / 10_000;
         print!(rt; "{:>9}.{:02}", hundredths / 100, hundredths % 100)?;
     }
     println!(rt;)?;
@@ -90,7 +112,12 @@ fn print_times(
 }
 
 /// Prints the table: milliseconds of a making, by the pages of the zone.
-pub fn print_all(rt: &(impl Print + Eprint + Clock), alloc: Global) -> anyhow::Result<()> {
+pub fn print_all(
+    rt: &(impl Print + Eprint + Clock),
+    alloc: Global,
+    is_watched: bool,
+) -> anyhow::Result<()> {
+    let mut steps = Steps::new(Meter::new(rt, TASK, is_watched), MEASUREMENTS);
     println!(rt;
         "{:<40}{:>12}{:>12}{:>12}",
         "milliseconds of a making", "65536 pages", "1048576", "16777216"
@@ -98,8 +125,8 @@ pub fn print_all(rt: &(impl Print + Eprint + Clock), alloc: Global) -> anyhow::R
     for number in LARGEST {
         if let Some(largest) = Largest::new(number) {
             let name = format!(in alloc; "a zone of largest order {number}")?;
-            print_times(rt, alloc, name.as_str(), Made::Zone(largest))?;
+            print_times(rt, alloc, &mut steps, name.as_str(), Made::Zone(largest))?;
         }
     }
-    print_times(rt, alloc, "a worker's share", Made::Share)
+    print_times(rt, alloc, &mut steps, "a worker's share", Made::Share)
 }

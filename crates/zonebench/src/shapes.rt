@@ -52,8 +52,11 @@ impl Wish {
     }
 }
 
+/// How many requests there are that take a block.
+pub const WISHES: usize = 6;
+
 /// The blocks that are dear to split, to find or to claim.
-pub fn wishes() -> [(&'static str, Wish); 6] {
+pub fn wishes() -> [(&'static str, Wish); WISHES] {
     let (unmovable, reclaimable, movable) = (
         MigrateType::Unmovable,
         MigrateType::Reclaimable,

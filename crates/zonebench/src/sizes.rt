@@ -1,10 +1,12 @@
 //! The time of each workload over the sizes of zones, up to the largest.
 
-use crate::timing::{CALLS, print_name, print_tenths, tenths_a_call};
+use crate::steps::Steps;
+use crate::timing::{CALLS, print_line, tenths_a_call};
 use crate::workload::Workload;
 use std::alloc::Global;
 use std::rt::Clock;
 use zp_loads::{BlockSource, Cached, Seated};
+use zp_progress::{Meter, Progress, Task};
 
 /// The sizes of the zones, in pages.
 const SIZES: [u32; 5] = [1 << 16, 1 << 18, 1 << 20, 1 << 22, 1 << 24];
@@ -26,44 +28,60 @@ const SEATED: [&str; 10] = [
 /// The workloads in which a worker's lists have a part.
 const CACHED: [&str; 5] = ["pairs-0", "runs", "churn", "press", "burst"];
 
+/// The times that are taken.
+const MEASUREMENTS: usize = SIZES.len() * (SEATED.len() + CACHED.len());
+
+/// What is told of a table that takes long.
+const TASK: Task<'static> = Task {
+    name: "zonebench sizes",
+    unit: "measurements",
+};
+
 /// Prints a line of the table: the time of a workload at each size.
 fn print_times<S: BlockSource>(
-    rt: &(impl Print + Eprint + Clock),
+    rt: &(impl Print + Clock),
     alloc: Global,
+    steps: &mut Steps<impl Progress + Drop>,
     name: &str,
     workload: &Workload,
 ) -> anyhow::Result<()> {
-    print_name(rt, name)?;
-    for pages in SIZES {
+    let mut line = [0; SIZES.len()];
+    for (tenths, pages) in line.iter_mut().zip(SIZES) {
         let ops = workload.ops(pages, CALLS);
-        let tenths = tenths_a_call::<S>(rt, alloc, workload, pages, ops)?;
-        print_tenths(rt, tenths)?;
+        *tenths = tenths_a_call::<S>(rt, alloc, workload, pages, ops)?;
+        steps.step();
     }
-    println!(rt;)?;
-    Ok(())
+    print_line(rt, steps, name, &line)
 }
 
 /// Prints the lines of the workloads of these names.
 fn print_lines<S: BlockSource>(
-    rt: &(impl Print + Eprint + Clock),
+    rt: &(impl Print + Clock),
     alloc: Global,
+    steps: &mut Steps<impl Progress + Drop>,
     names: &[&str],
 ) -> anyhow::Result<()> {
     for name in names {
         if let Some(workload) = Workload::named(name) {
-            print_times::<S>(rt, alloc, name, &workload)?;
+            print_times::<S>(rt, alloc, steps, name, &workload)?;
         }
     }
     Ok(())
 }
 
 /// Prints the table: nanoseconds a call, by the pages of the zone; first by a seat, then by a worker's lists.
-pub fn print_all(rt: &(impl Print + Eprint + Clock), alloc: Global) -> anyhow::Result<()> {
+pub fn print_all(
+    rt: &(impl Print + Eprint + Clock),
+    alloc: Global,
+    is_watched: bool,
+) -> anyhow::Result<()> {
+    let mut steps = Steps::new(Meter::new(rt, TASK, is_watched), MEASUREMENTS);
     println!(rt;
         "{:<40}{:>12}{:>12}{:>12}{:>12}{:>12}",
         "nanoseconds a call", "65536 pages", "262144", "1048576", "4194304", "16777216"
     )?;
-    print_lines::<Seated<10>>(rt, alloc, &SEATED)?;
+    print_lines::<Seated<10>>(rt, alloc, &mut steps, &SEATED)?;
+    steps.clear();
     println!(rt; "with lists of workers")?;
-    print_lines::<Cached>(rt, alloc, &CACHED)
+    print_lines::<Cached>(rt, alloc, &mut steps, &CACHED)
 }

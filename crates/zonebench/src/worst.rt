@@ -2,13 +2,15 @@
 
 use crate::grounds::{Ground, PAGES};
 use crate::shapes::{
-    Draining, Giving, Isolating, Nothing, Refilling, Shape, Taking, list_end, wishes,
+    Draining, Giving, Isolating, Nothing, Refilling, Shape, Taking, WISHES, list_end, wishes,
 };
+use crate::steps::Steps;
 use crate::times::Times;
 use std::alloc::Global;
 use std::rt::Clock;
 use std::time::Instant;
 use zp_loads::Unmade;
+use zp_progress::{Meter, Progress, Task};
 
 /// The calls of each request.
 const CALLS: u32 = 10_000;
@@ -34,6 +36,15 @@ const ISOLATING: [(&str, Ground); 2] = [
     ("the same of 512 single pages", Ground::HalfPageblock),
 ];
 
+/// The requests: the clock alone, wishes, long lists, what is given back, refilled and drained, and what is isolated.
+const REQUESTS: usize = 4 + WISHES + LONG_LISTS.len() + ISOLATING.len();
+
+/// What is told of a table that takes long.
+const TASK: Task<'static> = Task {
+    name: "zonebench worst",
+    unit: "requests",
+};
+
 /// The times of so many calls.
 fn times_of(
     rt: &impl Clock,
@@ -53,66 +64,106 @@ fn times_of(
 
 /// Prints a line of the table, where there is memory for the request's zone.
 fn print_times<S: Shape>(
-    rt: &(impl Print + Eprint + Clock),
+    rt: &(impl Print + Clock),
     alloc: Global,
+    steps: &mut Steps<impl Progress + Drop>,
     name: &str,
     made: Result<S, Unmade>,
     calls: u32,
 ) -> anyhow::Result<()> {
     match made {
-        Ok(mut shape) => print_times_of(rt, alloc, name, &mut shape, calls),
+        Ok(mut shape) => print_times_of(rt, alloc, steps, name, &mut shape, calls),
         Err(unmade) => Err(unmade.into()),
     }
 }
 
 /// Prints a line of the table.
 fn print_times_of(
-    rt: &(impl Print + Eprint + Clock),
+    rt: &(impl Print + Clock),
     alloc: Global,
+    steps: &mut Steps<impl Progress + Drop>,
     name: &str,
     shape: &mut impl Shape,
     calls: u32,
 ) -> anyhow::Result<()> {
-    eprintln!(rt; "{name} ..")?;
     let mut times = times_of(rt, alloc, shape, calls)?;
+    steps.clear();
     if let Some(spread) = times.spread() {
         println!(rt; "{name:<36}{:>10}{:>14}", spread.median, spread.high)?;
     }
+    steps.step();
     Ok(())
 }
 
 /// Prints the lines of the claim at the end of a list, in wide zones.
-fn print_long_lists(rt: &(impl Print + Eprint + Clock), alloc: Global) -> anyhow::Result<()> {
+fn print_long_lists(
+    rt: &(impl Print + Clock),
+    alloc: Global,
+    steps: &mut Steps<impl Progress + Drop>,
+) -> anyhow::Result<()> {
     for (pages, calls) in LONG_LISTS {
         let name = format!(in alloc; "the same of {pages} pages")?;
         let made = Taking::new(alloc, pages, list_end());
-        print_times(rt, alloc, name.as_str(), made, calls)?;
+        print_times(rt, alloc, steps, name.as_str(), made, calls)?;
     }
     Ok(())
 }
 
 /// Prints the table: of each request the median and the 99.9th percentile, the time of the clock with them.
-pub fn print_all(rt: &(impl Print + Eprint + Clock), alloc: Global) -> anyhow::Result<()> {
+pub fn print_all(
+    rt: &(impl Print + Eprint + Clock),
+    alloc: Global,
+    is_watched: bool,
+) -> anyhow::Result<()> {
+    let mut steps = Steps::new(Meter::new(rt, TASK, is_watched), REQUESTS);
     println!(rt;
         "{:<36}{:>10}{:>14}",
         "nanoseconds of one call", "median", "99.9 per cent"
     )?;
-    print_times_of(rt, alloc, "the clock alone", &mut Nothing, CALLS)?;
+    print_times_of(
+        rt,
+        alloc,
+        &mut steps,
+        "the clock alone",
+        &mut Nothing,
+        CALLS,
+    )?;
     for (name, wish) in wishes() {
         let calls = if wish.ground.is_laid_anew() {
             CALLS_ANEW
         } else {
             CALLS
         };
-        print_times(rt, alloc, name, Taking::new(alloc, PAGES, wish), calls)?;
+        print_times(
+            rt,
+            alloc,
+            &mut steps,
+            name,
+            Taking::new(alloc, PAGES, wish),
+            calls,
+        )?;
     }
-    print_long_lists(rt, alloc)?;
-    print_times(rt, alloc, GIVING, Giving::new(alloc), CALLS)?;
-    print_times(rt, alloc, REFILLING, Refilling::new(alloc), CALLS)?;
+    print_long_lists(rt, alloc, &mut steps)?;
+    print_times(rt, alloc, &mut steps, GIVING, Giving::new(alloc), CALLS)?;
+    print_times(
+        rt,
+        alloc,
+        &mut steps,
+        REFILLING,
+        Refilling::new(alloc),
+        CALLS,
+    )?;
     for (name, ground) in ISOLATING {
-        print_times(rt, alloc, name, Isolating::new(alloc, ground), CALLS)?;
+        print_times(
+            rt,
+            alloc,
+            &mut steps,
+            name,
+            Isolating::new(alloc, ground),
+            CALLS,
+        )?;
     }
-    print_times(rt, alloc, DRAINING, Draining::new(alloc), CALLS)
+    print_times(rt, alloc, &mut steps, DRAINING, Draining::new(alloc), CALLS)
 }
 
 /// Prints the checksum of the answers to a few calls, where there is memory for the request's zone.

@@ -12,6 +12,7 @@ use std::thread::Threads;
 use uses::{CutRun, PIECE, work_in_pieces};
 use zp_journal::Journal;
 use zp_loads::{Unmade, config};
+use zp_progress::Progress;
 use zp_share::ListConfig;
 use zp_shared::{Crew, CutJournal, Naming, OpenedZone};
 use zp_zone::{Seat, Zone};
@@ -64,8 +65,13 @@ fn run<R: Threads + Wait + Sync>(rt: &R, alloc: Global) -> Result<CutRun, Unmade
 }
 
 /// Says whether there were cuts enough, and whether the pieces together are what was asked of the zone.
-pub fn print<R: Print + Threads + Wait + Sync>(rt: &R, alloc: Global) -> anyhow::Result<()> {
+pub fn print<R: Print + Threads + Wait + Sync>(
+    rt: &R,
+    alloc: Global,
+    progress: &mut impl Progress,
+) -> anyhow::Result<()> {
     let run = run(rt, alloc)?;
+    progress.clear();
     println!(rt;
         "{WORKERS} workers, a journal in pieces: {} cuts, pieces {}, free pages {}",
         if run.pieces.len() > CUTS {

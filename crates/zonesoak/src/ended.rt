@@ -13,6 +13,7 @@ use std::sync::Wait;
 use std::thread::Threads;
 use uses::{EndlessRun, work_without_end};
 use zp_loads::Unmade;
+use zp_progress::Progress;
 use zp_share::ListConfig;
 use zp_shared::{Crew, Naming, NoJournal, OpenedZone};
 use zp_zone::Seat;
@@ -49,8 +50,13 @@ fn run<R: Threads + Wait + Sync>(rt: &R, alloc: Global) -> Result<EndlessRun, Un
 }
 
 /// Says how many sections were made. At the end each worker may have a page that it could not give back.
-pub fn print<R: Print + Threads + Wait + Sync>(rt: &R, alloc: Global) -> anyhow::Result<()> {
+pub fn print<R: Print + Threads + Wait + Sync>(
+    rt: &R,
+    alloc: Global,
+    progress: &mut impl Progress,
+) -> anyhow::Result<()> {
     let run = run(rt, alloc)?;
+    progress.clear();
     println!(rt;
         "{WORKERS} workers, numbers for {SECTIONS} sections: {} sections, pages out {}",
         run.sections,

@@ -6,6 +6,7 @@ use std::sync::Wait;
 use std::thread::Threads;
 use uses::{MachineRun, machine_zones, run_machine};
 use zp_loads::Unmade;
+use zp_progress::Progress;
 
 /// How many blocks each worker takes.
 const ROUNDS: u32 = 11_000;
@@ -17,11 +18,16 @@ fn run<R: Threads + Wait + Sync>(rt: &R, alloc: Global) -> Result<MachineRun, Un
 }
 
 /// Says how many sections the highest zone had, two for each block, and how many pages are free at the end.
-pub fn print<R: Print + Threads + Wait + Sync>(rt: &R, alloc: Global) -> anyhow::Result<()> {
+pub fn print<R: Print + Threads + Wait + Sync>(
+    rt: &R,
+    alloc: Global,
+    progress: &mut impl Progress,
+) -> anyhow::Result<()> {
     let MachineRun {
         sections,
         free_pages,
     } = run(rt, alloc)?;
+    progress.clear();
     println!(rt;
         "8 workers, three zones of 16 GiB: {sections} sections of the highest, free pages {free_pages}"
     )?;

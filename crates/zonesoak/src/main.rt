@@ -2,7 +2,7 @@
 //! Then the pages are counted.
 //!
 //! It shows what no clause says: that zones which go on without end do so under load, on a machine. What it prints is the same on every one;
-//! the workers' requests meet in another order each time.
+//! the workers' requests meet in another order each time. On a terminal standard error tells how far it is.
 #![tactic(auto)]
 
 mod cut;
@@ -13,12 +13,29 @@ mod soak;
 mod stint;
 mod watch;
 
+use soak::LOADS;
+use std::io::IsTerminal;
+use zp_progress::{Meter, Progress, Task, is_watched};
+
 /// How many workers each zone has, where it is not said.
 const WORKERS: u32 = 4;
 
+/// What is told on a terminal where it takes long: how many zones were asked all that is asked of them.
+const TASK: Task<'static> = Task {
+    name: "zonesoak",
+    unit: "parts",
+};
+
+/// The parts: each load, and three more.
+const PARTS: usize = LOADS.len() + 3;
+
 fn main(rt: HostRuntime) -> anyhow::Result<()> {
-    soak::print(&rt, rt.alloc())?;
-    ended::print(&rt, rt.alloc())?;
-    cut::print(&rt, rt.alloc())?;
-    machine::print(&rt, rt.alloc())
+    let is_watched = is_watched(&rt, rt.stderr().is_terminal());
+    let mut progress = Meter::new(&rt, TASK, is_watched);
+    soak::print(&rt, rt.alloc(), &mut progress)?;
+    ended::print(&rt, rt.alloc(), &mut progress)?;
+    progress.at(PARTS - 2, PARTS);
+    cut::print(&rt, rt.alloc(), &mut progress)?;
+    progress.at(PARTS - 1, PARTS);
+    machine::print(&rt, rt.alloc(), &mut progress)
 }

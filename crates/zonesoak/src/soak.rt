@@ -5,29 +5,30 @@ ghost use Rattle.std.specs.Prelude.{◌≡◌, ◌∷◌, [], All};
 ghost use Rattle.zp_shared.specs.Rows.{opened_board, opened_key};
 ghost use Rattle.zp_zone.specs.Seats.{IsSeatOf, IsUnused};
 
-use crate::WORKERS;
 use crate::endless::endless;
 use crate::stint::{Stint, work};
 use crate::watch::{Watch, read_all_the_while};
+use crate::{PARTS, WORKERS};
 use std::alloc::Global;
 use std::marker::Brand;
 use std::sync::Wait;
 use std::thread::{Threads, join, map_vec};
 use zp_loads::Unmade;
 use zp_model::{MAX_WORKERS, NARROW_PAGES};
+use zp_progress::Progress;
 use zp_share::ListConfig;
 use zp_shared::{Crew, Naming, NoJournal, OneZone, OpenedZone};
 use zp_zone::Seat;
 
 /// How many workers a zone has, and how many requests each of them makes.
 #[derive(Clone, Copy, PartialEq, Eq, Debug, Drop)]
-struct Load {
+pub struct Load {
     workers: u32,
     requests: u32,
 }
 
 /// What is asked of a zone, each load of a new one.
-const LOADS: [Load; 2] = [
+pub const LOADS: [Load; 2] = [
     Load {
         workers: WORKERS,
         requests: 2_500_000,
@@ -134,9 +135,14 @@ fn run<R: Threads + Wait + Sync>(rt: &R, alloc: Global, load: Load) -> Result<So
 }
 
 /// Says how many requests were made, and whether the pages add up and the readings were good: a line for each load.
-pub fn print<R: Print + Threads + Wait + Sync>(rt: &R, alloc: Global) -> anyhow::Result<()> {
-    for load in LOADS {
-        let seen = run(rt, alloc, load)?;
+pub fn print<R: Print + Threads + Wait + Sync>(
+    rt: &R,
+    alloc: Global,
+    progress: &mut impl Progress,
+) -> anyhow::Result<()> {
+    for (part, load) in LOADS.iter().enumerate() {
+        let seen = run(rt, alloc, *load)?;
+        progress.clear();
         println!(rt;
             "{} workers, no journal: {} sections, free and lent pages {}, last place read {}, readings {}",
             load.workers,
@@ -145,6 +151,7 @@ pub fn print<R: Print + Threads + Wait + Sync>(rt: &R, alloc: Global) -> anyhow:
             seen.watch.place,
             if seen.watch.are_good { "good" } else { "BAD" }
         )?;
+        progress.at(part + 1, PARTS);
     }
     Ok(())
 }

@@ -57,7 +57,8 @@ const FILM_HELP: &str = "\
 Reads a trace on standard input. Pages go from left to right and requests from
 top to bottom; a colour says what a page is: free by order, out, posted, or in a
 worker's list. At most 2,000 cells stand in each direction: neighbours are put
-together by the state that most pages have.
+together by the state that most pages have. A film that takes longer than two
+seconds tells on a terminal, by standard error, how far it is.
 
   zoneview film --svg < trace > film.svg";
 
@@ -66,7 +67,8 @@ const CHART_ABOUT: &str =
 
 const CHART_HELP: &str = "\
 Reads a trace on standard input. The free pages stand on each other by the order
-of their blocks, with the marks of the zone as lines.
+of their blocks, with the marks of the zone as lines. A chart that takes longer
+than two seconds tells on a terminal, by standard error, how far it is.
 
   zoneview chart --svg < trace > chart.svg";
 

@@ -11,18 +11,21 @@ mod pictures;
 mod screen;
 
 use pictures::Picture;
-use screen::Screen;
+use screen::{Screen, Terminals};
 use std::env;
 use std::io::IsTerminal;
 use std::process::ExitCode;
-use std::rt::Env;
+use std::rt::{Clock, Env};
 
 /// The status of a run whose words are wrong.
 const WRONG_WORDS: u8 = 2;
 
 fn main(rt: HostRuntime) -> ExitCode {
-    let is_terminal = rt.stdout().is_terminal();
-    match run(&rt, is_terminal) {
+    let terminals = Terminals {
+        output: rt.stdout().is_terminal(),
+        errors: rt.stderr().is_terminal(),
+    };
+    match run(&rt, terminals) {
         Ok(status) => ExitCode::from(status),
         Err(error) => {
             // There is nobody left to tell that standard error failed.
@@ -34,8 +37,8 @@ fn main(rt: HostRuntime) -> ExitCode {
 
 /// Does what the words ask for, and answers the program's status.
 fn run(
-    rt: &(impl Print + Eprint + Input + Env + AllocGlobal),
-    is_terminal: bool,
+    rt: &(impl Print + Eprint + Input + Env + Clock + AllocGlobal),
+    terminals: Terminals,
 ) -> anyhow::Result<u8> {
     let words: Vec<String> = env::args(rt)?.collect(rt.alloc())?;
     let command = command_line::command(rt.alloc())?;
@@ -46,7 +49,7 @@ fn run(
             return Ok(if error.use_stderr() { WRONG_WORDS } else { 0 });
         }
     };
-    let screen = Screen::of(rt, is_terminal);
+    let screen = Screen::of(rt, terminals);
     match matches.subcommand() {
         Some(("index", found)) => index::run(rt, found, screen),
         Some(("map", found)) => pictures::run(rt, Picture::Map, found, screen),

@@ -7,9 +7,11 @@ use clap::ArgMatches;
 use std::alloc::Global;
 use std::io;
 use std::io::{BufWriter, Write};
+use std::rt::Clock;
 use zp_drawing::MapStyle;
 use zp_model::Order;
 use zp_pictures::{MapOptions, Shown, print_chart, print_film, print_map, print_pagetypeinfo};
+use zp_progress::{Meter, Progress, Task};
 
 /// The status of a run whose text is no trace.
 const BAD_TRACE: u8 = 1;
@@ -23,9 +25,24 @@ pub enum Picture {
     Chart,
 }
 
+impl Picture {
+    /// What is told of a picture that takes long: how many requests it has carried out.
+    fn task(self) -> Task<'static> {
+        Task {
+            name: match self {
+                Picture::Map => "zoneview map",
+                Picture::TypeTables => "zoneview pagetypeinfo",
+                Picture::Film => "zoneview film",
+                Picture::Chart => "zoneview chart",
+            },
+            unit: "requests",
+        }
+    }
+}
+
 /// Reads a trace on standard input, and draws its zones.
 pub fn run(
-    rt: &(impl Print + Eprint + Input + AllocGlobal),
+    rt: &(impl Print + Eprint + Input + Clock + AllocGlobal),
     picture: Picture,
     words: &ArgMatches<'_>,
     screen: Screen,
@@ -38,27 +55,56 @@ pub fn run(
         }
     };
     let text = read_input(rt)?;
-    let mut out = BufWriter::new(rt.alloc(), io::writer(rt))?;
-    let shown = draw(rt.alloc(), picture, text.as_slice(), &options, &mut out)?;
-    out.flush()?;
+    let mut meter = Meter::new(rt, picture.task(), screen.is_watched);
+    let shown = if screen.is_watched && screen.is_terminal {
+        print_whole(rt, picture, text.as_slice(), &options, &mut meter)?
+    } else {
+        let mut out = BufWriter::new(rt.alloc(), io::writer(rt))?;
+        let shown = draw(
+            rt.alloc(),
+            picture,
+            text.as_slice(),
+            &options,
+            &mut out,
+            &mut meter,
+        )?;
+        out.flush()?;
+        shown
+    };
     match shown {
         Shown::Picture => Ok(0),
         Shown::BadLine(_) => Ok(BAD_TRACE),
     }
 }
 
-fn draw<W: Write>(
+/// Writes the picture when all of it is there: on a terminal the line that tells how far it is would stand in its midst.
+fn print_whole(
+    rt: &(impl Print + AllocGlobal),
+    picture: Picture,
+    text: &[u8],
+    options: &MapOptions,
+    progress: &mut impl Progress,
+) -> anyhow::Result<Shown> {
+    let mut whole = Vec::new(rt.alloc());
+    let shown = draw(rt.alloc(), picture, text, options, &mut whole, progress)?;
+    progress.clear();
+    io::writer(rt).write_all(whole.as_slice())?;
+    Ok(shown)
+}
+
+fn draw<W: Write, P: Progress>(
     alloc: Global,
     picture: Picture,
     text: &[u8],
     options: &MapOptions,
     writer: &mut W,
+    progress: &mut P,
 ) -> anyhow::Result<Shown> {
     Ok(match picture {
         Picture::Map => print_map(alloc, text, options, writer)?,
         Picture::TypeTables => print_pagetypeinfo(alloc, text, options.line, writer)?,
-        Picture::Film => print_film(alloc, text, options.line, writer)?,
-        Picture::Chart => print_chart(alloc, text, options.line, writer)?,
+        Picture::Film => print_film(alloc, text, options.line, writer, progress)?,
+        Picture::Chart => print_chart(alloc, text, options.line, writer, progress)?,
     })
 }
 

@@ -14,6 +14,7 @@ use zp_drawing::{
     LEFT, PANEL_HEIGHT, Panel, TOP, write_classes, write_end, write_head, write_panel, write_text,
 };
 use zp_model::ORDERS;
+use zp_progress::Progress;
 use zp_states::Replay;
 use zp_trace::{Trace, ZoneLine};
 
@@ -26,15 +27,19 @@ const PANEL_WIDTH: usize = 880;
 const NEXT_PANEL: usize = PANEL_HEIGHT + 64;
 
 /// The counts of a zone by order, before the first request and after each of so many; of more than can be shown, evenly many are passed over.
-fn samples_of(
+fn samples_of<P: Progress>(
     alloc: Global,
     trace: &Trace,
     zone: usize,
     states: usize,
+    progress: &mut P,
 ) -> Result<Vec<[u32; ORDERS]>, PictureFault>
     requires { IsBeginning (lines_of trace.now) }
 {
     let step = (states / MOST_SAMPLES).saturating_add(1);
+    let requests = states.saturating_sub(1);
+    let before = zone.saturating_mul(requests);
+    let of = trace.header.zones.len().saturating_mul(requests);
     let mut samples = Vec::new(alloc);
     let mut replay = Replay::open(alloc, trace)?;
     for state in 0..states {
@@ -46,6 +51,7 @@ fn samples_of(
                     .map_err(AllocError::from)?;
             }
         }
+        progress.at(before.saturating_add(state), of);
         replay.step();
     }
     Ok(samples)
@@ -76,17 +82,18 @@ fn write_axes<W: Write>(
 }
 
 /// Writes the panel of one zone.
-fn write_zone<W: Write>(
+fn write_zone<W: Write, P: Progress>(
     alloc: Global,
     trace: &Trace,
     zone: usize,
     line: &ZoneLine,
     states: usize,
     writer: &mut W,
+    progress: &mut P,
 ) -> Result<(), PictureFault>
     requires { IsBeginning (lines_of trace.now) }
 {
-    let samples = samples_of(alloc, trace, zone, states)?;
+    let samples = samples_of(alloc, trace, zone, states, progress)?;
     let panel = Panel {
         x: LEFT,
         y: TOP.saturating_add(zone.saturating_mul(NEXT_PANEL)),
@@ -100,11 +107,12 @@ fn write_zone<W: Write>(
 }
 
 /// Writes the charts of all zones, over so many requests or all.
-fn write_charts<W: Write>(
+fn write_charts<W: Write, P: Progress>(
     alloc: Global,
     trace: &Trace,
     requests: usize,
     writer: &mut W,
+    progress: &mut P,
 ) -> Result<(), PictureFault>
     requires { IsBeginning (lines_of trace.now) }
 {
@@ -115,25 +123,26 @@ fn write_charts<W: Write>(
     write_head(writer, width, legend.saturating_add(20))?;
     write_classes(writer, 0)?;
     for (zone, line) in lines.iter().enumerate() {
-        write_zone(alloc, trace, zone, line, states, writer)?;
+        write_zone(alloc, trace, zone, line, states, writer, progress)?;
     }
     write_orders(writer, LEFT, legend)?;
     write_end(writer)?;
     Ok(())
 }
 
-/// Writes the charts of a trace's first lines, or of all, as SVG: for each zone its free pages by order. Of a text that is no trace the number
-/// of its bad line is written.
-pub fn print_chart<W: Write>(
+/// Writes the charts of a trace's first lines, or of all, as SVG: for each zone its free pages by order. It tells how many requests it has
+/// carried out, which are all of them for each zone. Of a text that is no trace the number of its bad line is written.
+pub fn print_chart<W: Write, P: Progress>(
     alloc: Global,
     text: &[u8],
     line: Option<usize>,
     writer: &mut W,
+    progress: &mut P,
 ) -> Result<Shown, PictureFault> {
     let trace = match read_trace(alloc, text)? {
         Input::Trace(trace) => trace,
         Input::BadLine(number) => return Ok(write_bad_line(writer, number)?),
     };
-    write_charts(alloc, &trace, requests_to(&trace, line), writer)?;
+    write_charts(alloc, &trace, requests_to(&trace, line), writer, progress)?;
     Ok(Shown::Picture)
 }

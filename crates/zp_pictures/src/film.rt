@@ -11,6 +11,7 @@ use std::alloc::Global;
 use std::io;
 use std::io::Write;
 use zp_drawing::{GAP, LEFT, Strip, TOP, write_classes, write_end, write_head, write_text};
+use zp_progress::Progress;
 use zp_trace::{Trace, ZoneLine};
 
 /// The least width, so that the legend fits.
@@ -95,11 +96,12 @@ fn write_frame<W: Write>(
 }
 
 /// Writes the film of a trace's first requests, so many or all.
-fn write_film<W: Write>(
+fn write_film<W: Write, P: Progress>(
     alloc: Global,
     trace: &Trace,
     requests: usize,
     writer: &mut W,
+    progress: &mut P,
 ) -> Result<(), PictureFault>
     requires { IsBeginning (lines_of trace.now) }
 {
@@ -108,23 +110,25 @@ fn write_film<W: Write>(
     let strips = strips_of(alloc, trace.header.zones.as_slice(), &layout)?;
     write_frame(writer, trace, &layout, &strips, states)?;
     writeln!(writer, "<g shape-rendering=\"crispEdges\">")?;
-    draw_rows(alloc, trace, states, &layout, strips, writer)?;
+    draw_rows(alloc, trace, states, &layout, strips, writer, progress)?;
     writeln!(writer, "</g>")?;
     write_end(writer)?;
     Ok(())
 }
 
-/// Writes the film of a trace's first lines, or of all, as SVG. Of a text that is no trace the number of its bad line is written.
-pub fn print_film<W: Write>(
+/// Writes the film of a trace's first lines, or of all, as SVG, and tells after how many requests it is. Of a text that is no trace the
+/// number of its bad line is written.
+pub fn print_film<W: Write, P: Progress>(
     alloc: Global,
     text: &[u8],
     line: Option<usize>,
     writer: &mut W,
+    progress: &mut P,
 ) -> Result<Shown, PictureFault> {
     let trace = match read_trace(alloc, text)? {
         Input::Trace(trace) => trace,
         Input::BadLine(number) => return Ok(write_bad_line(writer, number)?),
     };
-    write_film(alloc, &trace, requests_to(&trace, line), writer)?;
+    write_film(alloc, &trace, requests_to(&trace, line), writer, progress)?;
     Ok(Shown::Picture)
 }

@@ -9,6 +9,7 @@ use std::alloc::{AllocError, Global};
 use std::io::Write;
 use zp_drawing::{Film, Kind, Strip, Tally};
 use zp_model::PageNo;
+use zp_progress::Progress;
 use zp_states::Replay;
 use zp_trace::Trace;
 
@@ -66,14 +67,16 @@ fn copy_of(alloc: Global, strips: &[Strip]) -> Result<Vec<Strip>, AllocError> {
     Ok(copy)
 }
 
-/// Writes the rows of a film of so many states, of which the first is that before the first request.
-pub fn draw_rows<W: Write>(
+/// Writes the rows of a film of so many states, of which the first is that before the first request. After each request it is told how
+/// many there were.
+pub fn draw_rows<W: Write, P: Progress>(
     alloc: Global,
     trace: &Trace,
     states: usize,
     layout: &Layout,
     strips: Vec<Strip>,
     writer: &mut W,
+    progress: &mut P,
 ) -> Result<(), PictureFault>
     requires { IsBeginning (lines_of trace.now) }
 {
@@ -88,6 +91,7 @@ pub fn draw_rows<W: Write>(
             film.push(writer, &tally)?;
             tally.clear();
         }
+        progress.at(state, states.saturating_sub(1));
         replay.step();
     }
     film.finish(writer)?;

@@ -1,0 +1,20 @@
+//! Who is told how far the work is.
+
+/// Who is told how far work is, by whoever does it.
+pub trait Progress {
+    /// So much of so much is done.
+    fn at(&mut self, done: usize, of: usize);
+
+    /// What was told goes away, since a result is about to be written.
+    fn clear(&mut self);
+}
+
+/// Nobody.
+#[derive(Clone, Copy, PartialEq, Eq, Debug, Drop)]
+pub struct Unwatched;
+
+impl Progress for Unwatched {
+    fn at(&mut self, _done: usize, _of: usize) {}
+
+    fn clear(&mut self) {}
+}
