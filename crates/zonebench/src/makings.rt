@@ -92,8 +92,8 @@ fn print_times(
     made: Made,
 ) -> anyhow::Result<()> {
     let mut line = [0; SIZES.len()];
-    for (nanos, pages) in line.iter_mut().zip(SIZES) {
-        *nanos = made.least_nanos(rt, alloc, pages)?;
+    for place in 0..SIZES.len() {
+        line[place] = made.least_nanos(rt, alloc, SIZES[place])?;
         steps.step();
     }
     steps.clear();

@@ -140,8 +140,8 @@ fn print_times<S: BlockSource>(
     ops: [u32; 3],
 ) -> anyhow::Result<()> {
     let mut line = [0; SIZES.len()];
-    for ((tenths, pages), ops) in line.iter_mut().zip(SIZES).zip(ops) {
-        *tenths = tenths_a_call::<S>(rt, alloc, workload, pages, ops)?;
+    for place in 0..SIZES.len() {
+        line[place] = tenths_a_call::<S>(rt, alloc, workload, SIZES[place], ops[place])?;
         steps.step();
     }
     print_line(rt, steps, name, &line)
