@@ -1,4 +1,6 @@
 //! Why there is no picture.
+ghost use Rattle.std.specs.Prelude.{◌≡◌};
+
 use std::alloc::AllocError;
 use std::error::Error;
 use std::fmt::{Display, Formatter};
@@ -26,12 +28,20 @@ impl Display for PictureFault {
 impl Error for PictureFault {}
 
 impl From<AllocError> for PictureFault {
+    ghost use Rattle.zp_pictures.specs.declared.fault.PictureFault.TheVariants.{Memory};
+
+    ghost from_gives = { λ _ e. e ≡ Memory };
+
     fn from(_e: AllocError) -> PictureFault {
         PictureFault::Memory
     }
 }
 
 impl From<io::Error> for PictureFault {
+    ghost use Rattle.zp_pictures.specs.declared.fault.PictureFault.TheVariants.{Write};
+
+    ghost from_gives = { λ _ e. e ≡ Write };
+
     fn from(_e: io::Error) -> PictureFault {
         PictureFault::Write
     }
@@ -39,6 +49,10 @@ impl From<io::Error> for PictureFault {
 
 /// A replay is refused for want of memory alone.
 impl From<Refused> for PictureFault {
+    ghost use Rattle.zp_pictures.specs.declared.fault.PictureFault.TheVariants.{Memory};
+
+    ghost from_gives = { λ _ e. e ≡ Memory };
+
     fn from(_e: Refused) -> PictureFault {
         PictureFault::Memory
     }

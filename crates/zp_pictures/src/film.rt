@@ -1,9 +1,11 @@
 //! Films.
+ghost use Rattle.std.specs.Prelude.{IfOk};
 ghost use Rattle.zp_trace.specs.Grammar.{IsBeginning, lines_of};
+ghost use Rattle.zp_pictures.specs.Shown.{IsShown};
 
 use crate::fault::PictureFault;
 use crate::film_states::draw_rows;
-use crate::input::{Input, Shown, read_trace, requests_to, write_bad_line};
+use crate::input::{Reading, Shown, read_trace, requests_to, write_bad_line};
 use crate::labels::Label;
 use crate::layout::{Layout, lay_out, strips_of};
 use crate::legend::{legend_height, write_legend};
@@ -124,10 +126,12 @@ pub fn print_film<W: Write, P: Progress>(
     line: Option<usize>,
     writer: &mut W,
     progress: &mut P,
-) -> Result<Shown, PictureFault> {
+) -> Result<Shown, PictureFault>
+    ensures { IfOk result (IsShown text.now (W.contents writer.old) (W.contents writer.new)) }
+{
     let trace = match read_trace(alloc, text)? {
-        Input::Trace(trace) => trace,
-        Input::BadLine(number) => return Ok(write_bad_line(writer, number)?),
+        Reading::Trace(trace) => trace,
+        Reading::BadLine(number) => return write_bad_line(writer, number),
     };
     write_film(alloc, &trace, requests_to(&trace, line), writer, progress)?;
     Ok(Shown::Picture)

@@ -1,12 +1,18 @@
 //! The trace of a picture.
-ghost use Rattle.std.specs.Prelude.{◌≡◌, IfOk};
-ghost use Rattle.zp_pictures.specs.Inputs.{IsInputOf, requests_to};
+ghost use Rattle.std.specs.Prelude.{◌≡◌, IfErr, IfOk, OnErr, OnOk};
+ghost use Rattle.zp_text.specs.Streams.{IsBegun, IsWritten};
+ghost use Rattle.zp_pictures.specs.Inputs.{IsReadingOf, requests_to};
+ghost use Rattle.zp_pictures.specs.Shown.{bad_line};
 
 use crate::fault::PictureFault;
+use crate::output::write_text;
 use std::alloc::Global;
-use std::io;
 use std::io::Write;
+use zp_text::{DIGITS, TextBuffer};
 use zp_trace::{Trace, TraceFault, parse_trace};
+
+/// The most bytes of the line that tells of a bad line: `bad line N`, and a line feed.
+const BAD_LINE: usize = 10 + DIGITS;
 
 /// What was drawn.
 #[derive(Clone, Copy, PartialEq, Eq, Debug, Drop)]
@@ -17,28 +23,47 @@ pub enum Shown {
     BadLine(u32),
 }
 
-/// What the input is.
+/// What a text was read as.
 #[derive(Drop)]
-pub enum Input {
+pub enum Reading {
     Trace(Trace),
     BadLine(u32),
 }
 
 /// The trace that a text writes, or the number of the text's bad line. Memory.
-pub fn read_trace(alloc: Global, text: &[u8]) -> Result<Input, PictureFault>
-    ensures { IfOk result (IsInputOf text.now) }
+pub fn read_trace(alloc: Global, text: &[u8]) -> Result<Reading, PictureFault>
+    ensures reading { IfOk result (IsReadingOf text.now) }
+    ensures why { IfErr result (λ e. e ≡ PictureFault.Memory) }
 {
     match parse_trace(alloc, text) {
-        Ok(trace) => Ok(Input::Trace(trace)),
-        Err(TraceFault::BadLine(number)) => Ok(Input::BadLine(number)),
+        Ok(trace) => Ok(Reading::Trace(trace)),
+        Err(TraceFault::BadLine(number)) => Ok(Reading::BadLine(number)),
         Err(TraceFault::Memory) => Err(PictureFault::Memory),
     }
 }
 
-/// Tells of a bad line, as a replay does.
-pub fn write_bad_line<W: Write>(writer: &mut W, number: u32) -> io::Result<Shown> {
-    writeln!(writer, "bad line {number}")?;
-    Ok(Shown::BadLine(number))
+/// The line that tells of a bad line, as a replay does.
+fn bad_line(number: u32) -> TextBuffer<BAD_LINE>
+    ensures { result ≡ bad_line number }
+{
+    let mut text = TextBuffer::new();
+    text.push("bad line ");
+    text.push_number(number);
+    text.push("\n");
+    text
+}
+
+/// Tells of a bad line. Write.
+pub fn write_bad_line<W: Write>(writer: &mut W, number: u32) -> Result<Shown, PictureFault>
+    ensures shown { IfOk result (λ shown. shown ≡ Shown.BadLine number) }
+    ensures ok { OnOk result (IsWritten (W.contents writer.old) (W.contents writer.new) (bad_line number)) }
+    ensures begun { OnErr result (IsBegun (W.contents writer.old) (W.contents writer.new) (bad_line number)) }
+    ensures why { IfErr result (λ e. e ≡ PictureFault.Write) }
+{
+    match write_text(writer, bad_line(number).as_bytes()) {
+        Ok(()) => Ok(Shown::BadLine(number)),
+        Err(fault) => Err(fault),
+    }
 }
 
 /// How many requests stand in the first lines of a trace, or in all of them, where no line is named.

@@ -10,6 +10,7 @@ mod labels;
 mod layout;
 mod legend;
 mod map;
+mod output;
 mod pagetypeinfo;
 
 pub use chart::print_chart;

@@ -1,10 +1,11 @@
 //! Maps.
-ghost use Rattle.std.specs.Prelude.{◌<◌, length};
+ghost use Rattle.std.specs.Prelude.{◌<◌, IfOk, length};
 ghost use Rattle.zp_trace.specs.Grammar.{IsBeginning, lines_of};
 ghost use Rattle.zp_states.specs.Replays.{office_at};
+ghost use Rattle.zp_pictures.specs.Shown.{IsShown};
 
 use crate::fault::PictureFault;
-use crate::input::{Input, Shown, read_trace, requests_to, write_bad_line};
+use crate::input::{Reading, Shown, read_trace, requests_to, write_bad_line};
 use std::alloc::Global;
 use std::io::Write;
 use zp_drawing::{MapStyle, write_map};
@@ -61,10 +62,12 @@ pub fn print_map<W: Write>(
     text: &[u8],
     options: &MapOptions,
     writer: &mut W,
-) -> Result<Shown, PictureFault> {
+) -> Result<Shown, PictureFault>
+    ensures { IfOk result (IsShown text.now (W.contents writer.old) (W.contents writer.new)) }
+{
     let trace = match read_trace(alloc, text)? {
-        Input::Trace(trace) => trace,
-        Input::BadLine(number) => return Ok(write_bad_line(writer, number)?),
+        Reading::Trace(trace) => trace,
+        Reading::BadLine(number) => return write_bad_line(writer, number),
     };
     write_zones(alloc, &trace, options, writer)?;
     Ok(Shown::Picture)
