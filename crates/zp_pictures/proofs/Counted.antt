@@ -20,7 +20,8 @@ count_more f xs i m lt is so_far k below =
     subst P (sym is) (fill_by_more f xs i 0 lt so_far k below)
 
 -- one zone more
-pub largest_more : (zs : List ZoneState) (i : ℕ) (z : ZoneState) (m n x : ℕ) → i < length zs → z ≡ get_or zs i z → m ≡ largest_of (take i (map named_zone zs)) →
+pub largest_more : (zs : List ZoneState) (i : ℕ) (z : ZoneState) (m n x : ℕ) → i < length zs → z ≡ get_or zs i z →
+    m ≡ largest_of (take i (map named_zone zs)) →
     x ≡ z.plain.area.largest → n ≡ max m x → n ≡ largest_of (take (i + 1) (map named_zone zs))
 largest_more zs i z m n x lt is so_far here larger =
     let there : x ≡ (get_or (map named_zone zs) i (named_zone z)).plain.area.largest =
@@ -29,15 +30,18 @@ largest_more zs i z m n x lt is so_far here larger =
     ∙ sym (fold_more (λ k (y : NamedZone). max k y.plain.area.largest) 0 (map named_zone zs) i (named_zone z) (omega (arith, length-map zs named_zone)))
 
 -- an error that goes on as another one was one before
-was_ok : {U E F : Type 0} (r : Result U E) (s : Result U F) (u : U) (Q : E → F → Type 0) → MatchResult r (λ x. s ≡ Ok x) (λ e. IsErrAnd s (Q e)) → s ≡ Ok u → is_ok r ≡ true
+was_ok : {U E F : Type 0} (r : Result U E) (s : Result U F) (u : U) (Q : E → F → Type 0) →
+    MatchResult r (λ x. s ≡ Ok x) (λ e. IsErrAnd s (Q e)) → s ≡ Ok u → is_ok r ≡ true
 was_ok (Ok x) s u Q h is = refl
 was_ok (Err e) s u Q h is = absurd (subst (λ t. IsErrAnd t (Q e)) is h)
 
-pub pushed : {U E F X : Type 0} (r : Result U E) (s : Result U F) (u : U) (Q : E → F → Type 0) (a b : List X) (x : X) → MatchResult r (λ y. s ≡ Ok y) (λ e. IsErrAnd s (Q e)) →
+pub pushed : {U E F X : Type 0} (r : Result U E) (s : Result U F) (u : U) (Q : E → F → Type 0) (a b : List X) (x : X) →
+    MatchResult r (λ y. s ≡ Ok y) (λ e. IsErrAnd s (Q e)) →
     s ≡ Ok u → b ≡ cond (is_ok r) (a ++ x ∷ []) a → b ≡ a ++ x ∷ []
 pushed r s u Q a b x h is e = e ∙ ap (λ t. cond t (a ++ x ∷ []) a) (was_ok r s u Q h is)
 
-pub counts_more : (zones : List NamedZone) (i : ℕ) (a b : List TypeCounts) (x : TypeCounts) → i < length zones → a ≡ map type_counts (take i zones) → x ≡ type_counts (zone_at zones i) → b ≡ a ++ x ∷ [] →
+pub counts_more : (zones : List NamedZone) (i : ℕ) (a b : List TypeCounts) (x : TypeCounts) → i < length zones →
+    a ≡ map type_counts (take i zones) → x ≡ type_counts (zone_at zones i) → b ≡ a ++ x ∷ [] →
     b ≡ map type_counts (take (i + 1) zones)
 counts_more zones i a b x lt so_far here more =
     more ∙ ap (λ (l : List TypeCounts). l ++ x ∷ []) so_far ∙ ap (λ y. map type_counts (take i zones) ++ y ∷ []) here

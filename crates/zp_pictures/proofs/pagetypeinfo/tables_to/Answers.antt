@@ -6,6 +6,9 @@ use Rattle.zp_pictures.proofs.pagetypeinfo.tables_to.Goals as goal
 
 pub returns-in-Ok-clause-tables : goal.returns-in-Ok-clause-tables
 returns-in-Ok-clause-tables c =
-    let replayed = c.in_ok-replay.ensures.after ∙ ap (λ n. record { trace = c.args.trace.now; done = min n (length c.args.trace.now.commands) }) c.requests_to.ensures in
-    tables_made (office_at c.in_ok-replay.replay).zones c.largest_of.result _ _ _ c.new-text.ensures.items c.in-Ok.ensures (c.largest_of.ensures ∙ ap largest_of c.zones.ensures.zones) (c.deref.ensures.value ∙ c.in_ok-counts.ensures)
+    let t = c.args.trace.now in
+    let replayed = c.in_ok-replay.ensures.after ∙ ap (λ n. record { trace = t; done = min n (length t.commands) }) c.requests_to.ensures in
+    let most = c.largest_of.ensures ∙ ap largest_of c.zones.ensures.zones in
+    let told = c.deref.ensures.value ∙ c.in_ok-counts.ensures in
+    tables_made (office_at c.in_ok-replay.replay).zones c.largest_of.result _ _ _ c.new-text.ensures.items c.in-Ok.ensures most told
     ∙ ap (λ r. tables_of (office_at r).zones) replayed
