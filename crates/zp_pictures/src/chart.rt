@@ -40,7 +40,7 @@ fn samples_of<P: Progress>(
     let step = (states / MOST_SAMPLES).saturating_add(1);
     let requests = states.saturating_sub(1);
     let before = zone.saturating_mul(requests);
-    let of = trace.header.zones.len().saturating_mul(requests);
+    let of = trace.header.zones.as_slice().len().saturating_mul(requests);
     let mut samples = Vec::new(alloc);
     let mut replay = Replay::open(alloc, trace)?;
     for state in 0..states {
