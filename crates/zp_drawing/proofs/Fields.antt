@@ -1,39 +1,45 @@
--- What the options of a hole, as in {:>8}, make of a number and of a text in ASCII.
-use Rattle.std.proofs.Common.{ℕ, ◌≡◌, ◌+◌, ◌-◌, ◌^◌, ◌<◌, true, List, [], ◌∷◌, ◌++◌, length, replicate, cond, refl, sym, ap, ◌∙◌, arith, lit<, get_or, suc, append-nil, codes, All, IsTrue, inl, inr, subst}
+-- What the options of a hole, as in {:>8}, make of a text in ASCII.
+use Rattle.std.proofs.Common.{ℕ, ◌≡◌, ◌+◌, ◌-◌, ◌^◌, ◌<◌, ◌≤◌, ◌==◌, true, false, List, [], ◌∷◌, ◌++◌, length, replicate, cond, refl, ap, ◌∙◌, arith, lit<, get_or, suc, append-nil, codes, All, IsTrue, inl, inr, subst}
 use Rattle.std.proofs.lemmas.List.{get_or_past}
 use Rattle.std.proofs.lemmas.Bool.{cases_lt}
 use Rattle.std.proofs.lemmas.Bool.Decides.{nat_tests}
-use Rattle.std.specs.Fmt.{decimal, char_count, take_chars, format_spec, is_char_start, padded, styled_decimal}
-use Rattle.core.proofs.fmt.Padding.{char_count-nil, char_count-cons, padded_integral_right, padded_is, repeat_ascii, styled_decimal_is, take_chars_all}
+use Rattle.std.specs.Fmt.{char_count, take_chars, format_spec, is_char_start, padded}
 use Rattle.std.specs.Char.{is_ascii_alphanumeric}
 use Rattle.zp_model.specs.declared.constants.TheConstants.{NAME_PLACES}
 use Rattle.zp_model.specs.declared.pageblock_type.PageblockType.{PageblockType}
 use Rattle.zp_model.specs.declared.pageblock_type.PageblockType.TheVariants.{Unmovable, Reclaimable, Movable, Isolate}
 use Rattle.zp_model.specs.Info.{right_aligned}
 use Rattle.zp_model.specs.Naming.{IsName}
+use Rattle.zp_drawing.proofs.Padded.{repeat-space}
 use Rattle.zp_drawing.specs.TypeTables.{left_aligned, type_name}
 
--- a number, at the right
-pub number_right : (w n : ℕ) → styled_decimal (format_spec 32 3 0 w (2 ^ 64 - 1)) n ≡ right_aligned w (decimal n)
-number_right w n = styled_decimal_is _ n ∙ padded_integral_right (format_spec 32 3 0 w (2 ^ 64 - 1)) (decimal n) refl refl (λ e. omega arith) (λ e. omega arith) (lit< tt)
+-- each byte of a text in ASCII is a character
+starts : (b : ℕ) → b < 128 → is_char_start b ≡ true
+starts b low = grind (arith, nat_tests)
 
 text_chars : (text : List ℕ) → ((i : ℕ) → get_or text i 0 < 128) → char_count text ≡ length text
-text_chars [] ascii = char_count-nil
+unfolding char_count
+text_chars [] ascii = refl
 text_chars (b ∷ text) ascii =
-    char_count-cons b text
-    ∙ ap (λ t. cond t 1 0 + char_count text) (starts b (ascii 0))
-    ∙ ap (λ n. 1 + n) (text_chars text (λ i. ascii (suc i)))
-    ∙ omega arith
-  where
-    starts : (b : ℕ) → b < 128 → is_char_start b ≡ true
-    starts b low = grind (arith, nat_tests)
+    ap (λ t. cond t 1 0 + char_count text) (starts b (ascii 0)) ∙ ap (λ n. 1 + n) (text_chars text (λ i. ascii (suc i))) ∙ omega arith
 
--- a text in ASCII, at the right
-pub text_right : (w : ℕ) (text : List ℕ) → length text < 2 ^ 64 → ((i : ℕ) → get_or text i 0 < 128) → padded (format_spec 32 3 0 w (2 ^ 64 - 1)) text ≡ right_aligned w text
+text_taken : (n : ℕ) (text : List ℕ) → length text ≤ n → ((i : ℕ) → get_or text i 0 < 128) → take_chars n text ≡ text
+unfolding take_chars
+text_taken n [] short ascii = refl
+text_taken n (b ∷ text) short ascii =
+    let more : (n == 0) ≡ false = grind (arith, nat_tests) in
+    ap (λ t. cond t (cond (n == 0) [] (b ∷ take_chars (n - 1) text)) (b ∷ take_chars n text)) (starts b (ascii 0))
+    ∙ ap (λ t. cond t [] (b ∷ take_chars (n - 1) text)) more
+    ∙ ap (λ l. b ∷ l) (text_taken (n - 1) text (omega arith) (λ i. ascii (suc i)))
+
+-- such a text, at the right
+text_right : (w : ℕ) (text : List ℕ) → length text < 2 ^ 64 → ((i : ℕ) → get_or text i 0 < 128) →
+    padded (format_spec 32 3 0 w (2 ^ 64 - 1)) text ≡ right_aligned w text
+unfolding padded lib.Utf8.encode
 text_right w text short ascii =
+    let taken : take_chars (2 ^ 64 - 1) text ≡ text = text_taken (2 ^ 64 - 1) text (omega arith) ascii in
     let none : w - length text - (w - length text) ≡ 0 = omega arith in
-    sym (padded_is (format_spec 32 3 0 w (2 ^ 64 - 1)) text text (w - length text) (w - length text) (sym (take_chars_all (2 ^ 64 - 1) text (omega arith))) (ap (λ n. w - n) (sym (text_chars text ascii))) refl)
-    ∙ rw (none, repeat_ascii (w - length text) 32 (lit< tt)) (ap (λ (l : List ℕ). replicate (w - length text) 32 ++ l) (append-nil text))
+    rw (taken, text_chars text ascii, none) (ap (λ l. l ++ (text ++ [])) (repeat-space (w - length text)) ∙ ap (λ (l : List ℕ). replicate (w - length text) 32 ++ l) (append-nil text))
 
 -- the name of a type
 pub type_right : (t : PageblockType) → padded (format_spec 32 3 0 12 (2 ^ 64 - 1)) (type_name t) ≡ right_aligned 12 (type_name t)

@@ -1,2 +1,3 @@
 pub mod Fields
-pub mod Written
+pub mod Padded
+pub mod TableTexts

@@ -1,4 +1,4 @@
-use Rattle.zp_drawing.proofs.Written.{free_head_written}
+use Rattle.zp_drawing.proofs.TableTexts.{free_head_written}
 use Rattle.zp_drawing.proofs.type_tables.write_free_head.Goals as goal
 
 pub returns : goal.returns

@@ -1,7 +1,7 @@
 use Rattle.std.proofs.Common.{ap, ◌∙◌}
 use Rattle.std.specs.Fmt.{styled_text, padded, format_spec}
 use Rattle.zp_drawing.proofs.Fields.{name_right, told_name}
-use Rattle.zp_drawing.proofs.Written.{told_ok}
+use Rattle.zp_drawing.proofs.TableTexts.{told_ok}
 use Rattle.zp_drawing.proofs.type_tables.write_name.Goals as goal
 
 pub returns : goal.returns

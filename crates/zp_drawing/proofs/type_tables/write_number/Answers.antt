@@ -1,9 +1,12 @@
 use Rattle.std.proofs.Common.{◌++◌, ◌∷◌, [], ap, ◌∙◌, List, ℕ}
-use Rattle.std.specs.Fmt.{styled_decimal}
-use Rattle.zp_drawing.proofs.Fields.{number_right}
-use Rattle.zp_drawing.proofs.Written.{told_ok}
+use Rattle.std.specs.Fmt.{decimal, styled_decimal}
+use Rattle.zp_drawing.proofs.Padded.{right_aligned-padded}
+use Rattle.zp_drawing.proofs.TableTexts.{told_ok}
 use Rattle.zp_drawing.proofs.type_tables.write_number.Goals as goal
 
 pub returns : goal.returns
 returns g c =
-    told_ok _ _ _ _ _ (ap (λ s. styled_decimal s c.args.number ++ 32 ∷ []) c.laid_out.ensures ∙ ap (λ (t : List ℕ). t ++ 32 ∷ []) (number_right 6 c.args.number)) c.write.ensures.bytes
+    told_ok _ _ _ _ _
+    (ap (λ s. styled_decimal s c.args.number ++ 32 ∷ []) c.laid_out.ensures
+    ∙ ap (λ (t : List ℕ). t ++ 32 ∷ []) (right_aligned-padded 6 (decimal c.args.number)))
+    c.write.ensures.bytes

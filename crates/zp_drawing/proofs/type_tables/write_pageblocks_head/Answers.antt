@@ -1,4 +1,4 @@
-use Rattle.zp_drawing.proofs.Written.{pageblocks_head_written}
+use Rattle.zp_drawing.proofs.TableTexts.{pageblocks_head_written}
 use Rattle.zp_drawing.proofs.type_tables.write_pageblocks_head.Goals as goal
 
 pub returns : goal.returns

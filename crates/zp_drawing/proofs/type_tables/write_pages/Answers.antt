@@ -1,6 +1,6 @@
 use Rattle.std.proofs.Common.{◌++◌, ◌∷◌, [], ap, codes}
 use Rattle.std.specs.Fmt.{decimal}
-use Rattle.zp_drawing.proofs.Written.{told_ok}
+use Rattle.zp_drawing.proofs.TableTexts.{told_ok}
 use Rattle.zp_drawing.proofs.type_tables.write_pages.Goals as goal
 
 pub returns : goal.returns

@@ -1,4 +1,4 @@
--- Texts that are written part by part.
+-- The texts of the tables, which are written part by part.
 use Rattle.std.proofs.Common.{ℕ, ◌≡◌, ◌<◌, ◌≤◌, ◌+◌, List, [], ◌∷◌, ◌++◌, length, take, take_all, get_or, arith, sym, ap, ◌∙◌, subst, append_assoc, Option, Result, OnOk, codes}
 use Rattle.std.specs.List.{concat, flat_map, range_with_len}
 use Rattle.std.specs.Io.KnownBytes.{Appends}
