@@ -9,7 +9,8 @@ pub repeat-space : (n : ℕ) → repeat {A = ℕ} n (32 ∷ []) ≡ replicate n 
 repeat-space zero = refl
 repeat-space (suc n) = ap (λ l. 32 ∷ l) (repeat-space n)
 
-pub right_aligned-padded : (places : ℕ) (digits : List ℕ) → padded_integral (format_spec 32 3 0 places (2 ^ 64 - 1)) false [] digits ≡ right_aligned places digits
+pub right_aligned-padded : (places : ℕ) (digits : List ℕ)
+    → padded_integral (format_spec 32 3 0 places (2 ^ 64 - 1)) false [] digits ≡ right_aligned places digits
 unfolding padded_integral char_count lib.Utf8.encode
 right_aligned-padded places digits =
     let padding : places - length digits - 0 - 0 ≡ places - length digits = omega arith in
