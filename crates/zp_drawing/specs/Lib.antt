@@ -1,1 +1,4 @@
 pub mod TypeTables
+pub mod Glyphs
+pub mod Kinds
+pub mod Tallies

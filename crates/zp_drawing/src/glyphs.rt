@@ -1,14 +1,12 @@
 //! How a cell of a map is shown: a letter or digit of ASCII, or a half block or a shade of Unicode, in a colour of the terminal.
+ghost use Rattle.std.specs.Prelude.{◌≡◌, ◌≤◌, ◌<◌, ◌+◌, ◌^◌, OnOk, length, slice_index_or};
+ghost use Rattle.zp_drawing.specs.Glyphs.{IsDrawn, IsShown, colour_of, glyph_of, letter_of, lettered, pages_of, shade_between, shade_of, weight_of};
+
 use crate::cells::Kind;
 use std::io;
 use std::io::Write;
 use zp_model::Order;
 use zp_view::{PageState, used_pages};
-
-/// The letters of workers, and those of their lists; past the last there is one for all.
-const WORKERS: &[u8; 26] = b"ABCDEFGHIJKLMNOPQRSTUVWXYZ";
-
-const LISTS: &[u8; 26] = b"abcdefghijklmnopqrstuvwxyz";
 
 /// The colours, of the terminal's 256, of workers and of their lists; they come again after the eighth.
 const WORKER_COLOURS: [u8; 8] = [203, 75, 221, 141, 79, 215, 205, 250];
@@ -29,78 +27,138 @@ pub struct CellStyle {
     pub largest: Order,
 }
 
-/// Whether a cell that has pages in use is shown by one of this state.
-fn counts_for(state: PageState, used: bool) -> bool {
-    state.is_used() == used
-}
-
-/// How many of these pages are of a kind.
-fn pages_of(states: &[PageState], kind: Kind) -> usize {
-    states
-        .iter()
-        .filter(|state| Kind::of(**state) == kind)
-        .count()
-}
-
-/// The kind that most of the pages in use have; where none is in use, the kind that most have.
-pub fn shown_kind(states: &[PageState]) -> Kind {
-    let used = used_pages(states) > 0;
-    let mut best = Kind::Posted;
-    let mut most = 0;
-    for state in states {
-        let kind = Kind::of(*state);
-        let pages = pages_of(states, kind);
-        if counts_for(*state, used) && pages > most {
-            most = pages;
-            best = kind;
+/// How many of these pages are of the kind of this number.
+fn pages_of(states: &[PageState], number: usize) -> usize
+    ensures { result ≡ pages_of number states.now }
+{
+    let mut pages = 0;
+    'pages: for state in states {
+        if Kind::of(*state).number() == number {
+            pages += 1;
         }
     }
-    best
+    pages
+}
+
+/// How much a page of a cell counts: as many as the cell has pages of its kind, and nothing where it is free and others are in use.
+fn weight(states: &[PageState], place: usize) -> usize
+    requires { place < length states.now }
+    ensures { (d : PageState) → result ≡ weight_of states.now (slice_index_or states.now place d) }
+{
+    if states[place].is_used() || used_pages(states) == 0 {
+        pages_of(states, Kind::of(states[place]).number())
+    } else {
+        0
+    }
+}
+
+/// The kind that most of the pages in use have; where none is in use, the kind that most have. Of kinds that are as many it is the one of the
+/// page that comes first.
+pub fn shown_kind(states: &[PageState]) -> Kind
+    ensures { IsShown states.now result }
+{
+    if states.is_empty() {
+        return Kind::Posted;
+    }
+    let mut best = 0;
+    'pages: for place in 1..states.len() {
+        if weight(states, place) > weight(states, best) {
+            best = place;
+        }
+    }
+    Kind::of(states[best])
+}
+
+/// The letter of a worker, where that of the first is this one; past the 26th it is another.
+fn worker_letter(first: u8, past: char, worker: usize) -> char
+    requires { first ≤ 97 }
+    ensures { result ≡ lettered first past worker }
+{
+    if worker < 26 {
+        char::from(first + worker as u8)
+    } else {
+        past
+    }
 }
 
 /// The character of a kind, where only ASCII is wanted.
-fn letter(kind: Kind, largest: Order) -> char {
+fn letter(kind: Kind, largest: Order) -> char
+    ensures { result ≡ letter_of largest kind }
+{
     match kind {
-        Kind::Free(order) if order < largest.index() => {
-            char::from(b"0123456789".get(order).copied().unwrap_or(b'.'))
+        Kind::Free(order) => {
+            if order < largest.index() {
+                char::from(b'0' + order as u8)
+            } else {
+                '.'
+            }
         }
-        Kind::Free(_) => '.',
-        Kind::Out(worker) => char::from(WORKERS.get(worker).copied().unwrap_or(b'@')),
-        Kind::Cached(worker) => char::from(LISTS.get(worker).copied().unwrap_or(b'%')),
+        Kind::Out(worker) => worker_letter(b'A', '@', worker),
+        Kind::Cached(worker) => worker_letter(b'a', '%', worker),
         Kind::Posted => '*',
     }
 }
 
-/// The half block or shade for how many pages of a cell are in use.
-fn shade(states: &[PageState]) -> char {
-    let half = states.len() / 2;
-    let (first, second) = states.split_at(half);
-    let (low, high) = (used_pages(first), used_pages(second));
-    let used = low.saturating_add(high);
+/// The half block or shade where so many pages of the first half are in use, and so many of the second.
+fn shade_between(low: usize, first: usize, high: usize, second: usize) -> char
+    requires low { low ≤ first }
+    requires high { high ≤ second }
+    requires within { first + second < 2 ^ 64 }
+    ensures { result ≡ shade_between low first high second }
+{
+    let used = (low + high) as u128;
+    let pages = (first + second) as u128;
     if used == 0 {
         '·'
-    } else if used == states.len() {
+    } else if used == pages {
         '█'
-    } else if high == 0 && low == first.len() {
+    } else if low == first && high == 0 {
         '▌'
-    } else if low == 0 && high == second.len() {
+    } else if low == 0 && high == second {
         '▐'
-    } else if used.saturating_mul(3) <= states.len() {
+    } else if 3 * used <= pages {
         '░'
-    } else if used.saturating_mul(3) <= states.len().saturating_mul(2) {
+    } else if 3 * used <= 2 * pages {
         '▒'
     } else {
         '▓'
     }
 }
 
+/// The half block or shade for how many pages of a cell are in use.
+fn shade(states: &[PageState]) -> char
+    ensures { result ≡ shade_of states.now }
+{
+    let half = states.len() / 2;
+    let (first, second) = (&states[..half], &states[half..]);
+    shade_between(
+        used_pages(first),
+        first.len(),
+        used_pages(second),
+        second.len(),
+    )
+}
+
 /// The terminal's colour of a kind.
-fn colour(kind: Kind) -> u8 {
+fn colour(kind: Kind) -> u8
+    ensures { result ≡ colour_of kind }
+{
     match kind {
-        Kind::Free(order) => FREE_COLOUR.saturating_add(order.min(10) as u8),
+        Kind::Free(order) => FREE_COLOUR + order.min(10) as u8,
         Kind::Out(worker) => WORKER_COLOURS[worker % 8],
         Kind::Cached(worker) => LIST_COLOURS[worker % 8],
         Kind::Posted => POSTED_COLOUR,
+    }
+}
+
+/// The character of a cell of these pages, which is shown by this kind.
+fn glyph(states: &[PageState], kind: Kind, style: &CellStyle) -> char
+    ensures { result ≡ glyph_of style.now kind states.now }
+{
+    if style.ascii {
+        letter(kind, style.largest)
+    } else {
+        shade(states)
     }
 }
 
@@ -109,13 +167,11 @@ pub fn write_cell<W: Write>(
     writer: &mut W,
     states: &[PageState],
     style: &CellStyle,
-) -> io::Result<()> {
+) -> io::Result<()>
+    ensures { OnOk result (IsDrawn (W.contents writer.old) (W.contents writer.new) style.now states.now) }
+{
     let kind = shown_kind(states);
-    let glyph = if style.ascii {
-        letter(kind, style.largest)
-    } else {
-        shade(states)
-    };
+    let glyph = glyph(states, kind, style);
     if !style.colour {
         return write!(writer, "{glyph}");
     }
