@@ -1,3 +1,4 @@
 pub mod Fields
 pub mod Padded
 pub mod TableTexts
+pub mod FreeBlocks

@@ -1,69 +1,27 @@
-//! The film of a trace: pages from left to right, requests from top to bottom.
+//! The rows of a film: pages from left to right, requests from top to bottom.
+ghost use Rattle.std.specs.Prelude.{◌≡◌, ◌+◌, ◌↔◌, IsTrue, OnErr, OnOk, slice_index_or};
+ghost use Rattle.zp_drawing.specs.Films.{IsPushed, IsRowOf, IsSeenAgain, rows_with};
+
 use crate::cells::{Kind, Tally};
+use crate::films::{Film, Strip, TOP};
 use crate::svg::{Rect, write_rect};
-use std::alloc::{AllocError, Global};
 use std::io::Write;
 use std::{io, mem};
 
-/// The pixels left of the cells, above them, and between two zones.
-pub const LEFT: usize = 70;
-
-pub const TOP: usize = 64;
-
-pub const GAP: usize = 8;
-
-/// The cells of one zone in each row.
-#[derive(Clone, Copy, PartialEq, Eq, Debug, Drop)]
-pub struct Strip {
-    /// The first cell, among those of all zones.
-    pub cell: usize,
-    /// How many cells there are.
-    pub cells: usize,
-    /// Where the zone begins, in pixels.
-    pub left: usize,
-}
-
-/// The rows of a film so far: those last seen, which are alike, are not written yet.
-#[derive(Drop)]
-pub struct Film {
-    strips: Vec<Strip>,
-    /// The size of a cell, in pixels.
-    width: usize,
-    height: usize,
-    shown: Vec<usize>,
-    next: Vec<usize>,
-    top: usize,
-    alike: usize,
-}
-
 impl Film {
-    /// A film with these strips, of so many cells, before its first row.
-    pub fn new(
-        alloc: Global,
-        strips: Vec<Strip>,
-        cells: usize,
-        width: usize,
-        height: usize,
-    ) -> Result<Film, AllocError> {
-        let shown = Vec::from_elem(alloc, 0, cells)?;
-        let next = Vec::from_elem(alloc, 0, cells)?;
-        Ok(Film {
-            strips,
-            width,
-            height,
-            shown,
-            next,
-            top: 0,
-            alike: 0,
-        })
+    /// Whether the next row is the last one again.
+    fn is_seen_again(&self) -> bool
+        ensures { IsTrue result ↔ IsSeenAgain self.now self.now.next.items }
+    {
+        self.alike > 0 && self.next.as_slice() == self.shown.as_slice()
     }
 
     /// Puts down one row more: each cell is of the kind that most of its pages have.
-    pub fn push<W: Write>(&mut self, writer: &mut W, tally: &Tally) -> io::Result<()> {
-        for (cell, kind) in self.next.iter_mut().enumerate() {
-            *kind = tally.most(cell).number();
-        }
-        if self.alike > 0 && self.next.as_slice() == self.shown.as_slice() {
+    pub fn push<W: Write>(&mut self, writer: &mut W, tally: &Tally) -> io::Result<()>
+        ensures { OnOk result (IsPushed self.old self.new tally.now) }
+    {
+        fill_row(&mut self.next, tally);
+        if self.is_seen_again() {
             self.alike = self.alike.saturating_add(1);
             return Ok(());
         }
@@ -74,7 +32,10 @@ impl Film {
     }
 
     /// Writes the rows that were not written yet.
-    pub fn finish<W: Write>(&mut self, writer: &mut W) -> io::Result<()> {
+    pub fn finish<W: Write>(&mut self, writer: &mut W) -> io::Result<()>
+        ensures ok { OnOk result (self.new ≡ record self.old { top = rows_with self.old.top self.old.alike; alike = 0 }) }
+        ensures err { OnErr result (self.new ≡ self.old) }
+    {
         let y = TOP.saturating_add(self.top.saturating_mul(self.height));
         let height = self.alike.saturating_mul(self.height);
         if self.alike > 0 {
@@ -88,8 +49,19 @@ impl Film {
     }
 }
 
+/// Puts down of each cell the kind that most of its pages have.
+fn fill_row(row: &mut [usize], tally: &Tally)
+    ensures { IsRowOf tally.now row.new }
+{
+    'cells: for (cell, kind) in row.iter_mut().enumerate() {
+        *kind = tally.most(cell).number();
+    }
+}
+
 /// The kind of a cell of a strip.
-fn kind_at(strip: Strip, kinds: &[usize], cell: usize) -> usize {
+fn kind_at(strip: Strip, kinds: &[usize], cell: usize) -> usize
+    ensures { result ≡ slice_index_or kinds.now (strip.cell + cell) 0 }
+{
     kinds
         .get(strip.cell.saturating_add(cell))
         .copied()

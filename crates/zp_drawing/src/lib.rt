@@ -3,6 +3,7 @@
 
 mod cells;
 mod film_rows;
+mod films;
 mod glyphs;
 mod map_lines;
 mod panels;
@@ -10,7 +11,7 @@ mod svg;
 mod type_tables;
 
 pub use cells::{KINDS, Kind, Tally};
-pub use film_rows::{Film, GAP, LEFT, Strip, TOP};
+pub use films::{Film, GAP, LEFT, Strip, TOP};
 pub use glyphs::{CellStyle, write_cell};
 pub use map_lines::{MapStyle, write_map};
 pub use panels::{PANEL_HEIGHT, Panel, write_panel};

@@ -1,4 +1,7 @@
 //! The map of a zone: a line for each pageblock, and beneath it who has how much, and what stands in the way.
+ghost use Rattle.std.specs.Prelude.{◌≡◌, IfNone, IfSome};
+ghost use Rattle.zp_drawing.specs.Maps.{HasNoFree, IsCellSize, IsLargestFree, larger, pageblock_letter, type_letter};
+
 use crate::glyphs::{CellStyle, write_cell};
 use std::io;
 use std::io::Write;
@@ -22,30 +25,37 @@ pub struct MapStyle {
 }
 
 /// How many pages a cell has: the least power of two by which a pageblock fits into the width.
-fn cell_pages(pageblock: usize, width: usize) -> usize {
+fn cell_pages(pageblock: usize, width: usize) -> usize
+    ensures { IsCellSize pageblock width result }
+{
     let cells = width.saturating_sub(MARGIN).max(1);
-    let mut pages = 1usize;
-    for _ in 0..16 {
+    'orders: for order in 0..16u32 {
+        let pages = 1usize << order;
         if pages.saturating_mul(cells) >= pageblock {
             return pages;
         }
-        pages = pages.saturating_mul(2);
     }
-    pages
+    1 << 16
 }
 
-/// The letter of a pageblock's type.
-fn type_letter(zone: &Zone, number: usize) -> char {
-    let Ok(number) = u32::try_from(number) else {
-        return '?';
-    };
+/// The letter of a type of pageblocks.
+fn type_letter(kind: PageblockType) -> char
+    ensures { result ≡ type_letter kind }
+{
+    match kind {
+        PageblockType::Unmovable => 'U',
+        PageblockType::Reclaimable => 'R',
+        PageblockType::Movable => 'M',
+        PageblockType::Isolate => 'I',
+    }
+}
+
+/// The letter of the type of a zone's pageblock of this number.
+fn pageblock_letter(zone: &Zone, number: u32) -> char
+    ensures { result ≡ pageblock_letter zone.now.plain number }
+{
     match zone.pageblock(number) {
-        Some(pageblock) => match pageblock.kind {
-            PageblockType::Unmovable => 'U',
-            PageblockType::Reclaimable => 'R',
-            PageblockType::Movable => 'M',
-            PageblockType::Isolate => 'I',
-        },
+        Some(pageblock) => type_letter(pageblock.kind),
         None => '?',
     }
 }
@@ -78,7 +88,10 @@ fn write_pageblocks<W: Write>(
         largest: zone.largest().order(),
     };
     for (number, states) in row.chunks(pageblock).enumerate() {
-        let letter = type_letter(zone, number);
+        let letter = match u32::try_from(number) {
+            Ok(number) => pageblock_letter(zone, number),
+            Err(_) => '?',
+        };
         write!(writer, "{number:>5} {letter}  ")?;
         write_cells(writer, states, pages, &cells)?;
         writeln!(writer)?;
@@ -110,15 +123,25 @@ fn write_holdings<W: Write>(
     Ok(())
 }
 
+/// The larger of an order and of one that there may be.
+fn larger(largest: Option<Order>, order: Order) -> Order
+    ensures { result ≡ larger largest order }
+{
+    match largest {
+        Some(other) if other.number() >= order.number() => other,
+        _ => order,
+    }
+}
+
 /// The order of the largest free block of a row's pages.
-fn largest_free(row: &[PageState]) -> Option<Order> {
+fn largest_free(row: &[PageState]) -> Option<Order>
+    ensures none { IfNone result (HasNoFree row.now) }
+    ensures largest { IfSome result (IsLargestFree row.now) }
+{
     let mut largest: Option<Order> = None;
-    for state in row {
+    'pages: for state in row {
         if let PageState::Free(order) = *state {
-            largest = match largest {
-                Some(other) if other.number() >= order.number() => Some(other),
-                _ => Some(order),
-            };
+            largest = Some(larger(largest, order));
         }
     }
     largest

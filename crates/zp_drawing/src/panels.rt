@@ -1,4 +1,7 @@
 //! The chart of a zone: its free pages by order over the requests, stacked, the largest order at the bottom, with its marks as lines.
+ghost use Rattle.std.specs.Prelude.{◌≡◌};
+ghost use Rattle.zp_drawing.specs.Panels.{level_of, pages_from, place_of};
+
 use crate::cells::Kind;
 use crate::svg::{fill, write_text};
 use std::io;
@@ -22,7 +25,9 @@ pub struct Panel {
 
 impl Panel {
     /// The height at which so many pages are shown.
-    fn level(&self, pages: u32) -> usize {
+    fn level(&self, pages: u32) -> usize
+        ensures { result ≡ level_of self.now pages }
+    {
         let all = u64::from(self.pages).max(1);
         let part = u64::from(pages).saturating_mul(PANEL_HEIGHT as u64) / all;
         let bottom = self.y.saturating_add(PANEL_HEIGHT);
@@ -30,19 +35,21 @@ impl Panel {
     }
 
     /// The place from left to right of a sample among so many.
-    fn place(&self, sample: usize, samples: usize) -> usize {
+    fn place(&self, sample: usize, samples: usize) -> usize
+        ensures { result ≡ place_of self.now sample samples }
+    {
         let part = sample.saturating_mul(self.width) / samples.max(1);
         self.x.saturating_add(part)
     }
 }
 
 /// How many pages the free blocks of an order and those above have.
-fn pages_from(by_order: &[u32; ORDERS], order: usize) -> u32 {
+fn pages_from(by_order: &[u32; ORDERS], order: usize) -> u32
+    ensures { result ≡ pages_from by_order.now order }
+{
     let mut pages = 0u32;
-    for (number, count) in by_order.iter().enumerate() {
-        if number >= order && number < 32 {
-            pages = pages.saturating_add(count.saturating_mul(1 << number));
-        }
+    'orders: for number in order..ORDERS {
+        pages = pages.saturating_add(by_order[number].saturating_mul(1 << number));
     }
     pages
 }

@@ -1,4 +1,7 @@
 //! The parts of pictures in SVG.
+ghost use Rattle.std.specs.Prelude.{◌≡◌, Some};
+ghost use Rattle.zp_drawing.specs.Fills.{class_of, fill_of};
+
 use crate::cells::Kind;
 use std::fmt::{Display, Formatter};
 use std::io::Write;
@@ -21,7 +24,9 @@ const LISTS: [&str; 8] = [
 const POSTED: &str = "#1c1c1c";
 
 /// The colour of a kind.
-pub fn fill(kind: Kind) -> &'static str {
+pub fn fill(kind: Kind) -> &'static str
+    ensures { result.now ≡ fill_of kind }
+{
     match kind {
         Kind::Free(order) => FREE[order.min(10)],
         Kind::Out(worker) => WORKERS[worker % 8],
@@ -35,6 +40,8 @@ pub fn fill(kind: Kind) -> &'static str {
 pub struct Class(pub Kind);
 
 impl Display for Class {
+    ghost output = { λ class. Some (class_of class.0) };
+
     fn fmt<W: fmt::Write>(&self, f: &mut Formatter<W>) -> fmt::Result {
         match self.0 {
             Kind::Free(order) => write!(f, "f{order}"),
