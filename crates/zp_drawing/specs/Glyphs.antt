@@ -1,10 +1,10 @@
 -- How a cell of a map is shown: the letters, the shades and the colours, and whose they are, are of this profile; the colours are from the 256 of
 -- xterm.
-use Rattle.std.specs.Prelude.{ℕ, ◌≡◌, ◌<◌, ◌+◌, ◌*◌, ◌/◌, ◌%◌, ◌==◌, ◌&&◌, ◌||◌, Bool, min, nat_lt, nat_le, if◌then◌else◌}
-use Rattle.std.specs.Prelude.{List, [], ◌∷◌, ◌++◌, length, take, drop, slice_index_or, Option, codes, encode_utf8}
+use Rattle.std.specs.Prelude.{ℕ, ◌+◌, ◌*◌, ◌/◌, ◌%◌, ◌==◌, ◌&&◌, ◌||◌, Bool, min, nat_lt, nat_le, if◌then◌else◌}
+use Rattle.std.specs.Prelude.{List, [], ◌∷◌, ◌++◌, length, take, drop, slice_index_or, find, codes, encode_utf8}
 use Rattle.std.specs.Fmt.{decimal}
-use Rattle.std.specs.Io.KnownBytes.{Appends}
-use Rattle.std.specs.List.{IsFirstMaxByKey, count_by}
+use Rattle.std.specs.List.{count_by, list_all}
+use Rattle.std.specs.Option.{option_map_or}
 use Rattle.zp_drawing.specs.declared.cells.Kind.{Kind}
 use Rattle.zp_drawing.specs.declared.cells.Kind.TheVariants.{Free, Out, Cached, Posted}
 use Rattle.zp_drawing.specs.declared.glyphs.CellStyle.{CellStyle}
@@ -78,16 +78,13 @@ pages_of n row = count_by (has_number n) row
 abbrev pub weight_of : List PageState → PageState → ℕ
 weight_of row s = if is_used s || (count_by is_used row == 0) then pages_of (number_of s) row else 0
 
--- the kind is that of the first of the pages that count most
-pub record IsOfFirstMost (row : List PageState) (kind : Kind) : Type 0 where
-  pub place : ℕ
-  pub first_most : IsFirstMaxByKey (weight_of row) row (length row) place
-  pub of_it : (d : PageState) → kind ≡ kind_of (slice_index_or row place d)
+-- no page of the row counts more than this one
+abbrev pub is_not_outweighed : List PageState → PageState → Bool
+is_not_outweighed row s = list_all (λ t. nat_le (weight_of row t) (weight_of row s)) row
 
--- the kind by which a cell of these pages is shown: posted where there is none
-pub record IsShown (row : List PageState) (kind : Kind) : Type 0 where
-  pub some : 0 < length row → IsOfFirstMost row kind
-  pub none : length row ≡ 0 → kind ≡ Posted
+-- the kind by which a cell of these pages is shown: that of the first page that none outweighs; posted where there is no page
+abbrev pub shown_kind : List PageState → Kind
+shown_kind row = option_map_or kind_of (find (is_not_outweighed row) row) Posted
 
 -- the character of a cell that is shown by this kind
 abbrev pub glyph_of : CellStyle → Kind → List PageState → ℕ
@@ -97,14 +94,8 @@ glyph_of style kind row = if style.ascii then letter_of style.largest kind else 
 abbrev pub coloured : ℕ → List ℕ → List ℕ
 coloured colour text = 0x1b ∷ codes "[38;5;" ++ decimal colour ++ codes "m" ++ text ++ 0x1b ∷ codes "[0m"
 
--- the text of a cell that is shown by this kind
-abbrev pub cell_text : CellStyle → Kind → List PageState → List ℕ
-cell_text style kind row =
-    if style.colour then coloured (colour_of kind) (encode_utf8 (glyph_of style kind row))
-    else encode_utf8 (glyph_of style kind row)
-
--- a writer has got the text of a cell of these pages
-pub record IsDrawn (old new : Option (List ℕ)) (style : CellStyle) (row : List PageState) : Type 0 where
-  pub kind : Kind
-  pub shown : IsShown row kind
-  pub written : Appends old new (cell_text style kind row)
+-- the text of a cell of these pages
+abbrev pub cell_text : CellStyle → List PageState → List ℕ
+cell_text style row =
+    if style.colour then coloured (colour_of (shown_kind row)) (encode_utf8 (glyph_of style (shown_kind row) row))
+    else encode_utf8 (glyph_of style (shown_kind row) row)

@@ -1,8 +1,10 @@
 pub mod TypeTables
 pub mod Films
 pub mod Fills
+pub mod Films
 pub mod Glyphs
 pub mod Kinds
+pub mod MapText
 pub mod Maps
 pub mod Panels
 pub mod Tallies

@@ -1,6 +1,7 @@
 //! How a cell of a map is shown: a letter or digit of ASCII, or a half block or a shade of Unicode, in a colour of the terminal.
 ghost use Rattle.std.specs.Prelude.{◌≡◌, ◌≤◌, ◌<◌, ◌+◌, ◌^◌, OnOk, length, slice_index_or};
-ghost use Rattle.zp_drawing.specs.Glyphs.{IsDrawn, IsShown, colour_of, glyph_of, letter_of, lettered, pages_of, shade_between, shade_of, weight_of};
+ghost use Rattle.std.specs.Io.KnownBytes.{Appends};
+ghost use Rattle.zp_drawing.specs.Glyphs.{cell_text, colour_of, glyph_of, letter_of, lettered, pages_of, shade_between, shade_of, shown_kind, weight_of};
 
 use crate::cells::Kind;
 use std::io;
@@ -55,7 +56,7 @@ fn weight(states: &[PageState], place: usize) -> usize
 /// The kind that most of the pages in use have; where none is in use, the kind that most have. Of kinds that are as many it is the one of the
 /// page that comes first.
 pub fn shown_kind(states: &[PageState]) -> Kind
-    ensures { IsShown states.now result }
+    ensures { result ≡ shown_kind states.now }
 {
     if states.is_empty() {
         return Kind::Posted;
@@ -168,7 +169,7 @@ pub fn write_cell<W: Write>(
     states: &[PageState],
     style: &CellStyle,
 ) -> io::Result<()>
-    ensures { OnOk result (IsDrawn (W.contents writer.old) (W.contents writer.new) style.now states.now) }
+    ensures { OnOk result (Appends (W.contents writer.old) (W.contents writer.new) (cell_text style.now states.now)) }
 {
     let kind = shown_kind(states);
     let glyph = glyph(states, kind, style);

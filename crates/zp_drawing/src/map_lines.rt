@@ -1,5 +1,7 @@
 //! The map of a zone: a line for each pageblock, and beneath it who has how much, and what stands in the way.
-ghost use Rattle.std.specs.Prelude.{◌≡◌, IfNone, IfSome};
+ghost use Rattle.std.specs.Prelude.{◌≡◌, ◌<◌, IfNone, IfSome, OnOk};
+ghost use Rattle.std.specs.Io.KnownBytes.{Appends};
+ghost use Rattle.zp_drawing.specs.MapText.{cells_text, largest_text};
 ghost use Rattle.zp_drawing.specs.Maps.{HasNoFree, IsCellSize, IsLargestFree, larger, pageblock_letter, type_letter};
 
 use crate::glyphs::{CellStyle, write_cell};
@@ -26,7 +28,8 @@ pub struct MapStyle {
 
 /// How many pages a cell has: the least power of two by which a pageblock fits into the width.
 fn cell_pages(pageblock: usize, width: usize) -> usize
-    ensures { IsCellSize pageblock width result }
+    ensures size { IsCellSize pageblock width result }
+    ensures some { 0 < result }
 {
     let cells = width.saturating_sub(MARGIN).max(1);
     'orders: for order in 0..16u32 {
@@ -66,9 +69,13 @@ fn write_cells<W: Write>(
     states: &[PageState],
     pages: usize,
     style: &CellStyle,
-) -> io::Result<()> {
-    for cell in states.chunks(pages.max(1)) {
-        write_cell(writer, cell, style)?;
+) -> io::Result<()>
+    requires { 0 < pages }
+    ensures { OnOk result (Appends (W.contents writer.old) (W.contents writer.new) (cells_text style.now pages states.now)) }
+{
+    'cells: for cell in 0..states.len().div_ceil(pages) {
+        let rest = &states[cell * pages..];
+        write_cell(writer, &rest[..rest.len().min(pages)], style)?;
     }
     Ok(())
 }
@@ -194,8 +201,10 @@ fn write_title<W: Write>(
 }
 
 /// Writes the order of the largest free block.
-fn write_largest<W: Write>(writer: &mut W, row: &[PageState]) -> io::Result<()> {
-    match largest_free(row) {
+fn write_largest<W: Write>(writer: &mut W, largest: Option<Order>) -> io::Result<()>
+    ensures { OnOk result (Appends (W.contents writer.old) (W.contents writer.new) (largest_text largest)) }
+{
+    match largest {
         Some(order) => {
             let (number, pages) = (order.number(), order.pages());
             writeln!(writer, "largest free block: order {number}, {pages} pages")
@@ -216,7 +225,7 @@ pub fn write_map<W: Write>(
     write_title(writer, zone, first, style)?;
     write_pageblocks(writer, zone, row, style)?;
     write_holdings(writer, row, workers, "")?;
-    write_largest(writer, row)?;
+    write_largest(writer, largest_free(row))?;
     let order = style.order.unwrap_or(zone.largest().order());
     write_way(writer, row, first, order, workers)
 }

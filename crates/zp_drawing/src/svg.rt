@@ -1,6 +1,7 @@
 //! The parts of pictures in SVG.
-ghost use Rattle.std.specs.Prelude.{◌≡◌, Some};
-ghost use Rattle.zp_drawing.specs.Fills.{class_of, fill_of};
+ghost use Rattle.std.specs.Prelude.{◌≡◌, OnOk, Some};
+ghost use Rattle.std.specs.Io.KnownBytes.{Appends};
+ghost use Rattle.zp_drawing.specs.Fills.{class_of, class_text, fill_of};
 
 use crate::cells::Kind;
 use std::fmt::{Display, Formatter};
@@ -108,7 +109,10 @@ pub fn write_classes<W: Write>(writer: &mut W, workers: usize) -> io::Result<()>
     writeln!(writer, "</style>")
 }
 
-fn write_class<W: Write>(writer: &mut W, kind: Kind) -> io::Result<()> {
+/// Writes the colour of a kind's class.
+fn write_class<W: Write>(writer: &mut W, kind: Kind) -> io::Result<()>
+    ensures { OnOk result (Appends (W.contents writer.old) (W.contents writer.new) (class_text kind)) }
+{
     let (class, colour) = (Class(kind), fill(kind));
     writeln!(writer, ".{class}{{fill:{colour}}}")
 }

@@ -1,6 +1,10 @@
-use Rattle.std.proofs.Common.{arith}
+use Rattle.std.proofs.lemmas.Grind.{common_steps}
+use Rattle.std.proofs.Common.{ℕ, ◌≡◌, arith, length, subst, ap, sym, ◌∙◌}
+use Rattle.std.specs.List.{IsFirstMaxByKey}
 use Rattle.std.proofs.lemmas.List.Sums.{best_keeps, best_takes}
+use Rattle.zp_drawing.specs.Kinds.{kind_of}
 use Rattle.zp_drawing.specs.Glyphs.{weight_of}
+use Rattle.zp_drawing.proofs.FirstMost.{shown_kind-first_most}
 use Rattle.zp_drawing.proofs.glyphs.shown_kind.Goals as goal
 use Rattle.zp_drawing.proofs.glyphs.shown_kind.Goals.{then-weight, else-weight}
 
@@ -16,3 +20,11 @@ pages-preserved c =
           (best_keeps (weight_of c.args.states.now) c.args.states.now c.pages.place c.pages.best c.pages.invariant
           (λ d. omega (arith, c.weight.ensures d, c.weight-in-pages.ensures d)))
     ]
+
+pub returns : goal.returns
+returns c =
+    let end : c.pages.place ≡ length c.args.states.now = grind (arith, common_steps) in
+    let P : ℕ → Type 0 = λ n. IsFirstMaxByKey (weight_of c.args.states.now) c.args.states.now n c.pages.best in
+    let most : IsFirstMaxByKey (weight_of c.args.states.now) c.args.states.now (length c.args.states.now) c.pages.best = subst P end c.pages.invariant in
+    let shown = shown_kind-first_most c.args.states.now c.pages.best c.index-states-best.result most.0 most in
+    c.of.ensures.kind ∙ ap kind_of c.index-states-best.is ∙ sym shown
