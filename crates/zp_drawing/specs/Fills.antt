@@ -1,5 +1,5 @@
 -- The colours of the kinds of pages in pictures of SVG, and the names of their classes: this profile's.
-use Rattle.std.specs.Prelude.{ℕ, ◌%◌, min, List, [], ◌∷◌, ◌++◌, codes, slice_index_or}
+use Rattle.std.specs.Prelude.{ℕ, ◌%◌, min, List, [], ◌∷◌, codes, slice_index_or}
 use Rattle.std.specs.Fmt.{decimal}
 use Rattle.zp_drawing.specs.declared.cells.Kind.{Kind}
 use Rattle.zp_drawing.specs.declared.cells.Kind.TheVariants.{Free, Out, Cached, Posted}
@@ -34,7 +34,3 @@ class_of (Free k) = 0x66 ∷ decimal k
 class_of (Out w) = 0x6f ∷ decimal w
 class_of (Cached w) = 0x63 ∷ decimal w
 class_of Posted = 0x70 ∷ []
-
--- the line that gives a kind's class its colour, as CSS has it
-abbrev pub class_text : Kind → List ℕ
-class_text kind = codes "." ++ class_of kind ++ codes "{fill:" ++ fill_of kind ++ codes "}" ++ 0x0a ∷ []

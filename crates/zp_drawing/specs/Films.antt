@@ -32,9 +32,23 @@ pub record IsFirstOfOthers (old new : Film) : Type 0 where
   pub alike : new.alike ≡ 1
   pub top : new.top ≡ rows_with old.top old.alike
 
+-- the strips, and the size of a cell, are what they were
+pub record KeepsPicture (old new : Film) : Type 0 where
+  pub strips : new.strips ≡ old.strips
+  pub width : new.width ≡ old.width
+  pub height : new.height ≡ old.height
+
 -- the film has a row more, which is the tally's
 pub record IsPushed (old new : Film) (tally : Tally) : Type 0 where
   pub row : IsRowOf tally new.shown.items
   pub cells : vec_len new.shown ≡ vec_len old.shown
+  pub picture : KeepsPicture old new
   pub again : IsSeenAgain old new.shown.items → IsOneMore old new
   pub another : ¬ (IsSeenAgain old new.shown.items) → IsFirstOfOthers old new
+
+-- the rows that were seen are what they were
+pub record IsSeenAsBefore (old new : Film) : Type 0 where
+  pub shown : new.shown ≡ old.shown
+  pub alike : new.alike ≡ old.alike
+  pub top : new.top ≡ old.top
+  pub picture : KeepsPicture old new

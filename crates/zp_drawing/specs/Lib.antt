@@ -7,4 +7,5 @@ pub mod Kinds
 pub mod MapText
 pub mod Maps
 pub mod Panels
+pub mod Svg
 pub mod Tallies

@@ -55,6 +55,7 @@ impl Kind {
     /// The kind at this place, and posted past the last.
     pub fn at(number: usize) -> Kind
         ensures place { number < KINDS → kind_number result ≡ number }
+        ensures past { KINDS ≤ number → result ≡ Kind.Posted }
         ensures occurs { Occurs result }
     {
         if number < FIRST_OUT {

@@ -1,6 +1,6 @@
 //! The rows of a film: pages from left to right, requests from top to bottom.
 ghost use Rattle.std.specs.Prelude.{◌≡◌, ◌+◌, ◌↔◌, IsTrue, OnErr, OnOk, slice_index_or};
-ghost use Rattle.zp_drawing.specs.Films.{IsPushed, IsRowOf, IsSeenAgain, rows_with};
+ghost use Rattle.zp_drawing.specs.Films.{IsPushed, IsRowOf, IsSeenAgain, IsSeenAsBefore, rows_with};
 
 use crate::cells::{Kind, Tally};
 use crate::films::{Film, Strip, TOP};
@@ -18,7 +18,9 @@ impl Film {
 
     /// Puts down one row more: each cell is of the kind that most of its pages have.
     pub fn push<W: Write>(&mut self, writer: &mut W, tally: &Tally) -> io::Result<()>
-        ensures { OnOk result (IsPushed self.old self.new tally.now) }
+        ensures ok { OnOk result (IsPushed self.old self.new tally.now) }
+        // What was seen before can still be written.
+        ensures err { OnErr result (IsSeenAsBefore self.old self.new) }
     {
         fill_row(&mut self.next, tally);
         if self.is_seen_again() {

@@ -1,7 +1,8 @@
 //! The parts of pictures in SVG.
 ghost use Rattle.std.specs.Prelude.{◌≡◌, OnOk, Some};
 ghost use Rattle.std.specs.Io.KnownBytes.{Appends};
-ghost use Rattle.zp_drawing.specs.Fills.{class_of, class_text, fill_of};
+ghost use Rattle.zp_drawing.specs.Fills.{class_of, fill_of};
+ghost use Rattle.zp_drawing.specs.Svg.{class_text, rect_text};
 
 use crate::cells::Kind;
 use std::fmt::{Display, Formatter};
@@ -86,7 +87,9 @@ pub fn write_end<W: Write>(writer: &mut W) -> io::Result<()> {
 }
 
 /// Writes a rectangle of a kind.
-pub fn write_rect<W: Write>(writer: &mut W, rect: Rect, kind: Kind) -> io::Result<()> {
+pub fn write_rect<W: Write>(writer: &mut W, rect: Rect, kind: Kind) -> io::Result<()>
+    ensures { OnOk result (Appends (W.contents writer.old) (W.contents writer.new) (rect_text rect kind)) }
+{
     let (class, x, y) = (Class(kind), rect.x, rect.y);
     let (width, height) = (rect.width, rect.height);
     writeln!(
