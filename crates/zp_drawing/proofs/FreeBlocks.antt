@@ -28,9 +28,10 @@ IsLargestFree-first row k none = record {
 pub IsLargestFree-larger : (row : List PageState) (j k : ℕ) → IsLargestFree row j → IsLargestFree (row ++ Free k ∷ []) (max j k)
 IsLargestFree-larger row j k was = record {
   has =
+      let Has : ℕ → Type 0 = λ n. Contains (row ++ Free k ∷ []) (Free n) in
       ⊎_elim
-      (λ lt. let is : k ≡ max j k = omega arith in let P : ℕ → Type 0 = λ n. Contains (row ++ Free k ∷ []) (Free n) in subst P is (Contains-push row (Free k)))
-      (λ le. let is : j ≡ max j k = omega arith in let P : ℕ → Type 0 = λ n. Contains (row ++ Free k ∷ []) (Free n) in subst P is (Contains-append_left row (Free k ∷ []) (Free j) was.has))
+      (λ lt. let is : k ≡ max j k = omega arith in subst Has is (Contains-push row (Free k)))
+      (λ le. let is : j ≡ max j k = omega arith in subst Has is (Contains-append_left row (Free k ∷ []) (Free j) was.has))
       (cases_lt j k);
   largest = λ i has.
       ⊎_elim (λ h. omega (arith, was.largest i h)) (λ e. let same : k ≡ i = cc in omega arith) (Contains-push_cases row (Free k) (Free i) has);

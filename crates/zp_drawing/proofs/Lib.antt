@@ -3,4 +3,5 @@ pub mod Padded
 pub mod TableTexts
 pub mod FirstMost
 pub mod FreeBlocks
+pub mod Padded
 pub mod Written

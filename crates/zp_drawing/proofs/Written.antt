@@ -1,5 +1,6 @@
 -- What a writer got piece by piece, and the pieces of a row.
-use Rattle.std.proofs.Common.{◌≡◌, ◌+◌, ◌-◌, ◌∙◌, ap, sym, min, arith, List, [], ◌∷◌, ◌++◌, ℕ, Option, Some, None, append_assoc, length, take, drop, flat_map, zero-add, add-one}
+use Rattle.std.proofs.Common.{◌≡◌, ◌+◌, ◌-◌, ◌∙◌, ap, sym, min, arith, List, [], ◌∷◌, ◌++◌, ℕ, Option, Some, None}
+use Rattle.std.proofs.Common.{append_assoc, length, take, drop, flat_map, zero-add, add-one}
 use Rattle.std.specs.List.{range_with_len}
 use Rattle.std.specs.Io.KnownBytes.{Appends}
 use Rattle.std.proofs.lemmas.List.{append-nil, flat_map_more, length-drop, take_all, take_min}
@@ -22,7 +23,8 @@ flat_map-range_more f n =
     ∙ ap (flat_map f) (range-snoc 0 n ∙ ap (λ k. range_with_len 0 n ++ k ∷ []) (zero-add n)) ∙ sym (flat_map_more f [] (range_with_len 0 n) n)
 
 -- a piece of a row, or what is left of the row where that is less
-pub chunk_cut : {X : Type 0} (xs : List X) (from size m : ℕ) → m ≡ min (length xs - from) size → take m (take (length xs - from) (drop from xs)) ≡ take size (drop from xs)
+pub chunk_cut : {X : Type 0} (xs : List X) (from size m : ℕ) → m ≡ min (length xs - from) size
+    → take m (take (length xs - from) (drop from xs)) ≡ take size (drop from xs)
 chunk_cut xs from size m is =
     let whole : take (length xs - from) (drop from xs) ≡ drop from xs = take_all (length xs - from) (drop from xs) (simp length-drop (omega arith)) in
     let left : m ≡ min size (length (drop from xs)) = simp length-drop (omega arith) in

@@ -4,6 +4,7 @@ pub mod Fills
 pub mod Films
 pub mod Glyphs
 pub mod Kinds
+pub mod Lines
 pub mod MapText
 pub mod Maps
 pub mod Panels

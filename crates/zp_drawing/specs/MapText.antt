@@ -1,12 +1,25 @@
 -- The text of a map, which is of this profile.
-use Rattle.std.specs.Prelude.{ℕ, ◌^◌, List, [], ◌∷◌, ◌++◌, length, codes, flat_map, Option, Some, None}
+use Rattle.std.specs.Prelude.{ℕ, ◌^◌, ◌==◌, ◌&&◌, min, Bool, if◌then◌else◌, Option, Some, None}
+use Rattle.std.specs.Prelude.{List, [], ◌∷◌, ◌++◌, length, codes, encode_utf8, flat_map}
 use Rattle.std.specs.Fmt.{decimal}
 use Rattle.std.specs.Fork.{slice_chunk}
 use Rattle.std.specs.Int.{div_ceil}
-use Rattle.std.specs.List.{range_with_len}
+use Rattle.std.specs.List.{count_by, range_with_len}
+use Rattle.zp_model.specs.declared.constants.TheConstants.{MAX_WORKERS}
+use Rattle.zp_model.specs.Info.{right_aligned}
+use Rattle.zp_model.specs.Zone.{PlainZone, pages_of}
+use Rattle.zp_model.specs.Area.{pageblock_pages}
 use Rattle.zp_view.specs.declared.page_state.PageState.{PageState}
+use Rattle.zp_view.specs.Ways.{is_cached_by, is_out_to, is_posted_to}
 use Rattle.zp_drawing.specs.declared.glyphs.CellStyle.{CellStyle}
 use Rattle.zp_drawing.specs.Glyphs.{cell_text}
+use Rattle.zp_drawing.specs.Lines.{line}
+
+-- the line of what the map is of: the zone's name and pages, the first of them, and how many pages a pageblock and a cell have
+abbrev pub title_text : List ℕ → PlainZone → ℕ → ℕ → List ℕ
+title_text name z first cell =
+    line (codes "zone " ++ (name ++ (codes ": " ++ (decimal (pages_of z) ++ (codes " pages from " ++ (decimal first ++ (codes ", "
+    ++ (decimal (pageblock_pages z.area.largest) ++ (codes " a pageblock, " ++ (decimal cell ++ codes " a cell"))))))))))
 
 -- the text of one of the cells of so many pages each into which a row is cut
 abbrev pub nth_cell_text : CellStyle → ℕ → List PageState → ℕ → List ℕ
@@ -19,7 +32,39 @@ first_cells_text style pages row cells = flat_map (nth_cell_text style pages row
 abbrev pub cells_text : CellStyle → ℕ → List PageState → List ℕ
 cells_text style pages row = first_cells_text style pages row (div_ceil (length row) pages)
 
+-- the beginning of a pageblock's line: its number in five places, and the letter of its type
+abbrev pub margin_text : ℕ → ℕ → List ℕ
+margin_text number letter = right_aligned 5 (decimal number) ++ (0x20 ∷ encode_utf8 letter ++ codes "  ")
+
+-- the line of a pageblock with these pages
+abbrev pub pageblock_text : CellStyle → ℕ → List PageState → ℕ → ℕ → List ℕ
+pageblock_text style pages row number letter = line (margin_text number letter ++ cells_text style pages row)
+
 -- the line of the largest free block's order
 abbrev pub largest_text : Option ℕ → List ℕ
-largest_text None = codes "largest free block: none" ++ 0x0a ∷ []
-largest_text (Some order) = codes "largest free block: order " ++ decimal order ++ codes ", " ++ decimal (2 ^ order) ++ codes " pages" ++ 0x0a ∷ []
+largest_text None = line (codes "largest free block: none")
+largest_text (Some order) = line (codes "largest free block: order " ++ (decimal order ++ (codes ", " ++ (decimal (2 ^ order) ++ codes " pages"))))
+
+-- how many pages of a row are lent to a worker, lie in its lists, and are posted to it
+abbrev pub out_pages : List PageState → ℕ → ℕ
+out_pages row w = count_by (is_out_to w) row
+
+abbrev pub cached_pages : List PageState → ℕ → ℕ
+cached_pages row w = count_by (is_cached_by w) row
+
+abbrev pub posted_pages : List PageState → ℕ → ℕ
+posted_pages row w = count_by (is_posted_to w) row
+
+abbrev pub has_nothing : List PageState → ℕ → Bool
+has_nothing row w = (out_pages row w == 0) && (cached_pages row w == 0) && (posted_pages row w == 0)
+
+-- the line of what a worker has, which begins so; none where it has nothing
+abbrev pub holding_text : List ℕ → List PageState → ℕ → List ℕ
+holding_text begin row w =
+    if has_nothing row w then []
+    else line (begin ++ (codes "worker " ++ (decimal w ++ (codes ": out " ++ (decimal (out_pages row w) ++ (codes ", cached "
+    ++ (decimal (cached_pages row w) ++ (codes ", posted " ++ decimal (posted_pages row w)))))))))
+
+-- the lines of so many workers, up to the last that there can be
+abbrev pub holdings_text : List ℕ → List PageState → ℕ → List ℕ
+holdings_text begin row workers = flat_map (holding_text begin row) (range_with_len 0 (min workers MAX_WORKERS))

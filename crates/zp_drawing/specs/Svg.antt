@@ -1,13 +1,10 @@
 -- The pieces of a picture in SVG, as this profile writes them.
-use Rattle.std.specs.Prelude.{ℕ, List, [], ◌∷◌, ◌++◌, codes}
+use Rattle.std.specs.Prelude.{ℕ, List, ◌∷◌, ◌++◌, codes}
 use Rattle.std.specs.Fmt.{decimal}
 use Rattle.zp_drawing.specs.declared.cells.Kind.{Kind}
 use Rattle.zp_drawing.specs.declared.svg.Rect.{Rect}
 use Rattle.zp_drawing.specs.Fills.{class_of, fill_of}
-
--- a line
-abbrev pub line : List ℕ → List ℕ
-line text = text ++ 0x0a ∷ []
+use Rattle.zp_drawing.specs.Lines.{line}
 
 -- an attribute of this name and value, before what follows it in its element
 abbrev pub attribute : List ℕ → List ℕ → List ℕ → List ℕ

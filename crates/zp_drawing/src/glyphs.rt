@@ -1,7 +1,8 @@
 //! How a cell of a map is shown: a letter or digit of ASCII, or a half block or a shade of Unicode, in a colour of the terminal.
 ghost use Rattle.std.specs.Prelude.{◌≡◌, ◌≤◌, ◌<◌, ◌+◌, ◌^◌, OnOk, length, slice_index_or};
 ghost use Rattle.std.specs.Io.KnownBytes.{Appends};
-ghost use Rattle.zp_drawing.specs.Glyphs.{cell_text, colour_of, glyph_of, letter_of, lettered, pages_of, shade_between, shade_of, shown_kind, weight_of};
+ghost use Rattle.zp_drawing.specs.Glyphs.{cell_text, colour_of, glyph_of, letter_of, lettered, shade_between, shade_of};
+ghost use Rattle.zp_drawing.specs.Glyphs.{pages_of, shown_kind, weight_of};
 
 use crate::cells::Kind;
 use std::io;

@@ -1,7 +1,7 @@
 //! The map of a zone: a line for each pageblock, and beneath it who has how much, and what stands in the way.
 ghost use Rattle.std.specs.Prelude.{◌≡◌, ◌<◌, IfNone, IfSome, OnOk};
 ghost use Rattle.std.specs.Io.KnownBytes.{Appends};
-ghost use Rattle.zp_drawing.specs.MapText.{cells_text, largest_text};
+ghost use Rattle.zp_drawing.specs.MapText.{cells_text, holding_text, holdings_text, largest_text, margin_text, pageblock_text, title_text};
 ghost use Rattle.zp_drawing.specs.Maps.{HasNoFree, IsCellSize, IsLargestFree, larger, pageblock_letter, type_letter};
 
 use crate::glyphs::{CellStyle, write_cell};
@@ -80,6 +80,30 @@ fn write_cells<W: Write>(
     Ok(())
 }
 
+/// Writes the number of a pageblock, and the letter of its type.
+fn write_margin<W: Write>(writer: &mut W, number: usize, letter: char) -> io::Result<()>
+    ensures { OnOk result (Appends (W.contents writer.old) (W.contents writer.new) (margin_text number letter)) }
+{
+    write!(writer, "{number:>5} {letter}  ")
+}
+
+/// Writes the line of a pageblock of these pages.
+fn write_pageblock<W: Write>(
+    writer: &mut W,
+    number: usize,
+    letter: char,
+    states: &[PageState],
+    pages: usize,
+    style: &CellStyle,
+) -> io::Result<()>
+    requires { 0 < pages }
+    ensures { OnOk result (Appends (W.contents writer.old) (W.contents writer.new) (pageblock_text style.now pages states.now number letter)) }
+{
+    write_margin(writer, number, letter)?;
+    write_cells(writer, states, pages, style)?;
+    writeln!(writer)
+}
+
 /// Writes a line for each pageblock.
 fn write_pageblocks<W: Write>(
     writer: &mut W,
@@ -99,33 +123,46 @@ fn write_pageblocks<W: Write>(
             Ok(number) => pageblock_letter(zone, number),
             Err(_) => '?',
         };
-        write!(writer, "{number:>5} {letter}  ")?;
-        write_cells(writer, states, pages, &cells)?;
-        writeln!(writer)?;
+        write_pageblock(writer, number, letter, states, pages, &cells)?;
     }
     Ok(())
 }
 
-/// Writes what each worker has of these pages, where it has something; each line begins so.
+/// Writes what a worker has of these pages, where it has something; the line begins so.
+fn write_holding<W: Write>(
+    writer: &mut W,
+    row: &[PageState],
+    worker: Worker,
+    begin: &str,
+) -> io::Result<()>
+    ensures { OnOk result (Appends (W.contents writer.old) (W.contents writer.new) (holding_text begin.now row.now worker)) }
+{
+    let held = holdings_in(row, worker);
+    let (out, cached, posted) = (held.out, held.cached, held.posted);
+    if out == 0 && cached == 0 && posted == 0 {
+        return Ok(());
+    }
+    let number = worker.number();
+    writeln!(
+        writer,
+        "{begin}worker {number}: out {out}, cached {cached}, posted {posted}"
+    )
+}
+
+/// Writes what each worker has of these pages; each line begins so.
 fn write_holdings<W: Write>(
     writer: &mut W,
     row: &[PageState],
     workers: u8,
     begin: &str,
-) -> io::Result<()> {
-    for number in 0..workers {
+) -> io::Result<()>
+    ensures { OnOk result (Appends (W.contents writer.old) (W.contents writer.new) (holdings_text begin.now row.now workers)) }
+{
+    'workers: for number in 0..workers {
         let Some(worker) = Worker::new(number) else {
             return Ok(());
         };
-        let held = holdings_in(row, worker);
-        if held.out == 0 && held.cached == 0 && held.posted == 0 {
-            continue;
-        }
-        let (out, cached, posted) = (held.out, held.cached, held.posted);
-        writeln!(
-            writer,
-            "{begin}worker {number}: out {out}, cached {cached}, posted {posted}"
-        )?;
+        write_holding(writer, row, worker, begin)?;
     }
     Ok(())
 }
@@ -183,17 +220,13 @@ fn write_way<W: Write>(
     write_holdings(writer, run, workers, "  ")
 }
 
-/// Writes what the map is of.
-fn write_title<W: Write>(
-    writer: &mut W,
-    zone: &Zone,
-    first: u32,
-    style: &MapStyle,
-) -> io::Result<()> {
+/// Writes what the map is of, and how many pages a cell has.
+fn write_title<W: Write>(writer: &mut W, zone: &Zone, first: u32, cell: usize) -> io::Result<()>
+    ensures { OnOk result (Appends (W.contents writer.old) (W.contents writer.new) (title_text zone.now.name zone.now.plain first cell)) }
+{
     let name = zone.name();
     let pages = zone.pages();
     let pageblock = zone.largest().pageblock_pages();
-    let cell = cell_pages(pageblock as usize, style.width);
     writeln!(
         writer,
         "zone {name}: {pages} pages from {first}, {pageblock} a pageblock, {cell} a cell"
@@ -222,7 +255,8 @@ pub fn write_map<W: Write>(
     workers: u8,
     style: &MapStyle,
 ) -> io::Result<()> {
-    write_title(writer, zone, first, style)?;
+    let cell = cell_pages(zone.largest().pageblock_pages() as usize, style.width);
+    write_title(writer, zone, first, cell)?;
     write_pageblocks(writer, zone, row, style)?;
     write_holdings(writer, row, workers, "")?;
     write_largest(writer, largest_free(row))?;

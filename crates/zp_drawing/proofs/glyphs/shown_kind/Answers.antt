@@ -25,6 +25,6 @@ pub returns : goal.returns
 returns c =
     let end : c.pages.place ≡ length c.args.states.now = grind (arith, common_steps) in
     let P : ℕ → Type 0 = λ n. IsFirstMaxByKey (weight_of c.args.states.now) c.args.states.now n c.pages.best in
-    let most : IsFirstMaxByKey (weight_of c.args.states.now) c.args.states.now (length c.args.states.now) c.pages.best = subst P end c.pages.invariant in
+    let most : P (length c.args.states.now) = subst P end c.pages.invariant in
     let shown = shown_kind-first_most c.args.states.now c.pages.best c.index-states-best.result most.0 most in
     c.of.ensures.kind ∙ ap kind_of c.index-states-best.is ∙ sym shown

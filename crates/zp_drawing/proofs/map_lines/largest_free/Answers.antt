@@ -10,14 +10,18 @@ use Rattle.zp_drawing.proofs.map_lines.largest_free.Goals.{in-Free, in_default}
 pub pages-preserved : goal.pages-preserved
 pages-preserved c =
     let item = c.state-item.is in
+    let before : List PageState = take c.pages.state-index c.args.row.now in
+    let after : List PageState = take (c.pages.state-index + 1) c.args.row.now in
     let more = take_more c.args.row.now c.pages.state-index c.state-item.result c.pages-test.true in
     elim c.match-state.branch [
       | in-Free w ↦
-          let is : take (c.pages.state-index + 1) c.args.row.now ≡ take c.pages.state-index c.args.row.now ++ Free w.in-Free.order ∷ [] = cc (more, item, w.in-Free.is) in
-          rw (is, w.largest-is, w.larger.ensures) (IsTold-free (take c.pages.state-index c.args.row.now) c.pages.largest w.in-Free.order c.pages.invariant)
+          let is : after ≡ before ++ Free w.in-Free.order ∷ [] = cc (more, item, w.in-Free.is) in
+          let told = IsTold-free before c.pages.largest w.in-Free.order c.pages.invariant in
+          rw (is, w.largest-is, w.larger.ensures) told
       | in_default w ↦
-          let is : take (c.pages.state-index + 1) c.args.row.now ≡ take c.pages.state-index c.args.row.now ++ c.state-item.result ∷ [] = cc (more, item) in
-          rw (is, w.largest-is) (IsTold-used (take c.pages.state-index c.args.row.now) c.state-item.result c.pages.largest w.in_default.not-Free c.pages.invariant)
+          let is : after ≡ before ++ c.state-item.result ∷ [] = cc (more, item) in
+          let told = IsTold-used before c.state-item.result c.pages.largest w.in_default.not-Free c.pages.invariant in
+          rw (is, w.largest-is) told
     ]
 
 pub returns-clause-none : goal.returns-clause-none
