@@ -71,12 +71,12 @@ number_of s = kind_number (kind_of s)
 abbrev pub has_number : ℕ → PageState → Bool
 has_number n s = number_of s == n
 
-abbrev pub pages_of : ℕ → List PageState → ℕ
-pages_of n row = count_by (has_number n) row
+abbrev pub pages_like : ℕ → List PageState → ℕ
+pages_like n row = count_by (has_number n) row
 
 -- how much a page of a row counts: as many as the row has pages of its kind; a free page counts nothing where others are in use
 abbrev pub weight_of : List PageState → PageState → ℕ
-weight_of row s = if is_used s || (count_by is_used row == 0) then pages_of (number_of s) row else 0
+weight_of row s = if is_used s || (count_by is_used row == 0) then pages_like (number_of s) row else 0
 
 -- no page of the row counts more than this one
 abbrev pub is_not_outweighed : List PageState → PageState → Bool

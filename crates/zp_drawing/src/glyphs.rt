@@ -2,7 +2,7 @@
 ghost use Rattle.std.specs.Prelude.{◌≡◌, ◌≤◌, ◌<◌, ◌+◌, ◌^◌, OnOk, length, slice_index_or};
 ghost use Rattle.std.specs.Io.KnownBytes.{Appends};
 ghost use Rattle.zp_drawing.specs.Glyphs.{cell_text, colour_of, glyph_of, letter_of, lettered, shade_between, shade_of};
-ghost use Rattle.zp_drawing.specs.Glyphs.{pages_of, shown_kind, weight_of};
+ghost use Rattle.zp_drawing.specs.Glyphs.{pages_like, shown_kind, weight_of};
 
 use crate::cells::Kind;
 use std::io;
@@ -30,8 +30,8 @@ pub struct CellStyle {
 }
 
 /// How many of these pages are of the kind of this number.
-fn pages_of(states: &[PageState], number: usize) -> usize
-    ensures { result ≡ pages_of number states.now }
+fn pages_like(states: &[PageState], number: usize) -> usize
+    ensures { result ≡ pages_like number states.now }
 {
     let mut pages = 0;
     'pages: for state in states {
@@ -48,7 +48,7 @@ fn weight(states: &[PageState], place: usize) -> usize
     ensures { (d : PageState) → result ≡ weight_of states.now (slice_index_or states.now place d) }
 {
     if states[place].is_used() || used_pages(states) == 0 {
-        pages_of(states, Kind::of(states[place]).number())
+        pages_like(states, Kind::of(states[place]).number())
     } else {
         0
     }

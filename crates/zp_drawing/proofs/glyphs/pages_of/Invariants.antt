@@ -1,6 +1,0 @@
-use Rattle.std.proofs.Common.{◌≡◌, ◌≤◌, take}
-use Rattle.zp_drawing.specs.Glyphs.{pages_of}
-use Rattle.zp_drawing.proofs.glyphs.pages_of.Given as goal
-
-abbrev pub invariant-pages : goal.invariant-pages
-invariant-pages l = record { within : l.pages ≤ l.state-index; counted : l.pages ≡ pages_of l.number (take l.state-index l.states) }
