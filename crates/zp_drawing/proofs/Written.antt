@@ -1,6 +1,6 @@
 -- What a writer got piece by piece, and the pieces of a row.
 use Rattle.std.proofs.Common.{◌≡◌, ◌+◌, ◌-◌, ◌∙◌, ap, sym, min, arith, List, [], ◌∷◌, ◌++◌, ℕ, Option, Some, None}
-use Rattle.std.proofs.Common.{append_assoc, length, take, drop, flat_map, zero-add, add-one}
+use Rattle.std.proofs.Common.{Result, Ok, Err, OnOk, append_assoc, length, take, drop, flat_map, zero-add, add-one}
 use Rattle.std.specs.List.{range_with_len}
 use Rattle.std.specs.Io.KnownBytes.{Appends}
 use Rattle.std.proofs.lemmas.List.{append-nil, flat_map_more, length-drop, take_all, take_min}
@@ -29,3 +29,8 @@ chunk_cut xs from size m is =
     let whole : take (length xs - from) (drop from xs) ≡ drop from xs = take_all (length xs - from) (drop from xs) (simp length-drop (omega arith)) in
     let left : m ≡ min size (length (drop from xs)) = simp length-drop (omega arith) in
     ap (take m) whole ∙ ap (λ n. take n (drop from xs)) left ∙ take_min size (drop from xs)
+
+-- what follows where a call ended well
+pub OnOk-then : {T E : Type 0} (P Q : Type 0) (r : Result T E) → (P → Q) → OnOk r P → OnOk r Q
+OnOk-then P Q (Ok x) then h = then h
+OnOk-then P Q (Err e) then h = h

@@ -1,7 +1,8 @@
 -- The text of a map, which is of this profile.
-use Rattle.std.specs.Prelude.{ℕ, ◌^◌, ◌==◌, ◌&&◌, min, Bool, if◌then◌else◌, Option, Some, None}
+use Rattle.std.specs.Prelude.{ℕ, ◌+◌, ◌-◌, ◌^◌, ◌==◌, ◌&&◌, min, Bool, if◌then◌else◌, Option, Some, None}
 use Rattle.std.specs.Prelude.{List, [], ◌∷◌, ◌++◌, length, codes, encode_utf8, flat_map}
 use Rattle.std.specs.Fmt.{decimal}
+use Rattle.std.specs.Io.KnownBytes.{Appends}
 use Rattle.std.specs.Fork.{slice_chunk}
 use Rattle.std.specs.Int.{div_ceil}
 use Rattle.std.specs.List.{count_by, range_with_len}
@@ -10,7 +11,7 @@ use Rattle.zp_model.specs.Info.{right_aligned}
 use Rattle.zp_model.specs.Zone.{PlainZone, pages_of}
 use Rattle.zp_model.specs.Area.{pageblock_pages}
 use Rattle.zp_view.specs.declared.page_state.PageState.{PageState}
-use Rattle.zp_view.specs.Ways.{is_cached_by, is_out_to, is_posted_to}
+use Rattle.zp_view.specs.Ways.{IsLeastUsed, is_cached_by, is_out_to, is_posted_to, is_used, run_at}
 use Rattle.zp_drawing.specs.declared.glyphs.CellStyle.{CellStyle}
 use Rattle.zp_drawing.specs.Glyphs.{cell_text}
 use Rattle.zp_drawing.specs.Lines.{line}
@@ -68,3 +69,26 @@ holding_text begin row w =
 -- the lines of so many workers, up to the last that there can be
 abbrev pub holdings_text : List ℕ → List PageState → ℕ → List ℕ
 holdings_text begin row workers = flat_map (holding_text begin row) (range_with_len 0 (min workers MAX_WORKERS))
+
+-- the last page of a run of this order from this page on
+abbrev pub last_page : ℕ → ℕ → ℕ
+last_page from k = min (from + 2 ^ k) (2 ^ 64 - 1) - 1
+
+-- the line of a run of this order from this page on: how many of its pages are in use
+abbrev pub run_line : List PageState → ℕ → ℕ → List ℕ
+run_line run from k =
+    line (codes "in the way of order " ++ (decimal k ++ (codes ": " ++ (decimal (count_by is_used run) ++ (codes " of " ++ (decimal (2 ^ k)
+    ++ (codes " pages in use, " ++ (decimal from ++ (codes " to " ++ decimal (last_page from k))))))))))
+
+-- and behind it those of the workers that have them
+abbrev pub run_text : List PageState → ℕ → ℕ → ℕ → List ℕ
+run_text run from k workers = run_line run from k ++ holdings_text (codes "  ") run workers
+
+abbrev pub no_run_text : ℕ → List ℕ
+no_run_text k = line (codes "in the way of order " ++ (decimal k ++ codes ": the zone is too small"))
+
+-- a writer has got the lines of the run of this order with the fewest pages in use
+pub record IsWayTold (old new : Option (List ℕ)) (row : List PageState) (first k workers : ℕ) : Type 0 where
+  pub place : ℕ
+  pub least : IsLeastUsed row k place
+  pub told : Appends old new (run_text (run_at row k place) (min (first + place) (2 ^ 64 - 1)) k workers)

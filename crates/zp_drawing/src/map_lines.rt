@@ -1,7 +1,8 @@
 //! The map of a zone: a line for each pageblock, and beneath it who has how much, and what stands in the way.
-ghost use Rattle.std.specs.Prelude.{◌≡◌, ◌<◌, IfNone, IfSome, OnOk};
+ghost use Rattle.std.specs.Prelude.{◌≡◌, ◌<◌, ◌≤◌, ◌^◌, length, IfNone, IfSome, OnOk};
 ghost use Rattle.std.specs.Io.KnownBytes.{Appends};
-ghost use Rattle.zp_drawing.specs.MapText.{cells_text, holding_text, holdings_text, largest_text, margin_text, pageblock_text, title_text};
+ghost use Rattle.zp_drawing.specs.MapText.{cells_text, holding_text, holdings_text, largest_text, margin_text, pageblock_text};
+ghost use Rattle.zp_drawing.specs.MapText.{IsWayTold, no_run_text, run_line, run_text, title_text};
 ghost use Rattle.zp_drawing.specs.Maps.{HasNoFree, IsCellSize, IsLargestFree, larger, pageblock_letter, type_letter};
 
 use crate::glyphs::{CellStyle, write_cell};
@@ -191,6 +192,49 @@ fn largest_free(row: &[PageState]) -> Option<Order>
     largest
 }
 
+/// Writes how many pages of a run of this order, from this page on, are in use.
+fn write_run_line<W: Write>(
+    writer: &mut W,
+    run: &[PageState],
+    from: u64,
+    order: Order,
+) -> io::Result<()>
+    ensures { OnOk result (Appends (W.contents writer.old) (W.contents writer.new) (run_line run.now from order)) }
+{
+    let (number, pages) = (order.number(), order.pages());
+    let used = used_pages(run);
+    let last = from.saturating_add(u64::from(pages)).saturating_sub(1);
+    writeln!(
+        writer,
+        "in the way of order {number}: {used} of {pages} pages in use, {from} to {last}"
+    )
+}
+
+/// Writes how many pages of a run of this order, from this page on, are in use, and who has these.
+fn write_run<W: Write>(
+    writer: &mut W,
+    run: &[PageState],
+    from: u64,
+    order: Order,
+    workers: u8,
+) -> io::Result<()>
+    ensures { OnOk result (Appends (W.contents writer.old) (W.contents writer.new) (run_text run.now from order workers)) }
+{
+    write_run_line(writer, run, from, order)?;
+    write_holdings(writer, run, workers, "  ")
+}
+
+/// Writes that no run has this order.
+fn write_no_run<W: Write>(writer: &mut W, order: Order) -> io::Result<()>
+    ensures { OnOk result (Appends (W.contents writer.old) (W.contents writer.new) (no_run_text order)) }
+{
+    let number = order.number();
+    writeln!(
+        writer,
+        "in the way of order {number}: the zone is too small"
+    )
+}
+
 /// Writes which aligned run of the order has the fewest pages in use, and who has these.
 fn write_way<W: Write>(
     writer: &mut W,
@@ -198,26 +242,16 @@ fn write_way<W: Write>(
     first: u32,
     order: Order,
     workers: u8,
-) -> io::Result<()> {
-    let number = order.number();
+) -> io::Result<()>
+    ensures small { length row.now < 2 ^ order → OnOk result (Appends (W.contents writer.old) (W.contents writer.new) (no_run_text order)) }
+    ensures way { 2 ^ order ≤ length row.now → OnOk result (IsWayTold (W.contents writer.old) (W.contents writer.new) row.now first order workers) }
+{
     let Some(place) = least_used_run(row, order) else {
-        return writeln!(
-            writer,
-            "in the way of order {number}: the zone is too small"
-        );
+        return write_no_run(writer, order);
     };
-    let pages = order.pages();
-    let run = row
-        .get(place..place.saturating_add(pages as usize))
-        .unwrap_or(row);
-    let used = used_pages(run);
+    let run = &row[place..place + order.pages() as usize];
     let from = u64::from(first).saturating_add(place as u64);
-    let last = from.saturating_add(u64::from(pages)).saturating_sub(1);
-    writeln!(
-        writer,
-        "in the way of order {number}: {used} of {pages} pages in use, {from} to {last}"
-    )?;
-    write_holdings(writer, run, workers, "  ")
+    write_run(writer, run, from, order, workers)
 }
 
 /// Writes what the map is of, and how many pages a cell has.
