@@ -1,7 +1,6 @@
 pub mod Fields
-pub mod Padded
-pub mod TableTexts
 pub mod FirstMost
 pub mod FreeBlocks
 pub mod Padded
+pub mod TableTexts
 pub mod Written

@@ -1,5 +1,3 @@
-pub mod TypeTables
-pub mod Films
 pub mod Fills
 pub mod Films
 pub mod Glyphs
@@ -10,3 +8,4 @@ pub mod Maps
 pub mod Panels
 pub mod Svg
 pub mod Tallies
+pub mod TypeTables
