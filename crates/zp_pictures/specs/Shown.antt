@@ -15,15 +15,19 @@ use Rattle.zp_pictures.specs.declared.input.Shown.TheVariants.{Picture, BadLine}
 abbrev pub bad_line : ℕ → List ℕ
 bad_line n = concat (codes "bad line " ∷ decimal n ∷ codes "\n" ∷ [])
 
--- the text is a trace; or it has this bad line, which was told, and nothing else was written
+-- the text has this bad line, of which was told and of nothing else
+abbrev pub IsBadLineTold : List ℕ → Option (List ℕ) → Option (List ℕ) → ℕ → Type 0
+IsBadLineTold text old new n = IsBadLine text n × IsWritten old new (bad_line n)
+
+-- the text is a trace, or was told to be none
 abbrev pub IsShown : List ℕ → Option (List ℕ) → Option (List ℕ) → Shown → Type 0
 IsShown text old new Picture = (t : Trace) × IsTraceText text t
-IsShown text old new (BadLine n) = IsBadLine text n × IsWritten old new (bad_line n)
+IsShown text old new (BadLine n) = IsBadLineTold text old new n
 
--- the same, and of a trace this picture was written
+-- the same, and of a trace this picture was written; a text writes one trace at most (a_text_writes_one_trace, of zp_trace)
 abbrev pub IsShownAs : (Trace → List ℕ) → List ℕ → Option (List ℕ) → Option (List ℕ) → Shown → Type 0
 IsShownAs picture text old new Picture = (t : Trace) × IsTraceText text t × IsWritten old new (picture t)
-IsShownAs picture text old new (BadLine n) = IsBadLine text n × IsWritten old new (bad_line n)
+IsShownAs picture text old new (BadLine n) = IsBadLineTold text old new n
 
 -- where the writer failed, a beginning of what was to be shown was written; and nothing, where there was no memory
 abbrev pub IsCutShort : (Trace → List ℕ) → List ℕ → Option (List ℕ) → Option (List ℕ) → PictureFault → Type 0

@@ -97,7 +97,7 @@ fn largest_of(zones: &[Zone]) -> Order
     largest
 }
 
-/// The tables of the zones of a trace, after its first lines, or after all. Memory.
+/// The tables of the zones of a trace, after its first lines, or after all: whole, so that nothing is written where there is no memory. Memory.
 fn tables_to(alloc: Global, trace: &Trace, line: Option<usize>) -> Result<Vec<u8>, PictureFault>
     requires { IsBeginning (lines_of trace.now) }
     ensures tables { IfOk result (λ text. text.items ≡ tables_of (zones_to trace.now line)) }
