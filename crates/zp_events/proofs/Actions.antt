@@ -1,9 +1,9 @@
 -- The fields of an event say one thing at most.
-use Rattle.std.proofs.Common.{ℕ, ◌≡◌, ◌<◌, ◌≤◌, ◌⊎◌, inl, inr, List, [], ◌∷◌, ◌++◌, Bool, codes, refl, sym, ap, subst, ◌∙◌, arith}
+use Rattle.std.proofs.Common.{ℕ, ◌≡◌, inl, inr, List, [], ◌∷◌, ◌++◌, Bool, codes, sym, ap, subst, ◌∙◌, arith}
 use Rattle.std.specs.Str.Parse.{AllDigits}
 use Rattle.std.proofs.lemmas.Str.Parse.{digit_from_value}
-use Rattle.zp_events.specs.declared.event.Block.{Block}
-use Rattle.zp_events.specs.declared.event.Request.{Request}
+use Rattle.zp_events.specs.declared.event.FrameBlock.{FrameBlock}
+use Rattle.zp_events.specs.declared.event.PageRequest.{PageRequest}
 use Rattle.zp_events.specs.declared.event.ZoneLimit.{ZoneLimit}
 use Rattle.zp_events.specs.declared.event.Action.{Action}
 use Rattle.zp_events.specs.declared.event.EventName.{EventName}
@@ -28,19 +28,19 @@ same_frame word m n (inl a) (inr b) = absurd (not_decimal a.0 (subst (AllDigits 
 same_frame word m n (inr a) (inl b) = absurd (not_decimal b.0 (subst (AllDigits 10) b.1 a.digits))
 same_frame word m n (inr a) (inr b) = same_number 10 word m n a b
 
-same_block : (a b : Block) → a.frame ≡ b.frame → a.order ≡ b.order → a ≡ b
+same_block : (a b : FrameBlock) → a.frame ≡ b.frame → a.order ≡ b.order → a ≡ b
 same_block a b e f =
-    let from : ℕ → Block = λ n. record { frame = n; order = a.order } in
-    let to : ℕ → Block = λ n. record { frame = b.frame; order = n } in
+    let from : ℕ → FrameBlock = λ n. record { frame = n; order = a.order } in
+    let to : ℕ → FrameBlock = λ n. record { frame = b.frame; order = n } in
     ap from e ∙ ap to f
 
-same_request : (a b : Request) → a.migrate_type ≡ b.migrate_type → a.zone_limit ≡ b.zone_limit → a ≡ b
+same_request : (a b : PageRequest) → a.migrate_type ≡ b.migrate_type → a.zone_limit ≡ b.zone_limit → a ≡ b
 same_request a b e f =
-    let from : ℕ → Request = λ n. record { migrate_type = n; zone_limit = a.zone_limit } in
-    let to : ZoneLimit → Request = λ z. record { migrate_type = b.migrate_type; zone_limit = z } in
+    let from : ℕ → PageRequest = λ n. record { migrate_type = n; zone_limit = a.zone_limit } in
+    let to : ZoneLimit → PageRequest = λ z. record { migrate_type = b.migrate_type; zone_limit = z } in
     ap from e ∙ ap to f
 
-pub same_place : (words : List (List ℕ)) (p q : Bool) (a b : Block) (m n : List (List ℕ)) → IsPlace words p a m → IsPlace words q b n → (p ≡ q) × (a ≡ b) × (m ≡ n)
+pub same_place : (words : List (List ℕ)) (p q : Bool) (a b : FrameBlock) (m n : List (List ℕ)) → IsPlace words p a m → IsPlace words q b n → (p ≡ q) × (a ≡ b) × (m ≡ n)
 same_place words p q a b m n x y =
     let both = sym x.written ∙ y.written in
     let page : x.page ≡ y.page = cc in
@@ -64,7 +64,7 @@ same_allocation words a b x y =
     (x.limit_is ∙ ap zone_limit_of flags ∙ sym y.limit_is) in
     let page = place.0 in
     let block = place.1 in
-    x.said_is ∙ ap (λ (p : Bool). outcome p x.block x.request) page ∙ ap (λ (b : Block). outcome y.no_page b x.request) block ∙ ap (outcome y.no_page y.block) request ∙ sym y.said_is
+    x.said_is ∙ ap (λ (p : Bool). outcome p x.block x.request) page ∙ ap (λ (b : FrameBlock). outcome y.no_page b x.request) block ∙ ap (outcome y.no_page y.block) request ∙ sym y.said_is
 
 pub same_freeing : (words : List (List ℕ)) (a b : Action) → IsFreeing words a → IsFreeing words b → a ≡ b
 same_freeing words a b x y =

@@ -1,5 +1,5 @@
 -- The number of a page frame, in each of its forms.
-use Rattle.std.proofs.Common.{ℕ, ◌≡◌, ◌++◌, ◌⊎◌, inl, inr, List, codes, sym, subst}
+use Rattle.std.proofs.Common.{ℕ, ◌≡◌, ◌++◌, inl, inr, List, codes, subst}
 use Rattle.std.specs.Str.Parse.{AllDigits}
 use Rattle.zp_events.specs.Numbers.{IsNumber, IsFrame}
 use Rattle.zp_events.proofs.Actions.{not_decimal}

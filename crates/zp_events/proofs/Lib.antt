@@ -7,3 +7,4 @@ pub mod Actions
 pub mod Places
 pub mod Frames
 pub mod Readings
+pub mod Texts

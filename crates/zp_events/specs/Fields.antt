@@ -1,10 +1,10 @@
 -- The fields of an event are the words behind its name (Linux's include/trace/events/kmem.h, TP_printk):
 --     mm_page_alloc: page=%p pfn=0x%lx order=%d migratetype=%d gfp_flags=%s
 --     mm_page_free: page=%p pfn=0x%lx order=%d
-use Rattle.std.specs.Prelude.{ℕ, ◌≡◌, ◌++◌, List, [], ◌∷◌, Bool, true, false, ◌||◌, codes, if◌then◌else◌}
+use Rattle.std.specs.Prelude.{ℕ, ◌≡◌, ◌++◌, List, [], ◌∷◌, Bool, true, false, ◌||◌, codes}
 use Rattle.std.specs.Str.{bytes_eq}
-use Rattle.zp_events.specs.declared.event.Block.{Block}
-use Rattle.zp_events.specs.declared.event.Request.{Request}
+use Rattle.zp_events.specs.declared.event.FrameBlock.{FrameBlock}
+use Rattle.zp_events.specs.declared.event.PageRequest.{PageRequest}
 use Rattle.zp_events.specs.declared.event.Action.{Action}
 use Rattle.zp_events.specs.declared.event.Action.TheVariants as action
 use Rattle.zp_events.specs.declared.event.EventName.{EventName}
@@ -17,7 +17,7 @@ unfoldable pub is_no_page : List ℕ → Bool
 is_no_page page = ((bytes_eq page (codes "(null)") || bytes_eq page (codes "(nil)")) || bytes_eq page (codes "0x0")) || bytes_eq page (codes "0000000000000000")
 
 -- the words begin with the fields of this block, whose page may be none; behind them stand more
-pub record IsPlace (words : List (List ℕ)) (no_page : Bool) (block : Block) (more : List (List ℕ)) : Type 0 where
+pub record IsPlace (words : List (List ℕ)) (no_page : Bool) (block : FrameBlock) (more : List (List ℕ)) : Type 0 where
   pub page : List ℕ
   pub frame : List ℕ
   pub order : List ℕ
@@ -27,15 +27,15 @@ pub record IsPlace (words : List (List ℕ)) (no_page : Bool) (block : Block) (m
   pub order_is : IsSmall order block.order
 
 -- what became of a request for such a block
-abbrev pub outcome : Bool → Block → Request → Action
+abbrev pub outcome : Bool → FrameBlock → PageRequest → Action
 outcome true block request = action.Refuse block request
 outcome false block request = action.Alloc block request
 
 -- the words are those of `mm_page_alloc`, and say this
 pub record IsAllocation (words : List (List ℕ)) (said : Action) : Type 0 where
   pub no_page : Bool
-  pub block : Block
-  pub request : Request
+  pub block : FrameBlock
+  pub request : PageRequest
   pub migrate_type : List ℕ
   pub flags : List ℕ
   pub place : IsPlace words no_page block ((codes "migratetype=" ++ migrate_type) ∷ (codes "gfp_flags=" ++ flags) ∷ [])
@@ -46,7 +46,7 @@ pub record IsAllocation (words : List (List ℕ)) (said : Action) : Type 0 where
 -- the words are those of `mm_page_free`, and say this
 pub record IsFreeing (words : List (List ℕ)) (said : Action) : Type 0 where
   pub no_page : Bool
-  pub block : Block
+  pub block : FrameBlock
   pub place : IsPlace words no_page block []
   pub said_is : said ≡ action.Free block
 

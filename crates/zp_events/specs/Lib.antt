@@ -3,3 +3,5 @@ pub mod Words
 pub mod Flags
 pub mod Fields
 pub mod Lines
+pub mod ZoneLines
+pub mod Texts

@@ -3,7 +3,7 @@
 --     trace-cmd        sh-97    [001]     2.911084: mm_page_free:         page=0xffffea000011bd80 pfn=18166 order=0
 --     perf script      sh    97 [001]     2.911084: kmem:mm_page_free: page=0xffffea000011bd80 pfn=0x46f6 order=0
 -- Before the CPU's mark stands the task, whose name may be any text; between the mark and the first colon behind it stand flags and a time.
-use Rattle.std.specs.Prelude.{ℕ, ◌≡◌, ◌≢◌, ◌<◌, ◌++◌, ◌⊎◌, List, [], ◌∷◌, drop, codes}
+use Rattle.std.specs.Prelude.{ℕ, ◌≡◌, ◌≢◌, ◌<◌, ◌++◌, ◌⊎◌, List, drop, codes}
 use Rattle.std.specs.List.{AllByRecursion}
 use Rattle.zp_events.specs.declared.event.EventName.{EventName}
 use Rattle.zp_events.specs.declared.event.EventName.TheVariants.{Alloc, Free, Fallback}

@@ -13,7 +13,7 @@ pub enum ZoneLimit {
 
 /// A block of pages: 2^order page frames, of which this is the first.
 #[derive(Clone, Copy, PartialEq, Eq, Debug, Drop)]
-pub struct Block {
+pub struct FrameBlock {
     /// The number of the first page frame.
     pub frame: u64,
     pub order: u32,
@@ -21,7 +21,7 @@ pub struct Block {
 
 /// What a block is asked for.
 #[derive(Clone, Copy, PartialEq, Eq, Debug, Drop)]
-pub struct Request {
+pub struct PageRequest {
     /// Linux's number of the type: 0 unmovable, 1 movable, 2 reclaimable, and so on (enum migratetype).
     pub migrate_type: u32,
     pub zone_limit: ZoneLimit,
@@ -31,11 +31,11 @@ pub struct Request {
 #[derive(Clone, Copy, PartialEq, Eq, Debug, Drop)]
 pub enum Action {
     /// `mm_page_alloc`: the block was handed out.
-    Alloc(Block, Request),
+    Alloc(FrameBlock, PageRequest),
     /// `mm_page_alloc` with no page: a request for such a block, of which only the order says anything, was refused.
-    Refuse(Block, Request),
+    Refuse(FrameBlock, PageRequest),
     /// `mm_page_free`: the block was given back.
-    Free(Block),
+    Free(FrameBlock),
     /// `mm_page_alloc_extfrag`: a request was served out of the free pages of another type. Its fields are not read.
     Fallback,
 }

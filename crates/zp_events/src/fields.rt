@@ -1,11 +1,11 @@
 //! The fields of an event, which stand behind its name.
 ghost use Rattle.std.specs.Prelude.{◌≡◌, ◌++◌, ◌∷◌, ℕ, List, Bool, IfSome, IfNone};
 ghost use Rattle.zp_events.specs.declared.event.Action.{Action};
-ghost use Rattle.zp_events.specs.declared.event.Block.{Block};
+ghost use Rattle.zp_events.specs.declared.event.FrameBlock.{FrameBlock};
 ghost use Rattle.zp_events.specs.Words.{words_of};
 ghost use Rattle.zp_events.specs.Fields.{is_no_page, IsPlace, IsAllocation, IsFreeing, IsAction};
 
-use crate::event::{Action, Block, EventName, Request};
+use crate::event::{Action, EventName, FrameBlock, PageRequest};
 use crate::flags::zone_limit_of;
 use crate::number::{frame_of, small_number_of};
 use crate::words::{behind, first_word, is_blank, is_text};
@@ -32,16 +32,16 @@ fn is_no_page(page: &[u8]) -> bool
 }
 
 /// Whether the first fields name no page, the block that they tell, and what stands behind them.
-fn place_of(text: &[u8]) -> Option<(bool, Block, &[u8])>
+fn place_of(text: &[u8]) -> Option<(bool, FrameBlock, &[u8])>
     ensures some { IfSome result (λ x. IsPlace (words_of text.now) x.0 x.1 (words_of x.2.now)) }
-    ensures none { IfNone result ((no_page : Bool) (block : Block) (more : List (List ℕ)) → IsPlace (words_of text.now) no_page block more → ⊥) }
+    ensures none { IfNone result ((no_page : Bool) (block : FrameBlock) (more : List (List ℕ)) → IsPlace (words_of text.now) no_page block more → ⊥) }
 {
     let (page, behind_page) = field(text, b"page=")?;
     let (frame_text, behind_frame) = field(behind_page, b"pfn=")?;
     let (order_text, rest) = field(behind_frame, b"order=")?;
     let frame = frame_of(frame_text)?;
     let order = small_number_of(order_text)?;
-    Some((is_no_page(page), Block { frame, order }, rest))
+    Some((is_no_page(page), FrameBlock { frame, order }, rest))
 }
 
 /// What the fields of `mm_page_alloc` say.
@@ -56,7 +56,7 @@ fn allocation(text: &[u8]) -> Option<Action>
     if !is_blank(rest) {
         return None;
     }
-    let request = Request {
+    let request = PageRequest {
         migrate_type,
         zone_limit: zone_limit_of(flags),
     };

@@ -8,7 +8,11 @@ mod flags;
 mod head;
 mod line;
 mod number;
+mod text;
 mod words;
+mod zone_lines;
 
-pub use event::{Action, Block, Line, PageEvent, Request, ZoneLimit};
+pub use event::{Action, FrameBlock, Line, PageEvent, PageRequest, ZoneLimit};
 pub use line::read_line;
+pub use text::{LineSink, TextFault, read_lines};
+pub use zone_lines::{labelled_number, zone_head};

@@ -26,7 +26,7 @@ fn with_digit(number: u64, base: u32, digit: u32) -> Option<u64>
 }
 
 /// The number that a word writes in digits of a base, which may begin with zeros.
-fn number_of(word: &[u8], base: u32) -> Option<u64>
+pub fn number_of(word: &[u8], base: u32) -> Option<u64>
     requires least { 2 ≤ base }
     requires most { base ≤ 36 }
     ensures some { IfSome result (λ n. IsNumber base word.now n) }

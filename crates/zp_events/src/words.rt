@@ -27,6 +27,14 @@ pub fn behind<'a>(text: &'a [u8], front: &[u8]) -> Option<&'a [u8]>
     text.strip_prefix(front)
 }
 
+/// What stands before this end of a text.
+pub fn before<'a>(text: &'a [u8], end: &[u8]) -> Option<&'a [u8]>
+    ensures some { IfSome result (λ front. text.now ≡ front.now ++ end.now) }
+    ensures none { IfNone result ((front : List ℕ) → text.now ≡ front ++ end.now → ⊥) }
+{
+    text.strip_suffix(end)
+}
+
 /// The spaces at the front of a text, and what stands behind them, where it is not all spaces.
 fn split_spaces(text: &[u8]) -> Option<(&[u8], &[u8])>
     ensures some { IfSome result (λ x. (text.now ≡ x.0.now ++ x.1.now) × All (λ b. b ≡ 32) x.0.now) }

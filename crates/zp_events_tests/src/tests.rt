@@ -1,6 +1,6 @@
 //! Lines as the tools write them, and what each is.
 use std::test::*;
-use zp_events::{Action, Block, Line, PageEvent, Request, ZoneLimit, read_line};
+use zp_events::{Action, FrameBlock, Line, PageEvent, PageRequest, ZoneLimit, read_line};
 
 /// A line, and of what it is the CPU, the block's frame and order, and the type; the kind is 0 for a request that was served, 1 for one
 /// that was refused, 2 for a block that was given back.
@@ -150,8 +150,8 @@ const OTHER: [&str; 12] = [
 /// What such a line is.
 fn line_of(told: &Told) -> Line {
     let (_, kind, cpu, frame, order, migrate_type, zone_limit) = *told;
-    let block = Block { frame, order };
-    let request = Request {
+    let block = FrameBlock { frame, order };
+    let request = PageRequest {
         migrate_type,
         zone_limit,
     };

@@ -1,4 +1,4 @@
-use Rattle.std.proofs.Common.{ℕ, List, ◌≡◌, subst, sym, ◌∙◌, arith}
+use Rattle.std.proofs.Common.{ℕ, List, subst, arith}
 use Rattle.zp_events.specs.Lines.{IsMark}
 use Rattle.zp_events.proofs.Marks.{NoMark, from_place, none_more, none_at_all}
 use Rattle.zp_events.proofs.head.first_mark.Goals as goal
