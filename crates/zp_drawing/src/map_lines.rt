@@ -235,8 +235,9 @@ fn write_no_run<W: Write>(writer: &mut W, order: Order) -> io::Result<()>
     )
 }
 
-/// Writes which aligned run of the order has the fewest pages in use, and who has these.
-fn write_way<W: Write>(
+/// Writes which aligned run of the order has the fewest pages in use, and who has these, where `row` has the state of each page of a zone, and
+/// `first` is the first.
+pub fn write_way<W: Write>(
     writer: &mut W,
     row: &[PageState],
     first: u32,

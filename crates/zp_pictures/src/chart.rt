@@ -6,14 +6,9 @@ ghost use Rattle.zp_pictures.specs.Shown.{IsShown};
 
 use crate::fault::PictureFault;
 use crate::input::{Reading, Shown, read_trace, requests_to, write_bad_line};
-use crate::labels::Label;
-use crate::legend::write_orders;
 use std::alloc::{AllocError, Global};
-use std::io;
 use std::io::Write;
-use zp_drawing::{
-    LEFT, PANEL_HEIGHT, Panel, TOP, write_classes, write_end, write_head, write_panel, write_text,
-};
+use zp_drawing::{ChartedZone, Span, write_chart_end, write_chart_head, write_zone_chart};
 use zp_model::ORDERS;
 use zp_progress::Progress;
 use zp_states::Replay;
@@ -21,11 +16,6 @@ use zp_trace::{Trace, ZoneLine};
 
 /// The most samples from left to right.
 const MOST_SAMPLES: usize = 2_000;
-
-/// The pixels of a panel from left to right, and from one panel to the next.
-const PANEL_WIDTH: usize = 880;
-
-const NEXT_PANEL: usize = PANEL_HEIGHT + 64;
 
 /// The counts of a zone by order, before the first request and after each of so many; of more than can be shown, evenly many are passed over.
 fn samples_of<P: Progress>(
@@ -58,30 +48,6 @@ fn samples_of<P: Progress>(
     Ok(samples)
 }
 
-/// Writes the numbers beside a panel.
-fn write_axes<W: Write>(
-    writer: &mut W,
-    panel: &Panel,
-    line: &ZoneLine,
-    states: usize,
-) -> io::Result<()> {
-    let (left, top) = (panel.x, panel.y);
-    let bottom = top.saturating_add(PANEL_HEIGHT);
-    let right = left.saturating_add(panel.width);
-    let requests = states.saturating_sub(1) as u64;
-    let beside = left.saturating_sub(8);
-    let beneath = bottom.saturating_add(16);
-    let name = Label::Zone(line.name, line.pages);
-    write_text(writer, left, top.saturating_sub(8), "start", &name)?;
-    let pages = Label::Number(u64::from(line.pages));
-    write_text(writer, beside, top.saturating_add(10), "end", &pages)?;
-    write_text(writer, beside, bottom, "end", &Label::Number(0))?;
-    write_text(writer, left, beneath, "start", &Label::Number(0))?;
-    let middle = left.saturating_add(panel.width / 2);
-    write_text(writer, middle, beneath, "middle", &Label::Requests)?;
-    write_text(writer, right, beneath, "end", &Label::Number(requests))
-}
-
 /// Writes the panel of one zone.
 fn write_zone<W: Write, P: Progress>(
     alloc: Global,
@@ -95,15 +61,16 @@ fn write_zone<W: Write, P: Progress>(
     requires { IsBeginning (lines_of trace.now) }
 {
     let samples = samples_of(alloc, trace, zone, states, progress)?;
-    let panel = Panel {
-        x: LEFT,
-        y: TOP.saturating_add(zone.saturating_mul(NEXT_PANEL)),
-        width: PANEL_WIDTH,
+    let charted = ChartedZone {
+        name: line.name,
         pages: line.pages,
         min: line.min,
     };
-    write_panel(writer, &panel, &samples)?;
-    write_axes(writer, &panel, line, states)?;
+    let span = Span {
+        unit: "requests",
+        last: states.saturating_sub(1) as u64,
+    };
+    write_zone_chart(writer, zone, &charted, &samples, &span)?;
     Ok(())
 }
 
@@ -119,15 +86,11 @@ fn write_charts<W: Write, P: Progress>(
 {
     let states = requests.min(trace.commands.len()).saturating_add(1);
     let lines = trace.header.zones.as_slice();
-    let legend = TOP.saturating_add(lines.len().saturating_mul(NEXT_PANEL));
-    let width = LEFT + PANEL_WIDTH + 70;
-    write_head(writer, width, legend.saturating_add(20))?;
-    write_classes(writer, 0)?;
+    write_chart_head(writer, lines.len())?;
     for (zone, line) in lines.iter().enumerate() {
         write_zone(alloc, trace, zone, line, states, writer, progress)?;
     }
-    write_orders(writer, LEFT, legend)?;
-    write_end(writer)?;
+    write_chart_end(writer, lines.len())?;
     Ok(())
 }
 

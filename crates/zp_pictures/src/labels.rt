@@ -9,7 +9,6 @@ pub enum Label {
     Number(u64),
     /// A zone: its name, and how many pages it has.
     Zone(Name, u32),
-    FreeOrder(usize),
     Worker(usize),
     List(usize),
     Posted,
@@ -26,7 +25,6 @@ impl Display for Label {
                 let name = name.as_str();
                 write!(f, "zone {name}, {pages} pages")
             }
-            Label::FreeOrder(order) => write!(f, "order {order}"),
             Label::Worker(worker) => write!(f, "worker {worker}"),
             Label::List(worker) => write!(f, "list of {worker}"),
             Label::Posted => write!(f, "posted"),

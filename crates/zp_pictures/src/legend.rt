@@ -2,8 +2,7 @@
 use crate::labels::Label;
 use std::io;
 use std::io::Write;
-use zp_drawing::{Kind, write_key};
-use zp_model::ORDERS;
+use zp_drawing::{Kind, write_key, write_order_keys};
 
 /// The pixels of a line of a legend, and of an entry of it.
 const LINE: usize = 20;
@@ -17,21 +16,6 @@ const WORKERS_A_LINE: usize = 5;
 pub fn legend_height(workers: usize) -> usize {
     let lines = workers.min(32) / WORKERS_A_LINE + 3;
     lines * LINE
-}
-
-/// Writes the colours of free pages by order.
-pub fn write_orders<W: Write>(writer: &mut W, x: usize, y: usize) -> io::Result<()> {
-    for order in 0..ORDERS {
-        let place = x.saturating_add(order.saturating_mul(ENTRY));
-        write_key(
-            writer,
-            place,
-            y,
-            Kind::Free(order),
-            &Label::FreeOrder(order),
-        )?;
-    }
-    Ok(())
 }
 
 /// Writes the colours of a worker and of its list.
@@ -54,7 +38,7 @@ pub fn write_legend<W: Write>(
     y: usize,
     workers: usize,
 ) -> io::Result<()> {
-    write_orders(writer, x, y)?;
+    write_order_keys(writer, x, y)?;
     let second = y.saturating_add(LINE);
     write_key(writer, x, second, Kind::Posted, &Label::Posted)?;
     for worker in 0..workers {
