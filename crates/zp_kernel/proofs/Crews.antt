@@ -1,0 +1,191 @@
+-- A row of zones and the shares of its workers after a command of one worker.
+use Rattle.std.proofs.Common.{ℕ, ◌≡◌, ◌<◌, sym, ◌∙◌, ap, subst, arith, refl, List, length, map, get_or, set, Some, All, Ok, Err, inl, inr, zero-add}
+use Rattle.std.specs.Prelude.{Result, Option, Bool, true, false, cond, OnOk}
+use Rattle.std.specs.List.{range_with_len}
+use Rattle.std.proofs.lemmas.Bool.{cases_lt}
+use Rattle.std.proofs.Math.Seq.{map-set_same}
+use Rattle.std.proofs.Math.ListN.{get_or-map}
+use Rattle.std.proofs.lemmas.List.{length-map, length-set, map-set, get_or_past, get_or-map as get_or-there}
+use Rattle.std.proofs.lemmas.List.Elements.{All-map, All-set}
+use Rattle.std.proofs.lemmas.List.FromFn.{get_or-range_with_len}
+use Rattle.zp_model.specs.declared.block.Block.{Block}
+use Rattle.zp_model.specs.declared.refused.Refused.{Refused}
+use Rattle.zp_model.specs.declared.request.Reply.{Reply}
+use Rattle.zp_model.specs.declared.request.Request.{Request}
+use Rattle.zp_model.specs.Zone.{workers_of}
+use Rattle.zp_zone.specs.NamedZone.{NamedZone, block_reply}
+use Rattle.zp_zone.specs.Seats.{ZoneState}
+use Rattle.zp_share.specs.PlainShares.{PlainShare}
+use Rattle.zp_share.specs.Sections.{done_reply}
+use Rattle.zp_share.specs.ZoneShares.{ZoneShareState, answered, plain_share}
+use Rattle.zp_share.specs.Commands.{World, Done, told_as, done_answer}
+use Rattle.zp_share.specs.Shares.{ShareState, ZoneKey, IsShareOf, IsDone, HasWorkerAt, is_section, key_of, named_zone, no_key, noted_at, plain, share_at, with_zone_share, world, workers_at}
+use Rattle.zp_kernel.specs.Crews.{CrewState, AreSharesOf, IsCrewDone, IsSameCrew, block_answer, by_worker, crew_of, share_of, no_share}
+
+-- worker w's share s, which stands at place n, has become u, and the zones have become others with the same keys
+pub record IsTurn (zones new : List ZoneState) (shares : List ShareState) (n w : ℕ) (s d u : ShareState) (before : CrewState) : Type 0 where
+  pub view : crew_of zones shares ≡ before
+  pub are : AreSharesOf zones shares
+  pub place : n ≡ w
+  pub there : n < length shares
+  pub share : s ≡ get_or shares n d
+  pub keys : map key_of new ≡ map key_of zones
+  pub fits : IsShareOf (map key_of new) u
+  pub worker : u.worker ≡ s.worker
+
+-- zones with the same keys are as many
+keys-length : (zones new : List ZoneState) → map key_of new ≡ map key_of zones → length new ≡ length zones
+keys-length zones new e = sym (length-map new key_of) ∙ ap length e ∙ length-map zones key_of
+
+-- and have the same numbers of workers
+keys-workers : (zones new : List ZoneState) (n : ℕ) → map key_of new ≡ map key_of zones → All (λ (z : ZoneState). workers_of z.plain ≡ n) zones →
+    All (λ (z : ZoneState). workers_of z.plain ≡ n) new
+keys-workers zones new n e are k d lt =
+    ap (λ (x : ZoneKey). x.workers) (sym (get_or-map key_of new k d))
+    ∙ ap (λ (xs : List ZoneKey). (get_or xs k (key_of d)).workers) e
+    ∙ ap (λ (x : ZoneKey). x.workers) (get_or-map key_of zones k d)
+    ∙ are k d (omega (arith, keys-length zones new e))
+
+-- as many shares as contracts see
+pub shares-length : (zones : List ZoneState) (shares : List ShareState) (before : CrewState) → crew_of zones shares ≡ before → length before.shares ≡ length shares
+shares-length zones shares before view = ap (λ (c : CrewState). length c.shares) (sym view) ∙ length-map shares plain
+
+pub zones-length : (zones : List ZoneState) (shares : List ShareState) (before : CrewState) → crew_of zones shares ≡ before → length before.zones ≡ length zones
+zones-length zones shares before view = ap (λ (c : CrewState). length c.zones) (sym view) ∙ length-map zones named_zone
+
+-- a share has as many places as there are zones
+pub places : (zones : List ZoneState) (s : ShareState) → IsShareOf (map key_of zones) s → length s.zones ≡ length zones
+places zones s fits =
+    sym (length-map s.zones (λ (x : ZoneShareState). x.seat.tie)) ∙ ap length fits ∙ length-map (map key_of zones) (λ (k : ZoneKey). k.tie) ∙ length-map zones key_of
+
+-- each share is one of the zones
+pub fits_there : (zones : List ZoneState) (shares : List ShareState) (n : ℕ) (s d : ShareState) → AreSharesOf zones shares → n < length shares → s ≡ get_or shares n d →
+    IsShareOf (map key_of zones) s
+fits_there zones shares n s d are lt e = subst (IsShareOf (map key_of zones)) (sym e) (are.fit n d lt)
+
+-- each zone has each of the workers
+pub worker_there : (zones : List ZoneState) (shares : List ShareState) (i w : ℕ) → AreSharesOf zones shares → i < length zones → w < length shares →
+    HasWorkerAt (map key_of zones) i w
+worker_there zones shares i w are lt below =
+    let all : All (λ (k : ZoneKey). k.workers ≡ length shares) (map key_of zones) = All-map (λ (k : ZoneKey). k.workers ≡ length shares) key_of zones are.crew in
+    let here : workers_at (map key_of zones) i ≡ length shares = all i no_key (omega (arith, length-map zones key_of)) in
+    omega (arith, here, below)
+
+-- the shares after a turn are those of the zones after it
+pub shares_after : (zones new : List ZoneState) (shares : List ShareState) (n w : ℕ) (s d u : ShareState) (before : CrewState) → IsTurn zones new shares n w s d u before →
+    AreSharesOf new (set shares n u)
+shares_after zones new shares n w s d u before x =
+    record {
+      some = omega (arith, x.are.some, length-set shares n u);
+      fit =
+          subst (λ ks. All (λ (t : ShareState). IsShareOf ks t) (set shares n u)) (sym x.keys)
+          (All-set (λ (t : ShareState). IsShareOf (map key_of zones) t) shares n u (subst (λ ks. IsShareOf ks u) x.keys x.fits) x.are.fit);
+      workers =
+          map-set_same (λ (t : ShareState). t.worker) shares n u d (x.worker ∙ ap (λ (t : ShareState). t.worker) x.share)
+          ∙ x.are.workers
+          ∙ ap (λ m. range_with_len 0 m) (sym (length-set shares n u));
+      crew = subst (λ m. All (λ (z : ZoneState). workers_of z.plain ≡ m) new) (sym (length-set shares n u)) (keys-workers zones new (length shares) x.keys x.are.crew);
+    }
+
+-- and as many as before
+pub same_after : (zones new : List ZoneState) (shares : List ShareState) (n w : ℕ) (s d u : ShareState) (before : CrewState) → IsTurn zones new shares n w s d u before →
+    IsSameCrew before (crew_of new (set shares n u))
+same_after zones new shares n w s d u before x =
+    record {
+      zones =
+          length-map new named_zone ∙ keys-length zones new x.keys ∙ sym (zones-length zones shares before x.view);
+      workers =
+          length-map (set shares n u) plain ∙ length-set shares n u ∙ sym (shares-length zones shares before x.view);
+    }
+
+-- the share that stands at a place
+share_there : (zones : List ZoneState) (shares : List ShareState) (n : ℕ) (s d : ShareState) → n < length shares → s ≡ get_or shares n d →
+    plain s ≡ share_of (crew_of zones shares) n
+share_there zones shares n s d lt e = ap plain e ∙ sym (get_or-there plain shares n d _ lt)
+
+-- zones and shares after a turn are what the worker's command makes of them
+done_there : {A : Type 0} (zones new : List ZoneState) (shares : List ShareState) (n : ℕ) (s d u : ShareState) (command : World → Done A) (a : A) →
+    n < length shares → s ≡ get_or shares n d → IsDone (command (world (map named_zone zones) s)) a (Some (map named_zone new)) u →
+    IsCrewDone (by_worker n command (crew_of zones shares)) a (crew_of new (set shares n u))
+done_there {A} zones new shares n s d u command a lt e x =
+    let of : PlainShare → Done A = λ p. command (let v : World = record { zones = map named_zone zones; share = p } in v) in
+    let same : of (plain s) ≡ of (share_of (crew_of zones shares) n) = ap of (share_there zones shares n s d lt e) in
+    record {
+      answer = x.answer ∙ ap (λ (f : Done A). f.answer) same;
+      crew =
+          left_is (of (share_of (crew_of zones shares) n)).world.zones (map named_zone new) (map plain shares) (map plain (set shares n u)) n (plain u) (of (share_of (crew_of zones shares) n)).world.share
+          (x.zones ∙ ap (λ (f : Done A). Some f.world.zones) same) (map-set plain shares n u) (x.share ∙ ap (λ (f : Done A). f.world.share) same);
+    }
+  where
+    left_is : (zs ys : List NamedZone) (ps qs : List PlainShare) (n : ℕ) (p q : PlainShare) → Some ys ≡ Some zs → qs ≡ set ps n p → p ≡ q →
+        let a : CrewState = record { zones = ys; shares = qs } in
+        let b : CrewState = record { zones = zs; shares = set ps n q } in
+        a ≡ b
+    left_is zs ys ps qs n p q e f g = cc
+
+pub done_after : {A : Type 0} (zones new : List ZoneState) (shares : List ShareState) (n w : ℕ) (s d u : ShareState) (before : CrewState) (command : World → Done A) (a : A) →
+    IsTurn zones new shares n w s d u before → IsDone (command (world (map named_zone zones) s)) a (Some (map named_zone new)) u →
+    IsCrewDone (by_worker w command before) a (crew_of new (set shares n u))
+done_after {A} zones new shares n w s d u before command a x is =
+    subst (λ (c : CrewState). IsCrewDone (by_worker w command c) a (crew_of new (set shares n u))) x.view
+    (subst (λ v. IsCrewDone (by_worker v command (crew_of zones shares)) a (crew_of new (set shares n u))) x.place
+    (done_there zones new shares n s d u command a x.there x.share is))
+
+-- the same answered in other words
+pub told : {A B : Type 0} (f : A → B) (d : Done A) (a : A) (b : B) (rows : Option (List NamedZone)) (u : ShareState) → f a ≡ b → IsDone d a rows u → IsDone (told_as f d) b rows u
+told f d a b rows u e x = record { answer = sym e ∙ ap f x.answer; zones = x.zones; share = x.share }
+
+pub posted_words : (t : Reply) (r : Result (Unit {0}) Refused) → done_answer t ≡ Ok tt → done_answer (done_reply t r) ≡ r
+posted_words t (Ok tt) e = e
+posted_words t (Err e) same = refl
+
+pub collected_words : (r : Result Block Refused) → block_answer (block_reply r) ≡ r
+collected_words (Ok b) = refl
+collected_words (Err e) = refl
+
+-- the places of the share of a worker
+pub place_there : (zones : List ZoneState) (shares : List ShareState) (n w i : ℕ) (s d : ShareState) (before : CrewState) → crew_of zones shares ≡ before → n ≡ w → n < length shares →
+    s ≡ get_or shares n d → i < length (share_of before w).zones → i < length s.zones
+place_there zones shares n w i s d before view place lt e is =
+    let here : plain s ≡ share_of before w =
+    share_there zones shares n s d lt e ∙ ap (share_of (crew_of zones shares)) place ∙ ap (λ (c : CrewState). share_of c w) view in
+    let many : length (plain s).zones ≡ length (share_of before w).zones = ap (λ (p : PlainShare). length p.zones) here in
+    omega (arith, many, is, length-map s.zones plain_share)
+
+-- a worker that has a place has a share
+pub has_share : (before : CrewState) (w i : ℕ) → i < length (share_of before w).zones → w < length before.shares
+has_share before w i is =
+    elim (cases_lt w (length before.shares)) [
+      | inl less ↦ less
+      | inr past ↦
+          let none : length (share_of before w).zones ≡ 0 = ap (λ (p : PlainShare). length p.zones) (get_or_past before.shares w no_share past) in
+          absurd (omega (arith, none, is))
+    ]
+
+-- the place of a zone that a share has is one of the row's
+pub row_place : (zones : List ZoneState) (shares : List ShareState) (n w i : ℕ) (s d : ShareState) (before : CrewState) → crew_of zones shares ≡ before → AreSharesOf zones shares →
+    n ≡ w → n < length shares → s ≡ get_or shares n d → i < length (share_of before w).zones → i < length zones
+row_place zones shares n w i s d before view are place lt e is =
+    omega (arith, place_there zones shares n w i s d before view place lt e is, places zones s (fits_there zones shares n s d are lt e))
+
+-- a section leaves a share its worker
+pub noted_worker : (s u : ShareState) (i : ℕ) (r : Request) (q : Reply) → u ≡ noted_at i r q s → u.worker ≡ s.worker
+noted_worker s u i r q e =
+    ap (λ (t : ShareState). t.worker) e ∙ either (is_section q) (with_zone_share i (answered r q (share_at s i)) s) s refl
+  where
+    either : (b : Bool) (x y : ShareState) → x.worker ≡ y.worker → (cond b x y).worker ≡ y.worker
+    either true x y e = e
+    either false x y e = refl
+
+pub on_ok : {A E : Type 0} (P : Type 0) (r : Result A E) → P → OnOk r P
+on_ok P (Ok x) p = p
+on_ok P (Err e) p = tt
+
+-- a share's worker is the number of its place
+pub worker_at : (zones : List ZoneState) (shares : List ShareState) (n : ℕ) (s d : ShareState) → AreSharesOf zones shares → n < length shares → s ≡ get_or shares n d → s.worker ≡ n
+worker_at zones shares n s d are lt e =
+    ap (λ (t : ShareState). t.worker) e
+    ∙ sym (get_or-there (λ (t : ShareState). t.worker) shares n d 0 lt)
+    ∙ ap (λ l. get_or l n 0) are.workers
+    ∙ get_or-range_with_len 0 (length shares) n 0 lt
+    ∙ zero-add n

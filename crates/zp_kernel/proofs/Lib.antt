@@ -1,0 +1,5 @@
+pub mod Frames
+pub mod Crews
+pub mod Handing
+pub mod Around
+pub mod RunsOfLines

@@ -1,0 +1,91 @@
+-- A row of zones with the shares of all its workers, and what the commands of one worker make of them (this profile).
+use Rattle.std.specs.Prelude.{ℕ, ◌≡◌, ◌≤◌, List, [], All, length, map, slice_index_or, slice_set, Result, Ok, Err}
+use Rattle.std.specs.List.{range_with_len}
+use Rattle.zp_model.specs.declared.block.Block.{Block}
+use Rattle.zp_model.specs.declared.mark.Mark.TheVariants.{Min}
+use Rattle.zp_model.specs.declared.migrate_type.MigrateType.{MigrateType}
+use Rattle.zp_model.specs.declared.refused.Refused.{Refused}
+use Rattle.zp_model.specs.declared.refused.Refused.TheVariants.{NoBlock}
+use Rattle.zp_model.specs.declared.request.Request.TheVariants as request
+use Rattle.zp_model.specs.declared.request.Reply.{Reply}
+use Rattle.zp_model.specs.Zone.{workers_of}
+use Rattle.zp_zone.specs.NamedZone.{NamedZone}
+use Rattle.zp_zone.specs.Seats.{ZoneState}
+use Rattle.zp_share.specs.declared.commands.Lent.{Lent}
+use Rattle.zp_share.specs.PlainShares.{PlainShare}
+use Rattle.zp_share.specs.Commands.{World, Done, told_as, section, done_answer, alloc_down, free_in}
+use Rattle.zp_share.specs.Shares.{ShareState, IsShareOf, key_of, named_zone, plain}
+
+pub record CrewState : Type 0 where
+  -- the zones, the lowest first, and the share of each worker in order
+  pub zones : List NamedZone
+  pub shares : List PlainShare
+
+-- what contracts see of zones and shares
+abbrev pub crew_of : List ZoneState → List ShareState → CrewState
+crew_of zones shares = record { zones = map named_zone zones; shares = map plain shares }
+
+-- these are the shares of the workers of the zones, in order
+pub record AreSharesOf (zones : List ZoneState) (shares : List ShareState) : Type 0 where
+  pub some : 1 ≤ length shares
+  pub fit : All (IsShareOf (map key_of zones)) shares
+  pub workers : map (λ (s : ShareState). s.worker) shares ≡ range_with_len 0 (length shares)
+  pub crew : All (λ (z : ZoneState). workers_of z.plain ≡ length shares) zones
+
+-- there are as many zones as before, and as many workers
+pub record IsSameCrew (c d : CrewState) : Type 0 where
+  pub zones : length d.zones ≡ length c.zones
+  pub workers : length d.shares ≡ length c.shares
+
+-- past the last worker there is no share
+abbrev pub no_share : PlainShare
+no_share = record { batch = 0; high_len = 0; zones = [] }
+
+abbrev pub share_of : CrewState → ℕ → PlainShare
+share_of c w = slice_index_or c.shares w no_share
+
+-- the zones, and worker w's share
+abbrev pub world_of : CrewState → ℕ → World
+world_of c w = record { zones = c.zones; share = share_of c w }
+
+-- what is answered, and what is left
+pub record CrewDone (A : Type 0) : Type 0 where
+  pub answer : A
+  pub crew : CrewState
+
+-- a command of worker w
+abbrev pub by_worker : {A : Type 0} → ℕ → (World → Done A) → CrewState → CrewDone A
+by_worker w command c =
+    let d = command (world_of c w) in
+    record { answer = d.answer; crew = record { zones = d.world.zones; shares = slice_set c.shares w d.world.share } }
+
+-- goes on where it was not refused
+abbrev pub and_then : {A B : Type 0} → CrewDone (Result A Refused) → (A → CrewState → CrewDone (Result B Refused)) → CrewDone (Result B Refused)
+and_then d f = elim d.answer [ Ok a ↦ f a d.crew | Err e ↦ record { answer = Err e; crew = d.crew } ]
+
+-- worker w asks for a block of order k for type t out of zone i or one below it, held to the least mark
+abbrev pub asked_by : ℕ → ℕ → MigrateType → ℕ → CrewState → CrewDone (Result Lent Refused)
+asked_by w k t i c = by_worker w (alloc_down k t Min i) c
+
+-- worker w gives back a block of its own
+abbrev pub freed_by : ℕ → Lent → CrewState → CrewDone (Result (Unit {0}) Refused)
+freed_by w l c = by_worker w (λ v. free_in v l.zone l.page l.order) c
+
+-- worker w posts a block of its own to another
+abbrev pub posted_by : ℕ → Lent → ℕ → CrewState → CrewDone (Result (Unit {0}) Refused)
+posted_by w l to c = by_worker w (λ v. told_as done_answer (section v l.zone (request.Post l.page l.order to))) c
+
+-- a zone answers a collect with a block, or refuses it
+abbrev pub block_answer : Reply → Result Block Refused
+block_answer (Reply.Block b) = Ok b
+block_answer (Reply.Refused r) = Err r
+block_answer q = Err NoBlock
+
+-- worker w takes the block in front of those that were posted to it in zone i
+abbrev pub collected_by : ℕ → ℕ → CrewState → CrewDone (Result Block Refused)
+collected_by w i c = by_worker w (λ v. told_as block_answer (section v i request.Collect)) c
+
+-- what was to be done is what was answered and left
+pub record IsCrewDone {A : Type 0} (d : CrewDone A) (a : A) (c : CrewState) : Type 0 where
+  pub answer : a ≡ d.answer
+  pub crew : c ≡ d.crew

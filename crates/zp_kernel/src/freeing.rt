@@ -1,0 +1,93 @@
+//! The kernel freed a block.
+ghost use Rattle.std.specs.Prelude.{◌≡◌, ◌<◌, ◌^◌, IfSome, None, Some, length, ltb};
+ghost use Rattle.std.specs.FinMap.{get};
+ghost use Rattle.zp_kernel.specs.Crews.{IsSameCrew};
+ghost use Rattle.zp_kernel.specs.Events.{freed, freed_at, freed_held};
+ghost use Rattle.zp_kernel.specs.Frames.{holder_around, reaching};
+
+use crate::books::Books;
+use crate::event_counts::Happening;
+use crate::frame_table::FrameTable;
+use crate::giving_back::{free_part, give_up};
+use crate::held::{Held, Holder};
+use zp_events::FrameBlock;
+use zp_model::{ORDERS, Worker};
+
+/// Whether the block has a page that stands so far behind its first.
+fn has_page(held: &Held, behind: u64) -> bool
+    ensures { result ≡ ltb behind (2 ^ held.now.lent.order) }
+{
+    behind < u64::from(held.lent.order.pages())
+}
+
+/// The block that a head holds, where it reaches over the frame that stands so far behind the head.
+fn reaching(frames: &FrameTable, head: u64, behind: u64) -> Option<Holder>
+    ensures reaching { result ≡ reaching head behind (get frames.now head) }
+    ensures held { IfSome result (λ r. get frames.now r.frame ≡ Some r.held) }
+{
+    let held = frames.get(head)?;
+    if has_page(&held, behind) {
+        Some(Holder { frame: head, held })
+    } else {
+        None
+    }
+}
+
+/// The nearest block that begins below this frame and reaches over it.
+fn holder_around(frames: &FrameTable, frame: u64) -> Option<Holder>
+    ensures around { result ≡ holder_around frames.now frame }
+    ensures held { IfSome result (λ r. get frames.now r.frame ≡ Some r.held) }
+{
+    'orders: for order in 1..ORDERS {
+        let behind = frame % (1 << order);
+        if let Some(holder) = reaching(frames, frame - behind, behind) {
+            return Some(holder);
+        }
+    }
+    None
+}
+
+/// At a frame that holds a block.
+fn free_held(books: &mut Books, by: Worker, block: &FrameBlock, held: &Held)
+    requires worker { by < length books.old.crew.shares }
+    requires held { get books.old.frames block.now.frame ≡ Some held.now }
+    ensures after { books.new ≡ freed_held by block.now held.now books.old }
+    ensures same { IsSameCrew books.old.crew books.new.crew }
+{
+    let order = u32::from(held.lent.order.number());
+    if block.order < order {
+        free_part(books, by, block.frame, held, block.order);
+        return;
+    }
+    let happening = if block.order == order {
+        Happening::Freed
+    } else {
+        Happening::Larger
+    };
+    books.counts.note(happening);
+    give_up(books, by, block.frame, held);
+}
+
+/// At a frame that holds none.
+fn free_inside(books: &mut Books, by: Worker, block: &FrameBlock)
+    requires worker { by < length books.old.crew.shares }
+    ensures after { books.new ≡ freed_at by block.now None books.old }
+    ensures same { IsSameCrew books.old.crew books.new.crew }
+{
+    match holder_around(&books.frames, block.frame) {
+        Some(holder) => free_part(books, by, holder.frame, &holder.held, block.order),
+        None => books.counts.note(Happening::Unknown),
+    }
+}
+
+/// The kernel freed this block, and the worker gives back what stands for it.
+pub fn free_block(books: &mut Books, by: Worker, block: &FrameBlock)
+    requires worker { by < length books.old.crew.shares }
+    ensures after { books.new ≡ freed by block.now books.old }
+    ensures same { IsSameCrew books.old.crew books.new.crew }
+{
+    match books.frames.get(block.frame) {
+        Some(held) => free_held(books, by, block, &held),
+        None => free_inside(books, by, block),
+    }
+}

@@ -1,0 +1,112 @@
+//! A block goes back.
+ghost use Rattle.std.specs.Prelude.{◌≡◌, ◌-◌, ◌^◌, ◌<◌, Some, length};
+ghost use Rattle.std.specs.FinMap.{get};
+ghost use Rattle.zp_kernel.specs.Books.{back_by, given_back, given_up, lent_of, part_freed, passed_back, passing_noted, refusal_noted};
+ghost use Rattle.zp_kernel.specs.Crews.{IsCrewDone, IsSameCrew};
+
+use crate::books::Books;
+use crate::crew::Crew;
+use crate::event_counts::{EventCounts, Happening};
+use crate::held::Held;
+use zp_model::{Block, Refused, Worker};
+use zp_share::Lent;
+
+/// The block of the zone at this place, as it is lent.
+fn lent_of(zone: usize, block: &Block) -> Lent
+    ensures { result ≡ lent_of zone block.now }
+{
+    Lent {
+        zone,
+        page: block.page,
+        order: block.order,
+    }
+}
+
+/// Another worker's block comes to this one, which gives it back.
+fn pass_back(crew: &mut Crew, from: Worker, lent: &Lent, to: Worker) -> Result<(), Refused>
+    requires { to < length crew.old.shares }
+    ensures done { IsCrewDone (passed_back from lent.now to crew.old) result crew.new }
+    ensures same { IsSameCrew crew.old crew.new }
+{
+    crew.post(from, lent, to)?;
+    let block = crew.collect(to, lent.zone)?;
+    crew.free(to, &lent_of(lent.zone, &block))
+}
+
+/// The worker gives back a block, its own or another's.
+fn back_by(crew: &mut Crew, by: Worker, held: &Held) -> Result<(), Refused>
+    requires { by < length crew.old.shares }
+    ensures done { IsCrewDone (back_by by held.now crew.old) result crew.new }
+    ensures same { IsSameCrew crew.old crew.new }
+{
+    if held.worker.number() == by.number() {
+        return crew.free(by, &held.lent);
+    }
+    pass_back(crew, held.worker, &held.lent, by)
+}
+
+fn note_passing(counts: &mut EventCounts, own: bool)
+    ensures { counts.new ≡ passing_noted own counts.old }
+{
+    if !own {
+        counts.note(Happening::Passed);
+    }
+}
+
+fn note_refusal(counts: &mut EventCounts, outcome: Result<(), Refused>)
+    ensures { counts.new ≡ refusal_noted outcome counts.old }
+{
+    match outcome {
+        Ok(()) => (),
+        Err(refused) => counts.note(Happening::Refused(refused)),
+    }
+}
+
+/// The worker gives back a block that no frame holds any more.
+pub fn give_back(books: &mut Books, by: Worker, held: &Held)
+    requires { by < length books.old.crew.shares }
+    ensures after { books.new ≡ given_back by held.now books.old }
+    ensures same { IsSameCrew books.old.crew books.new.crew }
+{
+    books.counts.note_back(held.lent.order.pages());
+    note_passing(&mut books.counts, held.worker.number() == by.number());
+    let outcome = back_by(&mut books.crew, by, held);
+    note_refusal(&mut books.counts, outcome);
+}
+
+/// The frame gives up its block.
+pub fn give_up(books: &mut Books, by: Worker, frame: u64, held: &Held)
+    requires { by < length books.old.crew.shares }
+    ensures after { books.new ≡ given_up by frame held.now books.old }
+    ensures same { IsSameCrew books.old.crew books.new.crew }
+{
+    let _held = books.frames.remove(frame);
+    give_back(books, by, held);
+}
+
+/// So many pages are in use when 2^order of them no longer are.
+fn without(in_use: u32, order: u32) -> u32
+    ensures { result ≡ in_use - 2 ^ order }
+{
+    if order < 32 {
+        in_use.saturating_sub(1 << order)
+    } else {
+        0
+    }
+}
+
+/// 2^order of the pages of the block that the frame holds are freed.
+pub fn free_part(books: &mut Books, by: Worker, frame: u64, held: &Held, order: u32)
+    requires worker { by < length books.old.crew.shares }
+    requires held { get books.old.frames frame ≡ Some held.now }
+    ensures after { books.new ≡ part_freed by order frame held.now books.old }
+    ensures same { IsSameCrew books.old.crew books.new.crew }
+{
+    books.counts.note(Happening::Part);
+    let in_use = without(held.in_use, order);
+    if in_use == 0 {
+        give_up(books, by, frame, held);
+        return;
+    }
+    books.frames.set(frame, Held { in_use, ..*held });
+}

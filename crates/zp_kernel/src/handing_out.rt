@@ -1,0 +1,122 @@
+//! The kernel handed out a block.
+ghost use Rattle.std.specs.Prelude.{◌≡◌, ◌<◌, ◌≤◌, ◌↔◌, IfSome, IsSome, OnOk, OnErr, length};
+ghost use Rattle.std.specs.FinMap.{get};
+ghost use Rattle.zp_kernel.specs.Books.{holding_none};
+ghost use Rattle.zp_kernel.specs.Crews.{IsSameCrew};
+ghost use Rattle.zp_kernel.specs.Events.{asked, handed_out, still_held};
+ghost use Rattle.zp_kernel.specs.Settings.{AreBelow};
+
+use crate::books::Books;
+use crate::event_counts::Happening;
+use crate::giving_back::give_back;
+use crate::held::Held;
+use crate::setting::{Setting, kind_of};
+use std::alloc::AllocError;
+use zp_events::{FrameBlock, PageRequest};
+use zp_model::{MigrateType, Order, PageNo, Worker};
+use zp_share::Lent;
+
+/// The order of this number, where it is not above the largest.
+fn order_within(number: u32, largest: Order) -> Option<Order>
+    ensures order { IfSome result (λ k. k ≡ number) }
+    ensures when { IsSome result ↔ (number ≤ largest) }
+{
+    if number <= u32::from(largest.number()) {
+        Some(Order::at(number as u8))
+    } else {
+        None
+    }
+}
+
+/// What the frame held still goes back.
+fn clear(books: &mut Books, by: Worker, before: Option<Held>)
+    requires { by < length books.old.crew.shares }
+    ensures after { books.new ≡ still_held by before books.old }
+    ensures same { IsSameCrew books.old.crew books.new.crew }
+{
+    match before {
+        Some(held) => {
+            books.counts.note(Happening::Again);
+            give_back(books, by, &held);
+        }
+        None => (),
+    }
+}
+
+/// The worker asks for the block, of this order, which is the block's. The frame has a place in the table already, whatever stands there.
+fn ask(
+    books: &mut Books,
+    by: Worker,
+    block: &FrameBlock,
+    order: Order,
+    kind: MigrateType,
+    top: usize,
+)
+    requires worker { by < length books.old.crew.shares }
+    requires zone { top < length books.old.crew.zones }
+    requires order { order ≡ block.now.order }
+    requires place { IsSome (get books.old.frames block.now.frame) }
+    ensures after { books.new ≡ asked by block.now kind top (holding_none block.now.frame books.old) }
+    ensures same { IsSameCrew books.old.crew books.new.crew }
+{
+    match books.crew.alloc(by, order, kind, top) {
+        Ok(lent) => {
+            let in_use = order.pages();
+            books.frames.set(
+                block.frame,
+                Held {
+                    lent,
+                    in_use,
+                    worker: by,
+                },
+            );
+            books.counts.note(Happening::Given);
+            books.counts.note_out(in_use);
+        }
+        Err(refused) => {
+            let _place = books.frames.remove(block.frame);
+            books.counts.note(Happening::Refused(refused));
+        }
+    }
+}
+
+/// The kernel handed out this block for this request, and the worker asks for one. Refused where there is no memory to note it;
+/// then nothing was asked, and nothing changed.
+pub fn hand_out(
+    books: &mut Books,
+    setting: &Setting,
+    by: Worker,
+    block: &FrameBlock,
+    request: &PageRequest,
+) -> Result<(), AllocError>
+    requires worker { by < length books.old.crew.shares }
+    requires limits { AreBelow (length books.old.crew.zones) setting.now.limits }
+    ensures after { OnOk result (books.new ≡ handed_out setting.now by block.now request.now books.old) }
+    ensures left { OnErr result (books.new ≡ books.old) }
+    ensures same { IsSameCrew books.old.crew books.new.crew }
+{
+    let Some(order) = order_within(block.order, setting.largest) else {
+        books.counts.note(Happening::TooLarge);
+        return Ok(());
+    };
+    let Some(kind) = kind_of(request.migrate_type) else {
+        books.counts.note(Happening::OtherType);
+        return Ok(());
+    };
+    let top = setting.limits.top(request.zone_limit);
+    // the frame has its place in the table before anything is asked, so that no memory is missing afterwards
+    let lent = Lent {
+        zone: top,
+        page: PageNo::new(0),
+        order,
+    };
+    let place = Held {
+        lent,
+        in_use: 1,
+        worker: by,
+    };
+    let before = books.frames.insert(block.frame, place)?;
+    clear(books, by, before);
+    ask(books, by, block, order, kind, top);
+    Ok(())
+}
