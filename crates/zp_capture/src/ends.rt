@@ -1,0 +1,54 @@
+//! The zones at the end of a run: lines as of `/proc/buddyinfo`, beside the kernel's own.
+
+use crate::plan::ZonePlan;
+use std::alloc::Global;
+use std::io;
+use std::io::Write;
+use zp_buddyinfo::Row;
+use zp_zone::Zone;
+
+/// The lines of `/proc/buddyinfo` for zones, each of the node that it is planned for.
+pub fn info_lines(alloc: Global, plans: &[ZonePlan], zones: &[Zone]) -> io::Result<Vec<u8>> {
+    let mut text = Vec::new(alloc);
+    for (plan, zone) in plans.iter().zip(zones) {
+        let (node, name) = (plan.node, zone.name());
+        write!(text, "Node {node}, zone {name:>8} ")?;
+        for count in &zone.counts().by_order {
+            write!(text, "{count:>6} ")?;
+        }
+        writeln!(text)?;
+    }
+    Ok(text)
+}
+
+/// Writes the free blocks of a zone by order, and the kernel's beside them.
+fn write_beside<W: Write>(writer: &mut W, zone: &Zone, row: &Row<'_>) -> io::Result<()> {
+    let (node, name) = (row.node, row.zone);
+    writeln!(writer, "Node {node}, zone {name}: free blocks at the end")?;
+    writeln!(writer, "order         here  the kernel")?;
+    let theirs = row.blocks.by_order();
+    for (order, ours) in zone.counts().by_order.iter().enumerate() {
+        match theirs.get(order) {
+            Some(count) => writeln!(writer, "{order:>5}{ours:>13}{count:>12}")?,
+            None => writeln!(writer, "{order:>5}{ours:>13}           -")?,
+        }
+    }
+    Ok(())
+}
+
+/// Writes the free blocks of the zones beside those that the kernel had when the events were over.
+pub fn write_beside_kernel<W: Write>(
+    writer: &mut W,
+    plans: &[ZonePlan],
+    zones: &[Zone],
+    rows: &[Row<'_>],
+) -> io::Result<()> {
+    for (plan, zone) in plans.iter().zip(zones) {
+        for row in rows {
+            if row.node == plan.node && row.zone == zone.name() {
+                write_beside(writer, zone, row)?;
+            }
+        }
+    }
+    Ok(())
+}

@@ -1,0 +1,28 @@
+//! A capture of what a kernel did with its pages: what it says of the machine's zones, and what is told of its events when they were carried
+//! out over zones of ours.
+#![tactic(auto)]
+
+mod capture;
+mod ends;
+mod fault;
+mod head;
+mod machine;
+mod opening;
+mod options;
+mod plan;
+mod printing;
+mod report;
+mod rows;
+mod samples;
+mod seat_row;
+mod type_changes;
+mod watch;
+mod zone_info;
+
+pub use capture::Capture;
+pub use fault::CaptureFault;
+pub use opening::Making;
+pub use options::{EventOptions, Form};
+pub use plan::{ZonePlan, plan_of};
+pub use printing::print_events;
+pub use zone_info::{MemoryZone, ZoneInfo};

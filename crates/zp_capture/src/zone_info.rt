@@ -1,0 +1,80 @@
+//! The zones of a machine, as `/proc/zoneinfo` tells them.
+
+use std::alloc::{AllocError, Global};
+use zp_events::{labelled_number, zone_head};
+use zp_model::Name;
+
+/// A zone of a machine.
+#[derive(Clone, Copy, PartialEq, Eq, Debug, Drop)]
+pub struct MemoryZone {
+    pub node: u32,
+    pub name: Name,
+    /// Its first page frame.
+    pub start: u64,
+    /// The pages from its first to its last, with those that are not there.
+    pub spanned: u64,
+    /// Its least mark, in pages.
+    pub min: u64,
+}
+
+/// The zones told so far, and what is told of the next.
+#[derive(Drop)]
+pub struct ZoneInfo {
+    zones: Vec<MemoryZone>,
+    next: Option<MemoryZone>,
+}
+
+impl ZoneInfo {
+    /// Of no zone.
+    pub fn new(alloc: Global) -> ZoneInfo {
+        ZoneInfo {
+            zones: Vec::new(alloc),
+            next: None,
+        }
+    }
+
+    /// The zones that were told whole, in the order of the lines. Of one that has no pages Linux tells no first frame, and here it is none.
+    pub fn zones(&self) -> &[MemoryZone] {
+        &self.zones
+    }
+
+    /// One line more. A zone begins with its heading and ends with its first frame; lines that tell something else are passed over.
+    pub fn note(&mut self, line: &[u8]) -> Result<(), AllocError> {
+        if let Some((node, name)) = zone_head(line) {
+            self.next = begun(node, name);
+            return Ok(());
+        }
+        let Some(zone) = self.next else {
+            return Ok(());
+        };
+        if let Some(start) = labelled_number(line, b"start_pfn:") {
+            self.next = None;
+            self.zones.push(MemoryZone { start, ..zone })?;
+            return Ok(());
+        }
+        self.next = Some(told(zone, line));
+        Ok(())
+    }
+}
+
+/// A zone of which nothing is told but its node and its name. None where the name is not 1 to 8 letters or digits.
+fn begun(node: u32, name: &[u8]) -> Option<MemoryZone> {
+    Some(MemoryZone {
+        node,
+        name: Name::new(name)?,
+        start: 0,
+        spanned: 0,
+        min: 0,
+    })
+}
+
+/// The zone with what one of its lines tells.
+fn told(zone: MemoryZone, line: &[u8]) -> MemoryZone {
+    if let Some(min) = labelled_number(line, b"min") {
+        return MemoryZone { min, ..zone };
+    }
+    if let Some(spanned) = labelled_number(line, b"spanned") {
+        return MemoryZone { spanned, ..zone };
+    }
+    zone
+}
