@@ -72,9 +72,41 @@ than two seconds tells on a terminal, by standard error, how far it is.
 
   zoneview chart --svg < trace > chart.svg";
 
+const EVENTS_ABOUT: &str =
+    "Carries out a kernel's page events over zones of ours: what would have been refused, what would be free";
+
+const EVENTS_HELP: &str = "\
+Reads page events on standard input, as ftrace, trace-cmd report and perf script
+write them (kmem:mm_page_alloc, mm_page_free), of any length, and carries them
+out: a block that the kernel handed out is asked of our zones, by a worker of
+the event's CPU, from the highest zone that its flags allow; what is freed is
+given back by the worker of the CPU that frees it.
+
+Two commands capture a machine (as root, where tracefs is mounted):
+
+  cat /proc/zoneinfo > capture
+  trace-cmd record -e kmem:mm_page_alloc -e kmem:mm_page_free sleep 10 &&
+    trace-cmd report >> capture
+
+The zones are those of the zoneinfo before the first event, or those that are
+named. Lines that are no page event are passed over. A line that begins as one
+and is broken is told by its number on standard error, and the status is 1.
+
+  zoneview events < capture
+  zoneview events --zone Normal 0 262144 1024 --lists 31 62 < events
+  zoneview events --every 1000 < capture > counts.csv
+  zoneview events --svg < capture > free.svg
+
+Written is a table: how many events there were and what became of each, how many
+sections they took, and the most pages that were out; then the zones at the end
+as lines of buddyinfo, with the two indexes of zoneview index; what stands in the
+way of the largest block; and, where the input tells the kernel's own buddyinfo
+behind a line '== buddyinfo after', both side by side.";
+
 const EXAMPLE: &str = "\
 Examples:
   zoneview index < /proc/buddyinfo
+  zoneview events < capture
   zoneview map --order 9 < trace
   zoneview film --svg < trace > film.svg
   zoneview map --help";
@@ -89,7 +121,8 @@ pub fn command<'a>(alloc: Global) -> Result<Command<'a>, AllocError> {
         .subcommand(map(alloc)?)?
         .subcommand(of_trace(alloc, "pagetypeinfo", TABLES_ABOUT, TABLES_HELP)?)?
         .subcommand(svg(alloc, "film", FILM_ABOUT, FILM_HELP)?)?
-        .subcommand(svg(alloc, "chart", CHART_ABOUT, CHART_HELP)?)
+        .subcommand(svg(alloc, "chart", CHART_ABOUT, CHART_HELP)?)?
+        .subcommand(events(alloc)?)
 }
 
 /// The words of `zoneview index`.
@@ -99,15 +132,11 @@ fn index<'a>(alloc: Global) -> Result<Command<'a>, AllocError> {
         .value_name("SIZE")
         .default_value("4K")
         .help("The size of a page: a number of bytes, or of K, M or G");
-    let ascii = Arg::new(alloc, "ascii")
-        .long("ascii")
-        .action(ArgAction::SetTrue)
-        .help("Draw the bars with # and dots");
     Command::new(alloc, "index")
         .about(INDEX_ABOUT)
         .after_help(INDEX_HELP)
         .arg(page)?
-        .arg(ascii)
+        .arg(ascii_bars(alloc))
 }
 
 /// The words of a command that reads a trace.
@@ -152,4 +181,59 @@ fn map<'a>(alloc: Global) -> Result<Command<'a>, AllocError> {
     of_trace(alloc, "map", MAP_ABOUT, MAP_HELP)?
         .arg(order)?
         .arg(ascii)
+}
+
+/// The words of `zoneview events`.
+fn events<'a>(alloc: Global) -> Result<Command<'a>, AllocError> {
+    let zone = Arg::new(alloc, "zone")
+        .long("zone")
+        .num_args(4)
+        .action(ArgAction::Append)
+        .value_name("NAME BASE PAGES MIN")
+        .help("A zone: its name, first page, pages, and least mark; the lowest zone first");
+    let lists = Arg::new(alloc, "lists")
+        .long("lists")
+        .num_args(2)
+        .value_name("BATCH HIGH")
+        .help("The lists of each worker: pages of a refill, and the most pages of a list (31 62)");
+    let largest = Arg::new(alloc, "largest")
+        .long("largest")
+        .value_name("K")
+        .help("The order of the zones' largest blocks (10)");
+    let cpus = Arg::new(alloc, "cpus").long("cpus").value_name("N").help(
+        "How many CPUs have a worker of their own, up to 32; those above share (as many as there are)",
+    );
+    Command::new(alloc, "events")
+        .about(EVENTS_ABOUT)
+        .after_help(EVENTS_HELP)
+        .arg(zone)?
+        .arg(lists)?
+        .arg(largest)?
+        .arg(cpus)?
+        .arg(every(alloc))?
+        .arg(event_chart(alloc))?
+        .arg(ascii_bars(alloc))
+}
+
+/// The word for counts over the events.
+fn every<'a>(alloc: Global) -> Arg<'a> {
+    Arg::new(alloc, "every").long("every").value_name("N").help(
+        "Write the free blocks of each zone after each N events as CSV, and no table",
+    )
+}
+
+/// The word for the chart of the events.
+fn event_chart<'a>(alloc: Global) -> Arg<'a> {
+    Arg::new(alloc, "svg")
+        .long("svg")
+        .action(ArgAction::SetTrue)
+        .help("Draw the free pages by order over the events as SVG, and write no table")
+}
+
+/// The word for bars of ASCII.
+fn ascii_bars<'a>(alloc: Global) -> Arg<'a> {
+    Arg::new(alloc, "ascii")
+        .long("ascii")
+        .action(ArgAction::SetTrue)
+        .help("Draw the bars with # and dots")
 }

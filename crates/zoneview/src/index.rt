@@ -30,14 +30,19 @@ pub fn run(
         )?;
         return Ok(WRONG_WORDS);
     };
-    let style = Style {
-        cells: cells(screen.columns),
-        ascii: words.get_flag("ascii"),
-        colour: screen.colour,
-    };
+    let style = style_of(words, screen);
     let input = read_input(rt)?;
     rt.print(figures(rt.alloc(), input.as_slice(), page, style)?)?;
     Ok(0)
+}
+
+/// How the figures are drawn.
+pub fn style_of(words: &ArgMatches<'_>, screen: Screen) -> Style {
+    Style {
+        cells: cells(screen.columns),
+        ascii: words.get_flag("ascii"),
+        colour: screen.colour,
+    }
 }
 
 /// The length of a bar, where a line with two of them is to have so many columns.

@@ -1,10 +1,12 @@
 //! `zoneview`: pictures and figures of zones, for whoever asks why a block is not there.
 //!
-//! `zoneview index` reads `/proc/buddyinfo`, or lines of its shape, on standard input; the other commands read a trace, as `zonereplay` does, and
-//! draw its zones.
+//! `zoneview index` reads `/proc/buddyinfo`, or lines of its shape, on standard input, and `zoneview events` the page events of a kernel; the other
+//! commands read a trace, as `zonereplay` does, and draw its zones.
 #![tactic(auto)]
 
 mod command_line;
+mod event_words;
+mod events;
 mod index;
 mod input;
 mod pictures;
@@ -55,6 +57,7 @@ fn run(
         Some(("map", found)) => pictures::run(rt, Picture::Map, found, screen),
         Some(("pagetypeinfo", found)) => pictures::run(rt, Picture::TypeTables, found, screen),
         Some(("film", found)) => pictures::run(rt, Picture::Film, found, screen),
+        Some(("events", found)) => events::run(rt, found, screen),
         Some(("chart", found)) => pictures::run(rt, Picture::Chart, found, screen),
         _ => Ok(WRONG_WORDS),
     }
