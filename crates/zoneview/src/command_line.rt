@@ -189,12 +189,12 @@ fn events<'a>(alloc: Global) -> Result<Command<'a>, AllocError> {
         .long("zone")
         .num_args(4)
         .action(ArgAction::Append)
-        .value_name("NAME BASE PAGES MIN")
+        .value_names(&["NAME", "BASE", "PAGES", "MIN"])
         .help("A zone: its name, first page, pages, and least mark; the lowest zone first");
     let lists = Arg::new(alloc, "lists")
         .long("lists")
         .num_args(2)
-        .value_name("BATCH HIGH")
+        .value_names(&["BATCH", "HIGH"])
         .help("The lists of each worker: pages of a refill, and the most pages of a list (31 62)");
     let largest = Arg::new(alloc, "largest")
         .long("largest")
