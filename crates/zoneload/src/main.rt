@@ -8,8 +8,7 @@
 //! - `threads`: long traces replayed in threads, with the zones' journals replayed and written;
 //! - `serving`: pages of a zone by its seat, and of a row of zones with marks by a worker's lists, by one thread;
 //! - `sharing`: four workers on one zone behind its lock, whatever the zone keeps, and a replay of its journal;
-//! - `scattered`: Unmovable pages all over the pageblocks, then claims, borrows, lowest blocks, isolations, refills and drains;
-//! - `events`: the page events of a kernel as text, 100,000 a round, read and carried out over a zone.
+//! - `scattered`: Unmovable pages all over the pageblocks, then claims, borrows, lowest blocks, isolations, refills and drains.
 //!
 //! With the word `all` in the place of a job it makes them all, each on few inputs.
 #![tactic(auto)]
@@ -19,7 +18,6 @@ mod bench;
 mod crew;
 mod digest;
 mod errors;
-mod kernel_events;
 mod making;
 mod memory;
 mod replays;
@@ -35,14 +33,13 @@ use std::sync::Wait;
 use std::thread::Threads;
 
 /// The jobs, by their names.
-const JOBS: [&str; 7] = [
+const JOBS: [&str; 6] = [
     "traces",
     "awkward",
     "threads",
     "serving",
     "sharing",
     "scattered",
-    "events",
 ];
 
 /// So many rounds of a job.
@@ -59,7 +56,6 @@ fn job_of<R: AllocGlobal + Threads + Wait + Sync>(
         "serving" => serving::serve(rt.alloc(), rounds, seed),
         "sharing" => sharing::share(rt, rounds, seed),
         "scattered" => scattered::serve(rt.alloc(), rounds, seed),
-        "events" => kernel_events::carry_out(rt.alloc(), rounds, seed),
         _ => anyhow::bail!("zoneload: there is no job {name}"),
     }
 }

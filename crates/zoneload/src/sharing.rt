@@ -87,8 +87,8 @@ fn run_pieces<R: AllocGlobal + Threads + Wait + Sync>(rt: &R, seed: u64) -> Resu
     let digest = digest_of(&left);
     let Left { closed, .. } = left;
     let Closed { journal, .. } = closed;
-    let piece = journal.into_piece();
-    Ok(digest ^ replayed(rt.alloc(), &piece.journal)?)
+    let journal = journal.into_journal();
+    Ok(digest ^ replayed(rt.alloc(), &journal)?)
 }
 
 /// Over a zone with a journal of all that is asked: a digest of what is left, and of the journal's replay.

@@ -72,6 +72,13 @@ impl CutJournal {
             journal,
         }
     }
+
+    /// The journal since the last cut, for good: `into_piece` for who does not ask where it begins.
+    pub fn into_journal(self) -> Journal
+        ensures { result ≡ self.journal }
+    {
+        self.into_piece().journal
+    }
 }
 
 impl Keeps for CutJournal {

@@ -1,6 +1,6 @@
 //! The bounds of the allocator, each stated here and nowhere else.
 //!
-//! In Linux: `MAX_ORDER`, `pageblock_nr_pages`, `MIGRATE_PCPTYPES` and their like.
+//! In Linux: `MAX_PAGE_ORDER`, `pageblock_nr_pages`, `MIGRATE_PCPTYPES` and their like.
 
 /// The largest order that a zone's blocks can have. Each zone has a largest order of its own, this one at most.
 pub const LARGEST_ORDER: u8 = 10;

@@ -7,9 +7,9 @@ ghost use Rattle.zp_model.specs.Refused.{refused_number};
 pub enum Refused {
     /// 1: the name is not 1 to 8 ASCII letters or digits.
     BadName,
-    /// 2: the base is no multiple of 1,024, or above 16,777,216.
+    /// 2: the base is no multiple of 1,024, or above its limit: 16,777,216 for a narrow zone, 2^30 for a wide one.
     BadBase,
-    /// 3: the pages are not 1 to 65,536.
+    /// 3: the pages are not 1 to 65,536 for a narrow zone, 1 to 16,777,216 for a wide one.
     BadPages,
     /// 4: the least mark is above the pages.
     BadMark,

@@ -4,7 +4,7 @@ use Rattle.std.specs.Io.KnownBytes.{Appends}
 use Rattle.std.proofs.KnownBytes.{Appends-trans}
 use Rattle.std.proofs.Math.Seq.{take-add}
 use Rattle.std.proofs.lemmas.List.{take_rest}
-use Rattle.zp_text.specs.Streams.{IsBegun}
+use Rattle.zp_streams.specs.Streams.{IsBegun}
 
 -- the piece that the code lends is the rest of the text
 pub piece_more : (text : List ℕ) (at n : ℕ) (a b c : Option (List ℕ)) → Appends a b (take at text) →

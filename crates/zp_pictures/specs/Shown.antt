@@ -5,7 +5,7 @@ use Rattle.std.specs.Io.KnownBytes.{Keeps}
 use Rattle.std.specs.List.{concat}
 use Rattle.zp_trace.specs.declared.trace.Trace.{Trace}
 use Rattle.zp_trace.specs.Grammar.{IsBadLine, IsTraceText}
-use Rattle.zp_text.specs.Streams.{IsBegun, IsWritten}
+use Rattle.zp_streams.specs.Streams.{IsBegun, IsWritten}
 use Rattle.zp_pictures.specs.declared.fault.PictureFault.{PictureFault}
 use Rattle.zp_pictures.specs.declared.fault.PictureFault.TheVariants.{Memory, Write}
 use Rattle.zp_pictures.specs.declared.input.Shown.{Shown}

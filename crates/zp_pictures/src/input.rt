@@ -1,6 +1,6 @@
 //! The trace of a picture.
 ghost use Rattle.std.specs.Prelude.{◌≡◌, IfErr, IfOk, OnErr, OnOk};
-ghost use Rattle.zp_text.specs.Streams.{IsBegun, IsWritten};
+ghost use Rattle.zp_streams.specs.Streams.{IsBegun, IsWritten};
 ghost use Rattle.zp_pictures.specs.Inputs.{IsReadingOf, requests_to};
 ghost use Rattle.zp_pictures.specs.Shown.{bad_line};
 

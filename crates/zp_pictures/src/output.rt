@@ -1,7 +1,7 @@
 //! Writing a text that is whole in memory.
 ghost use Rattle.std.specs.Prelude.{◌≡◌, ◌≤◌, length, take, IfErr, IfOk, OnErr, OnOk};
 ghost use Rattle.std.specs.Io.KnownBytes.{Appends};
-ghost use Rattle.zp_text.specs.Streams.{IsBegun};
+ghost use Rattle.zp_streams.specs.Streams.{IsBegun};
 
 use crate::fault::PictureFault;
 use std::io::{ErrorKind, Write};

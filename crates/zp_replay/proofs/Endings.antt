@@ -3,7 +3,7 @@ use Rattle.std.proofs.Common.{ℕ, ◌≡◌, ◌∙◌, Bool, List, Option, tak
 use Rattle.std.proofs.lemmas.List.{length-take}
 use Rattle.zp_trace.specs.declared.trace.Trace.{Trace}
 use Rattle.zp_trace.specs.Grammar.{IsTraceText, IsBadLine}
-use Rattle.zp_text.specs.Streams.{IsWritten, IsBegun}
+use Rattle.zp_streams.specs.Streams.{IsWritten, IsBegun}
 use Rattle.zp_replay.specs.Inputs.{IsRead}
 use Rattle.zp_replay.specs.Output.{bad_line, output}
 use Rattle.zp_replay.specs.declared.traces.Input.{Input}

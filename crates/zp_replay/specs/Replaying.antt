@@ -2,7 +2,7 @@
 use Rattle.std.specs.Prelude.{ℕ, ◌≡◌, ◌<◌, All, List, length, Option}
 use Rattle.zp_trace.specs.declared.trace.Trace.{Trace}
 use Rattle.zp_trace.specs.Grammar.{IsBeginning, IsCommandOf, IsHeader, IsTraceText, IsBadLine, lines_of}
-use Rattle.zp_text.specs.Streams.{IsWritten, IsBegun}
+use Rattle.zp_streams.specs.Streams.{IsWritten, IsBegun}
 use Rattle.zp_share.specs.Commands.{zone_at}
 use Rattle.zp_share.specs.Gathering.{AddsUp, owns_at}
 use Rattle.zp_office.specs.Offices.{OfficeState, crew_in}

@@ -3,7 +3,7 @@ use Rattle.std.specs.Prelude.{ℕ, ◌≡◌, ◌<◌, ◌⊎◌, ◌++◌, All,
 use Rattle.std.specs.List.{AllZip}
 use Rattle.zp_trace.specs.declared.line.CommandLine.{CommandLine}
 use Rattle.zp_trace.specs.declared.trace.Trace.{Trace}
-use Rattle.zp_text.specs.Streams.{IsWritten, IsBegun}
+use Rattle.zp_streams.specs.Streams.{IsWritten, IsBegun}
 use Rattle.zp_model.specs.Entries.{Entry}
 use Rattle.zp_model.specs.Books.{made_by}
 use Rattle.zp_model.specs.Run.{IsHistory, opening_of}

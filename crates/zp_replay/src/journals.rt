@@ -4,7 +4,7 @@ ghost use Rattle.std.specs.List.{AllZip, flat_map};
 ghost use Rattle.zp_model.specs.Bounds.{IsCrew};
 ghost use Rattle.zp_model.specs.Naming.{IsName};
 ghost use Rattle.zp_trace.specs.Grammar.{IsHeader, IsZoneLine};
-ghost use Rattle.zp_text.specs.Streams.{IsWritten, IsBegun};
+ghost use Rattle.zp_streams.specs.Streams.{IsWritten, IsBegun};
 ghost use Rattle.zp_journal.specs.Journals.{JournalState};
 ghost use Rattle.zp_replay.specs.Judging.{JudgedJournal, IsJudged, ending, judged_text, judged_verdict, verdict_in};
 

@@ -3,7 +3,7 @@ ghost use Rattle.std.specs.Prelude.{ℕ, ◌≡◌, ◌<◌, ◌≤◌, ◌+◌,
 ghost use Rattle.std.specs.List.{flat_map};
 ghost use Rattle.zp_model.specs.declared.counts.Counts.{Counts};
 ghost use Rattle.zp_trace.specs.declared.line.CommandLine.{CommandLine};
-ghost use Rattle.zp_text.specs.Streams.{IsWritten, IsBegun};
+ghost use Rattle.zp_streams.specs.Streams.{IsWritten, IsBegun};
 ghost use Rattle.zp_share.specs.Commands.{zone_at};
 ghost use Rattle.zp_share.specs.Gathering.{AddsUp, owns_at, totals_of};
 ghost use Rattle.zp_share.specs.Shares.{named_zone, plain};

@@ -1,6 +1,6 @@
 //! The serial replay: one thread, the commands in the trace's order.
 ghost use Rattle.std.specs.Prelude.{◌≡◌, ◌≢◌, ◌<◌, ℕ, Ok, Err, IfOk, IfErr, OnOk, length};
-ghost use Rattle.zp_text.specs.Streams.{IsBegun, IsWritten};
+ghost use Rattle.zp_streams.specs.Streams.{IsBegun, IsWritten};
 ghost use Rattle.zp_replay.specs.Output.{output};
 ghost use Rattle.zp_replay.specs.Replaying.{IsParsed, IsRefusedAt, IsUnanswered};
 ghost use Rattle.zp_replay.specs.Serving.{IsCutShort, IsReplayed, IsServedInOrder};

@@ -2,7 +2,7 @@
 ghost use Rattle.std.specs.Prelude.{◌≡◌, ◌≢◌, ◌<◌, ◌≤◌, ◌*◌, ℕ, [], length, vec_capacity, All, Ok, Err, IfOk, OnErr, OnOk};
 ghost use Rattle.std.specs.List.{AllZip};
 ghost use Rattle.zp_zone.specs.Seats.{ZoneState};
-ghost use Rattle.zp_text.specs.Streams.{IsBegun, IsWritten};
+ghost use Rattle.zp_streams.specs.Streams.{IsBegun, IsWritten};
 ghost use Rattle.zp_trace.specs.declared.line.CommandLine.{CommandLine};
 ghost use Rattle.zp_trace.specs.declared.bounds.TheConstants.{MOST_LINES};
 ghost use Rattle.zp_journal.specs.declared.journal.TheConstants.{LONGEST_JOURNAL};

@@ -1,7 +1,7 @@
 //! A reader and a writer in memory, which give and take their bytes in small pieces and can fail at a call.
 ghost use Rattle.std.specs.Prelude.{◌≡◌, ◌<◌, ◌+◌, ◌==◌, ℕ, [], Some, None, true, false, length, is_err, IfOk, OnOk, OnErr};
 ghost use Rattle.std.specs.Io.KnownBytes.{Keeps};
-ghost use Rattle.zp_text.specs.Streams.{Fills, Takes};
+ghost use Rattle.zp_streams.specs.Streams.{Fills, Takes};
 ghost use Rattle.zp_replay_tests.specs.Devices.{is_due, after_call, after_calls, Gives, Stores, failed_reader, failed_writer};
 
 use std::alloc::Global;

@@ -1,7 +1,7 @@
 //! A writer in memory with room for a number of bytes, which tells how long the pieces were that it was asked to take.
 ghost use Rattle.std.specs.Prelude.{◌≡◌, ◌≤◌, ◌+◌, ◌<◌, [], Some, length, IfOk, OnOk, OnErr};
 ghost use Rattle.std.specs.Io.KnownBytes.{Keeps};
-ghost use Rattle.zp_text.specs.Streams.{Takes};
+ghost use Rattle.zp_streams.specs.Streams.{Takes};
 ghost use Rattle.zp_replay_tests.specs.Rooms.{taken, StoresWithin};
 
 use std::alloc::Global;

@@ -1,7 +1,7 @@
 -- The texts of a list's items, appended one after another.
 use Rattle.std.proofs.Common.{ℕ, ◌+◌, ◌≡◌, ◌<◌, List, ◌++◌, length, take, get_or, ap, ◌∙◌, append_assoc}
 use Rattle.std.specs.List.{flat_map}
-use Rattle.zp_text.proofs.Written.{item_more}
+use Rattle.zp_streams.proofs.Written.{item_more}
 
 -- one item more
 pub appended_item : {X : Type 0} (f : X → List ℕ) (xs : List X) (i : ℕ) (x : X) (start g h : List ℕ) → i < length xs → x ≡ get_or xs i x →

@@ -4,9 +4,9 @@ use Rattle.std.proofs.Math.Seq.{take-add}
 use Rattle.std.specs.List.{flat_map}
 use Rattle.std.proofs.lemmas.List.{append-nil, length-take, length-take-le, take-append-drop, take-take}
 use Rattle.std.proofs.lemmas.List.Concat.{flat_map-append}
-use Rattle.zp_text.specs.Streams.{IsWritten, IsBegun}
+use Rattle.zp_streams.specs.Streams.{IsWritten, IsBegun}
 use Rattle.zp_text.specs.Gathering.{IsGathered}
-use Rattle.zp_text.proofs.Written.{written-same, written-then, begun-then, begun-longer, begun-same, item_more}
+use Rattle.zp_streams.proofs.Written.{written-same, written-then, begun-then, begun-longer, begun-same, item_more}
 
 -- at first nothing is held, and nothing was written
 pub none_gathered : (a : Option (List ℕ)) (h : List ℕ) → h ≡ [] → IsGathered a a [] h []

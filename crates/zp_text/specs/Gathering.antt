@@ -1,7 +1,7 @@
 -- Text that is held back, to be written in longer pieces.
 use Rattle.std.specs.Prelude.{ℕ, ◌≡◌, ◌<◌, ◌≤◌, ◌+◌, ◌-◌, List, ◌++◌, length, slice_index, take, Option}
 use Rattle.zp_trace.specs.Spelling.{line_feed}
-use Rattle.zp_text.specs.Streams.{IsWritten}
+use Rattle.zp_streams.specs.Streams.{IsWritten}
 
 -- of what was held before, with this text behind it, a beginning was written, and the rest is held
 pub record IsGathered (old new : Option (List ℕ)) (before after text : List ℕ) : Type 0 where

@@ -1,9 +1,9 @@
 //! Text that is gathered before it is written, so that a writer is called once for many lines.
 ghost use Rattle.std.specs.Prelude.{◌≡◌, ◌<◌, ◌≤◌, ◌+◌, ◌↔◌, ℕ, [], length, take, true, false, IsTrue, OnOk, OnErr};
-ghost use Rattle.zp_text.specs.Streams.{IsWritten, IsBegun};
+ghost use Rattle.zp_streams.specs.Streams.{IsWritten, IsBegun};
 ghost use Rattle.zp_text.specs.Gathering.{IsGathered, IsLineStart, IsStopped};
 
-use crate::streams::{WriteFault, Writer, write_pieces};
+use zp_streams::{WriteFault, Writer, write_pieces};
 use crate::text_buffer::TextBuffer;
 
 /// The most bytes that are held back: some hundred lines, so that a device is asked seldom and little is in hand when it fails.

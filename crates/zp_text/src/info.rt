@@ -4,9 +4,9 @@
 ghost use Rattle.std.specs.Prelude.{◌≡◌, ◌≤◌, ◌<◌, ◌+◌, ◌*◌, ◌++◌, ℕ, List, [], ◌∷◌, length, replicate, OnOk, OnErr};
 ghost use Rattle.zp_model.specs.Info.{counts_of, info_line, right_aligned};
 ghost use Rattle.zp_model.specs.Naming.{IsName};
-ghost use Rattle.zp_text.specs.Streams.{IsWritten, IsBegun};
+ghost use Rattle.zp_streams.specs.Streams.{IsWritten, IsBegun};
 
-use crate::streams::{WriteFault, Writer, write_all};
+use zp_streams::{WriteFault, Writer, write_all};
 use crate::text_buffer::TextBuffer;
 use zp_model::{Counts, Largest, NAME_PLACES};
 use zp_zone::Zone;

@@ -1,11 +1,11 @@
 //! A journal's lines.
 ghost use Rattle.std.specs.Prelude.{◌≡◌, ◌<◌, ◌≤◌, length, OnOk, OnErr};
-ghost use Rattle.zp_text.specs.Streams.{IsWritten, IsBegun};
+ghost use Rattle.zp_streams.specs.Streams.{IsWritten, IsBegun};
 ghost use Rattle.zp_text.specs.JournalText.{journal_text};
 
 use crate::gathering::{GATHERED, make_room, write_gathered};
 use crate::line::{ENTRY_LINE, push_entry};
-use crate::streams::{WriteFault, Writer};
+use zp_streams::{WriteFault, Writer};
 use crate::text_buffer::TextBuffer;
 use zp_journal::Journal;
 use zp_model::LONGEST_NAME;

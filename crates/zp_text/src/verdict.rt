@@ -1,10 +1,8 @@
 //! The line that says what a journal's replay found.
-ghost use Rattle.std.specs.Prelude.{◌≡◌, ◌<◌, ◌≤◌, ◌+◌, ◌++◌, length, OnOk, OnErr};
-ghost use Rattle.zp_text.specs.Streams.{IsWritten, IsBegun};
+ghost use Rattle.std.specs.Prelude.{◌≡◌, ◌≤◌, ◌+◌, ◌++◌, length};
 ghost use Rattle.zp_text.specs.JournalText.{verdict_line};
 
 use crate::line::{push_spaced_number, push_word};
-use crate::streams::{WriteFault, Writer, write_all};
 use crate::text_buffer::TextBuffer;
 use zp_model::LONGEST_NAME;
 
@@ -20,25 +18,7 @@ pub enum Verdict {
     Differs(u32),
 }
 
-/// Writes the line of the zone of this name, whose journal has so many entries.
-pub fn write_verdict<W: Writer>(
-    writer: &mut W,
-    name: &str,
-    entries: u32,
-    verdict: Verdict,
-) -> Result<(), WriteFault>
-    requires { length name.now ≤ LONGEST_NAME }
-    ensures ok { OnOk result (IsWritten (W.contents writer.old) (W.contents writer.new) (verdict_line name.now entries verdict)) }
-    ensures calm { OnOk result (W.failures writer.new ≡ W.failures writer.old) }
-    ensures err { OnErr result (IsBegun (W.contents writer.old) (W.contents writer.new) (verdict_line name.now entries verdict)) }
-    ensures failed { OnErr result (W.failures writer.old < W.failures writer.new) }
-{
-    let mut line: TextBuffer<VERDICT_LINE> = TextBuffer::new();
-    push_verdict(&mut line, name, entries, verdict);
-    write_all(writer, line.as_bytes())
-}
-
-/// Appends that line to a text: `journal NAME N legal`, or `journal NAME differs N`.
+/// Appends the line of the zone of this name, whose journal has so many entries: `journal NAME N legal`, or `journal NAME differs N`.
 pub fn push_verdict<const CAP: usize>(
     text: &mut TextBuffer<CAP>,
     name: &str,

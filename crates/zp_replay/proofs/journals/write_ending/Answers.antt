@@ -1,6 +1,6 @@
 use Rattle.std.proofs.Common.{[], Bool, cond, ap, sym}
 use Rattle.std.specs.List.{flat_map}
-use Rattle.zp_text.proofs.Written.{begun-then, begun-longer, begun-same, on_err}
+use Rattle.zp_streams.proofs.Written.{begun-then, begun-longer, begun-same, on_err}
 use Rattle.zp_replay.specs.Judging.{judged_text}
 use Rattle.zp_replay.proofs.journals.write_ending.Goals as goal
 

@@ -1,6 +1,6 @@
 use Rattle.std.proofs.Common.{◌<◌, length, ◌∙◌, arith}
 use Rattle.zp_replay.specs.Judging.{judged_text}
-use Rattle.zp_text.proofs.Written.{on_err, begun_item, written_item}
+use Rattle.zp_streams.proofs.Written.{on_err, begun_item, written_item}
 use Rattle.zp_replay.proofs.journals.write_entries.Goals as goal
 
 pub returns-in_err-write_entries-clause-err : goal.returns-in_err-write_entries-clause-err

@@ -1,6 +1,6 @@
 use Rattle.std.proofs.Common.{◌≡◌, take}
 use Rattle.std.specs.List.{flat_map}
-use Rattle.zp_text.specs.Streams.{IsWritten}
+use Rattle.zp_streams.specs.Streams.{IsWritten}
 use Rattle.zp_replay.specs.Judging.{judged_text}
 use Rattle.zp_replay.proofs.journals.write_entries.Given as goal
 

@@ -2,7 +2,7 @@ use Rattle.std.proofs.Common.{◌≡◌, ◌<◌, ◌∙◌, ◌++◌, length, r
 use Rattle.std.proofs.lemmas.List.{length-set}
 use Rattle.std.proofs.lemmas.Result.{on_err_weaker, on_ok_weaker}
 use Rattle.zp_office.specs.Offices.{workers_in}
-use Rattle.zp_text.proofs.Written.{written-same, begun-same, on_err}
+use Rattle.zp_streams.proofs.Written.{written-same, begun-same, on_err}
 use Rattle.zp_text.proofs.Gathered.{begun_items, gathered-same, gathered_begun, gathered_item, gathered_written, none_gathered}
 use Rattle.zp_replay.specs.Output.{turn_text}
 use Rattle.zp_replay.proofs.Outputs.{number_here}

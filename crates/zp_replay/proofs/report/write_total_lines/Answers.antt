@@ -2,7 +2,7 @@ use Rattle.std.proofs.Common.{◌≡◌, ◌<◌, ◌≤◌, List, ◌++◌, get
 use Rattle.std.specs.List.{flat_map, range_with_len}
 use Rattle.std.proofs.lemmas.List.FromFn.{length-range_with_len}
 use Rattle.std.proofs.lemmas.Result.{on_err_weaker, on_ok_weaker}
-use Rattle.zp_text.proofs.Written.{written-same, begun-same, on_err}
+use Rattle.zp_streams.proofs.Written.{written-same, begun-same, on_err}
 use Rattle.zp_text.proofs.Gathered.{begun_items, gathered-same, gathered_begun, gathered_item, gathered_written}
 use Rattle.zp_share.specs.declared.gathering.Totals.{Totals}
 use Rattle.std.proofs.lemmas.List.{length-map, take_all}

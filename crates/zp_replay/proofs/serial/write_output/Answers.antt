@@ -1,4 +1,4 @@
-use Rattle.zp_text.proofs.Written.{written-same, begun-same}
+use Rattle.zp_streams.proofs.Written.{written-same, begun-same}
 use Rattle.zp_replay.proofs.Outputs.{output_is}
 use Rattle.zp_replay.proofs.serial.write_output.Goals as goal
 

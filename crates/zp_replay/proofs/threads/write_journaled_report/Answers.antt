@@ -1,4 +1,4 @@
-use Rattle.zp_text.proofs.Written.{begun-then, begun-longer, on_err}
+use Rattle.zp_streams.proofs.Written.{begun-then, begun-longer, on_err}
 use Rattle.zp_replay.proofs.threads.write_journaled_report.Goals as goal
 
 pub returns-in_err-write_report-clause-err : goal.returns-in_err-write_report-clause-err

@@ -2,9 +2,9 @@ use Rattle.std.proofs.Common.{◌≡◌, ◌∙◌, ℕ, List, Err, ap, subst, r
 use Rattle.zp_trace.specs.declared.trace.TraceFault.{TraceFault}
 use Rattle.zp_trace.specs.declared.trace.TraceFault.TheVariants as bad
 use Rattle.zp_trace.specs.Grammar.{IsTraceText, IsBadLine}
-use Rattle.zp_text.specs.Streams.{IsWritten}
+use Rattle.zp_streams.specs.Streams.{IsWritten}
 use Rattle.zp_replay.specs.Output.{bad_line}
-use Rattle.zp_text.proofs.Written.{begun-same}
+use Rattle.zp_streams.proofs.Written.{begun-same}
 use Rattle.zp_replay.proofs.Endings.{trace-read, refused, bad-cut}
 use Rattle.zp_replay.proofs.traces.read_trace.Goals as goal
 

@@ -1,5 +1,5 @@
 use Rattle.std.proofs.Common.{◌≡◌, ◌≤◌, ◌-◌, length, take}
-use Rattle.zp_text.specs.Streams.{IsWritten}
+use Rattle.zp_streams.specs.Streams.{IsWritten}
 use Rattle.zp_text.proofs.gathering.write_lines.Given as goal
 
 -- the lines so far were written, and no call failed

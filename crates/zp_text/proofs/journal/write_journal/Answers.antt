@@ -1,6 +1,6 @@
 use Rattle.std.proofs.Common.{◌<◌, ◌∙◌, length, refl, arith}
 use Rattle.std.proofs.lemmas.Result.{on_err_weaker, on_ok_weaker}
-use Rattle.zp_text.proofs.Written.{begun-same, on_err, written-same}
+use Rattle.zp_streams.proofs.Written.{begun-same, on_err, written-same}
 use Rattle.zp_text.proofs.Gathered.{begun_items, gathered-same, gathered_begun, gathered_item, gathered_written, none_gathered}
 use Rattle.zp_text.proofs.Numbered.{line_of, numbered, numbered_end, numbered_here, numbered_place}
 use Rattle.zp_text.proofs.journal.write_journal.Goals as goal

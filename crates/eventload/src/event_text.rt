@@ -1,17 +1,11 @@
-//! Page events of a kernel, as ftrace writes them, read and carried out over zones.
+//! Page events of a kernel as ftrace writes them, drawn by a seed.
 
 ghost use Rattle.std.specs.Prelude.{◌<◌};
 
-use crate::digest::Digest;
-use crate::errors::Broken;
 use rand_core::Rng;
 use rand_pcg::Pcg32;
-use std::alloc::Global;
+use std::alloc::{AllocError, Global};
 use std::io::Write;
-use zp_buddyinfo::Style;
-use zp_capture::{EventOptions, Form, ZonePlan, print_events};
-use zp_model::{Largest, Name};
-use zp_share::ListConfig;
 
 /// How many events a round has, and how many blocks are out at most.
 const EVENTS: u32 = 100_000;
@@ -22,7 +16,7 @@ const MOST_OUT: usize = 4_096;
 const FRAMES: u32 = 1 << 20;
 
 /// The CPUs.
-const CPUS: u32 = 4;
+pub const CPUS: u32 = 4;
 
 /// A block that is out: its first frame, and its order.
 #[derive(Clone, Copy, Drop)]
@@ -54,7 +48,7 @@ impl EventMaker {
     }
 
     /// Writes what stands before an event's name.
-    fn write_front(&mut self, number: u32) -> Result<(), Broken> {
+    fn write_front(&mut self, number: u32) -> Result<(), AllocError> {
         let cpu = self.below(CPUS);
         let (seconds, rest) = (number / 1_000_000, number % 1_000_000);
         match write!(
@@ -62,12 +56,12 @@ impl EventMaker {
             "              sh-{number:<7} [{cpu:03}] .....{seconds:>6}.{rest:06}: mm_page_"
         ) {
             Ok(()) => Ok(()),
-            Err(_) => Err(Broken::Memory),
+            Err(_) => Err(AllocError),
         }
     }
 
     /// A block is handed out.
-    fn alloc(&mut self, number: u32) -> Result<(), Broken> {
+    fn alloc(&mut self, number: u32) -> Result<(), AllocError> {
         let order = self.order();
         let kind = self.below(3);
         let pages = 1 << order.min(10);
@@ -75,19 +69,19 @@ impl EventMaker {
         self.next = frame.wrapping_add(pages) % FRAMES;
         self.write_front(number)?;
         if self.out.push(Out { frame, order }).is_err() {
-            return Err(Broken::Memory);
+            return Err(AllocError);
         }
         match writeln!(
             self.text,
             "alloc: page=(____ptrval____) pfn=0x{frame:x} order={order} migratetype={kind} gfp_flags=GFP_HIGHUSER_MOVABLE|__GFP_COMP"
         ) {
             Ok(()) => Ok(()),
-            Err(_) => Err(Broken::Memory),
+            Err(_) => Err(AllocError),
         }
     }
 
     /// A block is freed.
-    fn free(&mut self, number: u32, place: usize) -> Result<(), Broken> {
+    fn free(&mut self, number: u32, place: usize) -> Result<(), AllocError> {
         self.write_front(number)?;
         if place >= self.out.len() {
             return Ok(());
@@ -98,12 +92,12 @@ impl EventMaker {
             "free: page=(____ptrval____) pfn=0x{frame:x} order={order}"
         ) {
             Ok(()) => Ok(()),
-            Err(_) => Err(Broken::Memory),
+            Err(_) => Err(AllocError),
         }
     }
 
     /// One event more.
-    fn draw(&mut self, number: u32) -> Result<(), Broken> {
+    fn draw(&mut self, number: u32) -> Result<(), AllocError> {
         let out = self.out.len();
         let many = u32::try_from(out).unwrap_or(u32::MAX);
         if many == 0 || out < MOST_OUT && self.below(2) == 0 {
@@ -115,7 +109,7 @@ impl EventMaker {
 }
 
 /// The text of a round.
-fn text_of(alloc: Global, seed: u64, round: u32) -> Result<Vec<u8>, Broken> {
+pub fn text_of(alloc: Global, seed: u64, round: u32) -> Result<Vec<u8>, AllocError> {
     let mut maker = EventMaker {
         random: Pcg32::new(seed, u64::from(round)),
         out: Vec::new(alloc),
@@ -132,46 +126,4 @@ fn text_of(alloc: Global, seed: u64, round: u32) -> Result<Vec<u8>, Broken> {
         text,
     } = maker;
     Ok(text)
-}
-
-/// Over which zone the events are carried out.
-fn options(alloc: Global) -> Result<EventOptions, Broken> {
-    let (Some(name), Some(lists)) = (Name::new(b"Normal"), ListConfig::new(31, 62)) else {
-        return Err(Broken::Trace);
-    };
-    let mut plans = Vec::new(alloc);
-    let plan = ZonePlan {
-        node: 0,
-        name,
-        base: 0,
-        pages: 65_536,
-        min: 256,
-    };
-    if plans.push(plan).is_err() {
-        return Err(Broken::Memory);
-    }
-    Ok(EventOptions {
-        plans,
-        lists,
-        largest: Largest::usual(),
-        cpus: Some(CPUS),
-        form: Form::Table(Style {
-            cells: 22,
-            ascii: true,
-            colour: false,
-        }),
-    })
-}
-
-/// So many texts, each read and carried out.
-pub fn carry_out(alloc: Global, rounds: u32, seed: u64) -> anyhow::Result<Digest> {
-    let options = options(alloc)?;
-    let mut digest = Digest::new();
-    for round in 0..rounds {
-        let text = text_of(alloc, seed, round)?;
-        let mut told = Vec::new(alloc);
-        print_events(alloc, text.as_slice(), &options, &mut told)?;
-        digest.add_bytes(&told);
-    }
-    Ok(digest)
 }

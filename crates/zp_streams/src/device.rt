@@ -2,7 +2,7 @@
 //! the device tells; how often it failed, contracts know.
 ghost use Rattle.std.specs.Prelude.{◌≡◌, ◌+◌, IfOk, OnOk, OnErr};
 ghost use Rattle.std.specs.Io.KnownBytes.{Keeps};
-ghost use Rattle.zp_text.specs.Streams.{Fills};
+ghost use Rattle.zp_streams.specs.Streams.{Fills};
 
 use crate::failures::Failures;
 use crate::streams::{ReadFault, Reader, WriteFault, Writer};
@@ -25,14 +25,6 @@ impl<S: Read, L: Ledger> Source<S, L> {
         ensures failures { result.failures ≡ failures }
     {
         Source { stream, failures }
-    }
-
-    /// The stream, as the reads have left it.
-    pub fn into_stream(self) -> S
-        ensures { result ≡ self.stream }
-    {
-        let Source { stream, .. } = self;
-        stream
     }
 }
 
@@ -73,14 +65,6 @@ impl<S: Write, L: Ledger> Sink<S, L> {
         ensures failures { result.failures ≡ failures }
     {
         Sink { stream, failures }
-    }
-
-    /// The stream, as the writes have left it.
-    pub fn into_stream(self) -> S
-        ensures { result ≡ self.stream }
-    {
-        let Sink { stream, .. } = self;
-        stream
     }
 }
 

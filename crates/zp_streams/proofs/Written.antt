@@ -2,7 +2,7 @@
 use Rattle.std.proofs.Common.{ℕ, ◌+◌, ◌≡◌, List, ◌++◌, length, take, Option, None, Some, sym, ap, subst, ◌∙◌, append_assoc, ◌<◌, [], ◌∷◌, drop, get_or, Result, Ok, Err, OnErr, inl, inr, arith}
 use Rattle.std.proofs.Math.Seq.{take-append-add, take-append_seam}
 use Rattle.std.specs.Io.KnownBytes.{Keeps}
-use Rattle.zp_text.specs.Streams.{IsWritten, IsBegun}
+use Rattle.zp_streams.specs.Streams.{IsWritten, IsBegun}
 use Rattle.std.specs.List.{flat_map}
 use Rattle.std.proofs.lemmas.Bool.{cases_lt}
 use Rattle.std.proofs.lemmas.List.{append-nil, take_all, take_more, take-append-drop, take-append-le}

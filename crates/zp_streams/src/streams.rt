@@ -1,7 +1,7 @@
 //! Readers and writers whose failed calls contracts can count.
 ghost use Rattle.std.specs.Prelude.{◌≡◌, ◌<◌, ◌≤◌, ◌+◌, ℕ, List, Option, length, take, IfOk, OnOk, OnErr};
 ghost use Rattle.std.specs.Io.KnownBytes.{Keeps};
-ghost use Rattle.zp_text.specs.Streams.{Takes, Fills, IsWritten, IsBegun};
+ghost use Rattle.zp_streams.specs.Streams.{Takes, Fills, IsWritten, IsBegun};
 
 /// A writer failed.
 #[derive(Clone, Copy, PartialEq, Eq, Debug, Drop)]
@@ -54,7 +54,7 @@ pub fn write_all<W: Writer>(writer: &mut W, bytes: &[u8]) -> Result<(), WriteFau
 
 /// Writes the bytes until the writer fails, and says how many it took: all of them, or fewer where it failed.
 #[inline]
-pub(crate) fn write_pieces<W: Writer>(writer: &mut W, bytes: &[u8]) -> usize
+pub fn write_pieces<W: Writer>(writer: &mut W, bytes: &[u8]) -> usize
     ensures within { result ≤ length bytes.now }
     ensures written { IsWritten (W.contents writer.old) (W.contents writer.new) (take result bytes.now) }
     ensures calm { result ≡ length bytes.now → W.failures writer.new ≡ W.failures writer.old }

@@ -1,9 +1,9 @@
 use Rattle.std.proofs.Common.{ℕ, ◌≤◌, ◌+◌, ◌-◌, List, length, take, drop, sym, ◌∙◌, arith, length-drop, Option, subst}
 use Rattle.std.proofs.Math.Seq.{take-add}
 use Rattle.std.proofs.lemmas.List.{take_rest}
-use Rattle.zp_text.specs.Streams.{IsWritten, Takes}
-use Rattle.zp_text.proofs.Written.{written-same, written-then}
-use Rattle.zp_text.proofs.streams.write_pieces.Goals as goal
+use Rattle.zp_streams.specs.Streams.{IsWritten, Takes}
+use Rattle.zp_streams.proofs.Written.{written-same, written-then}
+use Rattle.zp_streams.proofs.streams.write_pieces.Goals as goal
 
 -- the piece that the code lends is the rest of the bytes
 rest_taken : (bytes : List ℕ) (at n : ℕ) (old new : Option (List ℕ)) → Takes (take (length bytes - at) (drop at bytes)) n old new → at ≤ length bytes →

@@ -1,6 +1,6 @@
 use Rattle.std.proofs.Common.{◌≡◌, ◌≤◌, ◌-◌, length, take}
-use Rattle.zp_text.specs.Streams.{IsWritten}
-use Rattle.zp_text.proofs.streams.write_pieces.Given as goal
+use Rattle.zp_streams.specs.Streams.{IsWritten}
+use Rattle.zp_streams.proofs.streams.write_pieces.Given as goal
 
 abbrev pub invariant-pieces : goal.invariant-pieces
 invariant-pieces g l = record {
