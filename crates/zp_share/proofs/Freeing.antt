@@ -1,17 +1,18 @@
 -- A block given back: to its zone, or to the front of its list.
-use Rattle.std.proofs.Common.{ℕ, inl, inr, ◌<◌, ◌≡◌, refl, sym, ◌∙◌, ap, subst, List, length, Option, Some, Result, Ok, true, false, cond}
+use Rattle.std.proofs.Common.{ℕ, inl, inr, ◌⊎◌, ◌<◌, ◌≡◌, refl, sym, ◌∙◌, ap, subst, List, length, Option, Some, Result, Ok, Err, OnOk, OnErr, IfErr, true, false, cond}
 use Rattle.std.proofs.lemmas.Bool.{lt-ltb}
 use Rattle.std.proofs.lemmas.Bool.Decides.{eqb_tells}
 use Rattle.zp_model.specs.declared.migrate_type.MigrateType.{MigrateType}
 use Rattle.zp_model.specs.declared.refused.Refused.{Refused}
+use Rattle.zp_model.specs.declared.refused.Refused.TheVariants.{JournalFull}
 use Rattle.zp_model.specs.declared.request.Request.TheVariants.{Free}
 use Rattle.zp_zone.specs.NamedZone.{NamedZone}
 use Rattle.zp_share.specs.declared.page_use.PageUse.TheVariants.{Away, Cached}
 use Rattle.zp_share.specs.PageUses.{is_lent_as}
 use Rattle.zp_share.specs.PlainShares.{PlainZoneShare, PlainShare, Putting, used_as, list_of, lends, lent_kind, put, putting}
-use Rattle.zp_share.specs.ZoneShares.{plain_share, use_in, is_lent, cached_of}
+use Rattle.zp_share.specs.ZoneShares.{ZoneShareState, plain_share, use_in, is_lent, cached_of}
 use Rattle.zp_share.specs.Commands.{World, Done, done, told_as, and_then, done_answer, section, is_listed, drain_full, put_page, free_listed, free_as, free_in}
-use Rattle.zp_share.specs.Shares.{ShareState, HasSameLentBut, IsDone, share_at, with_zone_share, plain, world}
+use Rattle.zp_share.specs.Shares.{ShareState, HasSameLentBut, IsDone, IsFreedBy, IsFreedIn, share_at, with_room, with_zone_share, plain, world}
 use Rattle.zp_share.proofs.OneUse.{in_by_use, use-set, use-set_other, lent_use}
 use Rattle.zp_share.proofs.Carrying.{own-plain, moved, same_lent_but, then_ok}
 
@@ -82,3 +83,27 @@ freed rows s m n u i p k t a r mid last e on x lent lt f g z =
     (λ rows2 e2.
     then_ok (put_page (world rows2 m) i p) (λ _ v. done (Ok tt) (drain_full v i t).world) tt (Ok tt) mid n (Ok tt) last u (puts rows2 m n i p t mid e2 lent lt f g) refl
     (λ rows3 e3. let d = z rows3 e3 in record { answer = refl; zones = d.zones; share = d.share })))
+
+-- a lent page went to its list: share s made room and was m, the page came and it was n, and it made room again and is u, or was refused that
+pub put_freed : (R : Type 0) (s m n u : ShareState) (i p k batch high : ℕ) (t : MigrateType) (r : Result (Unit {0}) Refused) → Some t ≡ lent_kind (use_in (share_at s i) p) k →
+    is_listed (plain s) k ≡ true → share_at m i ≡ with_room s.batch s.high_len t (share_at s i) → plain_share (share_at n i) ≡ put p t (plain_share (share_at m i)) →
+    (share_at n i).seat ≡ (share_at m i).seat → batch ≡ s.batch → high ≡ s.high_len → OnOk r (share_at u i ≡ with_room batch high t (share_at n i)) →
+    OnErr r (u ≡ n) → (r ≡ Err JournalFull → R) → IfErr r (λ e. e ≡ JournalFull) → IsFreedIn R i p k s u
+put_freed R s m n u i p k batch high t r e on made page seat b h ok err why only =
+    subst (λ l. IsFreedBy l R s.batch s.high_len p k (share_at s i) (share_at u i)) (sym on) (
+      t,
+      (
+        sym e,
+        record {
+          listed = share_at n i;
+          put = page ∙ ap (λ x. put p t (plain_share x)) made;
+          seat = seat ∙ ap (λ (x : ZoneShareState). x.seat) made;
+          rest = rest r ok err why only;
+        },
+      ),
+    )
+  where
+    rest : (r : Result (Unit {0}) Refused) → OnOk r (share_at u i ≡ with_room batch high t (share_at n i)) → OnErr r (u ≡ n) → (r ≡ Err JournalFull → R) → IfErr r (λ e. e ≡ JournalFull) →
+        (share_at u i ≡ with_room s.batch s.high_len t (share_at n i)) ⊎ (R × (share_at u i ≡ share_at n i))
+    rest (Ok a) ok err why only = inl (ok ∙ ap (λ c. with_room c high t (share_at n i)) b ∙ ap (λ c. with_room s.batch c t (share_at n i)) h)
+    rest (Err x) ok err why only = inr (why (ap Err only), ap (λ v. share_at v i) err)

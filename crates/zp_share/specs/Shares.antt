@@ -1,5 +1,5 @@
 -- A worker's share of a row of zones, and what its calls with the zones promise (this profile).
-use Rattle.std.specs.Prelude.{ℕ, ◌≡◌, ◌≢◌, ◌<◌, ◌≤◌, ◌+◌, ◌*◌, ◌⊎◌, ◌↔◌, IsTrue, IfOk, IfErr, Bool, true, false, List, [], ◌∷◌, length, map, slice_index_or, slice_set, Option, Some, Result, Ok, Err, cond}
+use Rattle.std.specs.Prelude.{ℕ, ◌≡◌, ◌≢◌, ◌<◌, ◌≤◌, ◌+◌, ◌*◌, ◌⊎◌, ◌↔◌, IsTrue, IfOk, IfErr, Bool, true, false, List, [], ◌∷◌, length, map, slice_index_or, slice_set, Option, Some, Result, Ok, Err, cond, leb}
 use Rattle.atomic_table.specs.Seated.{TableId}
 use Rattle.zp_model.specs.declared.refused.Refused.{Refused}
 use Rattle.zp_model.specs.declared.refused.Refused.TheVariants.{NotLent, JournalFull}
@@ -14,9 +14,9 @@ use Rattle.zp_model.specs.Zone.{PlainZone, pages_of, workers_of, zone_opening}
 use Rattle.zp_zone.specs.NamedZone.{NamedZone}
 use Rattle.zp_zone.specs.Seats.{ZoneState, SeatState}
 use Rattle.zp_share.specs.declared.commands.Lent.{Lent}
-use Rattle.zp_share.specs.PlainShares.{PlainShare, lends_for, taken}
+use Rattle.zp_share.specs.PlainShares.{PlainShare, back, lends_for, lent_kind, put, taken}
 use Rattle.zp_share.specs.Sections.{IsReplyTo}
-use Rattle.zp_share.specs.ZoneShares.{ZoneShareState, plain_share, answered, opening_share, is_lent, cached_of}
+use Rattle.zp_share.specs.ZoneShares.{ZoneShareState, plain_share, answered, opening_share, is_lent, cached_of, use_in}
 use Rattle.zp_share.specs.Commands.{World, Done, is_listed, section}
 
 pub record ShareState : Type 0 where
@@ -191,6 +191,32 @@ pub record IsAskedFor (k : ℕ) (t : MigrateType) (m : Mark) (i : ℕ) (r : Resu
   pub given : IfOk r (λ p. IsGivenIn k t m i p s u)
   pub refused : IfErr r (λ e. share_at u i ≡ noted (page_request s k t m) (Reply.Refused e) (share_at s i))
   pub elsewhere : (j : ℕ) → j ≢ i → share_at u j ≡ share_at s j
+
+-- n pages at the back of the list of type t were given back, by one section
+abbrev pub drained_back : ℕ → MigrateType → ZoneShareState → ZoneShareState
+drained_back n t x = answered (Request.Drain t (back n (cached_of x t))) Reply.Drained x
+
+-- a list that had the most pages, `high`, gave back n of them; a shorter one stayed as it was
+abbrev pub with_room : ℕ → ℕ → MigrateType → ZoneShareState → ZoneShareState
+with_room n high t x = cond (leb high (length (cached_of x t))) (drained_back n t x) x
+
+-- lent page p came to the front of the list of type t, which made room first; a list that was full with it gave back n pages once more, or stayed
+-- as it was where that was refused
+pub record IsPutBy (refused : Type 0) (n high : ℕ) (t : MigrateType) (p : ℕ) (x y : ZoneShareState) : Type 0 where
+  pub listed : ZoneShareState
+  pub put : plain_share listed ≡ put p t (plain_share (with_room n high t x))
+  pub seat : listed.seat ≡ (with_room n high t x).seat
+  pub rest : (y ≡ with_room n high t listed) ⊎ (refused × (y ≡ listed))
+
+-- what the share has of a zone when the lent block of order k at page p went back there: by one section; or, where such blocks go to lists, to the
+-- list of the type that it was lent for, and nothing else changed
+abbrev pub IsFreedBy : Bool → Type 0 → ℕ → ℕ → ℕ → ℕ → ZoneShareState → ZoneShareState → Type 0
+IsFreedBy false refused n high p k x y = y ≡ answered (Request.Free p k) Reply.Freed x
+IsFreedBy true refused n high p k x y = (t : MigrateType) × ((lent_kind (use_in x p) k ≡ Some t) × IsPutBy refused n high t p x y)
+
+-- the same of zone i
+abbrev pub IsFreedIn : Type 0 → ℕ → ℕ → ℕ → ShareState → ShareState → Type 0
+IsFreedIn refused i p k s u = IsFreedBy (is_listed (plain s) k) refused s.batch s.high_len p k (share_at s i) (share_at u i)
 
 -- the number of a list of pages among all of a share: zone by zone, in the order of the types
 abbrev pub list_place : ℕ → MigrateType → ℕ

@@ -10,7 +10,7 @@ ghost use Rattle.zp_share.specs.PlainShares.{lent_kind};
 ghost use Rattle.zp_share.specs.ZoneShares.{IsAllocRefusal, IsShare, use_in, is_lent, cached_of};
 ghost use Rattle.zp_share.specs.Commands.{alloc_in, alloc_down, free_in, drain_full, drain_list, drain_zone, drain_all};
 ghost use Rattle.zp_share.specs.Readings.{CoversOwn};
-ghost use Rattle.zp_share.specs.Shares.{IsShareOf, IsSameShare, IsDone, IsAskedFor, IsLentBy, AreAskedDown, AreDrained, DrainsOnce, IsDrainedTill, KeepsLent, HasSameLent, HasSameLentBut, HasEmptyLists, list_place, sections_at, share_at, world};
+ghost use Rattle.zp_share.specs.Shares.{IsShareOf, IsSameShare, IsDone, IsAskedFor, IsFreedIn, IsLentBy, AreAskedDown, AreDrained, DrainsOnce, IsDrainedTill, KeepsLent, HasSameLent, HasSameLentBut, HasEmptyLists, list_place, sections_at, share_at, with_room, world};
 
 use crate::share::Share;
 use crate::zones::Zones;
@@ -109,6 +109,7 @@ pub fn free<Z: Zones>(
     ensures gone { OnOk result (is_lent (share_at share.new zone) page order ≡ false) }
     ensures others { HasSameLentBut zone page share.old share.new }
     ensures left { OnErr result (share.new ≡ share.old) }
+    ensures freed { OnOk result (IsFreedIn (Z.ended zones.new zone share.new) zone page order share.old share.new) }
     ensures elsewhere { (i : ℕ) → i ≢ zone → share_at share.new i ≡ share_at share.old i }
     ensures read { CoversOwn (Z.covers zones.old) (Z.covers zones.new) share.old share.new }
     ensures full { result ≡ Err JournalFull → Z.ended zones.new zone share.new }
@@ -151,6 +152,7 @@ fn drain_full<Z: Zones>(
     ensures kinds { (p k : ℕ) → lent_kind (use_in (share_at share.new zone) p) k ≡ lent_kind (use_in (share_at share.old zone) p) k }
     ensures room { OnOk result (length (cached_of (share_at share.new zone) kind) < share.old.high_len) }
     ensures left { OnErr result (share.new ≡ share.old) }
+    ensures made { OnOk result (share_at share.new zone ≡ with_room share.old.batch share.old.high_len kind (share_at share.old zone)) }
     ensures elsewhere { (i : ℕ) → i ≢ zone → share_at share.new i ≡ share_at share.old i }
     ensures read { CoversOwn (Z.covers zones.old) (Z.covers zones.new) share.old share.new }
     ensures full { result ≡ Err JournalFull → Z.ended zones.new zone share.new }
@@ -175,7 +177,7 @@ pub fn drain_all<Z: Zones>(share: &mut Share, zones: &mut Z) -> Result<usize, Re
     ensures stopped { OnErr result (IsDrainedTill 0 share.old share.new) }
     ensures once { DrainsOnce share.old share.new }
     ensures read { CoversOwn (Z.covers zones.old) (Z.covers zones.new) share.old share.new }
-    ensures full { result ≡ Err JournalFull → (i : ℕ) × Z.ended zones.new i share.new }
+    ensures full { result ≡ Err JournalFull → (i : ℕ) × ((i < length share.old.zones) × Z.ended zones.new i share.new) }
     ensures lent { HasSameLent share.old share.new }
     ensures only { IfErr result (λ e. e ≡ JournalFull) }
     ensures few { IfOk result (λ n. n ≤ MAX_ZONES * (TYPES * LONGEST_LIST)) }

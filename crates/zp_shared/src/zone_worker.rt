@@ -7,10 +7,11 @@ ghost use Rattle.zp_model.specs.declared.migrate_type.MigrateType.TheVariants.{M
 ghost use Rattle.zp_model.specs.declared.mark.Mark.TheVariants.{Low};
 ghost use Rattle.zp_model.specs.declared.refused.Refused.TheVariants.{JournalFull, Memory, NotLent};
 ghost use Rattle.zp_model.specs.declared.constants.TheConstants.{LONGEST_LIST, TYPES, MAX_ZONES};
-ghost use Rattle.zp_share.specs.Shares.{ZoneKey, AreAskedDown, DrainsOnce, HasEmptyLists, HasSameLent, HasSameLentBut, IsDrainedTill, IsLentBy, IsSameShare, IsShareOf, KeepsLent, sections_at, share_at};
+ghost use Rattle.zp_share.specs.Readings.{CoversOwn};
+ghost use Rattle.zp_share.specs.Shares.{ZoneKey, AreAskedDown, DrainsOnce, HasEmptyLists, HasSameLent, HasSameLentBut, IsDrainedTill, IsFreedIn, IsLentBy, IsSameShare, IsShareOf, KeepsLent, sections_at, share_at};
 ghost use Rattle.zp_share.specs.ZoneShares.{IsAllocRefusal, is_lent};
 ghost use Rattle.zp_shared.specs.OneZones.{WorkerState, opening_worker};
-ghost use Rattle.zp_shared.specs.Rows.{AreReaders, AreReadersOf, IsReadAt, seen_at, seen_by};
+ghost use Rattle.zp_shared.specs.Rows.{AreReaders, AreReadersOf, HasCovered, HasSeenAll, IsReadAt, board_at, seen_at, seen_by};
 ghost use Rattle.zp_zone.specs.Seats.{IsUnused};
 
 use crate::locked_zones::LockedZones;
@@ -173,6 +174,8 @@ impl<'a, J: Naming, R: Wait, K: Keeps> WorkerAt<'a, J, R, K> {
         ensures blocks { IsLentBy result self.old.share self.new.share }
         ensures only { IfErr result IsAllocRefusal }
         ensures asked { AreAskedDown order kind mark 0 result self.old.share self.new.share }
+        ensures read { CoversOwn (HasCovered self.old.view) (HasCovered self.new.view) self.old.share self.new.share }
+        ensures full { result ≡ Err JournalFull → HasSeenAll (K.bounds (board_at J.boards 0).capacity) self.new.view 0 }
     {
         let WorkerAt { share, view } = self;
         alloc(share, view, order, kind, 0, mark)
@@ -188,6 +191,8 @@ impl<'a, J: Naming, R: Wait, K: Keeps> WorkerAt<'a, J, R, K> {
         ensures blocks { IsLentBy result self.old.share self.new.share }
         ensures only { IfErr result IsAllocRefusal }
         ensures asked { AreAskedDown order Movable Low 0 result self.old.share self.new.share }
+        ensures read { CoversOwn (HasCovered self.old.view) (HasCovered self.new.view) self.old.share self.new.share }
+        ensures full { result ≡ Err JournalFull → HasSeenAll (K.bounds (board_at J.boards 0).capacity) self.new.view 0 }
     {
         self.alloc(order, MigrateType::Movable, Mark::Low)
     }
@@ -200,6 +205,9 @@ impl<'a, J: Naming, R: Wait, K: Keeps> WorkerAt<'a, J, R, K> {
         ensures gone { OnOk result (is_lent (share_at self.new.share 0) lent.now.page lent.now.order ≡ false) }
         ensures others { HasSameLentBut 0 lent.now.page self.old.share self.new.share }
         ensures left { OnErr result (self.new.share ≡ self.old.share) }
+        ensures freed { OnOk result (IsFreedIn (HasSeenAll (K.bounds (board_at J.boards 0).capacity) self.new.view 0) 0 lent.now.page lent.now.order self.old.share self.new.share) }
+        ensures read { CoversOwn (HasCovered self.old.view) (HasCovered self.new.view) self.old.share self.new.share }
+        ensures full { result ≡ Err JournalFull → HasSeenAll (K.bounds (board_at J.boards 0).capacity) self.new.view 0 }
         ensures only { IfErr result (λ e. (e ≡ NotLent) ⊎ (e ≡ JournalFull)) }
     {
         let WorkerAt { share, view } = self;
@@ -213,6 +221,8 @@ impl<'a, J: Naming, R: Wait, K: Keeps> WorkerAt<'a, J, R, K> {
         ensures empty { OnOk result (HasEmptyLists self.new.share) }
         ensures stopped { OnErr result (IsDrainedTill 0 self.old.share self.new.share) }
         ensures once { DrainsOnce self.old.share self.new.share }
+        ensures read { CoversOwn (HasCovered self.old.view) (HasCovered self.new.view) self.old.share self.new.share }
+        ensures full { result ≡ Err JournalFull → HasSeenAll (K.bounds (board_at J.boards 0).capacity) self.new.view 0 }
         ensures lent { HasSameLent self.old.share self.new.share }
         ensures only { IfErr result (λ e. e ≡ JournalFull) }
         ensures few { IfOk result (λ n. n ≤ MAX_ZONES * (TYPES * LONGEST_LIST)) }

@@ -1,6 +1,6 @@
 use Rattle.std.proofs.Common.{◌∙◌, sym, rules}
 use Rattle.zp_share.proofs.Carrying.{moved_fits}
-use Rattle.zp_share.proofs.Freeing.{put_gone, put_others, freed, lent_still}
+use Rattle.zp_share.proofs.Freeing.{put_gone, put_others, put_freed, freed, lent_still}
 use Rattle.zp_share.proofs.commands.free.Goals as goal
 
 pub put_lent-len-requires-clause-lent : goal.put_lent-len-requires-clause-lent
@@ -33,3 +33,10 @@ returns-clause-others g c =
     (lent_still c.args.share.now c.drain_full.new.share c.args.zone c.args.page c.args.order c.in-Some.kind c.drain_full.ensures.kinds c.in-Some.ensures.kind (sym c.is_listed.ensures ∙ c.if-not-is_listed.false))
     c.put_lent-len.ensures.others c.put_lent-len.ensures.after i p k ne
     ∙ c.drain_full.ensures.lent i p k
+
+pub returns-clause-freed : goal.returns-clause-freed
+returns-clause-freed g c =
+    put_freed (g.Z.Zones.ended c.drain_full-2.new.zones c.args.zone c.drain_full-2.new.share) c.args.share.now c.drain_full.new.share c.put_lent-len.new.self c.drain_full-2.new.share c.args.zone c.args.page c.args.order
+    c.put_lent-len.new.self.batch c.put_lent-len.new.self.high_len c.in-Some.kind c.drain_full-2.result
+    c.in-Some.ensures.kind (sym c.is_listed.ensures ∙ c.if-not-is_listed.false) c.in_ok-drain_full.ensures.made c.put_lent-len.ensures.after c.put_lent-len.ensures.seat
+    (search rules) (search rules) c.drain_full-2.ensures.made c.drain_full-2.ensures.left c.drain_full-2.ensures.full c.drain_full-2.ensures.only

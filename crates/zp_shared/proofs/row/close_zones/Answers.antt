@@ -1,14 +1,13 @@
-use Rattle.std.proofs.Common.{ℕ, ◌≡◌, ◌<◌, ◌+◌, ◌++◌, [], ◌∷◌, All, ap, ap₂, append-nil, append_assoc, arith, length, length-append, map, subst, sym, ◌∙◌}
+use Rattle.std.proofs.Common.{ℕ, ◌≡◌, ◌+◌, ◌++◌, [], ◌∷◌, All, ap, ap₂, append-nil, append_assoc, arith, length, length-append, map, subst, sym, ◌∙◌}
 use Rattle.std.specs.List.{AllZip}
 use Rattle.std.proofs.lemmas.Grind.{common_steps}
 use Rattle.std.proofs.lemmas.List.{map-append}
 use Rattle.zp_counts.specs.CountBoards.{BoardState}
 use Rattle.zp_journal.specs.Journals.{IsJournalOf, JournalState}
 use Rattle.zp_share.specs.Shares.{key_of}
-use Rattle.zp_shared.specs.Rows.{AreKept, HaveReadZones, IsLegalBy, board_at, key_at}
+use Rattle.zp_shared.specs.Rows.{HaveReadZones, IsLegalBy, board_at, key_at}
 use Rattle.zp_shared.proofs.Places.{boards_at_places, keys_at_places, legal_by_keys, place_next, zip_more}
 use Rattle.zp_shared.proofs.Readers.{none_read, rows_fit, rows_read_more, rows_same, rows_trans}
-use Rattle.zp_shared.proofs.row.close_zones.Given.{Over}
 use Rattle.zp_shared.proofs.row.close_zones.Goals as goal
 
 pub loop-shared-init : goal.loop-shared-init

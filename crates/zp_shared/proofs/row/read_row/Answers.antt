@@ -1,11 +1,9 @@
-use Rattle.std.proofs.Common.{◌≡◌, ◌≢◌, ◌∙◌, ◌<◌, ap, arith, length, subst, sym}
-use Rattle.std.specs.Prelude.{slice_set}
+use Rattle.std.proofs.Common.{◌∙◌, ◌<◌, ap, arith, length, subst, sym}
 use mathlib.Core.List.{IsPrefix}
 use Rattle.zp_counts.specs.CountBoards.{BoardState}
 use Rattle.zp_counts.specs.CountBoards.{CountsSeen}
 use Rattle.zp_shared.specs.Rows.{HaveReadAt, IsPublished}
 use Rattle.zp_shared.proofs.Readers.{reader_tie, readers_length, readers_set, seen_beside, seen_here, seen_put}
-use Rattle.zp_shared.proofs.row.read_row.Given.{Over}
 use Rattle.zp_shared.proofs.row.read_row.Goals as goal
 
 pub read_board-requires-clause-reader : goal.read_board-requires-clause-reader

@@ -1,4 +1,4 @@
-use Rattle.std.proofs.Common.{◌≡◌, ◌≢◌, ◌≤◌, ◌<◌, ◌+◌, ℕ, ap, arith, get_or, length, set, subst, sym, take, ◌++◌, ◌∷◌, [], ◌∙◌}
+use Rattle.std.proofs.Common.{◌≡◌, ◌≢◌, ◌≤◌, ◌<◌, ◌+◌, ap, arith, get_or, length, set, subst, sym, take, ◌++◌, ◌∷◌, [], ◌∙◌}
 use Rattle.std.specs.List.{AllZip}
 use Rattle.std.proofs.lemmas.List.{get_or-set_other, take_all, take_more, take_more_set}
 use Rattle.zp_shared.specs.Rows.{AreKept, HaveReadAt}

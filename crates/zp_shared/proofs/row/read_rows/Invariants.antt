@@ -1,4 +1,4 @@
-use Rattle.std.proofs.Common.{◌≡◌, ◌≤◌, ℕ, get_or, length, take}
+use Rattle.std.proofs.Common.{◌≡◌, ◌≤◌, ℕ, get_or, take}
 use Rattle.std.specs.Global.{Vec}
 use Rattle.std.specs.List.{AllZip}
 use Rattle.zp_counts.specs.CountBoards.{CountsSeen}

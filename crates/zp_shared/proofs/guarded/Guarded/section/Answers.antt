@@ -1,7 +1,4 @@
-use Rattle.std.proofs.Common.{◌≡◌, ◌<◌, ◌≤◌, ◌↔◌, sym, ap, arith, length, subst, ◌∙◌, false, leb}
-use Rattle.std.specs.Prelude.{IsTrue}
-use Rattle.std.proofs.lemmas.Bool.{leb-false}
-use Rattle.zp_counts.specs.CountBoards.{BoardState}
+use Rattle.std.proofs.Common.{sym, ap, arith, subst, ◌∙◌}
 use Rattle.zp_share.specs.Shares.{ZoneKey, share_at, workers_at}
 use Rattle.zp_share.proofs.Asking.{may_more}
 use Rattle.zp_shared.specs.Rows.{GuardedZone, board_at}
