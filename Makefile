@@ -9,6 +9,8 @@ all: $(LIBRARIES) build/zonealloc.pc
 
 build/libzonealloc.a: $(ARCHIVE)
 	mkdir -p build && cp $(ARCHIVE) $@
+$(ARCHIVE):
+	@echo "make: there is no archive $@. With the toolchain of the README, 'cd crates/zonealloc && rt lib' builds it" >&2; exit 1
 build/libzonealloc_malloc.a: c/zonealloc_malloc.c
 	mkdir -p build && $(CC) $(CFLAGS) -Iinclude -fPIC -c $< -o build/zonealloc_malloc.o && $(AR) rcs $@ build/zonealloc_malloc.o
 build/zonealloc.pc: zonealloc.pc.in

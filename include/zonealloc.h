@@ -11,11 +11,9 @@
  *   ALONE  no other call on this row or on a worker of it meanwhile.
  * A worker's handle leads to its row, so no call takes two handles, and no worker can be used with a row that is not its own.
  *
- * Each call answers ZONE_OK or a number below. With any other number than ZONE_OK it has changed nothing, its results included, but where
- * its line says what it has. Of what is wrong with a worker's call the first of these is answered: an order, a type or a mark names nothing, or
- * a worker's number is 32 or more; the handle is empty; the row has no such zone; its zones have no such worker, or the worker has no lists,
- * pages on the list that is to be filled, or too few to drain. Only then a zone is asked, and ZONE_BUSY comes before any refusal. What C
- * cannot tell is the caller's: no pointer is null, a buffer is as long as is said, no two arguments overlap.
+ * Each call answers ZONE_OK or a number. Above its declaration stand all the numbers that it may answer, with when: where more than one
+ * holds, the first of them is answered. With any other number than ZONE_OK it has changed nothing, its results included, but where its text
+ * says what it has. What C cannot tell is the caller's: no pointer is null, a buffer is as long as is said, no two arguments overlap.
  *
  * Pages are absolute numbers, pageblocks and zones are counted from 0. The archive calls rattle_alloc and rattle_dealloc in
  * zonealloc_make, zonealloc_dismiss and zonealloc_unmake, and nowhere else: see docs/c.md. */
@@ -53,20 +51,20 @@ enum {
     ZONE_NO_MEMORY = 6,
     ZONE_BELOW_MARK = 10,         /* the request would take the available pages below its mark */
     ZONE_NO_BLOCK = 11,           /* no free block outside isolated pageblocks is large enough */
-    ZONE_NOTHING_POSTED = 12,
+    ZONE_NOTHING_POSTED = 12,     /* nothing of this zone is posted to the worker */
     ZONE_BAD_PAGEBLOCK = 13,      /* the zone has none of this number */
     ZONE_ALREADY_ISOLATED = 14,
     ZONE_NOT_ISOLATED = 15,
     ZONE_NOT_LENT = 20,           /* the block is not lent to this worker with this order */
-    ZONE_LIST_FULL = 21,          /* of put: drain first */
+    ZONE_LIST_FULL = 21,          /* of put: drain the list of the page's type first */
     ZONE_ENDED = 30,              /* the worker made the last of 2^64 - 1 requests to the zone */
     ZONE_BAD_ARGUMENT = 40,       /* an order, type, mark, zone, worker, page or count out of its range */
     ZONE_BAD_HANDLE = 41,         /* nothing is in the handle; of make: something is */
     ZONE_BUSY = 42,               /* another is in the zone */
-    ZONE_HAS_WORKERS = 43,        /* a worker of the row was not dismissed */
+    ZONE_HAS_WORKERS = 43,        /* a worker was not dismissed */
     ZONE_LIST_EMPTY = 44,         /* of take: refill first */
-    ZONE_LIST_NOT_EMPTY = 45,     /* of refill */
-    ZONE_NO_LISTS = 46            /* of refill: the row was made with batch 0 */
+    ZONE_LIST_NOT_EMPTY = 45,     /* of refill: take first */
+    ZONE_NO_LISTS = 46            /* of refill and put: the row was made with batch 0, so use alloc and free */
 };
 
 /* What a zone is made with: its first page, its pages, its least mark, the order of its largest block and of its pageblocks (1 to 10), and
@@ -79,70 +77,180 @@ typedef struct zone_totals { uint32_t free, posted, cached, lent; } zone_totals_
 
 /* --- making and unmaking: these alone take and give memory --- */
 
-/* At any time. How many bytes a making takes at most, with so many workers, without what the memory functions need for themselves. Refused
- * for how many zones, workers or pages there are alone. */
+/* At any time. How many bytes a making takes at most, with so many workers, without what the memory functions need for themselves; with
+ * lists or without. It is at most a twentieth more than the making takes. It looks of a zone at its pages and at its largest order alone.
+ *   ZONE_BAD_ARGUMENT      not 1 to 64 zones
+ *   ZONE_BAD_WORKERS       not 1 to 32 workers
+ *   ZONE_BAD_ARGUMENT      zone by zone: its largest order is not 1 to 10
+ *   ZONE_BAD_PAGES         then: its pages are not 1 to 16777216 */
 uint32_t zonealloc_bytes(const zone_spec_t *zones, size_t n_zones, uint32_t workers, uint64_t *bytes);
 /* ALONE. Fills an empty row and all its empty workers, which are numbered by their place. Each zone begins at the end of the one before it, or
- * above that. batch 0 and high_len 0: no lists; else batch is 1 to 31 and high_len above it, at most 64. Of what is wrong the first of these is
- * answered: a handle that is not empty; ZONE_BAD_ARGUMENT for how many zones there are; ZONE_BAD_WORKERS; ZONE_BAD_ARGUMENT for the lists;
- * zones that are not apart; zone by zone a name that is too long or no text, and a largest order; then zone by zone what has the least number.
- * ZONE_NO_MEMORY comes where memory is refused, which may be before the names are read. */
+ * above that. batch 0 and high_len 0: no lists; else batch is 1 to 31 and high_len above it, at most 64.
+ *   ZONE_BAD_HANDLE        the row's handle is not empty, or one of the workers'
+ *   ZONE_BAD_ARGUMENT      not 1 to 64 zones
+ *   ZONE_BAD_WORKERS       not 1 to 32 workers
+ *   ZONE_BAD_ARGUMENT      the lists
+ *   ZONE_BAD_BASE          a zone begins before the end of the one before it
+ *   ZONE_BAD_NAME          zone by zone: its name is longer than 8 bytes, or no text
+ *   ZONE_BAD_ARGUMENT      then: its largest order is not 1 to 10
+ *   ZONE_BAD_NAME          once more zone by zone, the first of what its line above says: the name
+ *   ZONE_BAD_BASE          then: the first page
+ *   ZONE_BAD_PAGES         then: the pages
+ *   ZONE_BAD_MARK          then: the least mark
+ *   ZONE_NO_MEMORY         memory was refused, which may be before the names are read */
 uint32_t zonealloc_make(zone_row_t *row, zone_worker_t *workers, size_t n_workers, const zone_spec_t *zones, size_t n_zones, uint32_t batch,
                         uint32_t high_len);
 /* ZONE, of each zone. Ends a worker, for good: no other gets its place, and what is posted to it stays. What its lists have and what is lent
- * to it stays noted with the row until that is unmade. ZONE_BUSY: the worker has left the zones of higher numbers, and calls to those are
- * answered ZONE_BAD_ARGUMENT; call again. */
+ * to it stays noted with the row until that is unmade.
+ *   ZONE_BAD_HANDLE        nothing is in the handle
+ *   ZONE_BUSY              another is in a zone. The worker has left the zones of higher numbers, and calls to those are answered
+ *                          ZONE_BAD_ARGUMENT; call again */
 uint32_t zonealloc_dismiss(zone_worker_t *worker);
-/* ALONE. Gives back the row's memory; ZONE_HAS_WORKERS while a worker of it is not dismissed. */
+/* ALONE. Gives back the row's memory.
+ *   ZONE_BAD_HANDLE        nothing is in the handle
+ *   ZONE_HAS_WORKERS       a worker of the row was not dismissed */
 uint32_t zonealloc_unmake(zone_row_t *row);
 
 /* --- the worker's own lists: no lock --- */
 
-/* OWN. The page in front of the worker's list of this type, which is then lent. ZONE_LIST_EMPTY: refill first. */
+/* OWN. The page in front of the worker's list of this type, which is then lent.
+ *   ZONE_BAD_ARGUMENT      the type is above 2
+ *   ZONE_BAD_HANDLE        nothing is in the handle
+ *   ZONE_BAD_ARGUMENT      the row has no such zone
+ *   ZONE_LIST_EMPTY        refill first. In a row without lists all are empty, and refill tells */
 uint32_t zonealloc_take(zone_worker_t *worker, uint32_t zone, uint32_t type, uint32_t *page);
-/* OWN. A lent page to the front of the list of its type. ZONE_NOT_LENT; ZONE_LIST_FULL: drain first. */
+/* OWN. A lent page to the front of the list of its type.
+ *   ZONE_BAD_HANDLE        nothing is in the handle
+ *   ZONE_BAD_ARGUMENT      the row has no such zone
+ *   ZONE_NO_LISTS          the row was made with batch 0: whatever the page, give it back by zonealloc_free
+ *   ZONE_NOT_LENT          the page is not lent to this worker as a block of order 0. A page outside the zone never is
+ *   ZONE_LIST_FULL         the list of the page's type has high_len pages: drain that one first. zonealloc_page tells the type */
 uint32_t zonealloc_put(zone_worker_t *worker, uint32_t zone, uint32_t page);
-/* OWN. Whether the block is lent to the worker with this order: *lent is 1 or 0. */
+/* OWN. Whether the block is lent to the worker with this order: *lent is 1 or 0. It is 0 of a page outside the zone, and of an order above
+ * the zone's largest.
+ *   ZONE_BAD_ARGUMENT      the order is above 10
+ *   ZONE_BAD_HANDLE        nothing is in the handle
+ *   ZONE_BAD_ARGUMENT      the row has no such zone */
 uint32_t zonealloc_is_lent(zone_worker_t *worker, uint32_t zone, uint32_t page, uint32_t order, uint32_t *lent);
-/* OWN. How many pages the worker's list has. */
+/* OWN. How many pages the worker's list has: 0 in a row without lists.
+ *   ZONE_BAD_ARGUMENT      the type is above 2
+ *   ZONE_BAD_HANDLE        nothing is in the handle
+ *   ZONE_BAD_ARGUMENT      the row has no such zone */
 uint32_t zonealloc_cached(zone_worker_t *worker, uint32_t zone, uint32_t type, uint32_t *pages);
 
 /* --- requests to one zone --- */
 
-/* ZONE. A block of 2^order pages, which is then lent: its first page. ZONE_BELOW_MARK, ZONE_NO_BLOCK: ask the zone below. */
+/* ZONE. A block of 2^order pages, which is then lent: its first page.
+ *   ZONE_BAD_ARGUMENT      the order is above 10, the type or the mark above 2
+ *   ZONE_BAD_HANDLE        nothing is in the handle
+ *   ZONE_BAD_ARGUMENT      the row has no such zone
+ *   ZONE_BUSY              another is in the zone
+ *   ZONE_ENDED             the worker made its last request to the zone
+ *   ZONE_BELOW_MARK        so many pages less would be below the mark: ask the zone below
+ *   ZONE_NO_BLOCK          no free block is so large, as ever where the order is above the zone's largest: ask the zone below */
 uint32_t zonealloc_alloc(zone_worker_t *worker, uint32_t zone, uint32_t order, uint32_t type, uint32_t mark, uint32_t *page);
-/* ZONE. The lowest free block of this order, which is then lent. It is held to no mark. */
+/* ZONE. The lowest free block of this order, which is then lent. It is held to no mark.
+ *   ZONE_BAD_ARGUMENT      the order is above 10
+ *   ZONE_BAD_HANDLE        nothing is in the handle
+ *   ZONE_BAD_ARGUMENT      the row has no such zone
+ *   ZONE_BUSY              another is in the zone
+ *   ZONE_ENDED             the worker made its last request to the zone
+ *   ZONE_NO_BLOCK          no free block is so large, as ever where the order is above the zone's largest */
 uint32_t zonealloc_alloc_low(zone_worker_t *worker, uint32_t zone, uint32_t order, uint32_t *page);
-/* ZONE. Gives back a block that is lent to this worker to the zone, single pages too. */
+/* ZONE. Gives back a block that is lent to this worker to the zone, single pages too.
+ *   ZONE_BAD_ARGUMENT      the order is above 10
+ *   ZONE_BAD_HANDLE        nothing is in the handle
+ *   ZONE_BAD_ARGUMENT      the row has no such zone
+ *   ZONE_BUSY              another is in the zone
+ *   ZONE_NOT_LENT          nor is a page outside the zone, nor a block of an order above the zone's largest
+ *   ZONE_ENDED             the worker made its last request to the zone */
 uint32_t zonealloc_free(zone_worker_t *worker, uint32_t zone, uint32_t page, uint32_t order);
-/* ZONE. Posts a lent block to the worker of this number. */
+/* ZONE. Posts a lent block to the worker of this number, dismissed or not.
+ *   ZONE_BAD_ARGUMENT      the order is above 10, or the number above 31
+ *   ZONE_BAD_HANDLE        nothing is in the handle
+ *   ZONE_BAD_ARGUMENT      the row has no such zone, or was made without a worker of this number
+ *   ZONE_BUSY              another is in the zone
+ *   ZONE_NOT_LENT          nor is a page outside the zone, nor a block of an order above the zone's largest
+ *   ZONE_ENDED             the worker made its last request to the zone */
 uint32_t zonealloc_post(zone_worker_t *worker, uint32_t zone, uint32_t page, uint32_t order, uint32_t to);
-/* ZONE. The block in front of those that were posted to the worker, which is then lent. */
+/* ZONE. The block in front of those that were posted to the worker, which is then lent.
+ *   ZONE_BAD_HANDLE        nothing is in the handle
+ *   ZONE_BAD_ARGUMENT      the row has no such zone
+ *   ZONE_BUSY              another is in the zone
+ *   ZONE_ENDED             the worker made its last request to the zone
+ *   ZONE_NOTHING_POSTED */
 uint32_t zonealloc_collect(zone_worker_t *worker, uint32_t zone, uint32_t *page, uint32_t *order);
-/* ZONE. Isolates a pageblock, by its number in the zone. */
+/* ZONE. Isolates a pageblock, by its number in the zone.
+ *   ZONE_BAD_HANDLE        nothing is in the handle
+ *   ZONE_BAD_ARGUMENT      the row has no such zone
+ *   ZONE_BUSY              another is in the zone
+ *   ZONE_ENDED             the worker made its last request to the zone
+ *   ZONE_BAD_PAGEBLOCK     the zone has none of this number
+ *   ZONE_ALREADY_ISOLATED */
 uint32_t zonealloc_isolate(zone_worker_t *worker, uint32_t zone, uint32_t pageblock);
-/* ZONE. Gives an isolated pageblock a type. */
+/* ZONE. Gives an isolated pageblock a type.
+ *   ZONE_BAD_ARGUMENT      the type is above 2
+ *   ZONE_BAD_HANDLE        nothing is in the handle
+ *   ZONE_BAD_ARGUMENT      the row has no such zone
+ *   ZONE_BUSY              another is in the zone
+ *   ZONE_ENDED             the worker made its last request to the zone
+ *   ZONE_BAD_PAGEBLOCK     the zone has none of this number
+ *   ZONE_NOT_ISOLATED */
 uint32_t zonealloc_release(zone_worker_t *worker, uint32_t zone, uint32_t pageblock, uint32_t type);
-/* ZONE. Fills the worker's empty list with up to a batch of pages. */
+/* ZONE. Fills the worker's empty list with up to a batch of pages, one at least.
+ *   ZONE_BAD_ARGUMENT      the type or the mark is above 2
+ *   ZONE_BAD_HANDLE        nothing is in the handle
+ *   ZONE_BAD_ARGUMENT      the row has no such zone
+ *   ZONE_NO_LISTS          the row was made with batch 0: take pages by zonealloc_alloc
+ *   ZONE_LIST_NOT_EMPTY    take first
+ *   ZONE_BUSY              another is in the zone
+ *   ZONE_ENDED             the worker made its last request to the zone
+ *   ZONE_BELOW_MARK        one page less would be below the mark: ask the zone below
+ *   ZONE_NO_BLOCK          there is no free page outside isolated pageblocks: ask the zone below */
 uint32_t zonealloc_refill(zone_worker_t *worker, uint32_t zone, uint32_t type, uint32_t mark);
-/* ZONE. Gives back so many pages, at least one, from the back of the worker's list. ZONE_BAD_ARGUMENT where it has fewer. */
+/* ZONE. Gives back so many pages, from the back of the worker's list.
+ *   ZONE_BAD_ARGUMENT      the type is above 2
+ *   ZONE_BAD_HANDLE        nothing is in the handle
+ *   ZONE_BAD_ARGUMENT      the row has no such zone; or the count is 0, or above what the list has, as any is in a row without lists
+ *   ZONE_BUSY              another is in the zone
+ *   ZONE_ENDED             the worker made its last request to the zone */
 uint32_t zonealloc_drain(zone_worker_t *worker, uint32_t zone, uint32_t type, uint32_t count);
-/* ZONE. Gives back all pages of the worker's lists of this zone, a list at a time. Where it does not answer ZONE_OK the lists before the
- * one that was refused are empty, and the rest is as it was. */
+/* ZONE. Gives back all pages of the worker's lists of this zone, a list at a time. Where no list has a page, no zone is asked.
+ *   ZONE_BAD_HANDLE        nothing is in the handle
+ *   ZONE_BAD_ARGUMENT      the row has no such zone
+ *   ZONE_BUSY              another is in the zone. The lists before the one that was refused are empty, and the rest is as it was
+ *   ZONE_ENDED             the worker made its last request to the zone. Of the lists it is as with ZONE_BUSY */
 uint32_t zonealloc_drain_all(zone_worker_t *worker, uint32_t zone);
 
 /* --- reading --- */
 
-/* ZONE. Free blocks of each order, free and posted pages, and the level. */
+/* ZONE. Free blocks of each order, free and posted pages, and the level.
+ *   ZONE_BAD_HANDLE        nothing is in the handle
+ *   ZONE_BAD_ARGUMENT      the row has no such zone
+ *   ZONE_BUSY              another is in the zone */
 uint32_t zonealloc_counts(zone_worker_t *worker, uint32_t zone, zone_counts_t *counts);
-/* ZONE. The info line with its line feed, and no zero: as much as there is room for, and its whole length. */
+/* ZONE. The info line with its line feed, and no zero: as much as there is room for, and its whole length.
+ *   ZONE_BAD_HANDLE        nothing is in the handle
+ *   ZONE_BAD_ARGUMENT      the row has no such zone
+ *   ZONE_BUSY              another is in the zone */
 uint32_t zonealloc_info(zone_worker_t *worker, uint32_t zone, uint8_t *buffer, size_t room, size_t *len);
-/* ZONE. What is noted of a page of the zone. */
+/* ZONE. What is noted of a page of the zone.
+ *   ZONE_BAD_HANDLE        nothing is in the handle
+ *   ZONE_BAD_ARGUMENT      the row has no such zone
+ *   ZONE_BUSY              another is in the zone
+ *   ZONE_BAD_ARGUMENT      the page is outside the zone, which the zone tells: so ZONE_BUSY comes first */
 uint32_t zonealloc_page(zone_worker_t *worker, uint32_t zone, uint32_t page, zone_page_t *told);
-/* ZONE. What a pageblock is. */
+/* ZONE. What a pageblock is.
+ *   ZONE_BAD_HANDLE        nothing is in the handle
+ *   ZONE_BAD_ARGUMENT      the row has no such zone
+ *   ZONE_BUSY              another is in the zone
+ *   ZONE_BAD_PAGEBLOCK     the zone has none of this number */
 uint32_t zonealloc_pageblock(zone_worker_t *worker, uint32_t zone, uint32_t pageblock, zone_pageblock_t *told);
-/* ZONE. Where the pages of a zone are, when all workers were dismissed; ZONE_HAS_WORKERS before that. What is lent then was never given
- * back. */
+/* ZONE. Where the pages of a zone are, when all workers were dismissed. What is lent then was never given back.
+ *   ZONE_BAD_HANDLE        nothing is in the handle
+ *   ZONE_BAD_ARGUMENT      the row has no such zone
+ *   ZONE_BUSY              another is in the zone
+ *   ZONE_HAS_WORKERS       a worker has not left this zone. (A dismissal that was answered ZONE_BUSY may have left some zones.) */
 uint32_t zonealloc_gather(zone_row_t *row, uint32_t zone, zone_totals_t *totals);
 
 #ifdef __cplusplus

@@ -89,32 +89,58 @@ static inline uint32_t zone_listed(zone_pool_t *pool, zone_worker_t *own, uint32
     ZONE_ASK(pool, zone, answer, zonealloc_refill(own, zone, type, mark));
     return answer == ZONE_OK ? zonealloc_take(own, zone, type, page) : answer;
 }
+/* Gives back what the worker's lists have of the zones up to this one. Whether that was anything. */
+static inline int zone_drain_down(zone_pool_t *pool, zone_worker_t *own, uint32_t zone) {
+    uint32_t at, type, cached, has, answer;
+    int some = 0;
+    for (at = zone + 1; at-- > 0 && pool->batch != 0;) {
+        for (has = 0, type = 0; type < ZONE_TYPES; type++) has += zonealloc_cached(own, at, type, &cached) == ZONE_OK ? cached : 0;
+        if (has == 0) continue;
+        ZONE_ASK(pool, at, answer, zonealloc_drain_all(own, at));
+        some |= answer == ZONE_OK;
+    }
+    return some;
+}
 /* ANY. A block of 2^order pages, of *zone or the nearest zone below that gives one: its first page, and in *zone the zone that it is of.
- * A single page comes from the worker's list, which is filled where it is empty. */
+ * A single page comes from the worker's list, which is filled where it is empty. Where no zone gives a block, the worker's own lists of these
+ * zones, of all types, go back to them, and where those had a page all zones are asked once more. Other workers' lists stay as they are.
+ * ZONE_BELOW_MARK and ZONE_NO_BLOCK are the lowest zone's answer. */
 static inline uint32_t zone_alloc_pages(zone_pool_t *pool, uint32_t worker, uint32_t order, uint32_t type, uint32_t mark, uint32_t *zone,
                                         uint32_t *page) {
-    uint32_t at, answer = ZONE_NO_BLOCK;
+    zone_worker_t *own = &pool->seats[worker % ZONE_WORKERS].worker;
+    uint32_t at, drained = 0, answer = ZONE_NO_BLOCK;
     if (worker >= pool->workers || *zone >= ZONE_ZONES) return ZONE_BAD_ARGUMENT;
-    for (at = *zone + 1; at-- > 0 && (answer == ZONE_NO_BLOCK || answer == ZONE_BELOW_MARK);) {
-        zone_worker_t *own = &pool->seats[worker].worker;
-        if (order == 0 && pool->batch != 0) answer = zone_listed(pool, own, type, mark, at, page);
-        else ZONE_ASK(pool, at, answer, zonealloc_alloc(own, at, order, type, mark, page));
-        if (answer == ZONE_OK) *zone = at;
-    }
+    do {
+        for (at = *zone + 1; at-- > 0 && (answer == ZONE_NO_BLOCK || answer == ZONE_BELOW_MARK);) {
+            if (order == 0 && pool->batch != 0) answer = zone_listed(pool, own, type, mark, at, page);
+            else ZONE_ASK(pool, at, answer, zonealloc_alloc(own, at, order, type, mark, page));
+            if (answer == ZONE_OK) *zone = at;
+        }
+    } while ((answer == ZONE_NO_BLOCK || answer == ZONE_BELOW_MARK) && drained++ == 0 && zone_drain_down(pool, own, *zone));
     return answer;
 }
-/* ANY. Gives back a block of a zone: a single page to the worker's list, from which a batch goes to the zone first where it is full. */
+/* The type of a page for which its list has no room: that of the one list that is full, and where more are, what is noted of the page. */
+static inline uint32_t zone_full_type(zone_pool_t *pool, zone_worker_t *own, uint32_t zone, uint32_t page, uint32_t *type) {
+    zone_page_t noted;
+    uint32_t at, cached, full = 0, answer = ZONE_OK;
+    for (at = 0; at < ZONE_TYPES; at++)
+        if (zonealloc_cached(own, zone, at, &cached) == ZONE_OK && cached >= pool->high_len) { *type = at; full++; }
+    if (full == 1) return ZONE_OK;
+    ZONE_ASK(pool, zone, answer, zonealloc_page(own, zone, page, &noted));
+    if (answer == ZONE_OK) *type = noted.type;
+    return answer;
+}
+/* ANY. Gives back a block of a zone: a single page to the worker's list of its type, from which a batch goes to the zone first where it is
+ * full. No other list changes. */
 static inline uint32_t zone_free_pages(zone_pool_t *pool, uint32_t worker, uint32_t zone, uint32_t page, uint32_t order) {
     zone_worker_t *own = &pool->seats[worker % ZONE_WORKERS].worker;
-    uint32_t type, cached, answer = ZONE_BAD_ARGUMENT;
+    uint32_t type = 0, answer = ZONE_BAD_ARGUMENT;
     if (worker >= pool->workers) return answer;
     if (order == 0 && pool->batch != 0) answer = zonealloc_put(own, zone, page);
     else ZONE_ASK(pool, zone, answer, zonealloc_free(own, zone, page, order));
-    for (type = 0; answer == ZONE_LIST_FULL && type < ZONE_TYPES; type++) {
-        if (zonealloc_cached(own, zone, type, &cached) != ZONE_OK || cached < pool->high_len) continue;
-        ZONE_ASK(pool, zone, answer, zonealloc_drain(own, zone, type, pool->batch));
-        if (answer == ZONE_OK) answer = zonealloc_put(own, zone, page);
-    }
-    return answer;
+    if (answer != ZONE_LIST_FULL) return answer;
+    answer = zone_full_type(pool, own, zone, page, &type);
+    if (answer == ZONE_OK) ZONE_ASK(pool, zone, answer, zonealloc_drain(own, zone, type, pool->batch));
+    return answer == ZONE_OK ? zonealloc_put(own, zone, page) : answer;
 }
 #endif

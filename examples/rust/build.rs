@@ -1,4 +1,4 @@
-//! Links the archive, and the two memory functions over malloc. Where they are, two variables of the environment tell:
+//! Links the archive, and with the feature `std` the two memory functions over malloc. Where they are, two variables of the environment tell:
 //! ZONEALLOC_ARCHIVE (libzonealloc.a) and ZONEALLOC_MALLOC (libzonealloc_malloc.a, which `make` leaves in build/).
 
 use std::env;
@@ -18,5 +18,7 @@ fn link(variable: &str, usual: &str, name: &str) {
 
 fn main() {
     link("ZONEALLOC_ARCHIVE", "crates/zonealloc/out/libzonealloc.a", "zonealloc");
-    link("ZONEALLOC_MALLOC", "build/libzonealloc_malloc.a", "zonealloc_malloc");
+    if env::var_os("CARGO_FEATURE_STD").is_some() {
+        link("ZONEALLOC_MALLOC", "build/libzonealloc_malloc.a", "zonealloc_malloc");
+    }
 }

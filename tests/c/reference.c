@@ -504,6 +504,8 @@ uint32_t reference_put(reference_worker_t *worker, uint32_t zone, uint32_t page)
     cache_t *cache;
     if (!at)
         return answer;
+    if (worker->row->batch == 0)
+        return ZONE_NO_LISTS;
     if (!is_lent(worker, at, page, 0))
         return ZONE_NOT_LENT;
     cache = cache_of(worker, zone, at->pages[page - at->spec.base].type);

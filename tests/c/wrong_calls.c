@@ -1,72 +1,17 @@
 /* Calls each export in every way that zonealloc.h says it refuses, and finds that nothing has changed: no handle, no result, and nothing
- * that can be read of the row. A making is refused its memory at each of its allocations in turn. No call but a making asks for memory, and
+ * that can be read of the row. Two tables have each number that the header states, in its order. A making is refused its memory at each of its allocations in turn. No call but a making asks for memory, and
  * in the end all of it was given back. At last the row that was called wrongly hands out the pages that one hands out which never was.
  * Memory is counted here, so this is linked without another rattle_alloc. Prints one line and answers 0; or tells what was wrong and
  * answers 1. */
 #include "zonealloc.h"
-#include "zonealloc_memory.h"
 #include "checking.h"
+#include "counted_memory.h"
 #include <inttypes.h>
 #include <stdio.h>
 #include <stdlib.h>
 #include <string.h>
 
 enum { LOW_ZONE = 40, HIGH_ZONE = 1500, ALL_PAGES = LOW_ZONE + HIGH_ZONE, PAGEBLOCKS = 7, CREW = 3, ZONES = 2, BATCH = 4, HIGH_LEN = 6 };
-
-/* --- memory, counted, and refused where it is wanted to be --- */
-
-typedef struct { void *whole; size_t bytes; } before_t;      /* what stands before a block */
-static uint64_t asked, in_use, most_in_use, taken, blocks;
-static uint64_t refuse_from, refuse_to;                      /* by their numbers, from 1 */
-
-static void count_block(size_t bytes)
-{
-    blocks++;
-    taken += bytes;
-    in_use += bytes;
-    most_in_use = in_use > most_in_use ? in_use : most_in_use;
-}
-
-/* What is given is not zeros. Where there is none, some address is told all the same. */
-rattle_memory_t rattle_alloc(size_t bytes, size_t align)
-{
-    static long double none;
-    rattle_memory_t got = { false, &none };
-    before_t before;
-    unsigned char *at;
-    asked++;
-    if (asked >= refuse_from && asked <= refuse_to)
-        return got;
-    before.bytes = bytes;
-    before.whole = malloc(bytes + align + sizeof before);
-    if (!before.whole)
-        return got;
-    at = (unsigned char *)before.whole + sizeof before;
-    at += (align - (uintptr_t)at % align) % align;
-    memcpy(at - sizeof before, &before, sizeof before);
-    memset(at, 0xC3, bytes);
-    count_block(bytes);
-    got.ok = true;
-    got.at = at;
-    return got;
-}
-
-void rattle_dealloc(void *at)
-{
-    before_t before;
-    memcpy(&before, (unsigned char *)at - sizeof before, sizeof before);
-    memset(at, 0x3C, before.bytes);
-    blocks--;
-    in_use -= before.bytes;
-    free(before.whole);
-}
-
-/* From the one of this number on, counted from now, so many are refused. */
-static void refuse(uint64_t number, uint64_t count)
-{
-    refuse_from = asked + number;
-    refuse_to = count > UINT64_MAX - refuse_from ? UINT64_MAX : refuse_from + count - 1;
-}
 
 /* --- what is told of a failure --- */
 
@@ -415,7 +360,7 @@ static void no_lists(void)
         ANSWERS(ZONE_OK, zonealloc_cached(&w, 1, type, &told.number));
         CHECK(told.number == 0);
     }
-    ANSWERS(ZONE_LIST_FULL, zonealloc_put(&w, 1, page));
+    ANSWERS(ZONE_NO_LISTS, zonealloc_put(&w, 1, page));
     ANSWERS(ZONE_OK, zonealloc_is_lent(&w, 1, page, 0, &told.number));
     CHECK(told.number == 1);
     ANSWERS(ZONE_OK, zonealloc_drain_all(&w, 1));
@@ -505,13 +450,13 @@ static void unmade(uint32_t answer, uint32_t wanted, const char *call, int line)
 }
 #define UNMADE(wanted, call) (forget(), unmade((call), (wanted), #call, __LINE__))
 
-/* How many bytes a making takes that is refused in any case may be told, but not for pages that no zone has. */
+/* How many bytes a making takes that is refused in any case may be told, but not for pages or a largest order that no zone has. */
 static void wrong_bytes(uint32_t wanted, const zone_spec_t *zones, size_t n_zones)
 {
     uint32_t answer;
     forget();
     answer = zonealloc_bytes(zones, n_zones, 2, &told.bytes);
-    CHECK(answer == wanted || (answer == ZONE_OK && wanted != ZONE_BAD_PAGES));
+    CHECK(answer == wanted || (answer == ZONE_OK && wanted != ZONE_BAD_PAGES && wanted != ZONE_BAD_ARGUMENT));
     CHECK(answer == ZONE_OK || is_left(&told, sizeof told));
     CHECK(blocks == 0);
 }
@@ -661,6 +606,290 @@ static void little_memory(uint32_t workers, uint32_t zones)
     end_made(workers);
 }
 
+/* --- each number that the header states --- */
+
+/* What a call is made with. A page is one of those that are known, or none of the zone's. */
+typedef enum {
+    BYTES, MAKE, DISMISS, UNMAKE, TAKE, PUT, IS_LENT, CACHED, ALLOC, ALLOC_LOW, FREE, POST, COLLECT, ISOLATE, RELEASE, REFILL, DRAIN, DRAIN_ALL,
+    COUNTS, INFO, PAGE, PAGEBLOCK, GATHER
+} export_t;
+typedef enum { MINE, OF_FULL_LIST, WITHOUT_LISTS, EMPTY } handle_t;
+typedef enum { NO_PAGE, BELOW, ABOVE, LENT, ORDER4, OTHERS, SPARE } page_name_t;
+enum { UPPER = 1, NO_ZONE = ZONES, NO_TYPE = ZONE_TYPES, NO_MARK = ZONE_LOW + 1, NO_ORDER = ZONE_ORDERS, ABOVE_LARGEST = 4 };
+
+typedef struct { export_t call; uint32_t wanted; handle_t handle; uint32_t zone, order, type, mark, number; page_name_t page; } stated_t;
+
+/* In each row what its number is answered for, and after it all that could be answered further down in the header's list, where one call can
+ * have it too: so the rows of a call say in which order its numbers come. ZONE_BUSY is in busy.c, ZONE_ENDED nowhere. */
+static const stated_t stated[] = {
+    { DISMISS, ZONE_BAD_HANDLE, .handle = EMPTY },
+    { UNMAKE, ZONE_BAD_HANDLE, .handle = EMPTY },
+    { UNMAKE, ZONE_HAS_WORKERS, .handle = MINE },
+
+    { TAKE, ZONE_BAD_ARGUMENT, .type = NO_TYPE, .handle = EMPTY, .zone = NO_ZONE },
+    { TAKE, ZONE_BAD_HANDLE, .handle = EMPTY, .zone = NO_ZONE },
+    { TAKE, ZONE_BAD_ARGUMENT, .zone = NO_ZONE },
+    { TAKE, ZONE_LIST_EMPTY, .zone = UPPER, .type = ZONE_TYPE_UNMOVABLE },
+    { TAKE, ZONE_LIST_EMPTY, .handle = WITHOUT_LISTS },
+
+    { PUT, ZONE_BAD_HANDLE, .handle = EMPTY, .zone = NO_ZONE },
+    { PUT, ZONE_BAD_ARGUMENT, .handle = WITHOUT_LISTS, .zone = NO_ZONE },
+    { PUT, ZONE_NO_LISTS, .handle = WITHOUT_LISTS, .page = LENT, .zone = UPPER },
+    { PUT, ZONE_NO_LISTS, .handle = WITHOUT_LISTS, .page = OTHERS, .zone = UPPER },
+    { PUT, ZONE_NO_LISTS, .handle = WITHOUT_LISTS, .page = ABOVE, .zone = UPPER },
+    { PUT, ZONE_NOT_LENT, .handle = OF_FULL_LIST, .page = BELOW },
+    { PUT, ZONE_NOT_LENT, .handle = OF_FULL_LIST, .page = ABOVE },
+    { PUT, ZONE_NOT_LENT, .page = ORDER4, .zone = UPPER },
+    { PUT, ZONE_LIST_FULL, .handle = OF_FULL_LIST, .page = SPARE },
+
+    { IS_LENT, ZONE_BAD_ARGUMENT, .order = NO_ORDER, .handle = EMPTY, .zone = NO_ZONE },
+    { IS_LENT, ZONE_BAD_HANDLE, .handle = EMPTY, .zone = NO_ZONE },
+    { IS_LENT, ZONE_BAD_ARGUMENT, .zone = NO_ZONE },
+
+    { CACHED, ZONE_BAD_ARGUMENT, .type = NO_TYPE, .handle = EMPTY, .zone = NO_ZONE },
+    { CACHED, ZONE_BAD_HANDLE, .handle = EMPTY, .zone = NO_ZONE },
+    { CACHED, ZONE_BAD_ARGUMENT, .zone = NO_ZONE },
+
+    { ALLOC, ZONE_BAD_ARGUMENT, .order = NO_ORDER, .handle = EMPTY, .zone = NO_ZONE },
+    { ALLOC, ZONE_BAD_ARGUMENT, .type = NO_TYPE, .handle = EMPTY, .zone = NO_ZONE },
+    { ALLOC, ZONE_BAD_ARGUMENT, .mark = NO_MARK, .handle = EMPTY, .zone = NO_ZONE },
+    { ALLOC, ZONE_BAD_HANDLE, .handle = EMPTY, .zone = NO_ZONE },
+    { ALLOC, ZONE_BAD_ARGUMENT, .zone = NO_ZONE },
+    { ALLOC, ZONE_BELOW_MARK, .mark = ZONE_MIN, .order = ABOVE_LARGEST + 1 },
+    { ALLOC, ZONE_NO_BLOCK, .order = ABOVE_LARGEST },
+
+    { ALLOC_LOW, ZONE_BAD_ARGUMENT, .order = NO_ORDER, .handle = EMPTY, .zone = NO_ZONE },
+    { ALLOC_LOW, ZONE_BAD_HANDLE, .handle = EMPTY, .zone = NO_ZONE },
+    { ALLOC_LOW, ZONE_BAD_ARGUMENT, .zone = NO_ZONE },
+    { ALLOC_LOW, ZONE_NO_BLOCK, .order = ABOVE_LARGEST },
+
+    { FREE, ZONE_BAD_ARGUMENT, .order = NO_ORDER, .handle = EMPTY, .zone = NO_ZONE },
+    { FREE, ZONE_BAD_HANDLE, .handle = EMPTY, .zone = NO_ZONE },
+    { FREE, ZONE_BAD_ARGUMENT, .zone = NO_ZONE },
+    { FREE, ZONE_NOT_LENT, .page = BELOW },
+    { FREE, ZONE_NOT_LENT, .page = ABOVE },
+    { FREE, ZONE_NOT_LENT, .page = ABOVE, .order = ABOVE_LARGEST },
+    { FREE, ZONE_NOT_LENT, .page = LENT, .zone = UPPER, .order = 1 },
+
+    { POST, ZONE_BAD_ARGUMENT, .order = NO_ORDER, .handle = EMPTY, .zone = NO_ZONE },
+    { POST, ZONE_BAD_ARGUMENT, .number = ZONE_WORKERS, .handle = EMPTY, .zone = NO_ZONE },
+    { POST, ZONE_BAD_HANDLE, .handle = EMPTY, .zone = NO_ZONE },
+    { POST, ZONE_BAD_ARGUMENT, .zone = NO_ZONE, .number = CREW },
+    { POST, ZONE_BAD_ARGUMENT, .number = CREW, .page = ABOVE },
+    { POST, ZONE_NOT_LENT, .page = ABOVE },
+    { POST, ZONE_NOT_LENT, .page = ABOVE, .order = ABOVE_LARGEST },
+    { POST, ZONE_NOT_LENT, .page = OTHERS, .zone = UPPER },
+
+    { COLLECT, ZONE_BAD_HANDLE, .handle = EMPTY, .zone = NO_ZONE },
+    { COLLECT, ZONE_BAD_ARGUMENT, .zone = NO_ZONE },
+    { COLLECT, ZONE_NOTHING_POSTED, .zone = UPPER },
+
+    { ISOLATE, ZONE_BAD_HANDLE, .handle = EMPTY, .zone = NO_ZONE },
+    { ISOLATE, ZONE_BAD_ARGUMENT, .zone = NO_ZONE, .number = 5 },
+    { ISOLATE, ZONE_BAD_PAGEBLOCK, .number = 5 },
+    { ISOLATE, ZONE_ALREADY_ISOLATED, .number = 4 },
+
+    { RELEASE, ZONE_BAD_ARGUMENT, .type = NO_TYPE, .handle = EMPTY, .zone = NO_ZONE },
+    { RELEASE, ZONE_BAD_HANDLE, .handle = EMPTY, .zone = NO_ZONE },
+    { RELEASE, ZONE_BAD_ARGUMENT, .zone = NO_ZONE, .number = 5 },
+    { RELEASE, ZONE_BAD_PAGEBLOCK, .number = 5 },
+    { RELEASE, ZONE_NOT_ISOLATED, .number = 0 },
+
+    { REFILL, ZONE_BAD_ARGUMENT, .type = NO_TYPE, .handle = EMPTY, .zone = NO_ZONE },
+    { REFILL, ZONE_BAD_ARGUMENT, .mark = NO_MARK, .handle = EMPTY, .zone = NO_ZONE },
+    { REFILL, ZONE_BAD_HANDLE, .handle = EMPTY, .zone = NO_ZONE },
+    { REFILL, ZONE_BAD_ARGUMENT, .zone = NO_ZONE, .handle = WITHOUT_LISTS },
+    { REFILL, ZONE_NO_LISTS, .handle = WITHOUT_LISTS },
+    { REFILL, ZONE_LIST_NOT_EMPTY, .zone = UPPER, .type = ZONE_TYPE_MOVABLE },
+    { REFILL, ZONE_BELOW_MARK, .mark = ZONE_MIN, .type = ZONE_TYPE_RECLAIMABLE },
+    { REFILL, ZONE_NO_BLOCK, .type = ZONE_TYPE_RECLAIMABLE },
+
+    { DRAIN, ZONE_BAD_ARGUMENT, .type = NO_TYPE, .handle = EMPTY, .zone = NO_ZONE },
+    { DRAIN, ZONE_BAD_HANDLE, .handle = EMPTY, .zone = NO_ZONE },
+    { DRAIN, ZONE_BAD_ARGUMENT, .zone = NO_ZONE },
+    { DRAIN, ZONE_BAD_ARGUMENT, .zone = UPPER, .type = ZONE_TYPE_MOVABLE, .number = 0 },
+    { DRAIN, ZONE_BAD_ARGUMENT, .zone = UPPER, .type = ZONE_TYPE_MOVABLE, .number = BATCH + 1 },
+    { DRAIN, ZONE_BAD_ARGUMENT, .handle = WITHOUT_LISTS, .number = 1 },
+
+    { DRAIN_ALL, ZONE_BAD_HANDLE, .handle = EMPTY, .zone = NO_ZONE },
+    { DRAIN_ALL, ZONE_BAD_ARGUMENT, .zone = NO_ZONE },
+
+    { COUNTS, ZONE_BAD_HANDLE, .handle = EMPTY, .zone = NO_ZONE },
+    { COUNTS, ZONE_BAD_ARGUMENT, .zone = NO_ZONE },
+    { INFO, ZONE_BAD_HANDLE, .handle = EMPTY, .zone = NO_ZONE },
+    { INFO, ZONE_BAD_ARGUMENT, .zone = NO_ZONE },
+    { PAGE, ZONE_BAD_HANDLE, .handle = EMPTY, .zone = NO_ZONE },
+    { PAGE, ZONE_BAD_ARGUMENT, .zone = NO_ZONE },
+    { PAGE, ZONE_BAD_ARGUMENT, .page = BELOW },
+    { PAGE, ZONE_BAD_ARGUMENT, .page = ABOVE },
+    { PAGEBLOCK, ZONE_BAD_HANDLE, .handle = EMPTY, .zone = NO_ZONE },
+    { PAGEBLOCK, ZONE_BAD_ARGUMENT, .zone = NO_ZONE, .number = 5 },
+    { PAGEBLOCK, ZONE_BAD_PAGEBLOCK, .number = 5 },
+
+    { GATHER, ZONE_BAD_HANDLE, .handle = EMPTY, .zone = NO_ZONE },
+    { GATHER, ZONE_BAD_ARGUMENT, .zone = NO_ZONE },
+    { GATHER, ZONE_HAS_WORKERS, .zone = UPPER },
+};
+
+/* A row of the same zones without lists, two pages of whose upper zone are lent: to its first worker, and to its second. */
+static world_t without_lists;
+
+static uint32_t page_of(const stated_t *s, uint32_t spare)
+{
+    uint32_t zone = s->zone < ZONES ? s->zone : 0, base = specs[zone].base;
+    switch (s->page) {
+    case BELOW: return base - 1;
+    case ABOVE: return base + specs[zone].pages;
+    case LENT: return s->handle == WITHOUT_LISTS ? base + 1 : known.lent;
+    case OTHERS: return s->handle == WITHOUT_LISTS ? base : known.other;
+    case ORDER4: return known.order4;
+    case SPARE: return spare;
+    case NO_PAGE: break;
+    }
+    return 0;
+}
+
+static uint32_t ask(const stated_t *s, zone_worker_t *w, zone_row_t *row, uint32_t page)
+{
+    switch (s->call) {
+    case DISMISS: return zonealloc_dismiss(w);
+    case UNMAKE: return zonealloc_unmake(row);
+    case TAKE: return zonealloc_take(w, s->zone, s->type, &told.page);
+    case PUT: return zonealloc_put(w, s->zone, page);
+    case IS_LENT: return zonealloc_is_lent(w, s->zone, page, s->order, &told.number);
+    case CACHED: return zonealloc_cached(w, s->zone, s->type, &told.number);
+    case ALLOC: return zonealloc_alloc(w, s->zone, s->order, s->type, s->mark, &told.page);
+    case ALLOC_LOW: return zonealloc_alloc_low(w, s->zone, s->order, &told.page);
+    case FREE: return zonealloc_free(w, s->zone, page, s->order);
+    case POST: return zonealloc_post(w, s->zone, page, s->order, s->number);
+    case COLLECT: return zonealloc_collect(w, s->zone, &told.page, &told.order);
+    case ISOLATE: return zonealloc_isolate(w, s->zone, s->number);
+    case RELEASE: return zonealloc_release(w, s->zone, s->number, s->type);
+    case REFILL: return zonealloc_refill(w, s->zone, s->type, s->mark);
+    case DRAIN: return zonealloc_drain(w, s->zone, s->type, s->number);
+    case DRAIN_ALL: return zonealloc_drain_all(w, s->zone);
+    case COUNTS: return zonealloc_counts(w, s->zone, &told.counts);
+    case INFO: return zonealloc_info(w, s->zone, told.line, ZONE_INFO_LINE, &told.len);
+    case PAGE: return zonealloc_page(w, s->zone, page, &told.noted);
+    case PAGEBLOCK: return zonealloc_pageblock(w, s->zone, s->number, &told.block);
+    case GATHER: return zonealloc_gather(row, s->zone, &told.totals);
+    case BYTES: case MAKE: break;
+    }
+    return ZONE_OK;
+}
+
+static void state_row(const stated_t *s, uint32_t spare)
+{
+    zone_worker_t none = ZONE_NONE, *const of[] = { &world.workers[0], &world.workers[1], &without_lists.workers[0], &none };
+    zone_row_t no_row = ZONE_NONE;
+    char what[64];
+    (void)snprintf(what, sizeof what, "row %u of the numbers stated", (unsigned)(s - stated));
+    forget();
+    refused(ask(s, of[s->handle], s->handle == EMPTY ? &no_row : &world.row, page_of(s, spare)), s->wanted, what, __LINE__);
+    CHECK(are_no_workers(&none, 1) && is_no_row(&no_row));
+}
+
+/* Each row of the numbers stated, while worker 1 has its full list and a page more, and worker 2 all other pages of the lower zone that are
+ * to be had. */
+static void stated_numbers(void)
+{
+    uint32_t spare = 0, page = 0, answer = ZONE_OK;
+    size_t i;
+    furnish(&world, &known);
+    ANSWERS(ZONE_OK, zonealloc_alloc(&world.workers[1], 0, 0, ZONE_TYPE_MOVABLE, ZONE_ANY, &spare));
+    while (answer == ZONE_OK)
+        answer = zonealloc_alloc(&world.workers[2], 0, 0, ZONE_TYPE_MOVABLE, ZONE_ANY, &page);
+    ANSWERS(ZONE_OK, zonealloc_make(&without_lists.row, without_lists.workers, CREW, specs, ZONES, 0, 0));
+    ANSWERS(ZONE_OK, zonealloc_alloc_low(&without_lists.workers[1], 1, 0, &page));
+    ANSWERS(ZONE_OK, zonealloc_alloc_low(&without_lists.workers[0], 1, 0, &page));
+    see(&world, &before);
+    for (i = 0; i < sizeof stated / sizeof stated[0]; i++)
+        state_row(&stated[i], spare);
+    ANSWERS(ZONE_OK, zonealloc_is_lent(&without_lists.workers[0], 1, page, 0, &told.number));
+    CHECK(told.number == 1);
+    ANSWERS(ZONE_OK, zonealloc_free(&without_lists.workers[0], 1, page, 0));
+    unfurnish(&without_lists);
+    unfurnish(&world);
+    CHECK(blocks == 0);
+}
+
+/* A making of up to two zones. `over` a row that is there, or where no memory is given. */
+typedef struct {
+    export_t call;
+    uint32_t wanted;
+    int over, no_memory;
+    size_t n_zones, n_workers;
+    uint32_t batch, high_len;
+    zone_spec_t zones[2];
+} making_t;
+
+#define GOOD { 2048, 64, 0, 10, 1, { 'G' } }
+#define LONG_NAME { 1024, 64, 0, 10, 9, { 'N' } }
+#define BAD_NAME_LARGEST { 1024, 64, 0, 0, 9, { 'N' } }
+#define BAD_LARGEST { 1025, 0, 1, 0, 1, { '-' } }
+#define BAD_LETTER { 1025, 0, 1, 10, 1, { '-' } }
+#define BAD_BASE { 1025, 0, 1, 10, 1, { 'N' } }
+#define NO_PAGES { 1024, 0, 1, 10, 1, { 'N' } }
+#define BAD_MIN { 1024, 64, 65, 10, 1, { 'N' } }
+#define MEETS { 1024, 1025, 0, 0, 9, { '-' } }
+
+/* As `stated`. */
+static const making_t makings[] = {
+    { BYTES, ZONE_BAD_ARGUMENT, .n_zones = 0, .n_workers = 0 },
+    { BYTES, ZONE_BAD_WORKERS, .n_zones = 1, .n_workers = 0, .zones = { BAD_LARGEST } },
+    { BYTES, ZONE_BAD_WORKERS, .n_zones = 1, .n_workers = ZONE_WORKERS + 1, .zones = { NO_PAGES } },
+    { BYTES, ZONE_BAD_ARGUMENT, .n_zones = 1, .n_workers = 1, .zones = { BAD_LARGEST } },
+    { BYTES, ZONE_BAD_ARGUMENT, .n_zones = 2, .n_workers = 1, .zones = { GOOD, BAD_LARGEST } },
+    { BYTES, ZONE_BAD_PAGES, .n_zones = 2, .n_workers = 1, .zones = { NO_PAGES, BAD_LARGEST } },
+    { BYTES, ZONE_BAD_PAGES, .n_zones = 2, .n_workers = 1, .zones = { GOOD, NO_PAGES } },
+
+    { MAKE, ZONE_BAD_HANDLE, .over = 1, .n_zones = 0, .n_workers = 0 },
+    { MAKE, ZONE_BAD_ARGUMENT, .n_zones = 0, .n_workers = 0 },
+    { MAKE, ZONE_BAD_WORKERS, .n_zones = 2, .n_workers = 0, .batch = 4, .high_len = 4, .zones = { MEETS, GOOD } },
+    { MAKE, ZONE_BAD_WORKERS, .n_zones = 2, .n_workers = ZONE_WORKERS + 1, .batch = 4, .high_len = 4, .zones = { MEETS, GOOD } },
+    { MAKE, ZONE_BAD_ARGUMENT, .n_zones = 2, .n_workers = 1, .batch = 4, .high_len = 4, .zones = { MEETS, GOOD } },
+    { MAKE, ZONE_BAD_BASE, .n_zones = 2, .n_workers = 1, .batch = 4, .high_len = 6, .zones = { MEETS, GOOD } },
+    { MAKE, ZONE_BAD_NAME, .n_zones = 1, .n_workers = 1, .zones = { BAD_NAME_LARGEST } },
+    { MAKE, ZONE_BAD_NAME, .n_zones = 2, .n_workers = 1, .zones = { LONG_NAME, { 2048, 64, 0, 0, 1, { 'G' } } } },
+    { MAKE, ZONE_BAD_ARGUMENT, .n_zones = 2, .n_workers = 1, .zones = { BAD_LARGEST, { 2048, 64, 0, 10, 9, { 'G' } } } },
+    { MAKE, ZONE_BAD_NAME, .n_zones = 1, .n_workers = 1, .zones = { BAD_LETTER } },
+    { MAKE, ZONE_BAD_BASE, .n_zones = 1, .n_workers = 1, .zones = { BAD_BASE } },
+    { MAKE, ZONE_BAD_PAGES, .n_zones = 1, .n_workers = 1, .zones = { NO_PAGES } },
+    { MAKE, ZONE_BAD_MARK, .n_zones = 2, .n_workers = 1, .zones = { BAD_MIN, { 2048, 64, 0, 10, 1, { '-' } } } },
+    { MAKE, ZONE_NO_MEMORY, .no_memory = 1, .n_zones = 1, .n_workers = 1, .zones = { GOOD } },
+};
+
+static void make_row(const making_t *m)
+{
+    zone_row_t was;
+    uint32_t answer;
+    char what[64];
+    (void)snprintf(what, sizeof what, "row %u of the makings", (unsigned)(m - makings));
+    if (m->over)
+        ANSWERS(ZONE_OK, zonealloc_make(&made, crew, 1, specs, ZONES, 0, 0));
+    was = made;
+    if (m->no_memory)
+        refuse(1, UINT64_MAX);
+    forget();
+    if (m->call == BYTES)
+        answer = zonealloc_bytes(m->zones, m->n_zones, (uint32_t)m->n_workers, &told.bytes);
+    else
+        answer = zonealloc_make(&made, crew, m->n_workers, m->zones, m->n_zones, m->batch, m->high_len);
+    refuse_to = 0;
+    answered(answer, m->wanted, what, __LINE__);
+    CHECK(is_left(&told, sizeof told) && made.live == was.live && made.at == was.at);
+    if (m->over)
+        end_made(1);
+    CHECK(blocks == 0 && is_no_row(&made) && are_no_workers(crew, ZONE_WORKERS + 1));
+}
+
+static void stated_makings(void)
+{
+    size_t i;
+    for (i = 0; i < sizeof makings / sizeof makings[0]; i++)
+        make_row(&makings[i]);
+}
+
 /* --- each export with ample memory --- */
 
 static void good_readings(zone_worker_t *w)
@@ -787,6 +1016,8 @@ int main(void)
     little_memory(CREW, ZONES);
     little_memory(ZONE_WORKERS, ZONES);
     no_lists();
+    stated_makings();
+    stated_numbers();
     wrong_calls();
     CHECK(blocks == 0 && in_use == 0);
     printf("wrong calls: %u checks, %u failures\n", checks, failures);

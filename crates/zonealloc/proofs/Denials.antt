@@ -14,11 +14,11 @@ use Rattle.zonealloc.specs.Numbers.{denial_number}
 use Rattle.zonealloc.specs.Calls.{IsCall}
 
 -- where the one desk stayed, so did all
-all_stay : (i : ℕ) (v w : WorkerState) → desk_at w i ≡ desk_at v i → w ≡ slice_set v i (desk_at w i) → w ≡ v
+pub all_stay : (i : ℕ) (v w : WorkerState) → desk_at w i ≡ desk_at v i → w ≡ slice_set v i (desk_at w i) → w ≡ v
 all_stay i v w same is = is ∙ ap (λ (d : DeskState). slice_set v i d) same ∙ set-get_or v i no_desk
 
 -- each refusal has a number of its own below 40, and none is 0
-refusal_small : (e : Refusal) → (1 ≤ refused_number e) × (refused_number e < 40)
+pub refusal_small : (e : Refusal) → (1 ≤ refused_number e) × (refused_number e < 40)
 refusal_small refusal.BadName = (omega arith, omega arith)
 refusal_small refusal.BadBase = (omega arith, omega arith)
 refusal_small refusal.BadPages = (omega arith, omega arith)

@@ -103,10 +103,10 @@ abbrev pub put_number : Result (Unit {0}) Refused → ℕ
 put_number (Ok u) = 0
 put_number (Err e) = refused_number e
 
--- answered below 40, the page was put so; else nothing changed
+-- answered below 40, the page was put so; answered anything but 0, nothing changed
 pub record IsPutCall (i page code : ℕ) (b a : Option WorkerState) : Type 0 where
   pub asked : code < 40 → (v : WorkerState) × (w : WorkerState) × (answer : Result (Unit {0}) Refused) × (b ≡ Some v) × (a ≡ Some w) × (put_number answer ≡ code) × IsAt i (IsPut page answer) v w
-  pub unasked : 40 ≤ code → a ≡ b
+  pub unchanged : 1 ≤ code → a ≡ b
 
 -- a question to the worker alone: nothing changes, and answered 0 this is told of the worker
 pub record IsAsking (tells : WorkerState → ℕ → Type 0) (code before after : ℕ) (b a : Option WorkerState) : Type 0 where

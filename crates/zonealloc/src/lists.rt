@@ -1,14 +1,14 @@
 //! A worker's own lists. What asks no zone wants no lock.
-ghost use Rattle.std.specs.Prelude.{◌≡◌, ◌<◌, ◌≤◌, ◌⊎◌, [], IfErr, IfOk, length};
+ghost use Rattle.std.specs.Prelude.{◌≡◌, ◌<◌, ◌≤◌, ◌⊎◌, ◌↔◌, [], IfErr, IfOk, length};
 ghost use Rattle.zp_model.specs.declared.request.Reply.TheVariants as reply;
 ghost use Rattle.zp_share.specs.Shares.{share_at};
 ghost use Rattle.zp_share.specs.ZoneShares.{cached_of};
 ghost use Rattle.zp_gate.specs.Workers.{IsAt, IsTaken, desk_share};
-ghost use Rattle.zonealloc.specs.Calls.{AsksDrain, AsksRefill, HasNotSoMany, HasNoZone, IsAsking, IsCall, IsDenied, IsDrainAllCall, IsNever, IsPages, IsPutCall, IsRefillDenied, IsRefusedOrBusy, IsTakeCall, TellsCached, TellsLent};
+ghost use Rattle.zonealloc.specs.Calls.{AsksDrain, AsksRefill, HasNotSoMany, HasNoZone, HasZone, IsAsking, IsCall, IsDenied, IsDrainAllCall, IsNever, IsOf, IsPages, IsPutCall, IsRefillDenied, IsRefusedOrBusy, IsTakeCall, TellsCached, TellsLent};
 ghost use Rattle.zonealloc.specs.Numbers.{IsNoMark, IsNoOrder, IsNoType};
 
 use crate::answers::{
-    BAD_ARGUMENT, BAD_HANDLE, DONE, LIST_EMPTY, denied, kind_of, mark_of, order_of, refused,
+    BAD_ARGUMENT, BAD_HANDLE, DONE, LIST_EMPTY, denied, kind_of, mark_of, order_of,
 };
 use crate::handles::{WorkerHandle, put_worker, worker_of};
 use std::alloc::Global;
@@ -61,6 +61,7 @@ fn taken(worker: &mut Worker, zone: usize, kind: MigrateType) -> Result<PageNo, 
 }
 
 /// A lent page to the front of the worker's list of its type.
+#[tactic(auto, using(crate::proofs::Putting::put_denied, crate::proofs::Putting::put_number_of, crate::proofs::Putting::put_lists))]
 #[unsafe(no_mangle)]
 pub extern "C" fn zonealloc_put(
     alloc: Global,
@@ -69,7 +70,8 @@ pub extern "C" fn zonealloc_put(
     page: u32,
 ) -> u32
     ensures call { IsPutCall zone page result worker.old.slot.value worker.new.slot.value }
-    ensures denied { IsDenied ⊥ (HasNoZone zone) IsNever (λ n. n < 40) result worker.old.slot.value }
+    ensures denied { IsDenied ⊥ (HasNoZone zone) IsNever (λ n. (n < 40) ⊎ (n ≡ 46)) result worker.old.slot.value }
+    ensures lists { (result ≡ 46) ↔ IsOf (λ v. HasZone zone v × ((desk_share v zone).batch ≡ 0)) worker.old.slot.value }
 {
     let Some(mut at) = worker_of(alloc, worker) else {
         return BAD_HANDLE;
@@ -82,7 +84,7 @@ pub extern "C" fn zonealloc_put(
     put_worker(worker, at);
     match answer {
         Ok(()) => DONE,
-        Err(why) => refused(why),
+        Err(why) => denied(why),
     }
 }
 

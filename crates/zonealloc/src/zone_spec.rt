@@ -1,6 +1,7 @@
 //! What C makes a zone with.
-ghost use Rattle.std.specs.Prelude.{ℕ, ◌≡◌, ◌≤◌, ◌↔◌, true, IfErr, IfOk, IfSome};
+ghost use Rattle.std.specs.Prelude.{ℕ, ◌≡◌, ◌≤◌, ◌↔◌, true, IfErr, IfNone, IfOk, IfSome};
 ghost use Rattle.zp_model.specs.declared.constants.TheConstants.{MAX_PAGES};
+ghost use Rattle.zp_model.specs.Bounds.{IsLargest};
 ghost use Rattle.zp_gate.specs.Rows.{key_for};
 ghost use Rattle.zonealloc.specs.Zones.{AreApart, spec_key};
 
@@ -32,10 +33,7 @@ pub fn config_of(spec: &ZoneSpec) -> Result<ZoneConfig<'_>, u32>
     let Ok(name) = std::str::from_utf8(name) else {
         return Err(refused(Refused::BadName));
     };
-    let Ok(largest) = u8::try_from(spec.largest) else {
-        return Err(BAD_ARGUMENT);
-    };
-    let Some(largest) = Largest::new(largest) else {
+    let Some(largest) = largest_of(spec) else {
         return Err(BAD_ARGUMENT);
     };
     Ok(ZoneConfig {
@@ -61,9 +59,18 @@ pub fn are_apart(zones: &[ZoneSpec]) -> bool
     true
 }
 
+/// The order of the largest block that the zone is to have, where a zone can have it.
+pub fn largest_of(spec: &ZoneSpec) -> Option<Largest>
+    ensures some { IfSome result (λ m. (m ≡ spec.now.largest) × IsLargest m) }
+    ensures none { IfNone result (¬ IsLargest spec.now.largest) }
+{
+    Largest::new(u8::try_from(spec.largest).ok()?)
+}
+
 /// How many pages the zone is to have, where a zone can have so many.
 pub fn pages_of(spec: &ZoneSpec) -> Option<u32>
-    ensures { IfSome result (λ n. (n ≡ spec.now.pages) × (n ≤ MAX_PAGES)) }
+    ensures some { IfSome result (λ n. (n ≡ spec.now.pages) × (1 ≤ n) × (n ≤ MAX_PAGES)) }
+    ensures none { IfNone result (¬ ((1 ≤ spec.now.pages) × (spec.now.pages ≤ MAX_PAGES))) }
 {
     if spec.pages == 0 || spec.pages > MAX_PAGES {
         return None;

@@ -3,3 +3,4 @@ pub mod Crews
 pub mod Keys
 pub mod InOrder
 pub mod Handing
+pub mod Putting

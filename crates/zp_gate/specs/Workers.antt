@@ -1,6 +1,6 @@
 -- What a worker has of each zone of its row, and what its calls come to. A zone behind a gate is not seen between calls: each of them
 -- speaks of the zone as it is then, whatever it is (this profile).
-use Rattle.std.specs.Prelude.{ℕ, ◌≡◌, ◌<◌, ◌≤◌, ◌+◌, ◌⊎◌, List, [], ◌∷◌, All, length, map, slice_index_or, slice_set, Some, Result}
+use Rattle.std.specs.Prelude.{ℕ, ◌≡◌, ◌<◌, ◌≤◌, ◌+◌, ◌⊎◌, List, [], ◌∷◌, All, length, map, slice_index_or, slice_set, Some, Result, Ok, Err}
 use Rattle.zp_model.specs.declared.request.Request.{Request}
 use Rattle.zp_model.specs.declared.request.Reply.{Reply}
 use Rattle.zp_model.specs.declared.refused.Refused.{Refused as Refusal}
@@ -142,6 +142,16 @@ pub record IsPut (page : ℕ) (given : Result (Unit {0}) Refusal) (s t : ShareSt
   pub after : plain_share (share_at t 0) ≡ (putting (plain_share (share_at s 0)) page s.high_len).share
   pub seat : (share_at t 0).seat ≡ (share_at s 0).seat
   pub others : t ≡ with_zone_share 0 (share_at t 0) s
+
+-- the worker has lists, and the page was put on the one of its type
+abbrev pub IsPutOn : ℕ → ShareState → ShareState → Type 0
+IsPutOn page s t = (1 ≤ s.batch) × IsPut page (Ok tt) s t
+
+-- the page was put on no list, and nothing changed: the worker has none, whatever the page; or by the share's refusal
+abbrev pub IsPutDenial : ℕ → Denied → ShareState → ShareState → Type 0
+IsPutDenial page NoLists s t = (s.batch ≡ 0) × (t ≡ s)
+IsPutDenial page (Refused e) s t = (1 ≤ s.batch) × (IsPut page (Err e) s t × (t ≡ s))
+IsPutDenial page d s t = ⊥
 
 -- all lists of the zone at place i were drained, one after the other
 abbrev pub AreDrained : ℕ → WorkerState → WorkerState → Type 0

@@ -16,7 +16,7 @@ ghost use Rattle.zp_gate.specs.Gates.{IsOneShare, IsSeatBy};
 ghost use Rattle.zp_gate.specs.Readings.{IsThen, TellsLine, TellsPage, TellsPageblock, TellsZone};
 ghost use Rattle.zp_gate.specs.declared.denied.Denied.TheVariants.{NoLists, NotEmpty, NoWorker, TooFew};
 ghost use Rattle.zp_gate.specs.Rows.{gate_key};
-ghost use Rattle.zp_gate.specs.Workers.{HasPages, HasTooFew, HasTurned, IsAnswer, IsDenial, IsDrained, IsFilled, IsNewShare, IsPut, IsTaken};
+ghost use Rattle.zp_gate.specs.Workers.{HasPages, HasTooFew, HasTurned, IsAnswer, IsDenial, IsDrained, IsFilled, IsNewShare, IsPutDenial, IsPutOn, IsTaken};
 
 use crate::denied::Denied;
 use crate::gate::Gate;
@@ -374,11 +374,25 @@ impl Desk {
     }
 
     /// Puts a lent page at the front of the worker's list of its type. Refused 20, and 21 where the list is full.
+    #[tactic(auto, using(crate::proofs::Putting::stays, crate::proofs::Putting::has_lists))]
     #[inline(always)]
-    pub(crate) fn put(&mut self, page: PageNo) -> Result<(), Refused>
-        ensures { HasTurned (IsPut page result) self.old self.new }
+    pub(crate) fn put(&mut self, page: PageNo) -> Result<(), Denied>
+        ensures ok { OnOk result (HasTurned (IsPutOn page) self.old self.new) }
+        ensures denied { IfErr result (λ d. HasTurned (IsPutDenial page d) self.old self.new) }
     {
-        self.share.put_cached(0, page)
+        match self.share.put_cached(0, page) {
+            Ok(()) => {
+                // a list had room, so there are lists: the settings say so
+                let _lists = self.share.lists();
+                Ok(())
+            }
+            Err(refused) => {
+                if self.share.lists().batch() == 0 {
+                    return Err(Denied::NoLists);
+                }
+                Err(Denied::Refused(refused))
+            }
+        }
     }
 
     /// What the zone tells of itself.

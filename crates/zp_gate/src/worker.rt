@@ -7,14 +7,14 @@ ghost use Rattle.zp_share.specs.PlainShares.{back};
 ghost use Rattle.zp_share.specs.Shares.{share_at};
 ghost use Rattle.zp_share.specs.ZoneShares.{cached_of, is_lent};
 ghost use Rattle.zp_gate.specs.declared.denied.Denied.TheVariants.{NoLists, NotEmpty, NoWorker, NoZone, TooFew};
-ghost use Rattle.zp_gate.specs.Workers.{AreDrained, AreSomeDrained, HasPages, HasTooFew, IsAskedOf, IsAt, IsDeniedOf, IsListDrained, IsDrained, IsFilled, IsOfZone, IsPut, IsTaken, desk_at, desk_share};
+ghost use Rattle.zp_gate.specs.Workers.{AreDrained, AreSomeDrained, HasPages, HasTooFew, IsAskedOf, IsAt, IsDeniedOf, IsListDrained, IsDrained, IsFilled, IsOfZone, IsPutDenial, IsPutOn, IsTaken, desk_at, desk_share};
 ghost use Rattle.zp_gate.specs.Readings.{IsThen, TellsLine, TellsPage, TellsPageblock, TellsZone};
 
 use crate::denied::Denied;
 use crate::desk::Desk;
 use crate::told::Told;
 use std::marker::Model;
-use zp_model::{Block, Mark, MigrateType, Order, PageNo, Refused, Worker as Number};
+use zp_model::{Block, Mark, MigrateType, Order, PageNo, Worker as Number};
 use zp_text::{INFO_LINE, TextBuffer};
 use zp_zone::{Pageblock, ZonePage};
 
@@ -190,9 +190,10 @@ impl Worker {
 
     /// Puts a lent page at the front of the worker's list of its type. Refused 20, and 21 where the list is full.
     #[inline(always)]
-    pub fn put(&mut self, zone: usize, page: PageNo) -> Result<(), Refused>
+    pub fn put(&mut self, zone: usize, page: PageNo) -> Result<(), Denied>
         requires { zone < length self.old }
-        ensures { IsAt zone (IsPut page result) self.old self.new }
+        ensures ok { OnOk result (IsAt zone (IsPutOn page) self.old self.new) }
+        ensures denied { IfErr result (λ d. IsAt zone (IsPutDenial page d) self.old self.new) }
     {
         self.desks[zone].put(page)
     }

@@ -10,10 +10,11 @@ pub struct Handle {
 }
 
 impl Handle {
-    pub fn empty() -> Handle {
-        Handle { live: 0, at: std::ptr::null_mut() }
-    }
+    pub const EMPTY: Handle = Handle { live: 0, at: core::ptr::null_mut() };
 }
+
+// SAFETY: a handle is in one call at a time, whichever thread makes it, and the archive keeps nothing that belongs to a thread.
+unsafe impl Send for Handle {}
 
 #[repr(C)]
 #[derive(Default)]

@@ -1,4 +1,4 @@
-use std::fmt;
+use core::fmt;
 
 /// The refusals by their numbers, which `include/zonealloc.h` explains.
 macro_rules! refusals {
@@ -52,4 +52,5 @@ impl fmt::Display for Refusal {
     }
 }
 
+#[cfg(feature = "std")]
 impl std::error::Error for Refusal {}

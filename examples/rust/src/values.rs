@@ -1,5 +1,8 @@
 //! What is asked with and what is told, in the layout of the header where it crosses as it is.
 
+use core::fmt;
+use core::ops::Deref;
+
 /// A zone, before it is made.
 #[repr(C)]
 #[derive(Clone, Copy, Debug)]
@@ -42,8 +45,10 @@ pub enum MigrateType {
 }
 
 impl MigrateType {
+    pub const ALL: [MigrateType; 3] = [MigrateType::Unmovable, MigrateType::Reclaimable, MigrateType::Movable];
+
     pub(crate) fn of(number: u32) -> MigrateType {
-        [MigrateType::Unmovable, MigrateType::Reclaimable, MigrateType::Movable][number as usize]
+        MigrateType::ALL[number as usize]
     }
 }
 
@@ -99,10 +104,63 @@ pub enum PageState {
     Posted { order: u32, kind: MigrateType, worker: u32 },
 }
 
+impl PageState {
+    /// The type of the block that the page heads, where it is lent or posted.
+    pub fn kind(self) -> Option<MigrateType> {
+        match self {
+            PageState::Out { kind, .. } | PageState::Posted { kind, .. } => Some(kind),
+            PageState::Tail | PageState::Free { .. } => None,
+        }
+    }
+}
+
+/// A block that is lent: its zone, and its first page.
+#[derive(Clone, Copy, Debug, PartialEq, Eq)]
+pub struct Block {
+    pub zone: u32,
+    pub page: u32,
+}
+
 /// What a pageblock is: of which type, where it is not isolated, how many of its pages are free, and the order of its largest free block.
 #[derive(Clone, Copy, Debug, PartialEq, Eq)]
 pub struct PageblockState {
     pub kind: Option<MigrateType>,
     pub free: u32,
     pub largest: Option<u32>,
+}
+
+/// A zone's info line, as text.
+#[derive(Clone, Copy)]
+pub struct InfoLine {
+    bytes: [u8; InfoLine::ROOM],
+    len: usize,
+}
+
+impl InfoLine {
+    pub(crate) const ROOM: usize = 160;
+
+    /// The line that the archive wrote, with its line feed.
+    pub(crate) fn of(bytes: [u8; InfoLine::ROOM], len: usize) -> InfoLine {
+        InfoLine { bytes, len: len.saturating_sub(1).min(InfoLine::ROOM) }
+    }
+}
+
+impl Deref for InfoLine {
+    type Target = str;
+
+    fn deref(&self) -> &str {
+        core::str::from_utf8(&self.bytes[..self.len]).unwrap_or("")
+    }
+}
+
+impl fmt::Display for InfoLine {
+    fn fmt(&self, f: &mut fmt::Formatter<'_>) -> fmt::Result {
+        f.write_str(self)
+    }
+}
+
+impl fmt::Debug for InfoLine {
+    fn fmt(&self, f: &mut fmt::Formatter<'_>) -> fmt::Result {
+        write!(f, "{:?}", &**self)
+    }
 }

@@ -1,19 +1,20 @@
 use crate::raw::{self, Handle};
 use crate::refusal::answered;
-use crate::values::{Counts, Level, Mark, MigrateType, PageState, PageblockState};
-use crate::{until_free, Refusal, Row};
-use std::marker::PhantomData;
+use crate::values::{Counts, InfoLine, Level, Lists, Mark, MigrateType, PageState, PageblockState};
+use crate::{until_free, Refusal};
+use core::marker::PhantomData;
 
 /// One worker's share of a row. When it is dropped it is dismissed: what its lists have and what is lent to it stays noted with the row.
 ///
 /// Where another is in the zone the calls that say *zone* are refused [`Refusal::Busy`]; [`until_free`] makes them again.
+///
+/// Each call writes the handle, so no two workers lie on one line of the cache, nor on the line that is fetched with it.
+#[repr(align(128))]
 pub struct Worker<'row> {
     handle: Handle,
-    row: PhantomData<&'row Row>,
+    pub(crate) lists: Option<Lists>,
+    row: PhantomData<&'row ()>,
 }
-
-// SAFETY: a handle is in one call at a time, whichever thread makes it, and the archive keeps nothing that belongs to a thread.
-unsafe impl Send for Worker<'_> {}
 
 impl Drop for Worker<'_> {
     fn drop(&mut self) {
@@ -24,8 +25,8 @@ impl Drop for Worker<'_> {
 
 // SAFETY, of each call below: the handle is what the archive wrote last, and is this worker's alone; the results are this function's own.
 impl Worker<'_> {
-    pub(crate) fn of(handle: Handle) -> Self {
-        Worker { handle, row: PhantomData }
+    pub(crate) fn of(handle: Handle, lists: Option<Lists>) -> Self {
+        Worker { handle, lists, row: PhantomData }
     }
 
     /// The page in front of the worker's list, which is then lent.
@@ -35,7 +36,7 @@ impl Worker<'_> {
         Ok(page)
     }
 
-    /// A lent page to the front of the list of its type.
+    /// A lent page to the front of the list of its type. In a row without lists it is refused [`Refusal::NoLists`].
     pub fn put(&mut self, zone: u32, page: u32) -> Result<(), Refusal> {
         answered(unsafe { raw::zonealloc_put(&mut self.handle, zone, page) })
     }
@@ -118,10 +119,10 @@ impl Worker<'_> {
     }
 
     /// *Zone.* The info line, without its line feed.
-    pub fn info(&mut self, zone: u32) -> Result<String, Refusal> {
-        let (mut line, mut len) = ([0; 160], 0);
+    pub fn info(&mut self, zone: u32) -> Result<InfoLine, Refusal> {
+        let (mut line, mut len) = ([0; InfoLine::ROOM], 0);
         answered(unsafe { raw::zonealloc_info(&mut self.handle, zone, line.as_mut_ptr(), line.len(), &mut len) })?;
-        Ok(String::from_utf8_lossy(&line[..len]).trim_end_matches('\n').to_owned())
+        Ok(InfoLine::of(line, len))
     }
 
     /// *Zone.* What is noted of a page.

@@ -28,7 +28,7 @@ fn what_does_not_fit_is_refused() {
 #[test]
 fn a_block_is_lent_and_given_back() {
     let mut row = row();
-    let mut workers = row.workers();
+    let mut workers: Vec<_> = row.workers().collect();
     let page = workers[0].alloc(1, 4, Movable, Mark::Low).unwrap();
     assert_eq!(workers[0].is_lent(1, page, 4), Ok(true));
     assert_eq!(workers[1].is_lent(1, page, 4), Ok(false));
@@ -46,7 +46,7 @@ fn a_block_is_lent_and_given_back() {
 #[test]
 fn single_pages_come_from_the_lists() {
     let mut row = row();
-    let mut workers = row.workers();
+    let mut workers: Vec<_> = row.workers().collect();
     assert_eq!(workers[0].take(0, Unmovable), Err(Refusal::ListEmpty));
     workers[0].refill(0, Unmovable, Mark::Low).unwrap();
     assert_eq!(workers[0].refill(0, Unmovable, Mark::Low), Err(Refusal::ListNotEmpty));
@@ -63,7 +63,7 @@ fn single_pages_come_from_the_lists() {
 #[test]
 fn an_isolated_pageblock_lends_nothing() {
     let mut row = row();
-    let mut workers = row.workers();
+    let mut workers: Vec<_> = row.workers().collect();
     workers[0].isolate(0, 0).unwrap();
     assert_eq!(workers[1].isolate(0, 0), Err(Refusal::AlreadyIsolated));
     assert_eq!(workers[1].alloc_low(0, 3), Ok(1024));
@@ -77,7 +77,7 @@ fn an_isolated_pageblock_lends_nothing() {
 #[test]
 fn where_the_pages_are_is_told_in_the_end() {
     let mut row = row();
-    let mut workers = row.workers();
+    let mut workers: Vec<_> = row.workers().collect();
     let page = workers[0].alloc(0, 2, Movable, Mark::Any).unwrap();
     workers[0].post(0, page, 2, 1).unwrap();
     let page = workers[0].alloc(0, 3, Movable, Mark::Any).unwrap();
@@ -94,11 +94,11 @@ fn where_the_pages_are_is_told_in_the_end() {
 #[test]
 fn a_row_whose_worker_was_forgotten_stays() {
     let mut row = row();
-    let mut workers = row.workers();
+    let mut workers: Vec<_> = row.workers().collect();
     std::mem::forget(workers.pop());
     drop(workers);
     assert_eq!(row.gather(0), Err(Refusal::HasWorkers));
-    assert!(row.workers().is_empty());
+    assert_eq!(row.workers().len(), 0);
 }
 
 #[test]

@@ -1,31 +1,14 @@
 //! Threads, each with a worker of one row.
 
 use std::thread;
-use zonealloc::{until_free, Lists, Mark, MigrateType::Movable, Refusal, Row, Worker, ZoneSpec};
+use zonealloc::{until_free, Block, Lists, Mark, MigrateType::Movable, Refusal, Row, Worker, ZoneSpec};
 
 const THREADS: u32 = 4;
 const CALLS: u32 = 50_000;
 
-/// A page of the worker's list, which is filled where it is empty.
+/// A page, by the worker's list.
 fn take(worker: &mut Worker<'_>) -> Result<u32, Refusal> {
-    match worker.take(0, Movable) {
-        Err(Refusal::ListEmpty) => {
-            until_free(|| worker.refill(0, Movable, Mark::Low))?;
-            worker.take(0, Movable)
-        }
-        answer => answer,
-    }
-}
-
-/// A page to the worker's list, of which a batch is given back first where it is full.
-fn put(worker: &mut Worker<'_>, page: u32) -> Result<(), Refusal> {
-    match worker.put(0, page) {
-        Err(Refusal::ListFull) => {
-            until_free(|| worker.drain(0, Movable, 31))?;
-            worker.put(0, page)
-        }
-        answer => answer,
-    }
+    worker.alloc_pages(0, 0, Movable, Mark::Low).map(|Block { page, .. }| page)
 }
 
 /// Takes and gives back pages and blocks, keeps one page, and posts a block to the next worker. Returns how many pages it kept.
@@ -35,7 +18,7 @@ fn work(mut worker: Worker<'_>, me: u32) -> Result<u32, Refusal> {
         if i / 100 % 2 == 0 {
             pages.push(take(&mut worker)?);
         } else if let Some(page) = pages.pop() {
-            put(&mut worker, page)?;
+            worker.free_pages(0, page, 0)?;
         }
         if i % 50 == 0 {
             let block = until_free(|| worker.alloc(0, 3, Movable, Mark::Low))?;
@@ -67,7 +50,7 @@ fn a_row_goes_to_another_thread() {
     let row = Row::make(&[ZoneSpec::new("Normal", 0, 1024, 0, 10)], 1, None).unwrap();
     let told = thread::spawn(move || {
         let mut row = row;
-        let free = row.workers().pop().map(|mut it| it.counts(0).unwrap().0.free);
+        let free = row.workers().next().map(|mut it| it.counts(0).unwrap().0.free);
         (free, row.gather(0).unwrap().free)
     });
     assert_eq!(told.join().unwrap(), (Some(1024), 1024));
