@@ -1,32 +1,59 @@
 //! The flags of a request.
 ghost use Rattle.std.specs.Prelude.{◌≡◌};
-ghost use Rattle.zp_events.specs.Flags.{has_name, zone_limit_of};
 
 use crate::event::ZoneLimit;
 use crate::words::{is_text, split_at_byte};
 
-/// Whether a name is one of those that flags have.
-fn has_name(flags: &[u8], name: &[u8]) -> bool
-    ensures { result ≡ has_name flags.now name.now }
-{
+/// Which names stand among flags that say which zones a request allows.
+#[derive(Clone, Copy, Drop)]
+struct ZoneNames {
+    dma: bool,
+    dma32: bool,
+    both: bool,
+    high: bool,
+    movable: bool,
+}
+
+/// The names, and one more.
+fn with_name(names: ZoneNames, name: &[u8]) -> ZoneNames {
+    ZoneNames {
+        dma: names.dma | is_text(name, b"GFP_DMA"),
+        dma32: names.dma32 | is_text(name, b"GFP_DMA32"),
+        both: names.both
+            | is_text(name, b"GFP_HIGHUSER_MOVABLE")
+            | is_text(name, b"GFP_TRANSHUGE")
+            | is_text(name, b"GFP_TRANSHUGE_LIGHT"),
+        high: names.high | is_text(name, b"GFP_HIGHUSER") | is_text(name, b"__GFP_HIGHMEM"),
+        movable: names.movable | is_text(name, b"__GFP_MOVABLE"),
+    }
+}
+
+/// Which of these names flags have.
+fn names_of(flags: &[u8]) -> ZoneNames {
+    let mut names = ZoneNames {
+        dma: false,
+        dma32: false,
+        both: false,
+        high: false,
+        movable: false,
+    };
     let mut rest = flags;
-    while let Some((first, after)) = split_at_byte(rest, b'|') {
-        if is_text(first, name) {
-            return true;
-        }
+    while let Some((name, after)) = split_at_byte(rest, b'|') {
+        names = with_name(names, name);
         rest = after;
     }
-    is_text(rest, name)
+    with_name(names, rest)
 }
 
 /// The highest zone that a request with these flags allows.
-pub fn zone_limit_of(flags: &[u8]) -> ZoneLimit
-    ensures { result ≡ zone_limit_of flags.now }
-{
-    if has_name(flags, b"GFP_DMA") {
+pub fn zone_limit_of(flags: &[u8]) -> ZoneLimit {
+    let names = names_of(flags);
+    if names.dma {
         ZoneLimit::Dma
-    } else if has_name(flags, b"GFP_DMA32") {
+    } else if names.dma32 {
         ZoneLimit::Dma32
+    } else if names.both | (names.high & names.movable) {
+        ZoneLimit::Movable
     } else {
         ZoneLimit::Normal
     }

@@ -3,6 +3,13 @@ ghost use Rattle.std.specs.Prelude.{◌≡◌, List, [], ◌∷◌, ◌++◌, Al
 ghost use Rattle.std.specs.Str.{bytes_eq};
 ghost use Rattle.zp_events.specs.Words.{words_of};
 
+use memchr::memchr;
+
+/// The place of the first such byte.
+pub fn place_of_byte(bytes: &[u8], byte: u8) -> Option<usize> {
+    memchr(byte, bytes)
+}
+
 /// What stands before the first such byte, and what stands after it.
 pub fn split_at_byte(bytes: &[u8], byte: u8) -> Option<(&[u8], &[u8])>
     ensures some { IfSome result (λ x. (bytes.now ≡ x.0.now ++ byte ∷ x.1.now) × All (λ b. b ≢ byte) x.0.now) }
@@ -36,7 +43,7 @@ pub fn before<'a>(text: &'a [u8], end: &[u8]) -> Option<&'a [u8]>
 }
 
 /// The spaces at the front of a text, and what stands behind them, where it is not all spaces.
-fn split_spaces(text: &[u8]) -> Option<(&[u8], &[u8])>
+pub fn split_spaces(text: &[u8]) -> Option<(&[u8], &[u8])>
     ensures some { IfSome result (λ x. (text.now ≡ x.0.now ++ x.1.now) × All (λ b. b ≡ 32) x.0.now) }
     ensures word { IfSome result (λ x. (b : ℕ) × (more : List ℕ) × (b ≢ 32) × (x.1.now ≡ b ∷ more)) }
     ensures none { IfNone result (All (λ b. b ≡ 32) text.now) }
