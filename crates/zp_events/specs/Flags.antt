@@ -36,6 +36,11 @@ is_movable name = bytes_eq name (codes "__GFP_MOVABLE")
 abbrev pub names_of : List ℕ → ZoneNames
 names_of flags = record { dma = has_name is_dma flags; dma32 = has_name is_dma32 flags; both = has_name is_both flags; high = has_name is_high flags; movable = has_name is_movable flags }
 
+-- the names, and one more
+abbrev pub with_name : ZoneNames → List ℕ → ZoneNames
+with_name n name =
+    record { dma = n.dma || is_dma name; dma32 = n.dma32 || is_dma32 name; both = n.both || is_both name; high = n.high || is_high name; movable = n.movable || is_movable name }
+
 -- the highest zone that a request with such names allows
 abbrev pub limit_of : ZoneNames → ZoneLimit
 limit_of n = if n.dma then Dma else (if n.dma32 then Dma32 else (if n.both || (n.high && n.movable) then Movable else Normal))

@@ -4,7 +4,7 @@
 --     perf script      sh    97 [001]     2.911084:  kmem:mm_page_free: page=0xffffea000011bd80 pfn=0x46f6 order=0
 -- Before the CPU's mark stands the task, whose name may be any text, also one with marks and colons. Between the mark and the next colon stand
 -- flags and a time. perf puts the names of events flush right, so one space or more stand behind that colon.
-use Rattle.std.specs.Prelude.{ℕ, ◌≡◌, ◌≢◌, ◌<◌, ◌++◌, ◌∷◌, ◌⊎◌, List, drop, length, codes}
+use Rattle.std.specs.Prelude.{ℕ, ◌≡◌, ◌≢◌, ◌<◌, ◌++◌, ◌∷◌, ◌⊎◌, List, [], drop, length, codes}
 use Rattle.std.specs.List.{AllByRecursion}
 use Rattle.zp_events.specs.declared.event.EventName.{EventName}
 use Rattle.zp_events.specs.declared.event.EventName.TheVariants.{Alloc, Free, Fallback}
@@ -90,6 +90,12 @@ pub record BeginsAsEvent (line : List ℕ) : Type 0 where
 pub record IsBroken (line : List ℕ) : Type 0 where
   pub begins : BeginsAsEvent line
   pub no_event : (event : PageEvent) → IsEvent line event → ⊥
+
+-- the text ends in the name of an event, but for its colon
+pub record EndsInName (text : List ℕ) : Type 0 where
+  pub front : List ℕ
+  pub name : EventName
+  pub written : text ++ colon ∷ [] ≡ front ++ name_text name
 
 -- the name of an event, with its colon, stands anywhere in the line
 pub record HoldsEventName (line : List ℕ) : Type 0 where

@@ -23,11 +23,10 @@ pub fn buffer_entries(line: &[u8]) -> Option<BufferEntries>
     let behind_mark = behind_word(line, b"#")?;
     let behind_label = behind_word(behind_mark, b"entries-in-buffer/entries-written:")?;
     let (word, _rest) = first_word(behind_label)?;
-    let (kept, written) = split_at_byte(word, b'/')?;
-    Some(BufferEntries {
-        kept: number_of(kept, 10)?,
-        written: number_of(written, 10)?,
-    })
+    let (kept_digits, written_digits) = split_at_byte(word, b'/')?;
+    let kept = number_of(kept_digits, 10)?;
+    let written = number_of(written_digits, 10)?;
+    Some(BufferEntries { kept, written })
 }
 
 /// How many events a report at the front of a text says are lost.

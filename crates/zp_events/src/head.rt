@@ -1,11 +1,11 @@
 //! The head of a line: the task, the CPU, the time, and the event's name.
 ghost use Rattle.std.specs.Prelude.{◌≡◌, ◌++◌, ℕ, List, drop, IfSome, IfNone, MatchBool};
 ghost use Rattle.zp_events.specs.declared.event.EventName.{EventName};
-ghost use Rattle.zp_events.specs.Lines.{IsMark, IsLastMark, name_text, IsNamed, IsSpacedName, HoldsEventName};
+ghost use Rattle.zp_events.specs.Lines.{IsMark, IsLastMark, name_text, IsNamed, IsSpacedName, EndsInName, HoldsEventName};
 
 use crate::event::EventName;
 use crate::number::small_number_of;
-use crate::words::{behind, split_at_byte, split_spaces};
+use crate::words::{before, behind, split_at_byte, split_spaces};
 
 /// The CPU whose mark stands at the front of a text, and what stands behind the mark.
 fn mark_at(text: &[u8]) -> Option<(u32, &[u8])>
@@ -72,13 +72,31 @@ fn spaced_name(text: &[u8]) -> Option<(EventName, &[u8])>
     event_name(named)
 }
 
-/// The CPU, the event's name and what stands behind the name, where that name stands behind a colon, and no other colon before it.
-pub fn named_behind<'a>(before: &[u8], behind: &'a [u8]) -> Option<(u32, EventName, &'a [u8])>
-    ensures some { IfSome result (λ x. IsSpacedName behind.now x.1 x.2.now) }
+/// The CPU, the event's name and what stands behind that, where they stand before and behind a colon.
+pub fn named_beside<'a>(front: &[u8], rest: &'a [u8]) -> Option<(u32, EventName, &'a [u8])>
+    ensures name { IfSome result (λ x. IsSpacedName rest.now x.1 x.2.now) }
+    ensures mark { IfSome result (λ x. (time : List ℕ) × IsLastMark front.now x.0 time) }
+    ensures none { IfNone result ((cpu : ℕ) (time : List ℕ) (name : EventName) (fields : List ℕ) → IsLastMark front.now cpu time → IsSpacedName rest.now name fields → ⊥) }
 {
-    let (name, fields) = spaced_name(behind)?;
-    let cpu = last_mark(before)?;
+    let (name, fields) = spaced_name(rest)?;
+    let cpu = last_mark(front)?;
     Some((cpu, name, fields))
+}
+
+/// Whether a text ends in the name of an event, but for its colon.
+fn ends_in_name(text: &[u8]) -> bool
+    ensures { MatchBool result (EndsInName text.now) (EndsInName text.now → ⊥) }
+{
+    if let Some(_front) = before(text, b"mm_page_alloc") {
+        return true;
+    }
+    if let Some(_front) = before(text, b"mm_page_free") {
+        return true;
+    }
+    if let Some(_front) = before(text, b"mm_page_alloc_extfrag") {
+        return true;
+    }
+    false
 }
 
 /// Whether the name of an event, with its colon, stands anywhere in a line.
@@ -86,18 +104,11 @@ pub fn holds_event_name(line: &[u8]) -> bool
     ensures { MatchBool result (HoldsEventName line.now) (HoldsEventName line.now → ⊥) }
 {
     let mut rest = line;
-    'colons: while let Some((before, behind)) = split_at_byte(rest, b':') {
-        if ends_in_name(before) {
+    'colons: while let Some((front, behind)) = split_at_byte(rest, b':') {
+        if ends_in_name(front) {
             return true;
         }
         rest = behind;
     }
     false
-}
-
-/// Whether a text ends in the name of an event, without its colon.
-fn ends_in_name(text: &[u8]) -> bool {
-    text.ends_with(b"mm_page_alloc")
-        | text.ends_with(b"mm_page_free")
-        | text.ends_with(b"mm_page_alloc_extfrag")
 }

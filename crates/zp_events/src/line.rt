@@ -6,7 +6,7 @@ ghost use Rattle.zp_events.specs.Lines.{IsBeginning, IsEvent, BeginsAsEvent, IsB
 
 use crate::event::{EventName, Line, PageEvent};
 use crate::fields::action_of;
-use crate::head::named_behind;
+use crate::head::named_beside;
 use crate::words::split_at_byte;
 
 /// The CPU of a line that begins as one of an event, the event's name, and what stands behind the name.
@@ -16,8 +16,8 @@ fn beginning_of(line: &[u8]) -> Option<(u32, EventName, &[u8])>
 {
     let mut rest = line;
     'colons: while let Some((before, behind)) = split_at_byte(rest, b':') {
-        if let Some(beginning) = named_behind(before, behind) {
-            return Some(beginning);
+        if let Some((cpu, name, fields)) = named_beside(before, behind) {
+            return Some((cpu, name, fields));
         }
         rest = behind;
     }

@@ -1,5 +1,5 @@
 //! A reader, line by line.
-ghost use Rattle.std.specs.Prelude.{◌≡◌, ◌≢◌, ◌+◌, [], Err, None, IfOk, MatchBool};
+ghost use Rattle.std.specs.Prelude.{◌≡◌, ◌≢◌, ◌<◌, ◌≤◌, ◌+◌, [], Err, None, IfErr, IfOk, MatchBool};
 ghost use Rattle.zp_events.specs.Reading.{HasNoLineFeed, IsAhead, IsOver, IsReadOn, IsTooLong, behind_line, is_unended, line_ahead, passed_with, spot};
 
 use crate::window::Window;
@@ -27,6 +27,17 @@ pub struct Lines<R: Reader> {
     /// How long the line is that `peek` found.
     ahead: Option<usize>,
     passed: u64,
+}
+
+/// The length of a line, where it is not too long.
+fn line_within(length: usize) -> Result<usize, LineFault>
+    ensures ok { IfOk result (λ n. (n ≡ length) × (length ≤ LONGEST_LINE)) }
+    ensures err { IfErr result (λ e. (e ≡ LineFault.TooLong) × (LONGEST_LINE < length)) }
+{
+    if length > LONGEST_LINE {
+        return Err(LineFault::TooLong);
+    }
+    Ok(length)
 }
 
 impl<R: Reader + Drop> Lines<R> {
@@ -59,41 +70,23 @@ impl<R: Reader> Lines<R> {
     {
         self.ahead = None;
         let mut searched = 0;
-        'reads: while searched <= LONGEST_LINE {
+        'reads: loop {
             if let Some(end) = place_of_byte(&self.window.bytes()[searched..], b'\n') {
-                return self.found(searched + end);
+                self.ahead = Some(line_within(searched + end)?);
+                return Ok(true);
             }
-            searched = self.window.bytes().len();
-            if searched > LONGEST_LINE {
-                return Err(LineFault::TooLong);
-            }
+            searched = line_within(self.window.bytes().len())?;
             let Ok(count) = self.window.fill(&mut self.reader) else {
                 return Err(LineFault::Read);
             };
             if count == 0 {
-                return Ok(self.rest());
+                if searched == 0 {
+                    return Ok(false);
+                }
+                self.ahead = Some(searched);
+                return Ok(true);
             }
         }
-        Err(LineFault::TooLong)
-    }
-
-    /// The next line ends at this line feed.
-    fn found(&mut self, end: usize) -> Result<bool, LineFault> {
-        if end > LONGEST_LINE {
-            return Err(LineFault::TooLong);
-        }
-        self.ahead = Some(end);
-        Ok(true)
-    }
-
-    /// The next line is all that is left, if there is anything.
-    fn rest(&mut self) -> bool {
-        let length = self.window.bytes().len();
-        if length == 0 {
-            return false;
-        }
-        self.ahead = Some(length);
-        true
     }
 
     /// The line that `peek` found, without its line feed; nothing where it found none.

@@ -1,9 +1,9 @@
 //! A text of many lines.
-ghost use Rattle.std.specs.Prelude.{◌≡◌, ◌≢◌, ◌+◌, List, ℕ, IfOk, IfErr, MatchResult, OnOk, OnErr};
+ghost use Rattle.std.specs.Prelude.{◌≡◌, ◌≢◌, ◌<◌, ◌+◌, ◌-◌, ◌^◌, List, ℕ, IfOk, IfErr, MatchBool, MatchResult, OnOk, OnErr};
 ghost use Rattle.zp_events.specs.declared.event.PageEvent.{PageEvent};
 ghost use Rattle.zp_events.specs.declared.text.TextFault.TheVariants as fault;
 ghost use Rattle.zp_events.specs.Reading.{spot};
-ghost use Rattle.zp_events.specs.Texts.{AreAllTaken, IsStoppedBy};
+ghost use Rattle.zp_events.specs.Texts.{AreAllTaken, AreLastTaken, IsNextTaken, IsStoppedBy, IsTaken, IsToldBy, IsUntaken};
 
 use crate::event::{Line, PageEvent};
 use crate::line::read_line;
@@ -69,8 +69,10 @@ enum Untaken {
     Sink(io::Error),
 }
 
-/// What a sink's call that fails leaves of the line.
-fn told(answer: io::Result<()>) -> Result<(), Untaken> {
+/// What a sink answered, as of its line.
+fn told(answer: io::Result<()>) -> Result<(), Untaken>
+    ensures { IsToldBy answer result }
+{
     match answer {
         Ok(()) => Ok(()),
         Err(error) => Err(Untaken::Sink(error)),
@@ -78,7 +80,10 @@ fn told(answer: io::Result<()>) -> Result<(), Untaken> {
 }
 
 /// Tells a sink what a line says.
-fn take_line<S: LineSink>(sink: &mut S, line: &[u8], at_broken: AtBroken) -> Result<(), Untaken> {
+fn take_line<S: LineSink>(sink: &mut S, line: &[u8], at_broken: AtBroken) -> Result<(), Untaken>
+    ensures taken { OnOk result (IsTaken S.carries S.passes S.drops at_broken sink.old line.now sink.new) }
+    ensures untaken { IfErr result (λ e. IsUntaken S.carries S.passes S.drops at_broken S.fails sink.old line.now e sink.new) }
+{
     match read_line(line) {
         Line::Event(event) => told(sink.event(&event)),
         Line::Other => told(sink.other(line)),
@@ -94,18 +99,22 @@ fn take_next<R: Reader, S: LineSink>(
     lines: &mut Lines<R>,
     sink: &mut S,
     at_broken: AtBroken,
-) -> Result<bool, TextFault> {
+) -> Result<bool, TextFault>
+    requires { lines.old.passed < 2 ^ 64 - 1 }
+    ensures taken { IfOk result (λ more. MatchBool more (IsNextTaken S.carries S.passes S.drops at_broken sink.old (spot lines.old.window (R.remaining lines.old.reader) lines.old.passed) (spot lines.new.window (R.remaining lines.new.reader) lines.new.passed) sink.new) (AreLastTaken S.carries S.passes S.drops at_broken sink.old (spot lines.old.window (R.remaining lines.old.reader) lines.old.passed) (spot lines.new.window (R.remaining lines.new.reader) lines.new.passed) sink.new)) }
+    ensures stopped { IfErr result (λ e. IsStoppedBy S.carries S.passes S.drops at_broken S.fails sink.old (spot lines.old.window (R.remaining lines.old.reader) lines.old.passed) (spot lines.new.window (R.remaining lines.new.reader) lines.new.passed) e sink.new) }
+    ensures failed { IfErr result (λ e. e ≡ fault.Read → R.failures lines.new.reader ≡ R.failures lines.old.reader + 1) }
+    ensures calm { MatchResult result (λ more. R.failures lines.new.reader ≡ R.failures lines.old.reader) (λ e. e ≢ fault.Read → R.failures lines.new.reader ≡ R.failures lines.old.reader) }
+{
     match lines.peek() {
         Ok(true) => {}
         Ok(false) => return Ok(false),
         Err(LineFault::Read) => return Err(TextFault::Read),
-        Err(LineFault::TooLong) => {
-            return Err(TextFault::TooLong(lines.passed().saturating_add(1)));
-        }
+        Err(LineFault::TooLong) => return Err(TextFault::TooLong(lines.passed() + 1)),
     }
     match take_line(sink, lines.line(), at_broken) {
         Ok(()) => {}
-        Err(Untaken::Broken) => return Err(TextFault::Broken(lines.passed().saturating_add(1))),
+        Err(Untaken::Broken) => return Err(TextFault::Broken(lines.passed() + 1)),
         Err(Untaken::Sink(error)) => return Err(TextFault::Sink(error)),
     }
     let more = !lines.is_unended();
@@ -127,8 +136,10 @@ pub fn read_lines<R: Reader, S: LineSink>(
 {
     let first = lines.passed();
     'lines: while lines.passed() < u64::MAX {
-        if !take_next(lines, sink, at_broken)? {
-            return Ok(lines.passed() - first);
+        match take_next(lines, sink, at_broken) {
+            Ok(true) => {}
+            Ok(false) => return Ok(lines.passed() - first),
+            Err(fault) => return Err(fault),
         }
     }
     Err(TextFault::TooMany)

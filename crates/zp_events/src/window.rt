@@ -1,5 +1,5 @@
 //! Bytes that were read and are not passed on yet.
-ghost use Rattle.std.specs.Prelude.{◌≡◌, ◌≤◌, ◌+◌, [], drop, length, IfOk, OnOk, OnErr};
+ghost use Rattle.std.specs.Prelude.{◌≡◌, ◌≤◌, ◌+◌, ◌-◌, [], drop, take, length, IfOk, OnOk, OnErr};
 ghost use Rattle.std.specs.Io.KnownBytes.{Keeps};
 ghost use Rattle.zp_events.specs.declared.reading.TheConstants.{LONGEST_LINE};
 ghost use Rattle.zp_events.specs.Windows.{IsFilled};
@@ -31,6 +31,15 @@ impl Model for Window {
     ghost invariant = { λ w. (w.start ≤ w.end) × (w.end ≤ CAPACITY) × (length w.bytes.items ≡ CAPACITY) };
 }
 
+/// Moves the bytes between two places to the front of a buffer.
+fn to_front(bytes: &mut [u8], start: usize, end: usize)
+    requires ordered { start ≤ end }
+    requires within { end ≤ length bytes.old }
+    ensures { take (end - start) bytes.new ≡ take (end - start) (drop start bytes.old) }
+{
+    bytes.copy_within(start..end, 0);
+}
+
 impl Window {
     /// Of no bytes.
     pub fn new(alloc: Global) -> Result<Window, AllocError>
@@ -59,15 +68,6 @@ impl Window {
         self.start += count;
     }
 
-    /// Moves the bytes to the front of the buffer.
-    fn gather(&mut self)
-        ensures { self.new ≡ self.old }
-    {
-        self.bytes.copy_within(self.start..self.end, 0);
-        self.end -= self.start;
-        self.start = 0;
-    }
-
     /// Reads more behind the bytes, and says how many; none where the reader is at its end.
     pub fn fill<R: Reader>(&mut self, reader: &mut R) -> Result<usize, ReadFault>
         requires { length self.old ≤ LONGEST_LINE }
@@ -76,7 +76,9 @@ impl Window {
         ensures kept { OnErr result (self.new ≡ self.old) }
         ensures fault { OnErr result (Keeps (R.remaining reader.old) (R.remaining reader.new) × (R.failures reader.new ≡ R.failures reader.old + 1)) }
     {
-        self.gather();
+        to_front(&mut self.bytes, self.start, self.end);
+        self.end -= self.start;
+        self.start = 0;
         let count = reader.read(&mut self.bytes[self.end..])?;
         self.end += count;
         Ok(count)

@@ -1,12 +1,16 @@
 //! Cutting bytes into words.
 ghost use Rattle.std.specs.Prelude.{◌≡◌, List, [], ◌∷◌, ◌++◌, All, MatchBool, IfSome, IfNone, ◌≢◌, ℕ};
 ghost use Rattle.std.specs.Str.{bytes_eq};
-ghost use Rattle.zp_events.specs.Words.{words_of};
+ghost use Rattle.std.specs.List.{AllByRecursion};
+ghost use Rattle.zp_events.specs.Words.{IsFirstPlace, words_of};
 
 use memchr::memchr;
 
 /// The place of the first such byte.
-pub fn place_of_byte(bytes: &[u8], byte: u8) -> Option<usize> {
+pub fn place_of_byte(bytes: &[u8], byte: u8) -> Option<usize>
+    ensures some { IfSome result (λ place. IsFirstPlace bytes.now byte place) }
+    ensures none { IfNone result (AllByRecursion (λ b. b ≢ byte) bytes.now) }
+{
     memchr(byte, bytes)
 }
 
