@@ -1,4 +1,4 @@
--- What a line of page events is. Three tools write such lines:
+-- What a line of page events is. ftrace and perf write such lines; that of trace-cmd is not from a text that it wrote:
 --     ftrace           sh-97      [001] d..3.     2.911084: mm_page_free: page=(____ptrval____) pfn=0x46f6 order=0
 --     trace-cmd        sh-97    [001]     2.911084: mm_page_free:         page=0xffffea000011bd80 pfn=18166 order=0
 --     perf script      sh    97 [001]     2.911084:  kmem:mm_page_free: page=0xffffea000011bd80 pfn=0x46f6 order=0

@@ -1,5 +1,5 @@
-//! Linux's page events (include/trace/events/kmem.h), as ftrace's own text, `trace-cmd report` and `perf script` write them: what one line
-//! of such a text says, and the lines of a text one after another.
+//! Linux's page events (include/trace/events/kmem.h), as ftrace's own text and `perf script` write them: what one line of such a text says,
+//! and the lines of a text one after another. The lines of `trace-cmd report` were never tried on a text that it wrote.
 #![tactic(auto)]
 
 mod buffer_lines;
