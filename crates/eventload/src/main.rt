@@ -4,14 +4,21 @@
 
 mod event_text;
 
+ghost use Rattle.std.specs.Prelude.{◌≡◌, ◌<◌};
+
 use crate::event_text::{CPUS, text_of};
 use md5::{Digest, Md5};
 use std::alloc::Global;
 use std::env;
+use std::marker::Brand;
+use std::sync::ledger::{Blank, Ledger};
 use zp_buddyinfo::Style;
 use zp_capture::{EventOptions, Form, ZonePlan, print_events};
+use zp_events::AtBroken;
 use zp_model::{Largest, Name};
+use zp_progress::Unwatched;
 use zp_share::ListConfig;
+use zp_streams::{Failures, Source};
 
 /// Over which zone the events are carried out.
 fn options(alloc: Global) -> anyhow::Result<EventOptions> {
@@ -31,6 +38,8 @@ fn options(alloc: Global) -> anyhow::Result<EventOptions> {
         lists,
         largest: Largest::usual(),
         cpus: Some(CPUS),
+        at_broken: AtBroken::End,
+        page: 4_096,
         form: Form::Table(Style {
             cells: 22,
             ascii: true,
@@ -39,14 +48,29 @@ fn options(alloc: Global) -> anyhow::Result<EventOptions> {
     })
 }
 
+/// What is told of a text, read off a stream with a ledger of its failures.
+fn told<L: Ledger>(
+    alloc: Global,
+    text: &[u8],
+    options: &EventOptions,
+    failures: Blank,
+) -> anyhow::Result<Vec<u8>>
+    requires name { failures.name ≡ L.name }
+    requires parts { (failures.parts ≡ L.parts) × (0 < failures.parts) }
+{
+    let reader = Source::new(text, Failures::<L>::new(failures));
+    let mut told = Vec::new(alloc);
+    print_events(alloc, reader, options, &mut told, Unwatched)?;
+    Ok(told)
+}
+
 /// So many texts, each read and carried out: a digest of what was told.
 fn carry_out(alloc: Global, rounds: u32, seed: u64) -> anyhow::Result<[u8; 16]> {
     let options = options(alloc)?;
     let mut digest = Md5::new();
     for round in 0..rounds {
         let text = text_of(alloc, seed, round)?;
-        let mut told = Vec::new(alloc);
-        print_events(alloc, text.as_slice(), &options, &mut told)?;
+        let told = told::<Brand>(alloc, text.as_slice(), &options, Blank::new(1))?;
         digest.update(&told);
     }
     Ok(digest.finalize())

@@ -35,9 +35,10 @@ const MAP_HELP: &str = "\
 Reads a trace on standard input, as zonereplay does, and carries out its
 requests one after another, up to --line N or all. Then each pageblock of each
 zone has a line: its number, the letter of its type, and a cell for so many
-pages as fit the width. Free pages, pages of workers, posted ones and those in
-workers' lists have shades or letters of their own, which the last lines tell.
-Beneath stand what each worker has, the largest free block, and what stands in
+pages as fit the width. Pages in use have shades, and on a terminal the colour
+of who has them; with --ascii free pages are . or the digit of their block's
+order, worker 0's pages A and those in its list a, worker 1's B and b, and so
+on, and posted pages *. Beneath stand what each worker has, the largest free block, and what stands in
 the way of a block of --order K: of the aligned runs of 2^K pages the one with
 the fewest pages in use, and who has these.
 
@@ -80,7 +81,8 @@ Reads page events on standard input, as ftrace, trace-cmd report and perf script
 write them (kmem:mm_page_alloc, mm_page_free), of any length, and carries them
 out: a block that the kernel handed out is asked of our zones, by a worker of
 the event's CPU, from the highest zone that its flags allow; what is freed is
-given back by the worker of the CPU that frees it.
+given back by the worker of the CPU that frees it. A zone named Movable is asked
+only where the flags allow movable pages of users.
 
 Two commands capture a machine (as root, where tracefs is mounted):
 
@@ -89,8 +91,7 @@ Two commands capture a machine (as root, where tracefs is mounted):
     trace-cmd report >> capture
 
 The zones are those of the zoneinfo before the first event, or those that are
-named. Lines that are no page event are passed over. A line that begins as one
-and is broken is told by its number on standard error, and the status is 1.
+named, each behind the one before it.
 
   zoneview events < capture
   zoneview events --zone Normal 0 262144 1024 --lists 31 62 < events
@@ -101,7 +102,15 @@ Written is a table: how many events there were and what became of each, how many
 sections they took, and the most pages that were out; then the zones at the end
 as lines of buddyinfo, with the two indexes of zoneview index; what stands in the
 way of the largest block; and, where the input tells the kernel's own buddyinfo
-behind a line '== buddyinfo after', both side by side.";
+behind a line '== buddyinfo after', both side by side.
+
+Lines that are no page event are passed over. What is not to be trusted is told
+on standard error: lines that hold an event's name and are none, events that are
+lost, by lines of ftrace, and with --keep-going how many lines are broken. A line
+that begins as a page event and is broken, or has more than 65,536 bytes, is told
+by its number; so it is where there is no page event. The status is then 1. A run
+that takes longer than two seconds tells on a terminal, by standard error, how
+many events it has carried out.";
 
 const EXAMPLE: &str = "\
 Examples:
@@ -127,16 +136,20 @@ pub fn command<'a>(alloc: Global) -> Result<Command<'a>, AllocError> {
 
 /// The words of `zoneview index`.
 fn index<'a>(alloc: Global) -> Result<Command<'a>, AllocError> {
-    let page = Arg::new(alloc, "page")
-        .long("page")
-        .value_name("SIZE")
-        .default_value("4K")
-        .help("The size of a page: a number of bytes, or of K, M or G");
     Command::new(alloc, "index")
         .about(INDEX_ABOUT)
         .after_help(INDEX_HELP)
-        .arg(page)?
+        .arg(page(alloc))?
         .arg(ascii_bars(alloc))
+}
+
+/// The word for the size of a page.
+fn page<'a>(alloc: Global) -> Arg<'a> {
+    Arg::new(alloc, "page")
+        .long("page")
+        .value_name("SIZE")
+        .default_value("4K")
+        .help("The size of a page: a number of bytes, or of K, M or G")
 }
 
 /// The words of a command that reads a trace.
@@ -210,15 +223,25 @@ fn events<'a>(alloc: Global) -> Result<Command<'a>, AllocError> {
         .arg(lists)?
         .arg(largest)?
         .arg(cpus)?
+        .arg(keep_going(alloc))?
+        .arg(page(alloc))?
         .arg(every(alloc))?
         .arg(event_chart(alloc))?
         .arg(ascii_bars(alloc))
 }
 
+/// The word for broken lines.
+fn keep_going<'a>(alloc: Global) -> Arg<'a> {
+    Arg::new(alloc, "keep-going")
+        .long("keep-going")
+        .action(ArgAction::SetTrue)
+        .help("Pass over broken lines, and tell on standard error how many there are")
+}
+
 /// The word for counts over the events.
 fn every<'a>(alloc: Global) -> Arg<'a> {
     Arg::new(alloc, "every").long("every").value_name("N").help(
-        "Write the free blocks of each zone after each N events as CSV, and no table",
+        "Write the free blocks of each zone after each N events, and at the end, as CSV, and no table",
     )
 }
 

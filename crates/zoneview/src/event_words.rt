@@ -4,7 +4,9 @@ use crate::index::style_of;
 use crate::screen::Screen;
 use clap::ArgMatches;
 use std::alloc::Global;
+use zp_buddyinfo::parse_size;
 use zp_capture::{EventOptions, Form, ZonePlan};
+use zp_events::AtBroken;
 use zp_model::{Largest, Name};
 use zp_share::ListConfig;
 
@@ -24,6 +26,9 @@ const LARGEST: &str = "--largest: an order from 1 to 10";
 const CPUS: &str = "--cpus: how many CPUs have a worker of their own, from 1 on";
 
 const EVERY: &str = "--every: how many events, from 1 on";
+
+const PAGE: &str =
+    "--page: the size of a page, a number of bytes above 0, and K, M or G behind it or nothing";
 
 const NO_MEMORY: &str = "no memory";
 
@@ -93,6 +98,20 @@ fn cpus_of(words: &ArgMatches<'_>) -> Result<Option<u32>, &'static str> {
     }
 }
 
+/// The size of a page that is named.
+fn page_of(words: &ArgMatches<'_>) -> Result<u64, &'static str> {
+    parse_size(words.get_str("page").unwrap_or("4K")).ok_or(PAGE)
+}
+
+/// What is done at a broken line.
+fn at_broken_of(words: &ArgMatches<'_>) -> AtBroken {
+    if words.get_flag("keep-going") {
+        AtBroken::KeepGoing
+    } else {
+        AtBroken::End
+    }
+}
+
 /// What is to be written.
 fn form_of(words: &ArgMatches<'_>, screen: Screen) -> Result<Form, &'static str> {
     if words.get_flag("svg") {
@@ -118,6 +137,8 @@ pub fn options_of(
         lists: lists_of(words)?,
         largest: largest_of(words)?,
         cpus: cpus_of(words)?,
+        at_broken: at_broken_of(words),
+        page: page_of(words)?,
         form: form_of(words, screen)?,
     })
 }

@@ -1,16 +1,32 @@
 //! `zoneview events`: what a kernel asked of its pages, asked of zones of ours.
 
+ghost use Rattle.std.specs.Prelude.{◌≡◌, ◌<◌};
+
 use crate::WRONG_WORDS;
 use crate::event_words::options_of;
 use crate::screen::Screen;
 use clap::ArgMatches;
 use std::io;
-use std::io::{BufReader, BufWriter};
-use zp_capture::print_events;
+use std::io::{BufWriter, Read};
+use std::marker::Brand;
+use std::rt::Clock;
+use std::sync::ledger::{Blank, Ledger};
+use zp_capture::{CaptureFault, EventOptions, Form, Summary, print_events};
+use zp_progress::{Meter, Task};
+use zp_streams::{Failures, Source};
 
-/// Reads the text of a capture on standard input, and tells what came of its events.
+/// The status of a run that tells nothing, or not all.
+const NOTHING_TOLD: u8 = 1;
+
+/// What is told of events that take long: how many are carried out.
+const TASK: Task<'static> = Task {
+    name: "zoneview events",
+    unit: "page events",
+};
+
+/// Reads the text of a capture on standard input, and tells what came of its events. What is not to be trusted is told on standard error.
 pub fn run(
-    rt: &(impl Print + Eprint + Input + AllocGlobal),
+    rt: &(impl Print + Eprint + Input + Clock + AllocGlobal),
     words: &ArgMatches<'_>,
     screen: Screen,
 ) -> anyhow::Result<u8> {
@@ -21,8 +37,63 @@ pub fn run(
             return Ok(WRONG_WORDS);
         }
     };
-    let reader = BufReader::new(rt.alloc(), rt.reader())?;
+    let told = carry_out::<Brand>(rt, &options, screen, Blank::new(1));
+    match told {
+        Ok(summary) => warn(rt, &summary),
+        Err(fault) => {
+            eprintln!(rt; "zoneview: {fault}")?;
+            Ok(NOTHING_TOLD)
+        }
+    }
+}
+
+/// Carries out the events of standard input, with a ledger of its failures. Rows that go to a terminal leave no room for a line that says how
+/// far the work is.
+fn carry_out<L: Ledger>(
+    rt: &(impl Print + Eprint + Input + Clock + AllocGlobal),
+    options: &EventOptions,
+    screen: Screen,
+    failures: Blank,
+) -> Result<Summary, CaptureFault>
+    requires name { failures.name ≡ L.name }
+    requires parts { (failures.parts ≡ L.parts) × (0 < failures.parts) }
+{
+    let is_watched = match options.form {
+        Form::Lines(_every) => screen.is_watched && !screen.is_terminal,
+        Form::Table(_) | Form::Chart => screen.is_watched,
+    };
+    let meter = Meter::new(rt, TASK, is_watched);
+    let reader = Source::new(rt.reader(), Failures::<L>::new(failures));
     let writer = BufWriter::new(rt.alloc(), io::writer(rt))?;
-    print_events(rt.alloc(), reader, &options, writer)?;
+    print_events(rt.alloc(), reader, options, writer, meter)
+}
+
+/// Tells what of a capture is not to be trusted, and answers the status.
+fn warn(rt: &impl Eprint, summary: &Summary) -> anyhow::Result<u8> {
+    let lines = &summary.lines;
+    if lines.named > 0 {
+        let (named, first) = (lines.named, lines.first_named);
+        eprintln!(rt;
+            "zoneview: {named} lines hold the name of a page event and are none, the first is line {first}"
+        )?;
+    }
+    if lines.broken > 0 {
+        let broken = lines.broken;
+        eprintln!(rt; "zoneview: {broken} broken lines are passed over")?;
+    }
+    if lines.lost > 0 {
+        let lost = lines.lost;
+        eprintln!(rt; "zoneview: {lost} events are lost, the capture says")?;
+    }
+    if lines.unkept > 0 {
+        let unkept = lines.unkept;
+        eprintln!(rt;
+            "zoneview: {unkept} events are missing, which were written to the trace buffer and not kept"
+        )?;
+    }
+    if lines.events() == 0 {
+        eprintln!(rt; "zoneview: no page event was read")?;
+        return Ok(NOTHING_TOLD);
+    }
     Ok(0)
 }

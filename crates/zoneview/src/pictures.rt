@@ -26,6 +26,14 @@ pub enum Picture {
 }
 
 impl Picture {
+    /// Whether what is written is SVG, in which a bad line has no place.
+    fn is_svg(self) -> bool {
+        match self {
+            Picture::Film | Picture::Chart => true,
+            Picture::Map | Picture::TypeTables => false,
+        }
+    }
+
     /// What is told of a picture that takes long: how many requests it has carried out.
     fn task(self) -> Task<'static> {
         Task {
@@ -73,7 +81,12 @@ pub fn run(
     };
     match shown {
         Shown::Picture => Ok(0),
-        Shown::BadLine(_) => Ok(BAD_TRACE),
+        Shown::BadLine(number) => {
+            if picture.is_svg() {
+                eprintln!(rt; "zoneview: bad line {number}")?;
+            }
+            Ok(BAD_TRACE)
+        }
     }
 }
 

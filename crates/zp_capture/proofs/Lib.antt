@@ -1,1 +1,4 @@
 pub mod Seating
+pub mod PlannedZones
+pub mod MachineTelling
+pub mod Summing

@@ -1,2 +1,5 @@
 pub mod Plans
+pub mod MachineLines
+pub mod Limits
 pub mod Opening
+pub mod Summaries

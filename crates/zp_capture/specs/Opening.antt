@@ -8,6 +8,7 @@ use Rattle.zp_zone.specs.Seats.{ZoneState, SeatState, IsUnused, books, seats_of}
 use Rattle.zp_share.specs.PlainShares.{PlainShare, opening_own}
 use Rattle.zp_kernel.specs.Counts.{none_counted}
 use Rattle.zp_kernel.specs.Events.{KernelState}
+use Rattle.zp_capture.specs.Limits.{AreLimitsOf}
 use Rattle.zp_capture.specs.declared.opening.Making.{Making}
 use Rattle.zp_capture.specs.declared.plan.ZonePlan.{ZonePlan}
 
@@ -27,6 +28,7 @@ pub record AreSeatsOf (workers : ℕ) (zones : List ZoneState) (rows : List (Lis
 -- the zones that are planned, with all their pages free: no frame holds a block, and nothing was counted
 pub record IsOpenedBy (m : Making) (plans : List ZonePlan) (k : KernelState) : Type 0 where
   pub largest : k.setting.largest ≡ m.largest
+  pub limits : AreLimitsOf plans k.setting.limits
   pub zones : k.books.crew.zones ≡ map (planned_zone m) plans
   pub shares : k.books.crew.shares ≡ map (opening_share m plans) (range_with_len 0 m.workers)
   pub frames : k.books.frames ≡ empty

@@ -3,18 +3,20 @@
 #![tactic(auto)]
 
 mod capture;
+mod counts_rows;
 mod ends;
 mod fault;
-mod head;
 mod machine;
 mod opening;
 mod options;
 mod plan;
+mod planning;
 mod printing;
 mod report;
 mod rows;
 mod samples;
 mod seat_row;
+mod summary;
 mod type_changes;
 mod watch;
 mod zone_info;
@@ -24,5 +26,7 @@ pub use fault::CaptureFault;
 pub use opening::Making;
 pub use options::{EventOptions, Form};
 pub use plan::{ZonePlan, plan_of};
+pub use planning::{PlanFault, plans_of};
 pub use printing::print_events;
+pub use summary::Summary;
 pub use zone_info::{MemoryZone, ZoneInfo};

@@ -1,84 +1,71 @@
 //! The zones of ours over which a capture is carried out.
-ghost use Rattle.std.specs.Prelude.{◌≤◌, ◌<◌, length, IfOk};
+ghost use Rattle.std.specs.Prelude.{◌≡◌, ◌≤◌, ◌<◌, ◌↔◌, length, IfOk, IsTrue};
 ghost use Rattle.zp_kernel.specs.Settings.{AreBelow};
+ghost use Rattle.zp_capture.specs.Limits.{Allows, AreLimitsOf, IsHighest, workers_of};
 ghost use Rattle.zp_capture.specs.Opening.{IsOpenedBy};
 ghost use Rattle.zp_model.specs.declared.constants.TheConstants.{MAX_WORKERS, MAX_ZONES};
 
-use crate::capture::Capture;
 use crate::fault::CaptureFault;
 use crate::opening::{Making, opened};
-use crate::options::EventOptions;
-use crate::plan::{ZonePlan, plan_of};
-use std::alloc::{AllocError, Global};
+use crate::plan::ZonePlan;
+use std::alloc::Global;
+use zp_events::ZoneLimit;
 use zp_kernel::{Kernel, Limits, Setting};
-use zp_model::{MAX_WORKERS, MAX_ZONES};
+use zp_model::MAX_WORKERS;
 use zp_share::PlainZones;
 
-/// The zones that are planned: those that are named, or those in the place of the machine's.
-pub fn plans_of(
-    alloc: Global,
-    options: &EventOptions,
-    capture: &Capture,
-) -> Result<Vec<ZonePlan>, CaptureFault>
-    ensures some { IfOk result (λ plans. 1 ≤ length plans.items) }
-    ensures few { IfOk result (λ plans. length plans.items ≤ MAX_ZONES) }
-{
-    let mut plans = Vec::new(alloc);
-    plans.extend_from_slice(&options.plans)?;
-    if plans.is_empty() {
-        for zone in capture.zones() {
-            match plan_of(zone) {
-                Some(plan) => plans.push(plan).map_err(AllocError::from)?,
-                None => return Err(CaptureFault::CannotBe(zone.name)),
-            }
-        }
-    }
-    if plans.is_empty() {
-        return Err(CaptureFault::NoZones);
-    }
-    if plans.len() > MAX_ZONES {
-        return Err(CaptureFault::TooManyZones);
-    }
-    Ok(plans)
-}
-
-/// How many workers there are: one for each CPU, up to the most that a zone has, which CPUs then share.
-pub fn workers_of(options: &EventOptions, capture: &Capture) -> u32
+/// How many workers there are, where so many CPUs are named, or so many are told (0: it is not told): one for each CPU, up to the most that a
+/// zone has, which CPUs then share.
+pub fn workers_of(named: Option<u32>, told: u32) -> u32
+    ensures workers { result ≡ workers_of named told }
     ensures some { 1 ≤ result }
-    ensures few { result ≤ MAX_WORKERS }
 {
-    let told = match options.cpus {
-        Some(cpus) => cpus,
-        None => capture.cpus(),
-    };
-    let cpus = if told == 0 { MAX_WORKERS } else { told };
-    cpus.min(MAX_WORKERS)
+    let cpus = named.unwrap_or(told);
+    if cpus == 0 {
+        MAX_WORKERS
+    } else {
+        cpus.min(MAX_WORKERS)
+    }
 }
 
-/// The place of the highest zone that is named DMA or so, or of the lowest where none is.
-fn highest_named(plans: &[ZonePlan], name: &str) -> usize
-    requires { 1 ≤ length plans.now }
-    ensures { result < length plans.now }
+/// Whether a limit allows a zone of this name.
+fn allows(limit: ZoneLimit, name: &str) -> bool
+    ensures { IsTrue result ↔ Allows limit name.now }
 {
-    let mut highest = 0;
-    'plans: for place in 0..plans.len() {
-        let found = plans[place].name.as_str();
-        if found == "DMA" || found == name {
-            highest = place;
+    match limit {
+        ZoneLimit::Dma => name == "DMA",
+        ZoneLimit::Dma32 => name == "DMA" || name == "DMA32",
+        ZoneLimit::Normal => name != "Movable",
+        ZoneLimit::Movable => true,
+    }
+}
+
+/// The place of the highest zone that a limit allows, or of the lowest where it allows none.
+fn highest_allowed(plans: &[ZonePlan], limit: ZoneLimit) -> usize
+    requires { 1 ≤ length plans.now }
+    ensures { IsHighest limit plans.now result }
+{
+    let mut place = plans.len();
+    'plans: while place > 0 {
+        place -= 1;
+        if allows(limit, plans[place].name.as_str()) {
+            return place;
         }
     }
-    highest
+    0
 }
 
 /// For each limit of a request the place of the highest zone that it allows.
 pub fn limits_of(plans: &[ZonePlan]) -> Limits
     requires { 1 ≤ length plans.now }
-    ensures { AreBelow (length plans.now) result }
+    ensures limits { AreLimitsOf plans.now result }
+    ensures below { AreBelow (length plans.now) result }
 {
     Limits {
-        dma: highest_named(plans, "DMA"),
-        dma32: highest_named(plans, "DMA32"),
-        normal: plans.len() - 1,
+        dma: highest_allowed(plans, ZoneLimit::Dma),
+        dma32: highest_allowed(plans, ZoneLimit::Dma32),
+        normal: highest_allowed(plans, ZoneLimit::Normal),
+        movable: highest_allowed(plans, ZoneLimit::Movable),
     }
 }
 

@@ -2,6 +2,7 @@
 
 use crate::plan::ZonePlan;
 use zp_buddyinfo::Style;
+use zp_events::AtBroken;
 use zp_model::Largest;
 use zp_share::ListConfig;
 
@@ -25,5 +26,8 @@ pub struct EventOptions {
     pub largest: Largest,
     /// How many CPUs have a worker of their own; as many as the machine has, where it is not said.
     pub cpus: Option<u32>,
+    pub at_broken: AtBroken,
+    /// The bytes of a page, by which free memory is told.
+    pub page: u64,
     pub form: Form,
 }

@@ -1,6 +1,6 @@
 //! Zones of ours in the place of a machine's.
-ghost use Rattle.std.specs.Prelude.{IfSome, IfNone};
-ghost use Rattle.zp_capture.specs.Plans.{IsPlanOf, CannotBe};
+ghost use Rattle.std.specs.Prelude.{◌≡◌, IfSome, IfNone};
+ghost use Rattle.zp_capture.specs.Plans.{CannotBe, HasPlace, in_place};
 
 use crate::zone_info::MemoryZone;
 use zp_model::{BASE_LIMIT, BASE_STEP, MAX_PAGES, Name};
@@ -20,7 +20,7 @@ pub struct ZonePlan {
 
 /// The plan of a zone in the place of this one; none where it would be larger than a zone can be, or lie higher.
 pub fn plan_of(zone: &MemoryZone) -> Option<ZonePlan>
-    ensures some { IfSome result (IsPlanOf zone.now) }
+    ensures some { IfSome result (λ p. (p ≡ in_place zone.now) × HasPlace zone.now) }
     ensures none { IfNone result (CannotBe zone.now) }
 {
     let base = zone.start - zone.start % u64::from(BASE_STEP);

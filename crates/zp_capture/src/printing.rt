@@ -1,134 +1,111 @@
 //! A capture, carried out and told.
-ghost use Rattle.std.specs.Prelude.{◌≤◌, length};
+ghost use Rattle.std.specs.Prelude.{◌≤◌, length, IfOk};
+ghost use Rattle.zp_capture.specs.Summaries.{IsSummaryOfAll};
 
 use crate::capture::Capture;
 use crate::ends::{info_lines, write_beside_kernel};
-use crate::fault::{CaptureFault, behind};
-use crate::head::{Head, read_head};
-use crate::machine::{kernel_of, plans_of, workers_of};
-use crate::opening::Making;
+use crate::fault::{CaptureFault, fault_of};
 use crate::options::{EventOptions, Form};
 use crate::plan::ZonePlan;
 use crate::report::{Told, write_table};
 use crate::rows::page_row;
 use crate::samples::Samples;
-use crate::type_changes::TypeChanges;
-use crate::watch::{EventKinds, Watch, write_heads};
-use std::alloc::{AllocError, Global};
+use crate::summary::{Summary, counts_of};
+use crate::watch::{Opened, Watch};
+use std::alloc::Global;
 use std::io;
-use std::io::{BufRead, Read, Write};
+use std::io::Write;
 use zp_buddyinfo::{Style, read_table, report_text};
 use zp_drawing::{
     ChartedZone, Span, write_chart_end, write_chart_head, write_way, write_zone_chart,
 };
+use zp_events::Lines;
 use zp_kernel::{Kernel, Run};
+use zp_progress::Progress;
 use zp_share::Share;
+use zp_streams::Reader;
 use zp_zone::Zone;
 
-/// The bytes of a page, by which free memory is told.
-const PAGE_BYTES: u64 = 4096;
-
-/// Carries out the events of a text, and writes what is asked for. The zones are those that are named, or else those that the text tells before
-/// its first event.
-pub fn print_events<R: BufRead + Drop, W: Write + Drop>(
-    alloc: Global,
-    mut reader: R,
-    options: &EventOptions,
-    writer: W,
-) -> Result<(), CaptureFault> {
-    let mut capture = Capture::new(alloc);
-    let head = read_head(alloc, &mut reader, &mut capture)?;
-    let plans = plans_of(alloc, options, &capture)?;
-    let making = Making {
-        largest: options.largest,
-        workers: workers_of(options, &capture),
-        lists: options.lists,
-    };
-    let kernel = kernel_of(alloc, &plans, &making)?;
-    let types = TypeChanges::new(alloc, &plans, kernel.zones())?;
-    let watch = watch_of(alloc, options, capture, types, head.lines, writer)?;
-    let mut run = Run {
-        kernel,
-        onlooker: watch,
-    };
-    carry_out(alloc, reader, head, &mut run)?;
-    let Run { kernel, onlooker } = run;
-    match options.form {
-        Form::Table(style) => tell(alloc, &plans, making.workers, kernel, onlooker, style),
-        Form::Lines(_every) => finish(onlooker),
-        Form::Chart => draw(&plans, onlooker),
-    }
-}
-
-/// Who looks on, behind so many lines that are no events; it writes what stands before the first event.
-fn watch_of<W: Write + Drop>(
-    alloc: Global,
-    options: &EventOptions,
-    capture: Capture,
-    types: TypeChanges,
-    lines: u64,
-    mut writer: W,
-) -> Result<Watch<W>, CaptureFault> {
-    let every = match options.form {
-        Form::Lines(every) => Some(every),
-        Form::Table(_) | Form::Chart => None,
-    };
-    if every.is_some() {
-        write_heads(&mut writer)?;
-    }
-    let samples = match options.form {
-        Form::Chart => Some(Samples::new(alloc, types.zones())?),
-        Form::Table(_) | Form::Lines(_) => None,
-    };
-    Ok(Watch {
-        capture,
-        kinds: EventKinds::default(),
-        others: lines,
-        types,
-        every,
-        samples,
-        writer,
-    })
-}
-
-/// Carries out the events of all lines from the first event on.
-fn carry_out<R: BufRead + Drop, W: Write + Drop>(
+/// Carries out the events of a text, and writes what is asked for; nothing, where it has no event. The zones are those that are named, or else
+/// those that the text tells before its first event.
+pub fn print_events<R: Reader + Drop, W: Write + Drop, P: Progress + Drop>(
     alloc: Global,
     reader: R,
-    head: Head,
-    run: &mut Run<Watch<W>>,
-) -> Result<(), CaptureFault> {
-    let Head { lines, first } = head;
-    let mut rest = first.as_slice().chain(reader);
-    match run.read(alloc, &mut rest) {
-        Ok(_lines) => Ok(()),
-        Err(fault) => Err(behind(lines, fault)),
+    options: &EventOptions,
+    writer: W,
+    progress: P,
+) -> Result<Summary, CaptureFault>
+    ensures { IfOk result (IsSummaryOfAll options.now (R.remaining reader)) }
+{
+    let mut lines = Lines::new(alloc, reader)?;
+    let mut run = Run::new(Watch::new(alloc, options, writer, progress));
+    if let Err(fault) = run.read(&mut lines, options.at_broken) {
+        return Err(fault_of(fault, run.onlooker.fault.take()));
     }
+    let summary = Summary {
+        lines: run.lines,
+        counts: counts_of(&run.kernel),
+    };
+    write_run(alloc, options, &summary, run)?;
+    Ok(summary)
 }
 
-/// Hands on what is not written yet.
-fn finish<W: Write + Drop>(mut watch: Watch<W>) -> Result<(), CaptureFault> {
+/// Writes what is asked for of a run that is over.
+fn write_run<'x, W: Write + Drop, P: Progress + Drop>(
+    alloc: Global,
+    options: &'x EventOptions,
+    summary: &'x Summary,
+    run: Run<Watch<'_, W, P>>,
+) -> Result<(), CaptureFault> {
+    let Run {
+        onlooker,
+        kernel,
+        lines: _,
+    } = run;
+    let Some(kernel) = kernel else {
+        return Ok(());
+    };
+    let mut onlooker = onlooker;
+    let watch = &mut onlooker;
+    watch.progress.clear();
+    let Some(opened) = watch.opened.take() else {
+        return Ok(());
+    };
+    match options.form {
+        Form::Table(style) => {
+            let told = Ended {
+                alloc,
+                options,
+                summary,
+                opened: &opened,
+                style,
+            };
+            tell(&told, kernel, &watch.capture, &mut watch.writer)?;
+        }
+        Form::Lines(_every) => watch.write_last(&kernel)?,
+        Form::Chart => draw(&opened, &mut watch.writer)?,
+    }
     watch.writer.flush()?;
     Ok(())
 }
 
+/// A run that is over, of which a table is written.
+#[derive(Clone, Copy, Drop)]
+struct Ended<'a> {
+    alloc: Global,
+    options: &'a EventOptions,
+    summary: &'a Summary,
+    opened: &'a Opened,
+    style: Style,
+}
+
 /// Draws the free pages of all zones over the events.
-fn draw<W: Write + Drop>(plans: &[ZonePlan], watch: Watch<W>) -> Result<(), CaptureFault> {
-    let Watch {
-        capture: _,
-        kinds: _,
-        others: _,
-        types: _,
-        every: _,
-        samples,
-        mut writer,
-    } = watch;
-    if let Some(samples) = samples {
-        write_chart_head(&mut writer, plans.len())?;
-        write_panels(&mut writer, plans, &samples)?;
-        write_chart_end(&mut writer, plans.len())?;
+fn draw<W: Write>(opened: &Opened, writer: &mut W) -> io::Result<()> {
+    if let Some(samples) = &opened.samples {
+        write_chart_head(writer, opened.plans.len())?;
+        write_panels(writer, &opened.plans, samples)?;
+        write_chart_end(writer, opened.plans.len())?;
     }
-    writer.flush()?;
     Ok(())
 }
 
@@ -150,41 +127,26 @@ fn write_panels<W: Write>(writer: &mut W, plans: &[ZonePlan], samples: &Samples)
 }
 
 /// Tells what came of the events, and how the zones are at the end.
-fn tell<W: Write + Drop>(
-    alloc: Global,
-    plans: &[ZonePlan],
-    workers: u32,
+fn tell<W: Write>(
+    ended: &Ended<'_>,
     kernel: Kernel,
-    watch: Watch<W>,
-    style: Style,
+    capture: &Capture,
+    writer: &mut W,
 ) -> Result<(), CaptureFault> {
-    let counts = *kernel.counts();
     let (zones, shares) = kernel.into_parts();
-    let Watch {
-        capture,
-        kinds,
-        others,
-        types,
-        every: _,
-        samples: _,
-        mut writer,
-    } = watch;
-    let (claims, borrows) = types.counts();
+    let (claims, borrows) = ended.opened.types.counts();
     let told = Told {
-        plans,
-        workers,
-        kinds,
-        others,
-        counts,
+        plans: &ended.opened.plans,
+        workers: ended.opened.workers,
+        lines: ended.summary.lines,
+        counts: ended.summary.counts,
         claims,
         borrows,
         sections: sections_of(&shares),
     };
-    write_table(&mut writer, &told)?;
-    write_ends(alloc, &mut writer, plans, zones.as_slice(), &shares, style)?;
-    write_kernel(alloc, &mut writer, plans, zones.as_slice(), &capture)?;
-    writer.flush()?;
-    Ok(())
+    write_table(writer, &told)?;
+    write_ends(ended, writer, zones.as_slice(), &shares)?;
+    write_kernel(ended, writer, zones.as_slice(), capture)
 }
 
 /// How many sections a worker made with all zones.
@@ -207,25 +169,24 @@ fn sections_of(shares: &[Share]) -> u64 {
 
 /// Writes how the zones are at the end: their lines of buddyinfo, the two indexes, and what stands in the way of their largest block.
 fn write_ends<W: Write>(
-    alloc: Global,
+    ended: &Ended<'_>,
     writer: &mut W,
-    plans: &[ZonePlan],
     zones: &[Zone],
     shares: &[Share],
-    style: Style,
 ) -> Result<(), CaptureFault> {
-    let lines = info_lines(alloc, plans, zones)?;
+    let plans = &ended.opened.plans;
+    let lines = info_lines(ended.alloc, plans, zones)?;
     writeln!(writer)?;
     writer.write_all(&lines)?;
     writeln!(writer)?;
-    if let Ok(rows) = read_table(alloc, &lines) {
-        let text = report_text(alloc, PAGE_BYTES, style, &rows)?;
+    if let Ok(rows) = read_table(ended.alloc, &lines) {
+        let text = report_text(ended.alloc, ended.options.page, ended.style, &rows)?;
         writer.write_all(text.as_bytes())?;
     }
     for (place, (plan, zone)) in plans.iter().zip(zones).enumerate() {
         let name = zone.name();
         writeln!(writer, "\nzone {name}")?;
-        write_zone_way(alloc, writer, plan, zone, place, shares)?;
+        write_zone_way(ended.alloc, writer, plan, zone, place, shares)?;
     }
     Ok(())
 }
@@ -247,21 +208,20 @@ fn write_zone_way<W: Write>(
 
 /// Writes the free blocks of the zones beside those that the kernel had when the events were over, where the text tells them.
 fn write_kernel<W: Write>(
-    alloc: Global,
+    ended: &Ended<'_>,
     writer: &mut W,
-    plans: &[ZonePlan],
     zones: &[Zone],
     capture: &Capture,
 ) -> Result<(), CaptureFault> {
     if capture.afterwards().is_empty() {
         return Ok(());
     }
-    if let Ok(rows) = read_table(alloc, capture.afterwards()) {
+    if let Ok(rows) = read_table(ended.alloc, capture.afterwards()) {
         writeln!(
             writer,
             "\nThe kernel's free blocks beside these. It began with pages out that no event tells, and gave pages of its lists back at other times."
         )?;
-        write_beside_kernel(writer, plans, zones, &rows)?;
+        write_beside_kernel(writer, &ended.opened.plans, zones, &rows)?;
     }
     Ok(())
 }

@@ -1,10 +1,9 @@
 //! What came of a run, as a table.
 
 use crate::plan::ZonePlan;
-use crate::watch::EventKinds;
 use std::io;
 use std::io::Write;
-use zp_kernel::EventCounts;
+use zp_kernel::{EventCounts, LineCounts};
 use zp_model::TYPES;
 
 /// What is told of a run.
@@ -12,8 +11,7 @@ use zp_model::TYPES;
 pub struct Told<'a> {
     pub plans: &'a [ZonePlan],
     pub workers: u32,
-    pub kinds: EventKinds,
-    pub others: u64,
+    pub lines: LineCounts,
     pub counts: EventCounts,
     /// How many pageblocks were claimed, and blocks borrowed, by the number of the request's type.
     pub claims: [u64; TYPES],
@@ -45,7 +43,7 @@ fn write_zones<W: Write>(writer: &mut W, told: &Told<'_>) -> io::Result<()> {
 /// Writes what became of the kernel's requests.
 fn write_requests<W: Write>(writer: &mut W, told: &Told<'_>) -> io::Result<()> {
     let counts = &told.counts;
-    write_count(writer, "handed out by the kernel", told.kinds.allocs, "")?;
+    write_count(writer, "handed out by the kernel", told.lines.allocs, "")?;
     write_count(writer, "  given here", counts.given, "")?;
     write_count(
         writer,
@@ -75,7 +73,7 @@ fn write_requests<W: Write>(writer: &mut W, told: &Told<'_>) -> io::Result<()> {
     write_count(
         writer,
         "refused by the kernel",
-        told.kinds.refusals,
+        told.lines.refusals,
         "nothing was asked",
     )
 }
@@ -83,7 +81,7 @@ fn write_requests<W: Write>(writer: &mut W, told: &Told<'_>) -> io::Result<()> {
 /// Writes what became of what the kernel freed.
 fn write_frees<W: Write>(writer: &mut W, told: &Told<'_>) -> io::Result<()> {
     let counts = &told.counts;
-    write_count(writer, "freed by the kernel", told.kinds.frees, "")?;
+    write_count(writer, "freed by the kernel", told.lines.frees, "")?;
     write_count(writer, "  a block", counts.freed, "given back")?;
     write_count(
         writer,
@@ -129,7 +127,7 @@ fn write_changes<W: Write>(writer: &mut W, told: &Told<'_>) -> io::Result<()> {
     write_count(
         writer,
         "such requests of the kernel",
-        told.kinds.fallbacks,
+        told.lines.fallbacks,
         "mm_page_alloc_extfrag",
     )
 }
@@ -137,11 +135,11 @@ fn write_changes<W: Write>(writer: &mut W, told: &Told<'_>) -> io::Result<()> {
 /// Writes the table.
 pub fn write_table<W: Write>(writer: &mut W, told: &Told<'_>) -> io::Result<()> {
     write_zones(writer, told)?;
-    write_count(writer, "page events", told.kinds.all(), "")?;
+    write_count(writer, "page events", told.lines.events(), "")?;
     write_requests(writer, told)?;
     write_frees(writer, told)?;
     write_changes(writer, told)?;
-    write_count(writer, "other lines", told.others, "passed over")?;
+    write_count(writer, "other lines", told.lines.others, "passed over")?;
     write_count(
         writer,
         "sections",

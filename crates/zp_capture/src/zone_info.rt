@@ -1,6 +1,9 @@
 //! The zones of a machine, as `/proc/zoneinfo` tells them.
+ghost use Rattle.std.specs.Prelude.{◌≡◌, [], None, OnErr, OnOk};
+ghost use Rattle.zp_capture.specs.MachineLines.{IsBegun, IsToldOf, IsZoneTold};
 
 use std::alloc::{AllocError, Global};
+use std::marker::Model;
 use zp_events::{labelled_number, zone_head};
 use zp_model::Name;
 
@@ -24,9 +27,19 @@ pub struct ZoneInfo {
     next: Option<MemoryZone>,
 }
 
+impl Model for ZoneInfo {
+    ghost use Rattle.zp_capture.specs.MachineLines.{ToldZones};
+
+    ghost Value = { ToldZones };
+
+    ghost view = { λ i. record { zones = i.zones.items; next = i.next } };
+}
+
 impl ZoneInfo {
     /// Of no zone.
-    pub fn new(alloc: Global) -> ZoneInfo {
+    pub fn new(alloc: Global) -> ZoneInfo
+        ensures { result ≡ record { zones = []; next = None } }
+    {
         ZoneInfo {
             zones: Vec::new(alloc),
             next: None,
@@ -34,12 +47,17 @@ impl ZoneInfo {
     }
 
     /// The zones that were told whole, in the order of the lines. Of one that has no pages Linux tells no first frame, and here it is none.
-    pub fn zones(&self) -> &[MemoryZone] {
+    pub fn zones(&self) -> &[MemoryZone]
+        ensures { result.now ≡ self.now.zones }
+    {
         &self.zones
     }
 
     /// One line more. A zone begins with its heading and ends with its first frame; lines that tell something else are passed over.
-    pub fn note(&mut self, line: &[u8]) -> Result<(), AllocError> {
+    pub fn note(&mut self, line: &[u8]) -> Result<(), AllocError>
+        ensures noted { OnOk result (IsZoneTold self.old line.now self.new) }
+        ensures left { OnErr result (self.new ≡ self.old) }
+    {
         if let Some((node, name)) = zone_head(line) {
             self.next = begun(node, name);
             return Ok(());
@@ -48,8 +66,8 @@ impl ZoneInfo {
             return Ok(());
         };
         if let Some(start) = labelled_number(line, b"start_pfn:") {
-            self.next = None;
             self.zones.push(MemoryZone { start, ..zone })?;
+            self.next = None;
             return Ok(());
         }
         self.next = Some(told(zone, line));
@@ -58,7 +76,9 @@ impl ZoneInfo {
 }
 
 /// A zone of which nothing is told but its node and its name. None where the name is not 1 to 8 letters or digits.
-fn begun(node: u32, name: &[u8]) -> Option<MemoryZone> {
+fn begun(node: u32, name: &[u8]) -> Option<MemoryZone>
+    ensures { IsBegun node name.now result }
+{
     Some(MemoryZone {
         node,
         name: Name::new(name)?,
@@ -69,7 +89,9 @@ fn begun(node: u32, name: &[u8]) -> Option<MemoryZone> {
 }
 
 /// The zone with what one of its lines tells.
-fn told(zone: MemoryZone, line: &[u8]) -> MemoryZone {
+fn told(zone: MemoryZone, line: &[u8]) -> MemoryZone
+    ensures { IsToldOf zone line.now result }
+{
     if let Some(min) = labelled_number(line, b"min") {
         return MemoryZone { min, ..zone };
     }

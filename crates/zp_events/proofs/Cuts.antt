@@ -1,7 +1,6 @@
 -- Words of a text, and names of flags: what the front of a text adds to them.
 use Rattle.std.proofs.Common.{ℕ, ◌≡◌, ◌≢◌, ◌<◌, List, [], ◌∷◌, ◌++◌, length, ◌||◌, Bool, true, false, cond, eqb, nat_lt, filter, get_or, refl, sym, ap, ◌∙◌, arith}
 use Rattle.std.specs.List.{All, AllByRecursion, slice_split, list_any}
-use Rattle.std.specs.Str.{bytes_eq}
 use Rattle.std.proofs.lemmas.Bool.Decides.{nat_tests}
 use Rattle.std.proofs.lemmas.List.Elements.{All-weaker, All-from_recursion, recursion_from_All}
 use Rattle.std.proofs.lemmas.List.Splits.{slice_split_at, slice_split_none}
@@ -50,16 +49,16 @@ or_false true = refl
 or_false false = refl
 
 -- a name, a bar and more
-pub name_first : (first after name : List ℕ) → All (λ b. b ≢ bar) first → has_name (first ++ bar ∷ after) name ≡ (bytes_eq first name || has_name after name)
+pub name_first : (first after : List ℕ) (test : List ℕ → Bool) → All (λ b. b ≢ bar) first → has_name test (first ++ bar ∷ after) ≡ (test first || has_name test after)
 unfolding has_name
-name_first first after name h =
-    ap (list_any (λ part. bytes_eq part name)) (slice_split_at (λ b. eqb b bar) first bar after (none_is bar first h) refl)
+name_first first after test h =
+    ap (list_any test) (slice_split_at (λ b. eqb b bar) first bar after (none_is bar first h) refl)
 
 -- one name
-pub name_last : (first name : List ℕ) → All (λ b. b ≢ bar) first → has_name first name ≡ bytes_eq first name
+pub name_last : (first : List ℕ) (test : List ℕ → Bool) → All (λ b. b ≢ bar) first → has_name test first ≡ test first
 unfolding has_name
-name_last first name h =
-    ap (list_any (λ part. bytes_eq part name)) (slice_split_none (λ b. eqb b bar) first (none_is bar first h)) ∙ or_false (bytes_eq first name)
+name_last first test h =
+    ap (list_any test) (slice_split_none (λ b. eqb b bar) first (none_is bar first h)) ∙ or_false (test first)
 
 -- spaces at the front add none
 pub words_behind : (spaces text : List ℕ) → AllByRecursion (λ b. b ≡ 32) spaces → words_of (spaces ++ text) ≡ words_of text
@@ -99,17 +98,3 @@ words_whole text spaces rest end e h starts all none =
     nil : (t : List ℕ) → length t ≡ 0 → t ≡ []
     nil [] g = refl
     nil (n ∷ t) g = absurd (omega arith)
-
--- a name of flags is found
-pub name_found : (rest first after flags name : List ℕ) → rest ≡ first ++ 124 ∷ after → All (λ b. b ≢ 124) first → has_name rest name ≡ has_name flags name → true ≡ bytes_eq first name → true ≡ has_name flags name
-name_found rest first after flags name e h so_far found =
-    ap (λ (b : Bool). b || has_name after name) found ∙ sym (name_first first after name h) ∙ ap (λ (t : List ℕ). has_name t name) (sym e) ∙ so_far
-
--- and passed over
-pub name_passed : (rest first after flags name : List ℕ) → rest ≡ first ++ 124 ∷ after → All (λ b. b ≢ 124) first → has_name rest name ≡ has_name flags name → false ≡ bytes_eq first name → has_name after name ≡ has_name flags name
-name_passed rest first after flags name e h so_far passed =
-    ap (λ (b : Bool). b || has_name after name) passed ∙ sym (name_first first after name h) ∙ ap (λ (t : List ℕ). has_name t name) (sym e) ∙ so_far
-
--- and is the last
-pub name_end : (rest flags name : List ℕ) (r : Bool) → All (λ b. b ≢ 124) rest → has_name rest name ≡ has_name flags name → r ≡ bytes_eq rest name → r ≡ has_name flags name
-name_end rest flags name r h so_far is = is ∙ sym (name_last rest name h) ∙ so_far

@@ -1,10 +1,17 @@
 pub mod Options
 pub mod Numbers
+pub mod Bytes
 pub mod Cuts
+pub mod FlagNames
 pub mod Heads
 pub mod Marks
+pub mod Colons
+pub mod HeldNames
+pub mod Buffers
 pub mod Actions
 pub mod Places
 pub mod Frames
 pub mod Readings
+pub mod Filling
+pub mod Looking
 pub mod Texts

@@ -1,5 +1,5 @@
 -- The head of a line, part by part.
-use Rattle.std.proofs.Common.{ℕ, ◌≡◌, ◌≢◌, ◌<◌, ◌≤◌, ◌+◌, ◌-◌, inl, inr, List, [], ◌∷◌, ◌++◌, length, take, drop, codes, sym, ap, subst, ◌∙◌, arith}
+use Rattle.std.proofs.Common.{ℕ, ◌≡◌, ◌≢◌, ◌<◌, ◌≤◌, ◌+◌, ◌-◌, inl, inr, List, [], ◌∷◌, ◌++◌, length, take, drop, get_or, codes, sym, ap, subst, ◌∙◌, arith}
 use Rattle.std.specs.List.{All, AllByRecursion}
 use Rattle.std.proofs.lemmas.Bool.{cases_lt}
 use Rattle.std.proofs.lemmas.List.{drop_all, length-drop, take_all}
@@ -7,16 +7,16 @@ use Rattle.std.proofs.lemmas.List.Elements.{recursion_from_All}
 use Rattle.zp_events.specs.declared.event.EventName.{EventName}
 use Rattle.zp_events.specs.declared.event.EventName.TheVariants.{Alloc, Free, Fallback}
 use Rattle.zp_events.specs.Numbers.{IsSmall}
-use Rattle.zp_events.specs.Lines.{IsMark, IsFirstMark, IsHead, name_text, IsNamed}
-use Rattle.zp_events.proofs.Heads.{first_unique, has_byte, small_no_bracket, same_first, not_subsystem}
+use Rattle.zp_events.specs.Lines.{IsMark, IsLastMark, name_text, IsNamed, IsSpacedName}
+use Rattle.zp_events.proofs.Heads.{first_unique, has_byte, small_no_bracket, no_space, same_behind_spaces, not_subsystem}
 
 -- no mark stands at the front of the text
 abbrev pub NoMark : List ℕ → Type 0
 NoMark text = (cpu : ℕ) (rest : List ℕ) → IsMark text cpu rest → ⊥
 
--- no mark stands at one of the first places of a line
-abbrev pub NoMarkBelow : List ℕ → ℕ → Type 0
-NoMarkBelow line i = (k other : ℕ) (more : List ℕ) → k < i → IsMark (drop k line) other more → ⊥
+-- no mark stands at this place of a text or behind it
+abbrev pub NoMarkFrom : List ℕ → ℕ → Type 0
+NoMarkFrom text i = (k other : ℕ) (more : List ℕ) → i ≤ k → IsMark (drop k text) other more → ⊥
 
 -- what stands behind a mark's first two bytes
 mark_behind : (text rest : List ℕ) (cpu : ℕ) (more : List ℕ) → text ≡ 32 ∷ 91 ∷ rest → (m : IsMark text cpu more) → rest ≡ m.number ++ 93 ∷ (32 ∷ more)
@@ -54,49 +54,25 @@ mark_made text rest word after more cpu e f small g =
 pub from_place : (line : List ℕ) (i : ℕ) → take (length line - i) (drop i line) ≡ drop i line
 from_place line i = take_all _ _ (omega (arith, length-drop i line))
 
--- one place more
-pub none_more : (line : List ℕ) (i : ℕ) → NoMarkBelow line i → NoMark (drop i line) → NoMarkBelow line (i + 1)
-none_more line i before here k other more below m =
-    elim (cases_lt k i) [
-      | inl less ↦ before k other more less m
-      | inr above ↦
-          let same : k ≡ i = omega arith in
-          here other more (subst (λ n. IsMark (drop n line) other more) same m)
+-- at the end of a text stands none
+pub none_past : (text : List ℕ) (i k cpu : ℕ) (rest : List ℕ) → length text ≤ i → i ≤ k → IsMark (drop k text) cpu rest → ⊥
+none_past text i k cpu rest far above m =
+    let empty : drop k text ≡ [] = drop_all k text (omega arith) in
+    let front : drop k text ≡ 32 ∷ 91 ∷ (m.number ++ 93 ∷ (32 ∷ rest)) = m.written in
+    cc
+
+-- one place more, going back
+pub none_from : (text : List ℕ) (i j : ℕ) → j + 1 ≡ i → NoMarkFrom text i → NoMark (drop j text) → NoMarkFrom text j
+none_from text i j next behind here k other more above m =
+    elim (cases_lt j k) [
+      | inl less ↦ behind k other more (omega arith) m
+      | inr most ↦
+          let same : k ≡ j = omega arith in
+          here other more (subst (λ n. IsMark (drop n text) other more) same m)
     ]
 
--- no place is left
-pub none_at_all : (line : List ℕ) (i : ℕ) → length line ≤ i → NoMarkBelow line i → (cpu : ℕ) (rest : List ℕ) → IsFirstMark line cpu rest → ⊥
-none_at_all line i far before cpu rest f =
-    elim (cases_lt f.place i) [
-      | inl less ↦ before f.place cpu rest less f.mark
-      | inr above ↦
-          let empty : drop f.place line ≡ [] = drop_all f.place line (omega arith) in
-          let front : drop f.place line ≡ 32 ∷ 91 ∷ (f.mark.number ++ 93 ∷ (32 ∷ rest)) = f.mark.written in
-          cc
-    ]
-
--- no head stands at the front of the line
-abbrev pub NoHead : List ℕ → Type 0
-NoHead line = (cpu : ℕ) (rest : List ℕ) → IsHead line cpu rest → ⊥
-
-head_behind : (line rest : List ℕ) (c d : ℕ) (u : List ℕ) → IsFirstMark line c rest → (h : IsHead line d u) → rest ≡ h.time ++ 58 ∷ (32 ∷ u)
-head_behind line rest c d u first h = (same_first line c d rest (h.time ++ 58 ∷ (32 ∷ u)) first h.mark).1
-
-pub no_mark_no_head : (line : List ℕ) → ((cpu : ℕ) (rest : List ℕ) → IsFirstMark line cpu rest → ⊥) → NoHead line
-no_mark_no_head line none cpu text h = none cpu (h.time ++ 58 ∷ (32 ∷ text)) h.mark
-
-pub no_colon_no_head : (line rest : List ℕ) (c : ℕ) → IsFirstMark line c rest → All (λ b. b ≢ 58) rest → NoHead line
-no_colon_no_head line rest c first all cpu text h =
-    has_byte 58 h.time (32 ∷ text) (subst (AllByRecursion (λ b. b ≢ 58)) (head_behind line rest c cpu text first h) (recursion_from_All (λ b. b ≢ 58) rest all))
-
-pub no_space_no_head : (line rest time after : List ℕ) (c : ℕ) → IsFirstMark line c rest → rest ≡ time ++ 58 ∷ after → All (λ b. b ≢ 58) time → ((r : List ℕ) → after ≡ 32 ∷ r → ⊥) → NoHead line
-no_space_no_head line rest time after c first f all none cpu text h =
-    none text (first_unique 58 time h.time after (32 ∷ text) (recursion_from_All (λ b. b ≢ 58) time all) h.no_colon (sym f ∙ head_behind line rest c cpu text first h)).1
-
-pub head_made : (line rest time after text : List ℕ) (c : ℕ) → IsFirstMark line c rest → rest ≡ time ++ 58 ∷ after → All (λ b. b ≢ 58) time → after ≡ 32 ∷ text → IsHead line c text
-head_made line rest time after text c first f all g =
-    let whole : rest ≡ time ++ 58 ∷ (32 ∷ text) = cc in
-    record { time = time; mark = subst (λ r. IsFirstMark line c r) whole first; no_colon = recursion_from_All (λ b. b ≢ 58) time all }
+pub last_made : (text : List ℕ) (i j cpu : ℕ) (rest : List ℕ) → j + 1 ≡ i → NoMarkFrom text i → IsMark (drop j text) cpu rest → IsLastMark text cpu rest
+last_made text i j cpu rest next behind m = record { place = j; mark = m; last = λ k other more above. behind k other more (omega arith) }
 
 -- the text begins with no name
 abbrev pub NoName : List ℕ → Type 0
@@ -122,3 +98,54 @@ none_alone text lacks none name rest (inr behind) = lacks (name_text name ++ res
 
 pub named_behind : (text named rest : List ℕ) (name : EventName) → text ≡ codes "kmem:" ++ named → named ≡ name_text name ++ rest → IsNamed text name rest
 named_behind text named rest name e f = inr (e ∙ ap (λ (t : List ℕ). codes "kmem:" ++ t) f)
+
+-- the text names no event behind spaces
+abbrev pub NoSpacedName : List ℕ → Type 0
+NoSpacedName text = (name : EventName) (rest : List ℕ) → IsSpacedName text name rest → ⊥
+
+no_name_of_nothing : (name : EventName) (text rest : List ℕ) → IsNamed text name rest → text ≡ [] → ⊥
+no_name_of_nothing Alloc text rest (inl e) f = cc
+no_name_of_nothing Free text rest (inl e) f = cc
+no_name_of_nothing Fallback text rest (inl e) f = cc
+no_name_of_nothing name text rest (inr e) f = cc
+
+-- behind spaces stands no name
+pub none_spaced : (text spaces named : List ℕ) → text ≡ spaces ++ named → All (λ b. b ≡ 32) spaces → ((b : ℕ) × (more : List ℕ) × (b ≢ 32) × (named ≡ b ∷ more)) →
+    ((name : EventName) (rest : List ℕ) → IsNamed named name rest → ⊥) → (name : EventName) (rest : List ℕ) → IsSpacedName text name rest → ⊥
+none_spaced text spaces named e all starts none name rest x =
+    let same : named ≡ x.named =
+    same_behind_spaces spaces x.spaces named x.named (recursion_from_All (λ b. b ≡ 32) spaces all) x.only_spaces
+    (λ q f. starts.2 (ap (λ (t : List ℕ). get_or t 0 0) (sym starts.3 ∙ f))) (λ q f. no_space name x.named rest q x.name_is f) (sym e ∙ x.written)
+    in
+    none name rest (subst (λ t. IsNamed t name rest) (sym same) x.name_is)
+
+-- nor where there are no spaces
+pub none_unspaced : (text spaces named : List ℕ) → text ≡ spaces ++ named → length spaces ≡ 0 → ((b : ℕ) × (more : List ℕ) × (b ≢ 32) × (named ≡ b ∷ more)) →
+    (name : EventName) (rest : List ℕ) → IsSpacedName text name rest → ⊥
+none_unspaced text [] named e none starts name rest x = begins x.spaces x.some x.only_spaces x.written
+  where
+    begins : (spaces : List ℕ) → 0 < length spaces → AllByRecursion (λ b. b ≡ 32) spaces → text ≡ spaces ++ x.named → ⊥
+    begins [] some all f = omega arith
+    begins (n ∷ spaces) some all f =
+        let same : n ≡ starts.0 = ap (λ (t : List ℕ). get_or t 0 0) (sym f ∙ e ∙ starts.3) in
+        starts.2 (sym same ∙ all.0)
+none_unspaced text (n ∷ spaces) named e none starts name rest x = absurd (omega arith)
+
+-- nor where there is nothing else
+pub none_in_spaces : (text : List ℕ) → All (λ b. b ≡ 32) text → (name : EventName) (rest : List ℕ) → IsSpacedName text name rest → ⊥
+none_in_spaces text all name rest x = at_end text x.spaces (recursion_from_All (λ b. b ≡ 32) text all) x.written
+  where
+    no_named : (t : List ℕ) → AllByRecursion (λ b. b ≡ 32) t → t ≡ x.named → ⊥
+    no_named [] h e = no_name_of_nothing name x.named rest x.name_is (sym e)
+    no_named (b ∷ t) h e = no_space name x.named rest t x.name_is (sym e ∙ ap (λ (n : ℕ). n ∷ t) h.0)
+
+    at_end : (t spaces : List ℕ) → AllByRecursion (λ b. b ≡ 32) t → t ≡ spaces ++ x.named → ⊥
+    at_end t [] h e = no_named t h e
+    at_end [] (s ∷ spaces) h e = cc
+    at_end (b ∷ t) (s ∷ spaces) h e =
+        let rest_is : t ≡ spaces ++ x.named = cc in
+        at_end t spaces h.1 rest_is
+
+pub spaced_made : (text spaces named : List ℕ) (name : EventName) (rest : List ℕ) → text ≡ spaces ++ named → All (λ b. b ≡ 32) spaces → 0 < length spaces → IsNamed named name rest → IsSpacedName text name rest
+spaced_made text spaces named name rest e all some is =
+    record { spaces = spaces; named = named; written = e; some = some; only_spaces = recursion_from_All (λ b. b ≡ 32) spaces all; name_is = is }

@@ -1,5 +1,5 @@
 -- What is said of a value that may be missing.
-use Rattle.std.proofs.Common.{Option, Some, None, IfSome, IfNone, MatchOption}
+use Rattle.std.proofs.Common.{Option, Some, None, IfSome, IfNone, MatchOption, Result, Ok, Err, OnErr, Bool, true, false, MatchBool, ◌≡◌}
 
 -- what holds of the value
 pub of_some : {T : Type 0} (r : Option T) (P : Type 0) (Q : T → Type 0) → MatchOption r P Q → IfSome r Q
@@ -25,3 +25,23 @@ at_none (Some x) p = tt
 pub some_weaker : {T : Type 0} (r : Option T) {P Q : T → Type 0} → ((x : T) → P x → Q x) → IfSome r P → IfSome r Q
 some_weaker None f p = p
 some_weaker (Some x) f p = f x p
+
+-- what holds anyway holds at an error
+pub on_err : {T E P : Type 0} (r : Result T E) → P → OnErr r P
+on_err (Ok x) p = tt
+on_err (Err e) p = p
+
+true_not : false ≡ true → ⊥
+true_not e = cc
+
+false_not : true ≡ false → ⊥
+false_not e = cc
+
+-- what holds as a test came out
+pub where_true : (b : Bool) (P Q : Type 0) → MatchBool b P Q → b ≡ true → P
+where_true true P Q m e = m
+where_true false P Q m e = absurd (true_not e)
+
+pub where_false : (b : Bool) (P Q : Type 0) → MatchBool b P Q → b ≡ false → Q
+where_false true P Q m e = absurd (false_not e)
+where_false false P Q m e = m

@@ -7,8 +7,8 @@ use Rattle.zp_events.specs.declared.event.Line.{Line}
 use Rattle.zp_events.specs.declared.event.Line.TheVariants.{Event, Broken, Other}
 use Rattle.zp_events.specs.Words.{words_of}
 use Rattle.zp_events.specs.Fields.{IsAction}
-use Rattle.zp_events.specs.Lines.{IsHead, IsNamed, IsBeginning, IsEvent, BeginsAsEvent, IsBroken}
-use Rattle.zp_events.proofs.Heads.{same_head, same_beginning}
+use Rattle.zp_events.specs.Lines.{IsBeginning, IsEvent, BeginsAsEvent, IsBroken}
+use Rattle.zp_events.proofs.Heads.{same_beginning}
 use Rattle.zp_events.proofs.Actions.{same_action}
 
 other_event : (e : PageEvent) → Other ≡ Event e → ⊥
@@ -31,16 +31,6 @@ one_event d e h = cc
 
 begins : (line : List ℕ) (e : PageEvent) → IsEvent line e → BeginsAsEvent line
 begins line e is = record { cpu = e.cpu; name = is.name; fields = is.fields; beginning = is.beginning }
-
--- a line that has no head begins as no event
-pub no_head : (line : List ℕ) → ((cpu : ℕ) (rest : List ℕ) → IsHead line cpu rest → ⊥) → BeginsAsEvent line → ⊥
-no_head line none b = none b.cpu b.beginning.text b.beginning.head
-
--- nor does one whose head is followed by no name
-pub no_name : (line : List ℕ) (cpu : ℕ) (text : List ℕ) → IsHead line cpu text → ((name : EventName) (rest : List ℕ) → IsNamed text name rest → ⊥) → BeginsAsEvent line → ⊥
-no_name line cpu text head none b =
-    let same = same_head line cpu b.cpu text b.beginning.text head b.beginning.head in
-    none b.name b.fields (subst (λ t. IsNamed t b.name b.fields) (sym same.1) b.beginning.named)
 
 -- what may be said of a line
 pub record Says (line : List ℕ) (said : Line) : Type 0 where

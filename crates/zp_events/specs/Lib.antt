@@ -4,4 +4,7 @@ pub mod Flags
 pub mod Fields
 pub mod Lines
 pub mod ZoneLines
+pub mod BufferLines
+pub mod Windows
+pub mod Reading
 pub mod Texts

@@ -9,6 +9,8 @@ pub enum ZoneLimit {
     Dma32,
     /// Neither is.
     Normal,
+    /// Nor is either, and the pages are a user's and can be moved (`__GFP_HIGHMEM` and `__GFP_MOVABLE`): a zone named Movable may be asked too.
+    Movable,
 }
 
 /// A block of pages: 2^order page frames, of which this is the first.

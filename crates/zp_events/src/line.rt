@@ -6,16 +6,22 @@ ghost use Rattle.zp_events.specs.Lines.{IsBeginning, IsEvent, BeginsAsEvent, IsB
 
 use crate::event::{EventName, Line, PageEvent};
 use crate::fields::action_of;
-use crate::head::{event_name, head_of};
+use crate::head::named_beside;
+use crate::words::split_at_byte;
 
 /// The CPU of a line that begins as one of an event, the event's name, and what stands behind the name.
 fn beginning_of(line: &[u8]) -> Option<(u32, EventName, &[u8])>
     ensures some { IfSome result (λ x. IsBeginning line.now x.0 x.1 x.2.now) }
     ensures none { IfNone result (BeginsAsEvent line.now → ⊥) }
 {
-    let (cpu, text) = head_of(line)?;
-    let (name, fields) = event_name(text)?;
-    Some((cpu, name, fields))
+    let mut rest = line;
+    'colons: while let Some((before, behind)) = split_at_byte(rest, b':') {
+        if let Some((cpu, name, fields)) = named_beside(before, behind) {
+            return Some((cpu, name, fields));
+        }
+        rest = behind;
+    }
+    None
 }
 
 /// What a line of a text of page events, without its line feed, is.

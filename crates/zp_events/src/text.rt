@@ -1,100 +1,146 @@
 //! A text of many lines.
-ghost use Rattle.std.specs.Prelude.{◌≡◌, ◌<◌, ◌+◌, [], ℕ, List, length, cond, IfOk, IfErr, IfSome, OnOk, Option};
-ghost use Rattle.std.specs.Io.BufRead.{strip_last};
+ghost use Rattle.std.specs.Prelude.{◌≡◌, ◌≢◌, ◌<◌, ◌+◌, ◌-◌, ◌^◌, List, ℕ, IfOk, IfErr, MatchBool, MatchResult, OnOk, OnErr};
 ghost use Rattle.zp_events.specs.declared.event.PageEvent.{PageEvent};
 ghost use Rattle.zp_events.specs.declared.text.TextFault.TheVariants as fault;
-ghost use Rattle.zp_events.specs.Lines.{IsBroken};
-ghost use Rattle.zp_events.specs.Texts.{AreTaken, IsNextLine, IsStoppedAt, IsTaken, lines_of};
+ghost use Rattle.zp_events.specs.Reading.{spot};
+ghost use Rattle.zp_events.specs.Texts.{AreAllTaken, AreLastTaken, IsNextTaken, IsStoppedBy, IsTaken, IsToldBy, IsUntaken};
 
 use crate::event::{Line, PageEvent};
 use crate::line::read_line;
-use std::alloc::Global;
+use crate::reading::{LineFault, Lines};
 use std::io;
-use std::io::BufRead;
+use zp_streams::Reader;
 
 /// Who is told what the lines of a text say.
 pub trait LineSink {
     // What an event makes of it.
     ghost carries: { Self → PageEvent → Self → Type 0 };
     // What a line makes of it that is none of a page event.
-    ghost passes: { Self → Self → Type 0 };
+    ghost passes: { Self → List ℕ → Self → Type 0 };
+    // What a broken line makes of it.
+    ghost drops: { Self → Self → Type 0 };
+    // What a call that fails makes of it.
+    ghost fails: { Self → Self → Type 0 };
 
     /// The next line is one of this event.
     fn event(&mut self, event: &PageEvent) -> io::Result<()>
-        ensures carried { OnOk result (carries self.old event.now self.new) };
+        ensures carried { OnOk result (carries self.old event.now self.new) }
+        ensures failed { OnErr result (fails self.old self.new) };
 
-    /// The next line is none of a page event.
+    /// The next line is this one, none of a page event.
     fn other(&mut self, line: &[u8]) -> io::Result<()>
-        ensures passed { OnOk result (passes self.old self.new) };
+        ensures passed { OnOk result (passes self.old line.now self.new) }
+        ensures failed { OnErr result (fails self.old self.new) };
+
+    /// The next line is broken.
+    fn broken(&mut self) -> io::Result<()>
+        ensures dropped { OnOk result (drops self.old self.new) }
+        ensures failed { OnErr result (fails self.old self.new) };
 }
 
-/// Why a text was not read to its end.
+/// What is done at a broken line.
+#[derive(Clone, Copy, PartialEq, Eq, Debug, Drop)]
+pub enum AtBroken {
+    /// The reading ends before it.
+    End,
+    /// The sink is told of it, and the reading goes on behind it.
+    KeepGoing,
+}
+
+/// Why a text was not read to its end. Lines are numbered from 1 on, by all that their `Lines` passed.
 #[derive(Debug, Drop)]
 pub enum TextFault {
-    /// The line of this number, from 1 on, begins as one of a page event and is none.
+    /// The line of this number begins as one of a page event and is none.
     Broken(u64),
-    /// The reader or the sink failed, or there is no memory for a line.
-    Io(io::Error),
+    /// The line of this number has more than `LONGEST_LINE` bytes.
+    TooLong(u64),
+    /// So many lines were passed as a `u64` counts.
+    TooMany,
+    /// The reader failed.
+    Read,
+    /// The sink failed.
+    Sink(io::Error),
 }
 
-/// Takes the line feed off the end of a line.
-fn pop_line_feed(line: &mut Vec<u8>)
-    ensures { line.new.items ≡ strip_last 10 line.old.items }
+/// Why a line was not taken.
+#[derive(Drop)]
+enum Untaken {
+    Broken,
+    Sink(io::Error),
+}
+
+/// What a sink answered, as of its line.
+fn told(answer: io::Result<()>) -> Result<(), Untaken>
+    ensures { IsToldBy answer result }
 {
-    if line.last() == Some(&b'\n') {
-        line.pop();
+    match answer {
+        Ok(()) => Ok(()),
+        Err(error) => Err(Untaken::Sink(error)),
     }
 }
 
-/// The next line of a reader, without its line feed, in the place of what the buffer has; whether there is one.
-fn next_line<R: BufRead>(reader: &mut R, line: &mut Vec<u8>) -> io::Result<bool>
-    ensures more { IfOk result (λ more. IfSome (R.remaining reader.old) (λ text. cond more (IsNextLine text line.new.items (R.remaining reader.new)) (text ≡ []))) }
+/// Tells a sink what a line says.
+fn take_line<S: LineSink>(sink: &mut S, line: &[u8], at_broken: AtBroken) -> Result<(), Untaken>
+    ensures taken { OnOk result (IsTaken S.carries S.passes S.drops at_broken sink.old line.now sink.new) }
+    ensures untaken { IfErr result (λ e. IsUntaken S.carries S.passes S.drops at_broken S.fails sink.old line.now e sink.new) }
 {
-    line.clear();
-    reader.read_until(b'\n', line)?;
-    let more = !line.is_empty();
-    pop_line_feed(line);
+    match read_line(line) {
+        Line::Event(event) => told(sink.event(&event)),
+        Line::Other => told(sink.other(line)),
+        Line::Broken => match at_broken {
+            AtBroken::End => Err(Untaken::Broken),
+            AtBroken::KeepGoing => told(sink.broken()),
+        },
+    }
+}
+
+/// Tells a sink what the next line says, and passes it: whether there may be more behind it.
+fn take_next<R: Reader, S: LineSink>(
+    lines: &mut Lines<R>,
+    sink: &mut S,
+    at_broken: AtBroken,
+) -> Result<bool, TextFault>
+    requires { lines.old.passed < 2 ^ 64 - 1 }
+    ensures taken { IfOk result (λ more. MatchBool more (IsNextTaken S.carries S.passes S.drops at_broken sink.old (spot lines.old.window (R.remaining lines.old.reader) lines.old.passed) (spot lines.new.window (R.remaining lines.new.reader) lines.new.passed) sink.new) (AreLastTaken S.carries S.passes S.drops at_broken sink.old (spot lines.old.window (R.remaining lines.old.reader) lines.old.passed) (spot lines.new.window (R.remaining lines.new.reader) lines.new.passed) sink.new)) }
+    ensures stopped { IfErr result (λ e. IsStoppedBy S.carries S.passes S.drops at_broken S.fails sink.old (spot lines.old.window (R.remaining lines.old.reader) lines.old.passed) (spot lines.new.window (R.remaining lines.new.reader) lines.new.passed) e sink.new) }
+    ensures failed { IfErr result (λ e. e ≡ fault.Read → R.failures lines.new.reader ≡ R.failures lines.old.reader + 1) }
+    ensures calm { MatchResult result (λ more. R.failures lines.new.reader ≡ R.failures lines.old.reader) (λ e. e ≢ fault.Read → R.failures lines.new.reader ≡ R.failures lines.old.reader) }
+{
+    match lines.peek() {
+        Ok(true) => {}
+        Ok(false) => return Ok(false),
+        Err(LineFault::Read) => return Err(TextFault::Read),
+        Err(LineFault::TooLong) => return Err(TextFault::TooLong(lines.passed() + 1)),
+    }
+    match take_line(sink, lines.line(), at_broken) {
+        Ok(()) => {}
+        Err(Untaken::Broken) => return Err(TextFault::Broken(lines.passed() + 1)),
+        Err(Untaken::Sink(error)) => return Err(TextFault::Sink(error)),
+    }
+    let more = !lines.is_unended();
+    lines.pass();
     Ok(more)
 }
 
-/// Tells a sink what the line of this number says.
-fn take_line<S: LineSink>(sink: &mut S, line: &[u8], number: u64) -> Result<(), TextFault>
-    ensures taken { OnOk result (IsTaken S.carries S.passes sink.old line.now sink.new) }
-    ensures broken { IfErr result (λ e. (n : ℕ) → e ≡ fault.Broken n → (n ≡ number) × IsBroken line.now × (sink.new ≡ sink.old)) }
-{
-    match read_line(line) {
-        Line::Event(event) => match sink.event(&event) {
-            Ok(()) => Ok(()),
-            Err(error) => Err(TextFault::Io(error)),
-        },
-        Line::Broken => Err(TextFault::Broken(number)),
-        Line::Other => match sink.other(line) {
-            Ok(()) => Ok(()),
-            Err(error) => Err(TextFault::Io(error)),
-        },
-    }
-}
-
-/// Tells a sink what the lines of a text say, one after another, up to the first that is broken: how many there are. It keeps one line at a time.
-pub fn read_lines<R: BufRead, S: LineSink>(
-    alloc: Global,
-    reader: &mut R,
+/// Tells a sink what the lines that are left say, one after another, from the one that `peek` found on: how many they are. A line at which it
+/// stops is not passed.
+pub fn read_lines<R: Reader, S: LineSink>(
+    lines: &mut Lines<R>,
     sink: &mut S,
+    at_broken: AtBroken,
 ) -> Result<u64, TextFault>
-    ensures taken { OnOk result (IfSome (R.remaining reader.old) (λ text. AreTaken S.carries S.passes sink.old (lines_of text) sink.new)) }
-    ensures count { IfOk result (λ n. IfSome (R.remaining reader.old) (λ text. n ≡ length (lines_of text))) }
-    ensures broken { IfErr result (λ e. (n : ℕ) → e ≡ fault.Broken n → IfSome (R.remaining reader.old) (λ text. IsStoppedAt S.carries S.passes sink.old text n sink.new)) }
+    ensures taken { IfOk result (λ n. AreAllTaken S.carries S.passes S.drops at_broken sink.old (spot lines.old.window (R.remaining lines.old.reader) lines.old.passed) (spot lines.new.window (R.remaining lines.new.reader) lines.new.passed) n sink.new) }
+    ensures stopped { IfErr result (λ e. IsStoppedBy S.carries S.passes S.drops at_broken S.fails sink.old (spot lines.old.window (R.remaining lines.old.reader) lines.old.passed) (spot lines.new.window (R.remaining lines.new.reader) lines.new.passed) e sink.new) }
+    ensures failed { IfErr result (λ e. e ≡ fault.Read → R.failures lines.new.reader ≡ R.failures lines.old.reader + 1) }
+    ensures calm { MatchResult result (λ n. R.failures lines.new.reader ≡ R.failures lines.old.reader) (λ e. e ≢ fault.Read → R.failures lines.new.reader ≡ R.failures lines.old.reader) }
 {
-    let mut line = Vec::new(alloc);
-    'lines: for number in 0..u64::MAX {
-        match next_line(reader, &mut line) {
+    let first = lines.passed();
+    'lines: while lines.passed() < u64::MAX {
+        match take_next(lines, sink, at_broken) {
             Ok(true) => {}
-            Ok(false) => return Ok(number),
-            Err(error) => return Err(TextFault::Io(error)),
-        }
-        if let Err(fault) = take_line(sink, &line, number + 1) {
-            return Err(fault);
+            Ok(false) => return Ok(lines.passed() - first),
+            Err(fault) => return Err(fault),
         }
     }
-    Err(TextFault::Io(io::ErrorKind::Other.into()))
+    Err(TextFault::TooMany)
 }

@@ -1,7 +1,18 @@
 //! Cutting bytes into words.
 ghost use Rattle.std.specs.Prelude.{◌≡◌, List, [], ◌∷◌, ◌++◌, All, MatchBool, IfSome, IfNone, ◌≢◌, ℕ};
 ghost use Rattle.std.specs.Str.{bytes_eq};
-ghost use Rattle.zp_events.specs.Words.{words_of};
+ghost use Rattle.std.specs.List.{AllByRecursion};
+ghost use Rattle.zp_events.specs.Words.{IsFirstPlace, words_of};
+
+use memchr::memchr;
+
+/// The place of the first such byte.
+pub fn place_of_byte(bytes: &[u8], byte: u8) -> Option<usize>
+    ensures some { IfSome result (λ place. IsFirstPlace bytes.now byte place) }
+    ensures none { IfNone result (AllByRecursion (λ b. b ≢ byte) bytes.now) }
+{
+    memchr(byte, bytes)
+}
 
 /// What stands before the first such byte, and what stands after it.
 pub fn split_at_byte(bytes: &[u8], byte: u8) -> Option<(&[u8], &[u8])>
@@ -36,7 +47,7 @@ pub fn before<'a>(text: &'a [u8], end: &[u8]) -> Option<&'a [u8]>
 }
 
 /// The spaces at the front of a text, and what stands behind them, where it is not all spaces.
-fn split_spaces(text: &[u8]) -> Option<(&[u8], &[u8])>
+pub fn split_spaces(text: &[u8]) -> Option<(&[u8], &[u8])>
     ensures some { IfSome result (λ x. (text.now ≡ x.0.now ++ x.1.now) × All (λ b. b ≡ 32) x.0.now) }
     ensures word { IfSome result (λ x. (b : ℕ) × (more : List ℕ) × (b ≢ 32) × (x.1.now ≡ b ∷ more)) }
     ensures none { IfNone result (All (λ b. b ≡ 32) text.now) }

@@ -17,7 +17,7 @@ fn only_word(text: &[u8]) -> Option<&[u8]>
 }
 
 /// What stands behind the first word of a text, where that is this one.
-fn behind_word<'a>(text: &'a [u8], first: &[u8]) -> Option<&'a [u8]>
+pub fn behind_word<'a>(text: &'a [u8], first: &[u8]) -> Option<&'a [u8]>
     ensures some { IfSome result (λ rest. words_of text.now ≡ first.now ∷ words_of rest.now) }
     ensures none { IfNone result ((more : List (List ℕ)) → words_of text.now ≡ first.now ∷ more → ⊥) }
 {

@@ -3,3 +3,4 @@ pub mod Crews
 pub mod Handing
 pub mod Around
 pub mod RunsOfLines
+pub mod Steps

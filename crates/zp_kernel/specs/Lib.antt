@@ -4,4 +4,6 @@ pub mod Counts
 pub mod Settings
 pub mod Books
 pub mod Events
+pub mod Lines
 pub mod Runs
+pub mod LineSteps

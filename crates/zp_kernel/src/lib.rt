@@ -10,11 +10,13 @@ mod giving_back;
 mod handing_out;
 mod held;
 mod kernel;
+mod line_counts;
 mod run;
 mod setting;
 
 pub use event_counts::{EventCounts, Happening};
 pub use held::Held;
 pub use kernel::Kernel;
+pub use line_counts::{LineCounts, Remark, remark_of};
 pub use run::{Onlooker, Run};
 pub use setting::{Limits, Setting};

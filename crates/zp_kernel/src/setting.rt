@@ -11,6 +11,7 @@ pub struct Limits {
     pub dma: usize,
     pub dma32: usize,
     pub normal: usize,
+    pub movable: usize,
 }
 
 impl Limits {
@@ -22,6 +23,7 @@ impl Limits {
             ZoneLimit::Dma => self.dma,
             ZoneLimit::Dma32 => self.dma32,
             ZoneLimit::Normal => self.normal,
+            ZoneLimit::Movable => self.movable,
         }
     }
 }

@@ -24,7 +24,12 @@ abbrev pub IsShown : List ℕ → Option (List ℕ) → Option (List ℕ) → Sh
 IsShown text old new Picture = (t : Trace) × IsTraceText text t
 IsShown text old new (BadLine n) = IsBadLineTold text old new n
 
--- the same, and of a trace this picture was written; a text writes one trace at most (a_text_writes_one_trace, of zp_trace)
+-- the text is a trace, or it has this bad line, and nothing was written
+abbrev pub IsDrawn : List ℕ → Option (List ℕ) → Option (List ℕ) → Shown → Type 0
+IsDrawn text old new Picture = (t : Trace) × IsTraceText text t
+IsDrawn text old new (BadLine n) = IsBadLine text n × Keeps old new
+
+-- the text is a trace, of which this picture was written, or was told to be none; a text writes one trace at most (a_text_writes_one_trace, of zp_trace)
 abbrev pub IsShownAs : (Trace → List ℕ) → List ℕ → Option (List ℕ) → Option (List ℕ) → Shown → Type 0
 IsShownAs picture text old new Picture = (t : Trace) × IsTraceText text t × IsWritten old new (picture t)
 IsShownAs picture text old new (BadLine n) = IsBadLineTold text old new n

@@ -2,10 +2,10 @@
 ghost use Rattle.std.specs.Prelude.{◌<◌, IfOk, length};
 ghost use Rattle.zp_trace.specs.Grammar.{IsBeginning, lines_of};
 ghost use Rattle.zp_states.specs.Replays.{office_at};
-ghost use Rattle.zp_pictures.specs.Shown.{IsShown};
+ghost use Rattle.zp_pictures.specs.Shown.{IsDrawn};
 
 use crate::fault::PictureFault;
-use crate::input::{Reading, Shown, read_trace, requests_to, write_bad_line};
+use crate::input::{Reading, Shown, read_trace, requests_to};
 use std::alloc::{AllocError, Global};
 use std::io::Write;
 use zp_drawing::{ChartedZone, Span, write_chart_end, write_chart_head, write_zone_chart};
@@ -95,7 +95,7 @@ fn write_charts<W: Write, P: Progress>(
 }
 
 /// Writes the charts of a trace's first lines, or of all, as SVG: for each zone its free pages by order. It tells how many requests it has
-/// carried out, which are all of them for each zone. Of a text that is no trace the number of its bad line is written.
+/// carried out, which are all of them for each zone. Of a text that is no trace nothing is written.
 pub fn print_chart<W: Write, P: Progress>(
     alloc: Global,
     text: &[u8],
@@ -103,11 +103,11 @@ pub fn print_chart<W: Write, P: Progress>(
     writer: &mut W,
     progress: &mut P,
 ) -> Result<Shown, PictureFault>
-    ensures { IfOk result (IsShown text.now (W.contents writer.old) (W.contents writer.new)) }
+    ensures { IfOk result (IsDrawn text.now (W.contents writer.old) (W.contents writer.new)) }
 {
     let trace = match read_trace(alloc, text)? {
         Reading::Trace(trace) => trace,
-        Reading::BadLine(number) => return write_bad_line(writer, number),
+        Reading::BadLine(number) => return Ok(Shown::BadLine(number)),
     };
     write_charts(alloc, &trace, requests_to(&trace, line), writer, progress)?;
     Ok(Shown::Picture)

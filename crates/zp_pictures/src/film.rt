@@ -1,11 +1,11 @@
 //! Films.
 ghost use Rattle.std.specs.Prelude.{IfOk};
 ghost use Rattle.zp_trace.specs.Grammar.{IsBeginning, lines_of};
-ghost use Rattle.zp_pictures.specs.Shown.{IsShown};
+ghost use Rattle.zp_pictures.specs.Shown.{IsDrawn};
 
 use crate::fault::PictureFault;
 use crate::film_states::draw_rows;
-use crate::input::{Reading, Shown, read_trace, requests_to, write_bad_line};
+use crate::input::{Reading, Shown, read_trace, requests_to};
 use crate::labels::Label;
 use crate::layout::{Layout, lay_out, strips_of};
 use crate::legend::{legend_height, write_legend};
@@ -118,8 +118,8 @@ fn write_film<W: Write, P: Progress>(
     Ok(())
 }
 
-/// Writes the film of a trace's first lines, or of all, as SVG, and tells after how many requests it is. Of a text that is no trace the
-/// number of its bad line is written.
+/// Writes the film of a trace's first lines, or of all, as SVG, and tells after how many requests it is. Of a text that is no trace nothing
+/// is written.
 pub fn print_film<W: Write, P: Progress>(
     alloc: Global,
     text: &[u8],
@@ -127,11 +127,11 @@ pub fn print_film<W: Write, P: Progress>(
     writer: &mut W,
     progress: &mut P,
 ) -> Result<Shown, PictureFault>
-    ensures { IfOk result (IsShown text.now (W.contents writer.old) (W.contents writer.new)) }
+    ensures { IfOk result (IsDrawn text.now (W.contents writer.old) (W.contents writer.new)) }
 {
     let trace = match read_trace(alloc, text)? {
         Reading::Trace(trace) => trace,
-        Reading::BadLine(number) => return write_bad_line(writer, number),
+        Reading::BadLine(number) => return Ok(Shown::BadLine(number)),
     };
     write_film(alloc, &trace, requests_to(&trace, line), writer, progress)?;
     Ok(Shown::Picture)

@@ -6,12 +6,13 @@ use std::fmt::{Display, Formatter};
 /// What goes before a line, and in its place: back to the beginning, and all that stands there goes.
 pub const CLEARED: &str = "\r\x1b[K";
 
-/// A line, as `zoneview film: 1200 of 4096 requests`.
+/// A line, as `zoneview film: 1200 of 4096 requests`, or `zoneview events: 1024 page events`.
 #[derive(Clone, Copy, PartialEq, Eq, Debug, Drop)]
 pub struct Line<'a> {
     pub task: &'a str,
-    pub done: usize,
-    pub of: usize,
+    pub done: u64,
+    /// Of how much, where that is known.
+    pub of: Option<u64>,
     /// What is counted.
     pub unit: &'a str,
 }
@@ -29,6 +30,9 @@ impl Display for Line<'_> {
             of,
             unit,
         } = *self;
-        write!(f, "{task}: {done} of {of} {unit}")
+        match of {
+            Some(of) => write!(f, "{task}: {done} of {of} {unit}"),
+            None => write!(f, "{task}: {done} {unit}"),
+        }
     }
 }

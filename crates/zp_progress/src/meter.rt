@@ -60,15 +60,8 @@ impl<'a, R: Eprint + Clock> Meter<'a, R> {
         }
     }
 
-    /// Writes over the line. Where standard error fails, the work goes on.
-    fn show(&mut self, line: Line<'_>) {
-        let _ = eprint!(self.rt; "{CLEARED}{line}");
-        self.stands = true;
-    }
-}
-
-impl<R: Eprint + Clock> Progress for Meter<'_, R> {
-    fn at(&mut self, done: usize, of: usize)
+    /// Tells how far the task is, where a line is due.
+    fn tell(&mut self, done: u64, of: Option<u64>)
         ensures silent { self.old.began ≡ None → self.new ≡ self.old }
     {
         let Some(began) = self.began else {
@@ -87,6 +80,26 @@ impl<R: Eprint + Clock> Progress for Meter<'_, R> {
                 unit,
             });
         }
+    }
+
+    /// Writes over the line. Where standard error fails, the work goes on.
+    fn show(&mut self, line: Line<'_>) {
+        let _ = eprint!(self.rt; "{CLEARED}{line}");
+        self.stands = true;
+    }
+}
+
+impl<R: Eprint + Clock> Progress for Meter<'_, R> {
+    fn at(&mut self, done: usize, of: usize)
+        ensures silent { self.old.began ≡ None → self.new ≡ self.old }
+    {
+        self.tell(done as u64, Some(of as u64));
+    }
+
+    fn past(&mut self, done: u64)
+        ensures silent { self.old.began ≡ None → self.new ≡ self.old }
+    {
+        self.tell(done, None);
     }
 
     fn clear(&mut self)

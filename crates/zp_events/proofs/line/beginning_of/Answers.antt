@@ -1,16 +1,18 @@
-use Rattle.zp_events.specs.Lines.{BeginsAsEvent}
-use Rattle.zp_events.proofs.Options.{at_none}
-use Rattle.zp_events.proofs.Readings.{no_head, no_name}
+use Rattle.zp_events.proofs.Colons.{nothing_passed, colon_passed, beginning_found, none_left}
 use Rattle.zp_events.proofs.line.beginning_of.Goals as goal
 
-pub returns-in_err-cpu-clause-none : goal.returns-in_err-cpu-clause-none
-returns-in_err-cpu-clause-none c =
-    at_none _ {P = BeginsAsEvent c.args.line.now → ⊥} (no_head c.args.line.now c.in_err-cpu.ensures.none)
+pub colons-init : goal.colons-init
+colons-init c = nothing_passed c.args.line.now
 
-pub returns-in_err-name-clause-none : goal.returns-in_err-name-clause-none
-returns-in_err-name-clause-none c =
-    at_none _ {P = BeginsAsEvent c.args.line.now → ⊥} (no_name c.args.line.now c.in_ok-cpu.cpu c.in_ok-cpu.text.now c.in_ok-cpu.ensures.some c.in_err-name.ensures.none)
+pub colons-preserved : goal.colons-preserved
+colons-preserved c =
+    colon_passed c.args.line.now c.colons.rest.now c.in-Some.before.now c.in-Some.behind.now c.colons.invariant c.in-Some.ensures.some.0 c.in-Some.ensures.some.1 c.in_default-named_beside.ensures.none
 
-pub returns-clause-some : goal.returns-clause-some
-returns-clause-some c =
-    record { text = c.in_ok-cpu.text.now; head = c.in_ok-cpu.ensures.some; named = c.in_ok-name.ensures.some }
+pub returns-in-Some-named_beside-clause-some : goal.returns-in-Some-named_beside-clause-some
+returns-in-Some-named_beside-clause-some c =
+    let named = c.in-Some-named_beside.ensures in
+    beginning_found c.args.line.now c.colons.rest.now c.in-Some.before.now c.in-Some.behind.now c.in-Some-named_beside.cpu c.in-Some-named_beside.name c.in-Some-named_beside.fields.now named.mark.0
+    c.colons.invariant c.in-Some.ensures.some.0 c.in-Some.ensures.some.1 named.mark.1 named.name
+
+pub returns-clause-none : goal.returns-clause-none
+returns-clause-none c = none_left c.args.line.now c.colons.rest.now c.colons.invariant c.in_default.ensures.none
