@@ -83,14 +83,29 @@ static inline uint32_t zone_pool_counts(zone_pool_t *pool, uint32_t worker, uint
     if (worker < pool->workers) ZONE_ASK(pool, zone, answer, zonealloc_counts(&pool->seats[worker].worker, zone, counts));
     return answer;
 }
+/* What is seldom called stands apart, so that what is called often is short where it is called. */
+#ifdef __GNUC__
+#define ZONE_SELDOM __attribute__((noinline, cold, unused)) static
+#else
+#define ZONE_SELDOM static inline
+#endif
 static inline uint32_t zone_listed(zone_pool_t *pool, zone_worker_t *own, uint32_t type, uint32_t mark, uint32_t zone, uint32_t *page) {
     uint32_t answer = zonealloc_take(own, zone, type, page);
     if (answer != ZONE_LIST_EMPTY) return answer;
     ZONE_ASK(pool, zone, answer, zonealloc_refill(own, zone, type, mark));
     return answer == ZONE_OK ? zonealloc_take(own, zone, type, page) : answer;
 }
+/* A block of this zone alone. */
+static inline uint32_t zone_alloc_of(zone_pool_t *pool, zone_worker_t *own, uint32_t order, uint32_t type, uint32_t mark, uint32_t zone,
+                                     uint32_t *page) {
+    uint32_t answer;
+    if (order == 0 && pool->batch != 0) return zone_listed(pool, own, type, mark, zone, page);
+    ZONE_ASK(pool, zone, answer, zonealloc_alloc(own, zone, order, type, mark, page));
+    return answer;
+}
+static inline int zone_has_none(uint32_t answer) { return answer == ZONE_NO_BLOCK || answer == ZONE_BELOW_MARK; }
 /* Gives back what the worker's lists have of the zones up to this one. Whether that was anything. */
-static inline int zone_drain_down(zone_pool_t *pool, zone_worker_t *own, uint32_t zone) {
+ZONE_SELDOM int zone_drain_down(zone_pool_t *pool, zone_worker_t *own, uint32_t zone) {
     uint32_t at, type, cached, has, answer;
     int some = 0;
     for (at = zone + 1; at-- > 0 && pool->batch != 0;) {
@@ -101,26 +116,35 @@ static inline int zone_drain_down(zone_pool_t *pool, zone_worker_t *own, uint32_
     }
     return some;
 }
+/* A block of a zone below *zone, which gave none, by this answer; or of all of them, once the worker's lists went back. */
+ZONE_SELDOM uint32_t zone_alloc_below(zone_pool_t *pool, zone_worker_t *own, uint32_t order, uint32_t type, uint32_t mark, uint32_t *zone,
+                                      uint32_t *page, uint32_t answer) {
+    uint32_t at = *zone, drained = 0;
+    do {
+        while (at-- > 0 && zone_has_none(answer)) {
+            answer = zone_alloc_of(pool, own, order, type, mark, at, page);
+            if (answer == ZONE_OK) *zone = at;
+        }
+        at = *zone + 1;
+    } while (zone_has_none(answer) && drained++ == 0 && zone_drain_down(pool, own, *zone));
+    return answer;
+}
 /* ANY. A block of 2^order pages, of *zone or the nearest zone below that gives one: its first page, and in *zone the zone that it is of.
  * A single page comes from the worker's list, which is filled where it is empty. Where no zone gives a block, the worker's own lists of these
  * zones, of all types, go back to them, and where those had a page all zones are asked once more. Other workers' lists stay as they are.
  * ZONE_BELOW_MARK and ZONE_NO_BLOCK are the lowest zone's answer. */
 static inline uint32_t zone_alloc_pages(zone_pool_t *pool, uint32_t worker, uint32_t order, uint32_t type, uint32_t mark, uint32_t *zone,
                                         uint32_t *page) {
-    zone_worker_t *own = &pool->seats[worker % ZONE_WORKERS].worker;
-    uint32_t at, drained = 0, answer = ZONE_NO_BLOCK;
+    zone_worker_t *own;
+    uint32_t answer;
     if (worker >= pool->workers || *zone >= ZONE_ZONES) return ZONE_BAD_ARGUMENT;
-    do {
-        for (at = *zone + 1; at-- > 0 && (answer == ZONE_NO_BLOCK || answer == ZONE_BELOW_MARK);) {
-            if (order == 0 && pool->batch != 0) answer = zone_listed(pool, own, type, mark, at, page);
-            else ZONE_ASK(pool, at, answer, zonealloc_alloc(own, at, order, type, mark, page));
-            if (answer == ZONE_OK) *zone = at;
-        }
-    } while ((answer == ZONE_NO_BLOCK || answer == ZONE_BELOW_MARK) && drained++ == 0 && zone_drain_down(pool, own, *zone));
-    return answer;
+    own = &pool->seats[worker].worker;
+    answer = zone_alloc_of(pool, own, order, type, mark, *zone, page);
+    if (answer == ZONE_OK || !zone_has_none(answer)) return answer;
+    return zone_alloc_below(pool, own, order, type, mark, zone, page, answer);
 }
 /* The type of a page for which its list has no room: that of the one list that is full, and where more are, what is noted of the page. */
-static inline uint32_t zone_full_type(zone_pool_t *pool, zone_worker_t *own, uint32_t zone, uint32_t page, uint32_t *type) {
+ZONE_SELDOM uint32_t zone_full_type(zone_pool_t *pool, zone_worker_t *own, uint32_t zone, uint32_t page, uint32_t *type) {
     zone_page_t noted;
     uint32_t at, cached, full = 0, answer = ZONE_OK;
     for (at = 0; at < ZONE_TYPES; at++)
@@ -130,17 +154,21 @@ static inline uint32_t zone_full_type(zone_pool_t *pool, zone_worker_t *own, uin
     if (answer == ZONE_OK) *type = noted.type;
     return answer;
 }
+/* A page to its list, from which a batch goes to the zone first. */
+ZONE_SELDOM uint32_t zone_put_drained(zone_pool_t *pool, zone_worker_t *own, uint32_t zone, uint32_t page) {
+    uint32_t type = 0, answer = zone_full_type(pool, own, zone, page, &type);
+    if (answer == ZONE_OK) ZONE_ASK(pool, zone, answer, zonealloc_drain(own, zone, type, pool->batch));
+    return answer == ZONE_OK ? zonealloc_put(own, zone, page) : answer;
+}
 /* ANY. Gives back a block of a zone: a single page to the worker's list of its type, from which a batch goes to the zone first where it is
  * full. No other list changes. */
 static inline uint32_t zone_free_pages(zone_pool_t *pool, uint32_t worker, uint32_t zone, uint32_t page, uint32_t order) {
-    zone_worker_t *own = &pool->seats[worker % ZONE_WORKERS].worker;
-    uint32_t type = 0, answer = ZONE_BAD_ARGUMENT;
-    if (worker >= pool->workers) return answer;
+    zone_worker_t *own;
+    uint32_t answer;
+    if (worker >= pool->workers) return ZONE_BAD_ARGUMENT;
+    own = &pool->seats[worker].worker;
     if (order == 0 && pool->batch != 0) answer = zonealloc_put(own, zone, page);
     else ZONE_ASK(pool, zone, answer, zonealloc_free(own, zone, page, order));
-    if (answer != ZONE_LIST_FULL) return answer;
-    answer = zone_full_type(pool, own, zone, page, &type);
-    if (answer == ZONE_OK) ZONE_ASK(pool, zone, answer, zonealloc_drain(own, zone, type, pool->batch));
-    return answer == ZONE_OK ? zonealloc_put(own, zone, page) : answer;
+    return answer == ZONE_LIST_FULL ? zone_put_drained(pool, own, zone, page) : answer;
 }
 #endif

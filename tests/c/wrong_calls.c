@@ -805,6 +805,8 @@ static void stated_numbers(void)
     see(&world, &before);
     for (i = 0; i < sizeof stated / sizeof stated[0]; i++)
         state_row(&stated[i], spare);
+    ANSWERS(ZONE_OK, zonealloc_is_lent(&world.workers[1], 0, spare, ABOVE_LARGEST, &told.number));
+    CHECK(told.number == 0);
     ANSWERS(ZONE_OK, zonealloc_is_lent(&without_lists.workers[0], 1, page, 0, &told.number));
     CHECK(told.number == 1);
     ANSWERS(ZONE_OK, zonealloc_free(&without_lists.workers[0], 1, page, 0));

@@ -380,14 +380,21 @@ impl Desk {
         ensures ok { OnOk result (HasTurned (IsPutOn page) self.old self.new) }
         ensures denied { IfErr result (λ d. HasTurned (IsPutDenial page d) self.old self.new) }
     {
+        // (an arm for each refusal: joined, they cost a put that is not refused two instructions)
         match self.share.put_cached(0, page) {
             Ok(()) => {
                 // a list had room, so there are lists: the settings say so
                 let _lists = self.share.lists();
                 Ok(())
             }
+            Err(Refused::ListFull) => {
+                if self.share.lists().high_len() == 0 {
+                    return Err(Denied::NoLists);
+                }
+                Err(Denied::Refused(Refused::ListFull))
+            }
             Err(refused) => {
-                if self.share.lists().batch() == 0 {
+                if self.share.lists().high_len() == 0 {
                     return Err(Denied::NoLists);
                 }
                 Err(Denied::Refused(refused))
