@@ -6,9 +6,9 @@ ghost use Rattle.zp_model.specs.Info.{counts_of, info_line, right_aligned};
 ghost use Rattle.zp_model.specs.Naming.{IsName};
 ghost use Rattle.zp_streams.specs.Streams.{IsWritten, IsBegun};
 
-use zp_streams::{WriteFault, Writer, write_all};
 use crate::text_buffer::TextBuffer;
 use zp_model::{Counts, Largest, NAME_PLACES};
+use zp_streams::{WriteFault, Writer, write_all};
 use zp_zone::Zone;
 
 /// The most bytes of a line: no count of 32 bits has more than ten digits.

@@ -5,10 +5,10 @@ ghost use Rattle.zp_text.specs.JournalText.{journal_text};
 
 use crate::gathering::{GATHERED, make_room, write_gathered};
 use crate::line::{ENTRY_LINE, push_entry};
-use zp_streams::{WriteFault, Writer};
 use crate::text_buffer::TextBuffer;
 use zp_journal::Journal;
 use zp_model::LONGEST_NAME;
+use zp_streams::{WriteFault, Writer};
 
 /// Writes the line of each entry of the zone of this name, the oldest first, numbered from 1.
 pub fn write_journal<W: Writer>(
