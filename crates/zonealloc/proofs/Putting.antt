@@ -4,7 +4,7 @@ use Rattle.std.specs.Prelude.{Some, Err}
 use Rattle.zp_share.specs.Shares.{ShareState}
 use Rattle.zp_gate.specs.declared.denied.Denied.{Denied}
 use Rattle.zp_gate.specs.declared.denied.Denied.TheVariants.{NoZone, Busy, NoWorker, NoLists, NotEmpty, TooFew, Refused}
-use Rattle.zp_gate.specs.Workers.{DeskState, WorkerState, IsAt, IsPut, IsPutDenial, desk_at, desk_share}
+use Rattle.zp_gate.specs.Workers.{WorkerState, IsAt, IsPutDenial, desk_at, desk_share}
 use Rattle.zonealloc.specs.Numbers.{denial_number}
 use Rattle.zonealloc.specs.Calls.{IsPutCall}
 use Rattle.zonealloc.proofs.Denials.{all_stay, refusal_small}
