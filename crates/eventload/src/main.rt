@@ -64,13 +64,18 @@ fn told<L: Ledger>(
     Ok(told)
 }
 
+/// What is told of a text.
+fn told_of(alloc: Global, text: &[u8], options: &EventOptions) -> anyhow::Result<Vec<u8>> {
+    told::<Brand>(alloc, text, options, Blank::new(1))
+}
+
 /// So many texts, each read and carried out: a digest of what was told.
 fn carry_out(alloc: Global, rounds: u32, seed: u64) -> anyhow::Result<[u8; 16]> {
     let options = options(alloc)?;
     let mut digest = Md5::new();
     for round in 0..rounds {
         let text = text_of(alloc, seed, round)?;
-        let told = told::<Brand>(alloc, text.as_slice(), &options, Blank::new(1))?;
+        let told = told_of(alloc, text.as_slice(), &options)?;
         digest.update(&told);
     }
     Ok(digest.finalize())

@@ -37,14 +37,22 @@ pub fn run(
             return Ok(WRONG_WORDS);
         }
     };
-    let told = carry_out::<Brand>(rt, &options, screen, Blank::new(1));
-    match told {
+    match summary_of(rt, &options, screen) {
         Ok(summary) => warn(rt, &summary),
         Err(fault) => {
             eprintln!(rt; "zoneview: {fault}")?;
             Ok(NOTHING_TOLD)
         }
     }
+}
+
+/// Carries out the events of standard input.
+fn summary_of(
+    rt: &(impl Print + Eprint + Input + Clock + AllocGlobal),
+    options: &EventOptions,
+    screen: Screen,
+) -> Result<Summary, CaptureFault> {
+    carry_out::<Brand>(rt, options, screen, Blank::new(1))
 }
 
 /// Carries out the events of standard input, with a ledger of its failures. Rows that go to a terminal leave no room for a line that says how
