@@ -82,21 +82,21 @@ fn warn(rt: &impl Eprint, summary: &Summary) -> anyhow::Result<u8> {
     if lines.named > 0 {
         let (named, first) = (lines.named, lines.first_named);
         eprintln!(rt;
-            "zoneview: {named} lines hold the name of a page event and are none, the first is line {first}"
+            "zoneview: lines that hold the name of a page event and are none: {named}, the first is line {first}"
         )?;
     }
     if lines.broken > 0 {
         let broken = lines.broken;
-        eprintln!(rt; "zoneview: {broken} broken lines are passed over")?;
+        eprintln!(rt; "zoneview: broken lines that are passed over: {broken}")?;
     }
     if lines.lost > 0 {
         let lost = lines.lost;
-        eprintln!(rt; "zoneview: {lost} events are lost, the capture says")?;
+        eprintln!(rt; "zoneview: events that the capture says are lost: {lost}")?;
     }
     if lines.unkept > 0 {
         let unkept = lines.unkept;
         eprintln!(rt;
-            "zoneview: {unkept} events are missing, which were written to the trace buffer and not kept"
+            "zoneview: events that were written to the trace buffer and not kept: {unkept}"
         )?;
     }
     if lines.events() == 0 {
