@@ -38,9 +38,9 @@ zone has a line: its number, the letter of its type, and a cell for so many
 pages as fit the width. Pages in use have shades, and on a terminal the colour
 of who has them; with --ascii free pages are . or the digit of their block's
 order, worker 0's pages A and those in its list a, worker 1's B and b, and so
-on, and posted pages *. Beneath stand what each worker has, the largest free block, and what stands in
-the way of a block of --order K: of the aligned runs of 2^K pages the one with
-the fewest pages in use, and who has these.
+on, and posted pages *. Beneath stand what each worker has, the largest free
+block, and what stands in the way of a block of --order K: of the aligned runs
+of 2^K pages the one with the fewest pages in use, and who has these.
 
   zoneview map < trace
   zoneview map --line 200 --order 9 --ascii < trace";
