@@ -161,16 +161,16 @@ uint32_t zonealloc_alloc_low(zone_worker_t *worker, uint32_t zone, uint32_t orde
  *   ZONE_BAD_ARGUMENT      the order is above 10
  *   ZONE_BAD_HANDLE        nothing is in the handle
  *   ZONE_BAD_ARGUMENT      the row has no such zone
- *   ZONE_BUSY              another is in the zone
  *   ZONE_NOT_LENT          nor is a page outside the zone, nor a block of an order above the zone's largest
+ *   ZONE_BUSY              another is in the zone
  *   ZONE_ENDED             the worker made its last request to the zone */
 uint32_t zonealloc_free(zone_worker_t *worker, uint32_t zone, uint32_t page, uint32_t order);
 /* ZONE. Posts a lent block to the worker of this number, dismissed or not.
  *   ZONE_BAD_ARGUMENT      the order is above 10, or the number above 31
  *   ZONE_BAD_HANDLE        nothing is in the handle
  *   ZONE_BAD_ARGUMENT      the row has no such zone, or was made without a worker of this number
- *   ZONE_BUSY              another is in the zone
  *   ZONE_NOT_LENT          nor is a page outside the zone, nor a block of an order above the zone's largest
+ *   ZONE_BUSY              another is in the zone
  *   ZONE_ENDED             the worker made its last request to the zone */
 uint32_t zonealloc_post(zone_worker_t *worker, uint32_t zone, uint32_t page, uint32_t order, uint32_t to);
 /* ZONE. The block in front of those that were posted to the worker, which is then lent.
@@ -236,15 +236,14 @@ uint32_t zonealloc_counts(zone_worker_t *worker, uint32_t zone, zone_counts_t *c
 uint32_t zonealloc_info(zone_worker_t *worker, uint32_t zone, uint8_t *buffer, size_t room, size_t *len);
 /* ZONE. What is noted of a page of the zone.
  *   ZONE_BAD_HANDLE        nothing is in the handle
- *   ZONE_BAD_ARGUMENT      the row has no such zone
- *   ZONE_BUSY              another is in the zone
- *   ZONE_BAD_ARGUMENT      the page is outside the zone, which the zone tells: so ZONE_BUSY comes first */
+ *   ZONE_BAD_ARGUMENT      the row has no such zone, or the page is outside it
+ *   ZONE_BUSY              another is in the zone */
 uint32_t zonealloc_page(zone_worker_t *worker, uint32_t zone, uint32_t page, zone_page_t *told);
 /* ZONE. What a pageblock is.
  *   ZONE_BAD_HANDLE        nothing is in the handle
  *   ZONE_BAD_ARGUMENT      the row has no such zone
- *   ZONE_BUSY              another is in the zone
- *   ZONE_BAD_PAGEBLOCK     the zone has none of this number */
+ *   ZONE_BAD_PAGEBLOCK     the zone has none of this number
+ *   ZONE_BUSY              another is in the zone */
 uint32_t zonealloc_pageblock(zone_worker_t *worker, uint32_t zone, uint32_t pageblock, zone_pageblock_t *told);
 /* ZONE. Where the pages of a zone are, when all workers were dismissed. What is lent then was never given back.
  *   ZONE_BAD_HANDLE        nothing is in the handle

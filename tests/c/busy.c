@@ -1,6 +1,6 @@
 /* Two threads: one is nearly always in the one zone of a row, the other makes each call that wants the zone until it is answered ZONE_BUSY,
  * which has to come within so many tries. Such a call has changed nothing: not its results, not its handle, and not what the worker has of
- * its own. The calls are ones that change nothing where nobody is in either, but for drains and dismissals. In the end the pages are where
+ * its own. The calls are ones that change nothing where nobody is in either, but for frees, posts, drains and dismissals. In the end the pages are where
  * they are known to be. Prints one line and answers 0; or tells what was wrong and answers 1. */
 #include "zonealloc.h"
 #include "checking.h"
@@ -68,8 +68,8 @@ static uint32_t lent;        /* the page at which a block of this order is lent 
 
 static uint32_t alloc(void) { return zonealloc_alloc(mine, 0, 10, ZONE_TYPE_MOVABLE, ZONE_ANY, &told.page); }
 static uint32_t alloc_low(void) { return zonealloc_alloc_low(mine, 0, 10, &told.page); }
-static uint32_t give_back(void) { return zonealloc_free(mine, 0, lent, ORDER + 1); }
-static uint32_t post(void) { return zonealloc_post(mine, 0, lent, ORDER + 1, 1); }
+static uint32_t give_back(void) { return zonealloc_free(mine, 0, lent, ORDER); }
+static uint32_t post(void) { return zonealloc_post(mine, 0, lent, ORDER, 0); }
 static uint32_t collect(void) { return zonealloc_collect(mine, 0, &told.page, &told.order); }
 static uint32_t isolate(void) { return zonealloc_isolate(mine, 0, 1); }
 static uint32_t release(void) { return zonealloc_release(mine, 0, 0, ZONE_TYPE_MOVABLE); }
@@ -84,17 +84,33 @@ static uint32_t gather(void) { return zonealloc_gather(&row, 0, &told.totals); }
 
 /* Each call, and what it is answered where nobody else is in. */
 static const struct { const char *name; uint32_t (*call)(void); uint32_t otherwise; } calls[] = {
-    { "alloc", alloc, ZONE_NO_BLOCK },       { "alloc_low", alloc_low, ZONE_NO_BLOCK },    { "free", give_back, ZONE_NOT_LENT },
-    { "post", post, ZONE_NOT_LENT },         { "collect", collect, ZONE_NOTHING_POSTED },  { "isolate", isolate, ZONE_BAD_PAGEBLOCK },
+    { "alloc", alloc, ZONE_NO_BLOCK },       { "alloc_low", alloc_low, ZONE_NO_BLOCK },    { "free", give_back, ZONE_OK },
+    { "post", post, ZONE_OK },         { "collect", collect, ZONE_NOTHING_POSTED },  { "isolate", isolate, ZONE_BAD_PAGEBLOCK },
     { "release", release, ZONE_NOT_ISOLATED }, { "refill", refill, ZONE_BELOW_MARK },      { "drain", drain, ZONE_OK },
     { "drain_all", drain_all, ZONE_OK },     { "counts", counts, ZONE_OK },                { "info", info, ZONE_OK },
     { "page", page, ZONE_OK },               { "pageblock", pageblock, ZONE_OK },          { "gather", gather, ZONE_HAS_WORKERS }
 };
 
-/* The worker's list for movable pages has some, and the others have none. */
+/* The block is lent: it is the one that was posted to the worker, or another. */
+static void lend(void)
+{
+    uint32_t is_lent = 0, order, answer;
+    CHECK(zonealloc_is_lent(mine, 0, lent, ORDER, &is_lent) == ZONE_OK);
+    if (is_lent == 1)
+        return;
+    do {
+        answer = zonealloc_collect(mine, 0, &lent, &order);
+        if (answer == ZONE_NOTHING_POSTED)
+            answer = zonealloc_alloc(mine, 0, ORDER, ZONE_TYPE_MOVABLE, ZONE_ANY, &lent);
+    } while (answer == ZONE_BUSY);
+    CHECK(answer == ZONE_OK);
+}
+
+/* The block is lent, the worker's list for movable pages has some, and the others have none. */
 static void furnish(void)
 {
     uint32_t pages = 0, answer = ZONE_OK;
+    lend();
     CHECK(zonealloc_cached(mine, 0, ZONE_TYPE_MOVABLE, &pages) == ZONE_OK);
     if (pages > 0)
         return;

@@ -12,7 +12,7 @@ mod replayed_pieces;
 pub use cut_zone::{CutRun, PIECE, work_in_pieces};
 pub use endless_zone::{EndlessRun, work_without_end};
 pub use locked_page::touch_a_page;
-pub use machine::{MachineRun, MachineZones, SeatedZone, machine_zones, run_machine};
+pub use machine::{MachineRun, MachineZones, machine_zones, run_machine};
 pub use reading_in_history::read_before_the_lock;
 pub use replayed_pieces::replayed_zone;
 

@@ -1,18 +1,21 @@
 //! A machine of 16 GiB, as pages of 4 KiB: its memory as the three zones that Linux cuts it into on x86-64, and eight workers, each in a thread
 //! of its own, that take blocks out of all of them.
-ghost use Rattle.std.specs.Prelude.{◌≡◌, ◌∷◌, [], All, IfOk, IfSome, length};
-ghost use Rattle.zp_share.specs.Shares.{IsShareOf, ties_of};
+ghost use Rattle.std.specs.Prelude.{◌≡◌, All, map};
+ghost use Rattle.zp_share.specs.Shares.{IsShareOf};
 ghost use Rattle.zp_shared.specs.Rows.{AreReaders, IsRowOf, opened_board, opened_key};
-ghost use Rattle.zp_zone.specs.Seats.{IsSeatOf, IsUnused};
 
 use std::alloc::Global;
 use std::marker::PhantomData;
 use std::sync::Wait;
 use std::thread::{Threads, map_vec};
+use zp_crew::open_crew;
 use zp_model::{Largest, Mark, MigrateType, Order, Refused};
 use zp_share::{Lent, ListConfig, Share, alloc, free};
-use zp_shared::{BoardReader, LockedZones, Naming, NoJournal, OpenedZone, SharedZone, share_zones};
-use zp_zone::{Seat, Zone, ZoneConfig};
+use zp_shared::{
+    BoardReader, LockedZones, Naming, NoJournal, OpenedZone, SharedZone,
+    open_zones_without_journals, readers_of, share_zones,
+};
+use zp_zone::ZoneConfig;
 
 /// The end of the pages below 16 MiB, for devices that reach no further.
 const DMA_END: u32 = 1 << 12;
@@ -29,60 +32,50 @@ const NORMAL: usize = 2;
 /// How many processors the machine has.
 const WORKERS: u32 = 8;
 
-/// A zone before threads share it, and the seats that no worker has yet.
-#[derive(Drop)]
-pub struct SeatedZone {
-    pub opened: OpenedZone<NoJournal>,
-    pub seats: Vec<Seat>,
-    ghost fits: { All (IsSeatOf opened.zone) seats.items },
-    ghost unused: { All IsUnused seats.items },
-}
-
-impl SeatedZone {
-    /// The pages from `base` to `end` as a zone of this name, whose least mark keeps a 1,024th of them back. Refused 6.
-    fn new(alloc: Global, name: &str, base: u32, end: u32) -> Result<SeatedZone, Refused> {
-        let pages = end.saturating_sub(base);
-        let config = ZoneConfig {
-            name,
-            base,
-            pages,
-            min: pages / 1024,
-            largest: Largest::usual(),
-        };
-        let (zone, seats) = Zone::wide(alloc, config, WORKERS)?;
-        let opened = OpenedZone::without_journal(alloc, zone, u64::MAX)?;
-        Ok(SeatedZone { opened, seats })
-    }
-
-    /// The next worker's seat, and a reader of the zone's counts.
-    fn next(&mut self) -> Option<(Seat, BoardReader)>
-        ensures same { self.new.opened ≡ self.old.opened }
-        ensures seat { IfSome result (λ r. IsSeatOf self.old.opened.zone r.0) }
-        ensures unused { IfSome result (λ r. IsUnused r.0) }
-        ensures reader { IfSome result (λ r. r.1.tie ≡ self.old.opened.board.tie) }
-    {
-        let seat = self.seats.pop()?;
-        Some((seat, self.opened.reader()))
-    }
-}
-
-/// The zones of the machine, the lowest first.
+/// The zones of the machine, the lowest first, before threads share them, and the shares of its workers.
 #[derive(Drop)]
 pub struct MachineZones {
-    pub dma: SeatedZone,
-    pub dma32: SeatedZone,
-    pub normal: SeatedZone,
+    pub zones: Vec<OpenedZone<NoJournal>>,
+    pub shares: Vec<Share>,
+    ghost fit: { All (IsShareOf (map opened_key zones.items)) shares.items },
 }
 
-/// The zones of the machine under the name of their row.
+/// The pages from `base` to `end` as a zone of this name, whose least mark keeps a 1,024th of them back.
+fn config(name: &str, base: u32, end: u32) -> ZoneConfig<'_> {
+    let pages = end.saturating_sub(base);
+    ZoneConfig {
+        name,
+        base,
+        pages,
+        min: pages / 1024,
+        largest: Largest::usual(),
+    }
+}
+
+/// The zones, each with all its pages free, and the shares. Refused 6.
+pub fn machine_zones(alloc: Global) -> Result<MachineZones, Refused> {
+    let configs = [
+        config("DMA", 0, DMA_END),
+        config("DMA32", DMA_END, DMA32_END),
+        config("Normal", DMA32_END, NORMAL_END),
+    ];
+    let crew = open_crew(alloc, &configs, WORKERS, ListConfig::none())?;
+    let zones = open_zones_without_journals(alloc, crew.zones, u64::MAX)?;
+    Ok(MachineZones {
+        zones,
+        shares: crew.shares,
+    })
+}
+
+/// The zones of the machine under the name of their row, and the shares that no worker has yet.
 #[derive(Drop)]
 struct Machine<J: Naming> {
-    dma: SeatedZone,
-    dma32: SeatedZone,
-    normal: SeatedZone,
+    zones: Vec<OpenedZone<NoJournal>>,
+    shares: Vec<Share>,
     of: PhantomData<J>,
-    ghost zones: { J.zones ≡ opened_key dma.opened ∷ opened_key dma32.opened ∷ opened_key normal.opened ∷ [] },
-    ghost boards: { J.boards ≡ opened_board dma.opened ∷ opened_board dma32.opened ∷ opened_board normal.opened ∷ [] },
+    ghost keys: { map opened_key zones.items ≡ J.zones },
+    ghost boards: { map opened_board zones.items ≡ J.boards },
+    ghost fit: { All (IsShareOf J.zones) shares.items },
 }
 
 /// A worker of the machine, to be moved into its thread.
@@ -92,38 +85,16 @@ struct MachineWorker<J: Naming> {
     readers: Vec<BoardReader>,
     of: PhantomData<J>,
     ghost fits: { IsShareOf J.zones share },
-    ghost row: { length share.zones ≡ 3 },
     ghost reads: { AreReaders J.zones J.boards readers },
-}
-
-/// The share of the worker whose seats of three zones these are.
-fn share_of(alloc: Global, dma: Seat, dma32: Seat, normal: Seat) -> Result<Share, Refused>
-    requires dma { IsUnused dma }
-    requires dma32 { IsUnused dma32 }
-    requires normal { IsUnused normal }
-    ensures ties { IfOk result (λ s. ties_of s ≡ dma.tie ∷ dma32.tie ∷ normal.tie ∷ []) }
-    ensures row { IfOk result (λ s. length s.zones ≡ 3) }
-{
-    if dma32.worker() != dma.worker() || normal.worker() != dma.worker() {
-        return Err(Refused::BadWorkers);
-    }
-    match vec![in alloc; dma, dma32, normal] {
-        Ok(seats) => Share::new(alloc, seats, ListConfig::none()),
-        Err(_) => Err(Refused::Memory),
-    }
 }
 
 impl<J: Naming> Machine<J> {
     /// The next worker, with a share of all zones.
     fn next(&mut self, alloc: Global) -> Result<MachineWorker<J>, Refused> {
-        let (Some((dma, dma_reader)), Some((dma32, dma32_reader)), Some((normal, normal_reader))) =
-            (self.dma.next(), self.dma32.next(), self.normal.next()) else {
+        let Some(share) = self.shares.pop() else {
             return Err(Refused::BadWorkers);
         };
-        let share = share_of(alloc, dma, dma32, normal)?;
-        let Ok(readers) = vec![in alloc; dma_reader, dma32_reader, normal_reader] else {
-            return Err(Refused::Memory);
-        };
+        let readers = readers_of(alloc, &mut self.zones)?;
         Ok(MachineWorker {
             share,
             readers,
@@ -132,29 +103,21 @@ impl<J: Naming> Machine<J> {
     }
 
     /// All workers.
-    fn crew(&mut self, alloc: Global) -> Result<Vec<MachineWorker<J>>, Refused> {
-        let mut crew = Vec::new(alloc);
+    fn workers(&mut self, alloc: Global) -> Result<Vec<MachineWorker<J>>, Refused> {
+        let mut workers = Vec::new(alloc);
         for _ in 0..WORKERS {
             let worker = self.next(alloc)?;
-            if crew.push(worker).is_err() {
+            if workers.push(worker).is_err() {
                 return Err(Refused::Memory);
             }
         }
-        Ok(crew)
+        Ok(workers)
     }
 
     /// The zones, each behind a lock of its own.
     fn share(self, alloc: Global) -> Result<MachineRow<J>, Refused> {
-        let Machine {
-            dma,
-            dma32,
-            normal,
-            ..
-        } = self;
-        let Ok(opened) = vec![in alloc; dma.opened, dma32.opened, normal.opened] else {
-            return Err(Refused::Memory);
-        };
-        let zones = share_zones::<J, NoJournal>(alloc, opened)?;
+        let Machine { zones, .. } = self;
+        let zones = share_zones::<J, NoJournal>(alloc, zones)?;
         Ok(MachineRow { zones })
     }
 }
@@ -184,7 +147,6 @@ struct AtWork<'a, J: Naming, R> {
     share: Share,
     view: LockedZones<'a, J, (), R, NoJournal>,
     ghost fits: { IsShareOf J.zones share },
-    ghost row: { length share.zones ≡ 3 },
 }
 
 impl<J: Naming, R: Wait> AtWork<'_, J, R> {
@@ -192,6 +154,9 @@ impl<J: Naming, R: Wait> AtWork<'_, J, R> {
     /// were done.
     fn round(&mut self, order: Order) -> bool {
         let share = &mut self.share;
+        if share.zones() <= NORMAL {
+            return false;
+        }
         let Ok(lent) = alloc(
             share,
             &mut self.view,
@@ -205,6 +170,15 @@ impl<J: Naming, R: Wait> AtWork<'_, J, R> {
         // From here to the `free` the block is this worker's.
         let Lent { zone, page, order } = lent;
         free(share, &mut self.view, zone, page, order).is_ok()
+    }
+
+    /// How many sections of the highest zone the worker made.
+    fn sections(&self) -> u64 {
+        if NORMAL < self.share.zones() {
+            self.share.sections(NORMAL)
+        } else {
+            0
+        }
     }
 }
 
@@ -226,7 +200,7 @@ fn rounds<J: Naming, R: Wait>(
             break;
         }
     }
-    at_work.share.sections(NORMAL)
+    at_work.sections()
 }
 
 /// What the workers leave.
@@ -238,36 +212,26 @@ pub struct MachineRun {
     pub free_pages: u32,
 }
 
-/// The zones, each with all its pages free. Refused 6.
-pub fn machine_zones(alloc: Global) -> Result<MachineZones, Refused> {
-    Ok(MachineZones {
-        dma: SeatedZone::new(alloc, "DMA", 0, DMA_END)?,
-        dma32: SeatedZone::new(alloc, "DMA32", DMA_END, DMA32_END)?,
-        normal: SeatedZone::new(alloc, "Normal", DMA32_END, NORMAL_END)?,
-    })
-}
-
 /// All workers take blocks of all orders and give them back so many times, at the same time; then the zones are closed. Refused 6 where there
 /// is no memory, and 31 where a thread could not be started.
 pub fn run_machine<J: Naming + Send + Sync, R: Threads + Wait + Sync>(
     rt: &R,
     alloc: Global,
-    zones: MachineZones,
+    machine: MachineZones,
     many: u32,
 ) -> Result<MachineRun, Refused>
-    requires zones { J.zones ≡ opened_key zones.dma.opened ∷ opened_key zones.dma32.opened ∷ opened_key zones.normal.opened ∷ [] }
-    requires boards { J.boards ≡ opened_board zones.dma.opened ∷ opened_board zones.dma32.opened ∷ opened_board zones.normal.opened ∷ [] }
+    requires zones { J.zones ≡ map opened_key machine.zones.items }
+    requires boards { J.boards ≡ map opened_board machine.zones.items }
 {
-    let MachineZones { dma, dma32, normal } = zones;
+    let MachineZones { zones, shares } = machine;
     let mut machine = Machine::<J> {
-        dma,
-        dma32,
-        normal,
+        zones,
+        shares,
         of: PhantomData,
     };
-    let crew = machine.crew(alloc)?;
+    let workers = machine.workers(alloc)?;
     let row = machine.share(alloc)?;
-    let Ok(made) = map_vec(rt, crew, &|worker| rounds(rt, worker, &row, many)) else {
+    let Ok(made) = map_vec(rt, workers, &|worker| rounds(rt, worker, &row, many)) else {
         return Err(Refused::NoThread);
     };
     let sections = made

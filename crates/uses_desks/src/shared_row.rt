@@ -1,20 +1,21 @@
 //! Two workers, each in a thread of its own, over a zone that they share; and the zone's journal, replayed.
-ghost use Rattle.std.specs.Prelude.{◌≡◌, ◌∷◌, [], All, IfOk, IfSome};
+ghost use Rattle.std.specs.Prelude.{◌≡◌, ◌≤◌, ◌∷◌, [], All, IfOk, IfSome, length, map};
 ghost use Rattle.zp_office.specs.Desks.{IsReady};
 ghost use Rattle.zp_model.specs.declared.mark.Mark.TheVariants.{Low};
 ghost use Rattle.zp_model.specs.declared.migrate_type.MigrateType.TheVariants.{Movable};
 ghost use Rattle.zp_office.specs.declared.command.Command.{Command};
 ghost use Rattle.zp_share.specs.Shares.{IsShareOf, key_of};
-ghost use Rattle.zp_zone.specs.Seats.{IsSeatOf, IsUnused};
+ghost use Rattle.zp_zone.specs.Seats.{ZoneState};
 
 use std::alloc::Global;
 use std::sync::Wait;
 use std::thread::Threads;
+use zp_crew::open_crew;
 use zp_journal::{Journal, JournalCheck, replay_journal};
 use zp_model::{Mark, MigrateType, Order, Refused};
 use zp_office::{ClosedZones, Command, Desk, OpenGate, run_zones};
 use zp_share::{ListConfig, Share};
-use zp_zone::{Seat, Zone, ZoneConfig};
+use zp_zone::{Zone, ZoneConfig};
 
 /// How many requests the journal has room for: two of each worker.
 const ENTRIES: u32 = 4;
@@ -48,57 +49,47 @@ fn script(alloc: Global) -> Result<Vec<Command>, Refused>
     Ok(script)
 }
 
-/// The share of a worker of this zone, with no lists.
-fn share_of(alloc: Global, zone: &Zone, seat: Seat) -> Result<Share, Refused>
-    requires seat { IsSeatOf zone.now seat }
-    requires unused { IsUnused seat }
-    ensures { IfOk result (IsShareOf (key_of zone.now ∷ [])) }
+/// The desk of a worker of these zones, with its script.
+fn desk(alloc: Global, zones: &[Zone], share: Share) -> Result<Desk, Refused>
+    requires fits { IsShareOf (map key_of zones.now) share }
+    requires some { 1 ≤ length zones.now }
+    ensures { IfOk result (IsReady (map key_of zones.now)) }
 {
-    let Ok(mut seats) = Vec::with_capacity(alloc, 1) else {
-        return Err(Refused::Memory);
-    };
-    seats.push_reserved(seat);
-    Share::new(alloc, seats, ListConfig::none())
-}
-
-/// The desk of a worker of this zone, with its script.
-fn desk(alloc: Global, zone: &Zone, seat: Seat) -> Result<Desk, Refused>
-    requires seat { IsSeatOf zone.now seat }
-    requires unused { IsUnused seat }
-    ensures { IfOk result (IsReady (key_of zone.now ∷ [])) }
-{
-    let share = share_of(alloc, zone, seat)?;
+    // the zones are named for the contract alone
+    let _ = zones;
     match script(alloc) {
         Ok(script) => Desk::new(alloc, share, script),
         Err(refused) => Err(refused),
     }
 }
 
-/// The desks of the last two workers of this zone.
-fn two_desks(alloc: Global, zone: &Zone, mut seats: Vec<Seat>) -> Option<(Desk, Desk)>
-    requires seats { All (IsSeatOf zone.now) seats.items }
-    requires unused { All IsUnused seats.items }
-    ensures first { IfSome result (λ d. IsReady (key_of zone.now ∷ []) d.0) }
-    ensures second { IfSome result (λ d. IsReady (key_of zone.now ∷ []) d.1) }
+/// The desks of the last two workers of these zones.
+fn two_desks(alloc: Global, zones: &[Zone], mut shares: Vec<Share>) -> Option<(Desk, Desk)>
+    requires fit { All (IsShareOf (map key_of zones.now)) shares.items }
+    requires some { 1 ≤ length zones.now }
+    ensures first { IfSome result (λ d. IsReady (map key_of zones.now) d.0) }
+    ensures second { IfSome result (λ d. IsReady (map key_of zones.now) d.1) }
 {
-    let (Some(second), Some(first)) = (seats.pop(), seats.pop()) else {
+    let (Some(second), Some(first)) = (shares.pop(), shares.pop()) else {
         return None;
     };
-    match (desk(alloc, zone, first), desk(alloc, zone, second)) {
+    match (desk(alloc, zones, first), desk(alloc, zones, second)) {
         (Ok(first), Ok(second)) => Some((first, second)),
         _ => None,
     }
 }
 
-/// A zone, and the desks of its two workers. None where the config is refused, or there is no memory.
-fn opened(alloc: Global, config: ZoneConfig<'_>) -> Option<(Zone, Desk, Desk)>
-    ensures new { IfSome result (λ o. o.0.entries ≡ []) }
-    ensures first { IfSome result (λ o. IsReady (key_of o.0 ∷ []) o.1) }
-    ensures second { IfSome result (λ o. IsReady (key_of o.0 ∷ []) o.2) }
+/// A row of one zone, and the desks of its two workers. None where the config is refused, or there is no memory.
+fn opened(alloc: Global, config: ZoneConfig<'_>) -> Option<(Vec<Zone>, Desk, Desk)>
+    ensures new { IfSome result (λ o. All (λ (z : ZoneState). z.entries ≡ []) o.0.items) }
+    ensures first { IfSome result (λ o. IsReady (map key_of o.0.items) o.1) }
+    ensures second { IfSome result (λ o. IsReady (map key_of o.0.items) o.2) }
 {
-    let (zone, seats) = Zone::new(alloc, ZoneConfig { ..config }, 2).ok()?;
-    match two_desks(alloc, &zone, seats) {
-        Some((first, second)) => Some((zone, first, second)),
+    let configs = [ZoneConfig { ..config }];
+    let crew = open_crew(alloc, &configs, 2, ListConfig::none()).ok()?;
+    let zones = crew.zones;
+    match two_desks(alloc, &zones, crew.shares) {
+        Some((first, second)) => Some((zones, first, second)),
         None => None,
     }
 }
@@ -107,14 +98,13 @@ fn opened(alloc: Global, config: ZoneConfig<'_>) -> Option<(Zone, Desk, Desk)>
 fn run<R: Threads + Wait + Sync>(
     rt: &R,
     alloc: Global,
-    zone: Zone,
+    zones: Vec<Zone>,
     desks: &mut [Desk],
 ) -> Option<(Zone, Journal)>
-    requires new { zone.entries ≡ [] }
-    requires ready { All (IsReady (key_of zone ∷ [])) desks.old }
+    requires new { All (λ (z : ZoneState). z.entries ≡ []) zones.items }
+    requires ready { All (IsReady (map key_of zones.items)) desks.old }
 {
-    let row = vec![in alloc; zone].ok()?;
-    match run_zones(rt, alloc, row, ENTRIES, desks, &OpenGate) {
+    match run_zones(rt, alloc, zones, ENTRIES, desks, &OpenGate) {
         Ok(closed) => last_of(closed),
         Err(_) => None,
     }
@@ -155,7 +145,7 @@ pub fn share_a_zone<R: Threads + Wait + Sync>(
     alloc: Global,
     config: ZoneConfig<'_>,
 ) -> Option<SharedRun> {
-    let (zone, first, second) = opened(alloc, ZoneConfig { ..config })?;
-    let (zone, journal) = run(rt, alloc, zone, &mut [first, second])?;
+    let (zones, first, second) = opened(alloc, ZoneConfig { ..config })?;
+    let (zone, journal) = run(rt, alloc, zones, &mut [first, second])?;
     outcome(alloc, ZoneConfig { ..config }, &zone, &journal)
 }

@@ -1,11 +1,12 @@
 -- How much memory a row takes at most (this profile).
-use Rattle.std.specs.Prelude.{ℕ, ◌≡◌, ◌≤◌, ◌<◌, ◌⊎◌, ◌+◌, ◌-◌, ◌*◌, ◌/◌, List, All, length, slice_index_or, take}
+use Rattle.std.specs.Prelude.{ℕ, ◌≡◌, ◌≤◌, ◌<◌, ◌⊎◌, ◌+◌, ◌-◌, ◌*◌, ◌/◌, List, All, length}
 use Rattle.std.specs.List.{sum_by}
 use Rattle.zp_model.specs.Area.{lists_count, pageblocks_of}
 use Rattle.zp_model.specs.Bounds.{IsLargest}
 use Rattle.zp_model.specs.declared.constants.TheConstants.{MAX_PAGES, MAX_WORKERS, MAX_ZONES}
 use Rattle.zonealloc.specs.declared.memory.TheConstants.{CREW_BYTES, GROUP_BYTES, GROUP_PAGES, LIST_BYTES, PAGE_BYTES, PAGEBLOCK_BYTES, ROW_BYTES, WORKER_BYTES, ZONE_BYTES}
 use Rattle.zonealloc.specs.declared.zone_spec.ZoneSpec.{ZoneSpec}
+use Rattle.zonealloc.specs.Zones.{IsOfFirst}
 
 -- how many groups of pages of the status tree so many pages begin
 abbrev pub groups_of : ℕ → ℕ
@@ -31,14 +32,6 @@ HasSize z = IsLargest z.largest × HasPages z
 abbrev pub IsNoSize : ZoneSpec → ℕ → Type 0
 IsNoSize z code = ((code ≡ 40) × ¬ IsLargest z.largest) ⊎ ((code ≡ 3) × IsLargest z.largest × ¬ HasPages z)
 
--- the number is that of the first zone which can have no such size
-pub record IsOfFirst (zones : List ZoneSpec) (code : ℕ) : Type 0 where
-  pub i : ℕ
-  pub zone : ZoneSpec
-  pub before : All HasSize (take i zones)
-  pub at : (i < length zones) × ((none : ZoneSpec) → slice_index_or zones i none ≡ zone)
-  pub number : IsNoSize zone code
-
 -- a row has so many zones, and so many workers
 abbrev pub IsRowLength : ℕ → Type 0
 IsRowLength n = (1 ≤ n) × (n ≤ MAX_ZONES)
@@ -53,4 +46,4 @@ pub record IsBytesCall (zones : List ZoneSpec) (workers code before after : ℕ)
   pub kept : 1 ≤ code → after ≡ before
   pub count : ¬ IsRowLength (length zones) → code ≡ 40
   pub crew : IsRowLength (length zones) → ¬ IsCrewLength workers → code ≡ 5
-  pub sizes : IsRowLength (length zones) → IsCrewLength workers → ((code ≡ 0) × All HasSize zones) ⊎ IsOfFirst zones code
+  pub sizes : IsRowLength (length zones) → IsCrewLength workers → ((code ≡ 0) × All HasSize zones) ⊎ IsOfFirst HasSize IsNoSize zones code

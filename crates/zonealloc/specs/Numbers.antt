@@ -4,8 +4,8 @@ use Rattle.zp_model.specs.declared.mark.Mark.{Mark}
 use Rattle.zp_model.specs.declared.mark.Mark.TheVariants.{Low, Min, Any}
 use Rattle.zp_model.specs.declared.constants.TheConstants.{LARGEST_ORDER, MAX_WORKERS, TYPES}
 use Rattle.zp_model.specs.Refused.{refused_number}
-use Rattle.zp_gate.specs.declared.denied.Denied.{Denied}
-use Rattle.zp_gate.specs.declared.denied.Denied.TheVariants.{NoZone, Busy, NoWorker, NoLists, NotEmpty, TooFew, Refused}
+use Rattle.zp_gate.specs.declared.call_error.CallError.{CallError}
+use Rattle.zp_gate.specs.declared.call_error.CallError.TheVariants.{NoZone, Busy, NoWorker, NoLists, NotEmpty, TooFew, Refused}
 
 abbrev pub mark_number : Mark → ℕ
 mark_number Any = 0
@@ -26,11 +26,11 @@ abbrev pub IsNoWorker : ℕ → Type 0
 IsNoWorker n = MAX_WORKERS ≤ n
 
 -- from 40 on nothing was asked
-abbrev pub denial_number : Denied → ℕ
-denial_number NoZone = 40
-denial_number NoWorker = 40
-denial_number TooFew = 40
-denial_number Busy = 42
-denial_number NotEmpty = 45
-denial_number NoLists = 46
-denial_number (Refused e) = refused_number e
+abbrev pub error_number : CallError → ℕ
+error_number NoZone = 40
+error_number NoWorker = 40
+error_number TooFew = 40
+error_number (Busy b) = 42
+error_number NotEmpty = 45
+error_number NoLists = 46
+error_number (Refused e) = refused_number e

@@ -1,18 +1,18 @@
 //! A worker's own lists. What asks no zone wants no lock.
-ghost use Rattle.std.specs.Prelude.{◌≡◌, ◌<◌, ◌≤◌, ◌⊎◌, ◌↔◌, [], IfErr, IfOk, length};
+ghost use Rattle.std.specs.Prelude.{◌≡◌, ◌<◌, ◌⊎◌, ◌↔◌, [], IfErr, IfOk};
 ghost use Rattle.zp_model.specs.declared.request.Reply.TheVariants as reply;
 ghost use Rattle.zp_share.specs.Shares.{share_at};
 ghost use Rattle.zp_share.specs.ZoneShares.{cached_of};
-ghost use Rattle.zp_gate.specs.Workers.{IsAt, IsTaken, desk_share};
-ghost use Rattle.zonealloc.specs.Calls.{AsksDrain, AsksRefill, HasNotSoMany, HasNoZone, HasZone, IsAsking, IsCall, IsDenied, IsDrainAllCall, IsNever, IsOf, IsPages, IsPutCall, IsRefillDenied, IsRefusedOrBusy, IsTakeCall, TellsCached, TellsLent};
+ghost use Rattle.zp_gate.specs.GatedWorkers.{HasZone, IsAt, IsTaken, worker_share};
+ghost use Rattle.zonealloc.specs.Calls.{AsksDrain, AsksRefill, HasNotSoMany, HasNoZone, IsAsking, IsAtZone, IsCall, IsDenied, IsDrainAllCall, IsOf, IsPages, IsPutCall, IsRefillDenied, IsRefusedOrBusy, IsTakeCall, TellsCached, TellsLent};
 ghost use Rattle.zonealloc.specs.Numbers.{IsNoMark, IsNoOrder, IsNoType};
 
 use crate::answers::{
-    BAD_ARGUMENT, BAD_HANDLE, DONE, LIST_EMPTY, denied, kind_of, mark_of, order_of,
+    BAD_ARGUMENT, BAD_HANDLE, DONE, LIST_EMPTY, call_error, kind_of, mark_of, order_of,
 };
 use crate::handles::{WorkerHandle, put_worker, worker_of};
 use std::alloc::Global;
-use zp_gate::Worker;
+use zp_gate::GatedWorker;
 use zp_model::{MigrateType, PageNo};
 
 /// The page in front of the worker's list of this type, which is then lent.
@@ -25,16 +25,16 @@ pub extern "C" fn zonealloc_take(
     page: &mut u32,
 ) -> u32
     ensures call { IsTakeCall zone kind result page.old page.new worker.old.slot.value worker.new.slot.value }
-    ensures denied { IsDenied (IsNoType kind) (HasNoZone zone) IsNever (λ n. n ≡ 44) result worker.old.slot.value }
+    ensures denied { IsDenied (IsNoType kind) (HasNoZone zone) (λ n. n ≡ 44) result worker.old.slot.value }
 {
     let Some(kind) = kind_of(kind) else {
         return BAD_ARGUMENT;
     };
-    let Some(mut at) = worker_of(alloc, worker) else {
+    let Some(mut held) = worker_of(alloc, worker) else {
         return BAD_HANDLE;
     };
-    let answer = taken(&mut at, zone as usize, kind);
-    put_worker(worker, at);
+    let answer = taken(&mut held.worker, zone as usize, kind);
+    put_worker(worker, held);
     match answer {
         Ok(first) => {
             *page = first.number();
@@ -46,10 +46,10 @@ pub extern "C" fn zonealloc_take(
 
 /// The page in front of a list, where there is one; else the number of why not.
 #[inline(always)]
-fn taken(worker: &mut Worker, zone: usize, kind: MigrateType) -> Result<PageNo, u32>
+fn taken(worker: &mut GatedWorker, zone: usize, kind: MigrateType) -> Result<PageNo, u32>
     ensures ok { IfOk result (λ page. IsAt zone (IsTaken kind page) worker.old worker.new) }
     ensures same { IfErr result (λ n. worker.new ≡ worker.old) }
-    ensures why { IfErr result (λ n. ((n ≡ 40) × (length worker.old ≤ zone)) ⊎ ((n ≡ 44) × (zone < length worker.old) × (cached_of (share_at (desk_share worker.old zone) 0) kind ≡ []))) }
+    ensures why { IfErr result (λ n. ((n ≡ 40) × HasNoZone zone worker.old) ⊎ ((n ≡ 44) × IsAtZone zone (λ s. cached_of (share_at s 0) kind ≡ []) worker.old)) }
 {
     if zone >= worker.zones() {
         return Err(BAD_ARGUMENT);
@@ -70,21 +70,21 @@ pub extern "C" fn zonealloc_put(
     page: u32,
 ) -> u32
     ensures call { IsPutCall zone page result worker.old.slot.value worker.new.slot.value }
-    ensures denied { IsDenied ⊥ (HasNoZone zone) IsNever (λ n. (n < 40) ⊎ (n ≡ 46)) result worker.old.slot.value }
-    ensures lists { (result ≡ 46) ↔ IsOf (λ v. HasZone zone v × ((desk_share v zone).batch ≡ 0)) worker.old.slot.value }
+    ensures denied { IsDenied ⊥ (HasNoZone zone) (λ n. (n < 40) ⊎ (n ≡ 46)) result worker.old.slot.value }
+    ensures lists { (result ≡ 46) ↔ IsOf (IsAtZone zone (λ s. s.batch ≡ 0)) worker.old.slot.value }
 {
-    let Some(mut at) = worker_of(alloc, worker) else {
+    let Some(mut held) = worker_of(alloc, worker) else {
         return BAD_HANDLE;
     };
-    if zone as usize >= at.zones() {
-        put_worker(worker, at);
+    if zone as usize >= held.worker.zones() {
+        put_worker(worker, held);
         return BAD_ARGUMENT;
     }
-    let answer = at.put(zone as usize, PageNo::new(page));
-    put_worker(worker, at);
+    let answer = held.worker.put(zone as usize, PageNo::new(page));
+    put_worker(worker, held);
     match answer {
         Ok(()) => DONE,
-        Err(why) => denied(why),
+        Err(why) => call_error(why),
     }
 }
 
@@ -99,20 +99,20 @@ pub extern "C" fn zonealloc_is_lent(
     lent: &mut u32,
 ) -> u32
     ensures call { IsAsking (TellsLent zone page order) result lent.old lent.new worker.old.slot.value worker.new.slot.value }
-    ensures denied { IsDenied (IsNoOrder order) (HasNoZone zone) IsNever (λ n. ⊥) result worker.old.slot.value }
+    ensures denied { IsDenied (IsNoOrder order) (HasNoZone zone) (λ n. ⊥) result worker.old.slot.value }
 {
     let Some(order) = order_of(order) else {
         return BAD_ARGUMENT;
     };
-    let Some(at) = worker_of(alloc, worker) else {
+    let Some(held) = worker_of(alloc, worker) else {
         return BAD_HANDLE;
     };
-    if zone as usize >= at.zones() {
-        put_worker(worker, at);
+    if zone as usize >= held.worker.zones() {
+        put_worker(worker, held);
         return BAD_ARGUMENT;
     }
-    let is_lent = at.is_lent(zone as usize, PageNo::new(page), order);
-    put_worker(worker, at);
+    let is_lent = held.worker.is_lent(zone as usize, PageNo::new(page), order);
+    put_worker(worker, held);
     *lent = u32::from(is_lent);
     DONE
 }
@@ -127,26 +127,26 @@ pub extern "C" fn zonealloc_cached(
     pages: &mut u32,
 ) -> u32
     ensures call { IsAsking (TellsCached zone kind) result pages.old pages.new worker.old.slot.value worker.new.slot.value }
-    ensures denied { IsDenied (IsNoType kind) (HasNoZone zone) IsNever (λ n. ⊥) result worker.old.slot.value }
+    ensures denied { IsDenied (IsNoType kind) (HasNoZone zone) (λ n. ⊥) result worker.old.slot.value }
 {
     let Some(kind) = kind_of(kind) else {
         return BAD_ARGUMENT;
     };
-    let Some(at) = worker_of(alloc, worker) else {
+    let Some(held) = worker_of(alloc, worker) else {
         return BAD_HANDLE;
     };
-    if zone as usize >= at.zones() {
-        put_worker(worker, at);
+    if zone as usize >= held.worker.zones() {
+        put_worker(worker, held);
         return BAD_ARGUMENT;
     }
-    let cached = at.cached_len(zone as usize, kind);
-    put_worker(worker, at);
+    let cached = held.worker.cached_len(zone as usize, kind);
+    put_worker(worker, held);
     *pages = cached as u32;
     DONE
 }
 
 /// Fills the worker's empty list of this type with up to a batch of pages.
-#[tactic(auto, using(crate::proofs::Denials::denied_call))]
+#[tactic(auto, using(crate::proofs::Answering::denied_at))]
 #[unsafe(no_mangle)]
 pub extern "C" fn zonealloc_refill(
     alloc: Global,
@@ -156,7 +156,7 @@ pub extern "C" fn zonealloc_refill(
     mark: u32,
 ) -> u32
     ensures call { IsCall (AsksRefill zone kind mark) IsPages (Unit {0}) zone result worker.old.slot.value worker.new.slot.value }
-    ensures denied { IsDenied (IsNoType kind ⊎ IsNoMark mark) (HasNoZone zone) IsNever (λ n. IsRefusedOrBusy n ⊎ ((n ≡ 45) ⊎ (n ≡ 46))) result worker.old.slot.value }
+    ensures denied { IsDenied (IsNoType kind ⊎ IsNoMark mark) (HasNoZone zone) (λ n. IsRefusedOrBusy n ⊎ ((n ≡ 45) ⊎ (n ≡ 46))) result worker.old.slot.value }
     ensures lists { IsRefillDenied zone kind ((¬ IsNoType kind) × (¬ IsNoMark mark)) result worker.old.slot.value }
 {
     let Some(kind) = kind_of(kind) else {
@@ -165,14 +165,14 @@ pub extern "C" fn zonealloc_refill(
     let Some(mark) = mark_of(mark) else {
         return BAD_ARGUMENT;
     };
-    let Some(mut at) = worker_of(alloc, worker) else {
+    let Some(mut held) = worker_of(alloc, worker) else {
         return BAD_HANDLE;
     };
-    let answer = at.refill(zone as usize, kind, mark);
-    put_worker(worker, at);
+    let answer = held.worker.refill(zone as usize, kind, mark);
+    put_worker(worker, held);
     match answer {
         Ok(()) => DONE,
-        Err(why) => denied(why),
+        Err(why) => call_error(why),
     }
 }
 
@@ -186,19 +186,19 @@ pub extern "C" fn zonealloc_drain(
     count: u32,
 ) -> u32
     ensures call { IsCall (AsksDrain zone kind count) (λ q. q ≡ reply.Drained) (Unit {0}) zone result worker.old.slot.value worker.new.slot.value }
-    ensures denied { IsDenied (IsNoType kind) (HasNotSoMany zone kind count) IsNever IsRefusedOrBusy result worker.old.slot.value }
+    ensures denied { IsDenied (IsNoType kind) (HasNotSoMany zone kind count) IsRefusedOrBusy result worker.old.slot.value }
 {
     let Some(kind) = kind_of(kind) else {
         return BAD_ARGUMENT;
     };
-    let Some(mut at) = worker_of(alloc, worker) else {
+    let Some(mut held) = worker_of(alloc, worker) else {
         return BAD_HANDLE;
     };
-    let answer = at.drain(zone as usize, kind, count as usize);
-    put_worker(worker, at);
+    let answer = held.worker.drain(zone as usize, kind, count as usize);
+    put_worker(worker, held);
     match answer {
         Ok(()) => DONE,
-        Err(why) => denied(why),
+        Err(why) => call_error(why),
     }
 }
 
@@ -207,15 +207,15 @@ pub extern "C" fn zonealloc_drain(
 #[unsafe(no_mangle)]
 pub extern "C" fn zonealloc_drain_all(alloc: Global, worker: &mut WorkerHandle, zone: u32) -> u32
     ensures call { IsDrainAllCall zone result worker.old.slot.value worker.new.slot.value }
-    ensures denied { IsDenied ⊥ (HasNoZone zone) IsNever IsRefusedOrBusy result worker.old.slot.value }
+    ensures denied { IsDenied ⊥ (HasNoZone zone) (λ n. (n ≡ 30) ⊎ (n ≡ 42)) result worker.old.slot.value }
 {
-    let Some(mut at) = worker_of(alloc, worker) else {
+    let Some(mut held) = worker_of(alloc, worker) else {
         return BAD_HANDLE;
     };
-    let answer = at.drain_all(zone as usize);
-    put_worker(worker, at);
+    let answer = held.worker.drain_all(zone as usize);
+    put_worker(worker, held);
     match answer {
         Ok(()) => DONE,
-        Err(why) => denied(why),
+        Err(why) => call_error(why),
     }
 }

@@ -1,7 +1,8 @@
 //! How much memory a row takes.
 ghost use Rattle.std.specs.Prelude.{◌≡◌, ◌≤◌, ◌^◌, All, IfErr, IfOk, IsOk, length};
 ghost use Rattle.zp_model.specs.declared.constants.TheConstants.{MAX_WORKERS, MAX_ZONES};
-ghost use Rattle.zonealloc.specs.Memory.{HasSize, IsBytesCall, IsNoSize, IsOfFirst, row_bytes, zone_bytes};
+ghost use Rattle.zonealloc.specs.Memory.{HasSize, IsBytesCall, IsNoSize, row_bytes, zone_bytes};
+ghost use Rattle.zonealloc.specs.Zones.{IsOfFirst};
 
 use crate::answers::{BAD_ARGUMENT, DONE, refused};
 use crate::zone_spec::{ZoneSpec, largest_of, pages_of};
@@ -11,10 +12,10 @@ use zp_model::{MAX_WORKERS, MAX_ZONES, Refused};
 pub const ROW_BYTES: u64 = 32;
 
 /// What each worker of a row takes beside what it takes for each zone.
-pub const CREW_BYTES: u64 = 32;
+pub const CREW_BYTES: u64 = 56;
 
 /// What a zone takes beside what its pages, its pageblocks, its lists and its workers take.
-pub const ZONE_BYTES: u64 = 1024;
+pub const ZONE_BYTES: u64 = 1048;
 
 /// What each page of a zone takes: its entry.
 pub const PAGE_BYTES: u64 = 8;
@@ -60,7 +61,7 @@ fn bytes_of(zones: &[ZoneSpec], workers: u32) -> Result<u64, u32>
     requires workers { workers ≤ MAX_WORKERS }
     ensures ok { IfOk result (λ n. n ≡ row_bytes workers zones.now) }
     ensures all { IsOk result → All HasSize zones.now }
-    ensures why { IfErr result (IsOfFirst zones.now) }
+    ensures why { IfErr result (IsOfFirst HasSize IsNoSize zones.now) }
 {
     let mut bytes = ROW_BYTES + CREW_BYTES * u64::from(workers);
     for zone in zones {

@@ -2,18 +2,18 @@
 ghost use Rattle.std.specs.Prelude.{◌≡◌, ◌⊎◌};
 ghost use Rattle.zp_model.specs.declared.request.Request.TheVariants as request;
 ghost use Rattle.zp_model.specs.declared.request.Reply.TheVariants as reply;
-ghost use Rattle.zonealloc.specs.Calls.{Asks, AsksAlloc, AsksRelease, HasNoWorker, HasNoZone, IsBlockAt, IsCall, IsDenied, IsNever, IsRefusedOrBusy};
+ghost use Rattle.zonealloc.specs.Calls.{Asks, AsksAlloc, AsksRelease, HasNoWorker, HasNoZone, IsBlockAt, IsCall, IsDenied, IsLentDenied, IsRefusedOrBusy};
 ghost use Rattle.zonealloc.specs.Numbers.{IsNoMark, IsNoOrder, IsNoType, IsNoWorker};
 
-use crate::answers::{
-    BAD_ARGUMENT, BAD_HANDLE, DONE, denied, kind_of, mark_of, number_of, order_of,
-};
-use crate::handles::{WorkerHandle, put_worker, worker_of};
+use crate::answers::{BAD_ARGUMENT, DONE, kind_of, mark_of, number_of, order_of};
+use crate::asking::{ask, ask_alloc, ask_free};
+use crate::handles::WorkerHandle;
 use std::alloc::Global;
+use zp_gate::{Given, ZoneCall};
 use zp_model::PageNo;
 
 /// A block of 2 to the order pages, which is then lent: its first page.
-#[tactic(auto, using(crate::proofs::Denials::denied_call))]
+#[tactic(auto, using(crate::proofs::Answering::denied_call, crate::proofs::Answering::denied_by))]
 #[unsafe(no_mangle)]
 pub extern "C" fn zonealloc_alloc(
     alloc: Global,
@@ -25,7 +25,7 @@ pub extern "C" fn zonealloc_alloc(
     page: &mut u32,
 ) -> u32
     ensures call { IsCall (AsksAlloc order kind mark) (λ q. q ≡ reply.Page page.new) (page.new ≡ page.old) zone result worker.old.slot.value worker.new.slot.value }
-    ensures denied { IsDenied (IsNoOrder order ⊎ (IsNoType kind ⊎ IsNoMark mark)) (HasNoZone zone) IsNever IsRefusedOrBusy result worker.old.slot.value }
+    ensures denied { IsDenied (IsNoOrder order ⊎ (IsNoType kind ⊎ IsNoMark mark)) (HasNoZone zone) IsRefusedOrBusy result worker.old.slot.value }
 {
     let Some(order) = order_of(order) else {
         return BAD_ARGUMENT;
@@ -36,21 +36,17 @@ pub extern "C" fn zonealloc_alloc(
     let Some(mark) = mark_of(mark) else {
         return BAD_ARGUMENT;
     };
-    let Some(mut at) = worker_of(alloc, worker) else {
-        return BAD_HANDLE;
-    };
-    let answer = at.alloc(zone as usize, order, kind, mark);
-    put_worker(worker, at);
-    match answer {
+    match ask_alloc(alloc, worker, zone, order, kind, mark) {
         Ok(first) => {
             *page = first.number();
             DONE
         }
-        Err(why) => denied(why),
+        Err(why) => why,
     }
 }
 
 /// The lowest free block of this order, which is then lent: its first page.
+#[tactic(auto, using(crate::proofs::Answering::denied_call, crate::proofs::Answering::denied_by))]
 #[unsafe(no_mangle)]
 pub extern "C" fn zonealloc_alloc_low(
     alloc: Global,
@@ -60,26 +56,23 @@ pub extern "C" fn zonealloc_alloc_low(
     page: &mut u32,
 ) -> u32
     ensures call { IsCall (Asks (request.AllocLow order)) (IsBlockAt page.new order) (page.new ≡ page.old) zone result worker.old.slot.value worker.new.slot.value }
-    ensures denied { IsDenied (IsNoOrder order) (HasNoZone zone) IsNever IsRefusedOrBusy result worker.old.slot.value }
+    ensures denied { IsDenied (IsNoOrder order) (HasNoZone zone) IsRefusedOrBusy result worker.old.slot.value }
 {
     let Some(order) = order_of(order) else {
         return BAD_ARGUMENT;
     };
-    let Some(mut at) = worker_of(alloc, worker) else {
-        return BAD_HANDLE;
-    };
-    let answer = at.alloc_low(zone as usize, order);
-    put_worker(worker, at);
-    match answer {
-        Ok(block) => {
+    match ask(alloc, worker, zone, ZoneCall::AllocLow(order)) {
+        Ok(Given::Block(block)) => {
             *page = block.page.number();
             DONE
         }
-        Err(why) => denied(why),
+        Ok(_) => unreachable!(),
+        Err(why) => why,
     }
 }
 
 /// Gives back a lent block.
+#[tactic(auto, using(crate::proofs::Answering::denied_call, crate::proofs::Answering::denied_by))]
 #[unsafe(no_mangle)]
 pub extern "C" fn zonealloc_free(
     alloc: Global,
@@ -89,23 +82,20 @@ pub extern "C" fn zonealloc_free(
     order: u32,
 ) -> u32
     ensures call { IsCall (Asks (request.Free page order)) (λ q. q ≡ reply.Freed) (Unit {0}) zone result worker.old.slot.value worker.new.slot.value }
-    ensures denied { IsDenied (IsNoOrder order) (HasNoZone zone) IsNever IsRefusedOrBusy result worker.old.slot.value }
+    ensures denied { IsDenied (IsNoOrder order) (HasNoZone zone) IsRefusedOrBusy result worker.old.slot.value }
+    ensures lent { IsLentDenied zone (request.Free page order) (¬ IsNoOrder order) result worker.old.slot.value }
 {
     let Some(order) = order_of(order) else {
         return BAD_ARGUMENT;
     };
-    let Some(mut at) = worker_of(alloc, worker) else {
-        return BAD_HANDLE;
-    };
-    let answer = at.free(zone as usize, PageNo::new(page), order);
-    put_worker(worker, at);
-    match answer {
+    match ask_free(alloc, worker, zone, PageNo::new(page), order) {
         Ok(()) => DONE,
-        Err(why) => denied(why),
+        Err(why) => why,
     }
 }
 
 /// Posts a lent block to the worker of this number.
+#[tactic(auto, using(crate::proofs::Answering::denied_call, crate::proofs::Answering::denied_by))]
 #[unsafe(no_mangle)]
 pub extern "C" fn zonealloc_post(
     alloc: Global,
@@ -116,7 +106,8 @@ pub extern "C" fn zonealloc_post(
     to: u32,
 ) -> u32
     ensures call { IsCall (Asks (request.Post page order to)) (λ q. q ≡ reply.Posted) (Unit {0}) zone result worker.old.slot.value worker.new.slot.value }
-    ensures denied { IsDenied (IsNoOrder order ⊎ IsNoWorker to) (HasNoWorker zone to) IsNever IsRefusedOrBusy result worker.old.slot.value }
+    ensures denied { IsDenied (IsNoOrder order ⊎ IsNoWorker to) (HasNoWorker zone to) IsRefusedOrBusy result worker.old.slot.value }
+    ensures lent { IsLentDenied zone (request.Post page order to) ((¬ IsNoOrder order) × (¬ IsNoWorker to)) result worker.old.slot.value }
 {
     let Some(order) = order_of(order) else {
         return BAD_ARGUMENT;
@@ -124,18 +115,16 @@ pub extern "C" fn zonealloc_post(
     let Some(to) = number_of(to) else {
         return BAD_ARGUMENT;
     };
-    let Some(mut at) = worker_of(alloc, worker) else {
-        return BAD_HANDLE;
-    };
-    let answer = at.post(zone as usize, PageNo::new(page), order, to);
-    put_worker(worker, at);
-    match answer {
-        Ok(()) => DONE,
-        Err(why) => denied(why),
+    let call = ZoneCall::Post(PageNo::new(page), order, to);
+    match ask(alloc, worker, zone, call) {
+        Ok(Given::Done) => DONE,
+        Ok(_) => unreachable!(),
+        Err(why) => why,
     }
 }
 
 /// The block in front of those posted to the worker, which is then lent: its first page, and its order.
+#[tactic(auto, using(crate::proofs::Answering::denied_call, crate::proofs::Answering::denied_by))]
 #[unsafe(no_mangle)]
 pub extern "C" fn zonealloc_collect(
     alloc: Global,
@@ -145,24 +134,21 @@ pub extern "C" fn zonealloc_collect(
     order: &mut u32,
 ) -> u32
     ensures call { IsCall (Asks request.Collect) (IsBlockAt page.new order.new) ((page.new ≡ page.old) × (order.new ≡ order.old)) zone result worker.old.slot.value worker.new.slot.value }
-    ensures denied { IsDenied ⊥ (HasNoZone zone) IsNever IsRefusedOrBusy result worker.old.slot.value }
+    ensures denied { IsDenied ⊥ (HasNoZone zone) IsRefusedOrBusy result worker.old.slot.value }
 {
-    let Some(mut at) = worker_of(alloc, worker) else {
-        return BAD_HANDLE;
-    };
-    let answer = at.collect(zone as usize);
-    put_worker(worker, at);
-    match answer {
-        Ok(block) => {
+    match ask(alloc, worker, zone, ZoneCall::Collect) {
+        Ok(Given::Block(block)) => {
             *page = block.page.number();
             *order = u32::from(block.order.number());
             DONE
         }
-        Err(why) => denied(why),
+        Ok(_) => unreachable!(),
+        Err(why) => why,
     }
 }
 
 /// Isolates a pageblock, by its number in the zone.
+#[tactic(auto, using(crate::proofs::Answering::denied_call, crate::proofs::Answering::denied_by))]
 #[unsafe(no_mangle)]
 pub extern "C" fn zonealloc_isolate(
     alloc: Global,
@@ -171,20 +157,17 @@ pub extern "C" fn zonealloc_isolate(
     pageblock: u32,
 ) -> u32
     ensures call { IsCall (Asks (request.Isolate pageblock)) (λ q. q ≡ reply.Isolated) (Unit {0}) zone result worker.old.slot.value worker.new.slot.value }
-    ensures denied { IsDenied ⊥ (HasNoZone zone) IsNever IsRefusedOrBusy result worker.old.slot.value }
+    ensures denied { IsDenied ⊥ (HasNoZone zone) IsRefusedOrBusy result worker.old.slot.value }
 {
-    let Some(mut at) = worker_of(alloc, worker) else {
-        return BAD_HANDLE;
-    };
-    let answer = at.isolate(zone as usize, pageblock);
-    put_worker(worker, at);
-    match answer {
-        Ok(()) => DONE,
-        Err(why) => denied(why),
+    match ask(alloc, worker, zone, ZoneCall::Isolate(pageblock)) {
+        Ok(Given::Done) => DONE,
+        Ok(_) => unreachable!(),
+        Err(why) => why,
     }
 }
 
 /// Gives an isolated pageblock a type.
+#[tactic(auto, using(crate::proofs::Answering::denied_call, crate::proofs::Answering::denied_by))]
 #[unsafe(no_mangle)]
 pub extern "C" fn zonealloc_release(
     alloc: Global,
@@ -194,18 +177,14 @@ pub extern "C" fn zonealloc_release(
     kind: u32,
 ) -> u32
     ensures call { IsCall (AsksRelease pageblock kind) (λ q. q ≡ reply.Released) (Unit {0}) zone result worker.old.slot.value worker.new.slot.value }
-    ensures denied { IsDenied (IsNoType kind) (HasNoZone zone) IsNever IsRefusedOrBusy result worker.old.slot.value }
+    ensures denied { IsDenied (IsNoType kind) (HasNoZone zone) IsRefusedOrBusy result worker.old.slot.value }
 {
     let Some(kind) = kind_of(kind) else {
         return BAD_ARGUMENT;
     };
-    let Some(mut at) = worker_of(alloc, worker) else {
-        return BAD_HANDLE;
-    };
-    let answer = at.release(zone as usize, pageblock, kind);
-    put_worker(worker, at);
-    match answer {
-        Ok(()) => DONE,
-        Err(why) => denied(why),
+    match ask(alloc, worker, zone, ZoneCall::Release(pageblock, kind)) {
+        Ok(Given::Done) => DONE,
+        Ok(_) => unreachable!(),
+        Err(why) => why,
     }
 }

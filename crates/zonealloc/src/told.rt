@@ -1,9 +1,9 @@
 //! What C is told of a zone.
 ghost use Rattle.std.specs.Prelude.{◌≡◌};
 ghost use Rattle.zp_model.specs.MigrateType.{type_number};
-ghost use Rattle.zonealloc.specs.Readings.{counts_told, entry_told, pageblock_told};
+ghost use Rattle.zonealloc.specs.Readings.{counts_told, page_told, pageblock_told};
 
-use zp_gate::Told;
+use zp_gate::ZoneTold;
 use zp_model::{Level, MigrateType, ORDERS, Order, State, Worker};
 use zp_zone::Pageblock;
 
@@ -20,7 +20,7 @@ pub struct ZoneCounts {
 /// What is noted of a page: the state's number, its order, its type and its worker.
 #[repr(C)]
 #[derive(Drop)]
-pub struct PageEntry {
+pub struct PageTold {
     pub state: u32,
     pub order: u32,
     pub kind: u32,
@@ -31,7 +31,7 @@ pub struct PageEntry {
 /// none.
 #[repr(C)]
 #[derive(Drop)]
-pub struct PageblockEntry {
+pub struct PageblockTold {
     pub kind: u32,
     pub free: u32,
     pub largest: u32,
@@ -41,7 +41,7 @@ pub struct PageblockEntry {
 const NO_ORDER: u32 = 11;
 
 /// What a zone tells of itself, by numbers.
-pub fn counts_told(told: &Told) -> ZoneCounts
+pub fn counts_told(told: &ZoneTold) -> ZoneCounts
     ensures { result ≡ counts_told told.now }
 {
     ZoneCounts {
@@ -58,17 +58,17 @@ pub fn counts_told(told: &Told) -> ZoneCounts
 }
 
 /// What is noted of a page, by numbers.
-pub fn entry_told(state: &State) -> PageEntry
-    ensures { result ≡ entry_told state.now }
+pub fn page_told(state: &State) -> PageTold
+    ensures { result ≡ page_told state.now }
 {
     match state {
-        State::Tail => PageEntry {
+        State::Tail => PageTold {
             state: 0,
             order: 0,
             kind: 0,
             worker: 0,
         },
-        State::Free(order) => PageEntry {
+        State::Free(order) => PageTold {
             state: 1,
             order: u32::from(order.number()),
             kind: 0,
@@ -80,10 +80,10 @@ pub fn entry_told(state: &State) -> PageEntry
 }
 
 /// A block with its type and its worker, by numbers.
-fn block_told(state: u32, order: &Order, kind: &MigrateType, worker: &Worker) -> PageEntry
+fn block_told(state: u32, order: &Order, kind: &MigrateType, worker: &Worker) -> PageTold
     ensures { result ≡ record { state = state; order = order.now; kind = type_number kind.now; worker = worker.now } }
 {
-    PageEntry {
+    PageTold {
         state,
         order: u32::from(order.number()),
         kind: kind.number() as u32,
@@ -92,10 +92,10 @@ fn block_told(state: u32, order: &Order, kind: &MigrateType, worker: &Worker) ->
 }
 
 /// What a pageblock is, by numbers.
-pub fn pageblock_told(told: &Pageblock) -> PageblockEntry
+pub fn pageblock_told(told: &Pageblock) -> PageblockTold
     ensures { result ≡ pageblock_told told.now }
 {
-    PageblockEntry {
+    PageblockTold {
         kind: told.kind.number() as u32,
         free: told.free,
         largest: match told.largest {

@@ -1,9 +1,9 @@
 //! What C makes a zone with.
-ghost use Rattle.std.specs.Prelude.{ℕ, ◌≡◌, ◌≤◌, ◌↔◌, true, IfErr, IfNone, IfOk, IfSome};
+ghost use Rattle.std.specs.Prelude.{ℕ, ◌≡◌, ◌≤◌, ◌↔◌, true, IfErr, IfNone, IfOk, IfSome, OnOk};
 ghost use Rattle.zp_model.specs.declared.constants.TheConstants.{MAX_PAGES};
 ghost use Rattle.zp_model.specs.Bounds.{IsLargest};
-ghost use Rattle.zp_gate.specs.Rows.{key_for};
-ghost use Rattle.zonealloc.specs.Zones.{AreApart, spec_key};
+ghost use Rattle.zp_gate.specs.GatedRows.{key_for, wanted_by};
+ghost use Rattle.zonealloc.specs.Zones.{AreApart, IsConfig, IsNoConfig, spec_key, wanted_zone};
 
 use crate::answers::{BAD_ARGUMENT, refused};
 use zp_model::{LONGEST_NAME, Largest, MAX_PAGES, Refused};
@@ -23,8 +23,9 @@ pub struct ZoneSpec {
 
 /// The config of a zone; else the number of what is wrong. The rest the making of the zone tests.
 pub fn config_of(spec: &ZoneSpec) -> Result<ZoneConfig<'_>, u32>
-    ensures ok { IfOk result (λ config. (workers : ℕ) → key_for workers config ≡ spec_key workers spec.now) }
-    ensures why { IfErr result (λ n. 1 ≤ n) }
+    ensures ok { IfOk result (λ config. (workers : ℕ) → (key_for workers config ≡ spec_key workers spec.now) × (wanted_by workers config ≡ wanted_zone workers spec.now)) }
+    ensures good { OnOk result (IsConfig spec.now) }
+    ensures why { IfErr result (IsNoConfig spec.now) }
 {
     let bytes = &spec.name;
     let Some(name) = bytes.get(..spec.name_len as usize) else {

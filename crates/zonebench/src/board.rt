@@ -4,9 +4,10 @@ ghost use Rattle.std.specs.Prelude.{◌≡◌, ◌<◌};
 ghost use Rattle.zp_counts.specs.CountBoards.{ArePackable};
 ghost use Rattle.zonebench.specs.declared.board.TheConstants.{ROOM};
 
+use crate::clock::timed;
 use std::alloc::Global;
 use std::rt::Clock;
-use std::time::{Duration, Instant};
+use std::time::Duration;
 use zp_counts::{Board, BoardReader, Publisher, are_packable, new_board, new_turning_board};
 use zp_loads::Unmade;
 use zp_model::{Counts, ORDERS};
@@ -70,20 +71,16 @@ impl BoardBench {
         self.reader.read(board).counts.free
     }
 
-    /// The time of so many publishings, and their number.
-    pub fn time_publishing(&mut self, rt: &impl Clock) -> anyhow::Result<(Duration, u64)> {
-        let start = Instant::now(rt)?;
+    fn publish_all(&mut self) {
         for free in 0..ROOM {
             self.publish(free);
         }
-        Ok((start.elapsed(rt)?, u64::from(ROOM)))
     }
 
-    /// The time of so many reads.
-    pub fn time_reads(&mut self, rt: &impl Clock, reads: u32) -> anyhow::Result<(Duration, u64)> {
+    /// Reads so often: how often the free pages were others than those read before.
+    fn read_all(&mut self, reads: u32) -> u32 {
         let mut changed = 0_u32;
         let mut last = 0;
-        let start = Instant::now(rt)?;
         for _ in 0..reads {
             let free = self.read();
             if free != last {
@@ -91,7 +88,18 @@ impl BoardBench {
             }
             last = free;
         }
-        let time = start.elapsed(rt)?;
+        changed
+    }
+
+    /// The time of so many publishings, and their number.
+    pub fn time_publishing(&mut self, rt: &impl Clock) -> anyhow::Result<(Duration, u64)> {
+        let ((), time) = timed(rt, || self.publish_all())?;
+        Ok((time, u64::from(ROOM)))
+    }
+
+    /// The time of so many reads.
+    pub fn time_reads(&mut self, rt: &impl Clock, reads: u32) -> anyhow::Result<(Duration, u64)> {
+        let (changed, time) = timed(rt, || self.read_all(reads))?;
         if changed > 1 {
             anyhow::bail!("zonebench: a board that nobody writes on changed")
         }

@@ -4,7 +4,7 @@ ghost use Rattle.std.specs.Prelude.{◌≤◌, IfOk};
 
 use crate::check::{Sum, sum_of};
 use crate::locked::{self, Kept};
-use crate::threads::{Pairs, Plan};
+use crate::threads::{Pairs, PairsPlan};
 use crate::workload::Workload;
 use std::alloc::Global;
 use std::rt::Clock;
@@ -118,7 +118,7 @@ fn locked_sum<R: Clock + Threads + Wait + Sync>(
             kept.name()
         )
     }
-    let plan = Plan {
+    let plan = PairsPlan {
         workers: 1,
         pairs: Pairs::PastLists(*order),
         each: calls / 2,

@@ -3,7 +3,7 @@
 ghost use Rattle.std.specs.Prelude.{◌≡◌, [], All, IfOk};
 ghost use Rattle.zp_zone.specs.Seats.{IsSeatOf, IsUnused};
 
-use crate::threads::{Plan, Stint, TimedWork, time_as};
+use crate::threads::{PairsPlan, PairsStint, TimedWork, time_as};
 use std::alloc::Global;
 use std::marker::Brand;
 use std::rt::Clock;
@@ -55,7 +55,7 @@ fn time_whole<R: Threads + Wait + Clock + Sync>(
     alloc: Global,
     zone: Zone,
     seats: Vec<Seat>,
-    stint: &Stint,
+    stint: &PairsStint,
 ) -> anyhow::Result<TimedWork>
     requires new { zone.entries ≡ [] }
     requires fits { All (IsSeatOf zone) seats.items }
@@ -73,7 +73,7 @@ fn time_nothing<R: Threads + Wait + Clock + Sync>(
     alloc: Global,
     zone: Zone,
     seats: Vec<Seat>,
-    stint: &Stint,
+    stint: &PairsStint,
 ) -> anyhow::Result<TimedWork>
     requires new { zone.entries ≡ [] }
     requires fits { All (IsSeatOf zone) seats.items }
@@ -100,7 +100,7 @@ fn time_pieces<R: Threads + Wait + Clock + Sync>(
     alloc: Global,
     zone: Zone,
     seats: Vec<Seat>,
-    stint: &Stint,
+    stint: &PairsStint,
 ) -> anyhow::Result<TimedWork>
     requires new { zone.entries ≡ [] }
     requires fits { All (IsSeatOf zone) seats.items }
@@ -118,7 +118,7 @@ pub fn time<R: Threads + Wait + Clock + Sync>(
     alloc: Global,
     pages: u32,
     kept: Kept,
-    plan: Plan,
+    plan: PairsPlan,
 ) -> anyhow::Result<TimedWork> {
     let stint = plan.stint()?;
     match Zone::wide(alloc, config(pages), plan.workers) {

@@ -13,6 +13,7 @@
 
 mod board;
 mod check;
+mod clock;
 mod counting;
 mod entries;
 mod grounds;

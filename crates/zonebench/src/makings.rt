@@ -1,12 +1,12 @@
 //! How long the making of a zone takes, and of a worker's share of it.
 
-use crate::steps::Steps;
+use crate::clock::timed;
+use crate::steps::{Steps, begun};
 use std::alloc::Global;
 use std::rt::Clock;
-use std::time::Instant;
 use zp_loads::{Unmade, config, config_of, longest_lists};
 use zp_model::Largest;
-use zp_progress::{Meter, Progress, Task};
+use zp_progress::{Progress, Task};
 use zp_share::Share;
 use zp_zone::Zone;
 
@@ -62,9 +62,9 @@ fn zone_nanos(
     pages: u32,
     largest: Largest,
 ) -> anyhow::Result<u128> {
-    let start = Instant::now(rt)?;
-    match Zone::wide(alloc, config_of(pages, largest), 1) {
-        Ok(_made) => Ok(start.elapsed(rt)?.as_nanos()),
+    let (made, time) = timed(rt, || Zone::wide(alloc, config_of(pages, largest), 1))?;
+    match made {
+        Ok(_made) => Ok(time.as_nanos()),
         Err(refused) => Err(Unmade::from(refused).into()),
     }
 }
@@ -73,9 +73,9 @@ fn share_nanos(rt: &impl Clock, alloc: Global, pages: u32) -> anyhow::Result<u12
     let lists = longest_lists()?;
     match Zone::wide(alloc, config(pages), 1) {
         Ok((_zone, seats)) => {
-            let start = Instant::now(rt)?;
-            match Share::new(alloc, seats, lists) {
-                Ok(_share) => Ok(start.elapsed(rt)?.as_nanos()),
+            let (made, time) = timed(rt, || Share::new(alloc, seats, lists))?;
+            match made {
+                Ok(_share) => Ok(time.as_nanos()),
                 Err(refused) => Err(Unmade::from(refused).into()),
             }
         }
@@ -91,11 +91,7 @@ fn print_times(
     name: &str,
     made: Made,
 ) -> anyhow::Result<()> {
-    let mut line = [0; SIZES.len()];
-    for place in 0..SIZES.len() {
-        line[place] = made.least_nanos(rt, alloc, SIZES[place])?;
-        steps.step();
-    }
+    let line = steps.at_each(SIZES, |pages| made.least_nanos(rt, alloc, pages))?;
     steps.clear();
     print_line(rt, name, &line)
 }
@@ -117,7 +113,7 @@ pub fn print_all(
     alloc: Global,
     is_watched: bool,
 ) -> anyhow::Result<()> {
-    let mut steps = Steps::new(Meter::new(rt, TASK, is_watched), MEASUREMENTS);
+    let mut steps = begun(rt, TASK, MEASUREMENTS, is_watched);
     println!(rt;
         "{:<40}{:>12}{:>12}{:>12}",
         "milliseconds of a making", "65536 pages", "1048576", "16777216"

@@ -4,6 +4,7 @@ ghost use Rattle.std.specs.Prelude.{◌≡◌, ◌∷◌, [], All, IfOk};
 ghost use Rattle.zp_shared.specs.Rows.{opened_board, opened_key};
 ghost use Rattle.zp_zone.specs.Seats.{IsSeatOf, IsUnused};
 
+use crate::clock::timed;
 use crate::threads::work_until;
 use std::alloc::Global;
 use std::marker::Brand;
@@ -11,11 +12,11 @@ use std::rt::Clock;
 use std::sync::Wait;
 use std::sync::atomic::{AtomicBool, Ordering};
 use std::thread::{Threads, join};
-use std::time::{Duration, Instant};
+use std::time::Duration;
 use zp_loads::{Unmade, config};
 use zp_model::Order;
 use zp_share::ListConfig;
-use zp_shared::{Crew, Keeps, Naming, NoJournal, OneZone, OpenedZone, ZoneReader};
+use zp_shared::{Keeps, Naming, NoJournal, OneZone, OpenedZone, ZoneCrew, ZoneReader};
 use zp_zone::{Seat, Zone};
 
 /// How many times the counts were read, how many sections were made meanwhile, and the time of both.
@@ -51,11 +52,11 @@ fn read_to_the_end<J: Naming, R, K: Keeps>(
 /// The last worker of the crew makes pairs, while this thread reads so often. Where no thread can be made, no section is made.
 fn time_crew<J: Naming + Send + Sync, R: Threads + Wait + Clock + Sync>(
     rt: &R,
-    crew: Crew<J, NoJournal>,
+    crew: ZoneCrew<J, NoJournal>,
     order: Order,
     reads: u32,
 ) -> anyhow::Result<TimedReads> {
-    let Crew {
+    let ZoneCrew {
         zone,
         mut workers,
         reader,
@@ -64,13 +65,14 @@ fn time_crew<J: Naming + Send + Sync, R: Threads + Wait + Clock + Sync>(
         return Err(Unmade::Other.into());
     };
     let (zone, is_over) = (&zone, &AtomicBool::new(false));
-    let start = Instant::now(rt)?;
-    let (sum, changed) = join(
+    let ((sum, changed), time) = timed(
         rt,
-        move || work_until(rt, worker, zone, order, is_over),
-        move || read_to_the_end(rt, reader, zone, reads, is_over),
-    );
-    let time = start.elapsed(rt)?;
+        || join(
+            rt,
+            move || work_until(rt, worker, zone, order, is_over),
+            move || read_to_the_end(rt, reader, zone, reads, is_over),
+        ),
+    )?;
     if changed > sum.calls {
         anyhow::bail!("zonebench: counts changed more often than sections were made")
     }
@@ -95,7 +97,7 @@ fn time_as<J: Naming + Send + Sync, R: Threads + Wait + Clock + Sync>(
     requires fits { All (IsSeatOf opened.zone) seats.items }
     requires unused { All IsUnused seats.items }
 {
-    match Crew::<J, NoJournal>::new(alloc, opened, seats, ListConfig::none()) {
+    match ZoneCrew::<J, NoJournal>::new(alloc, opened, seats, ListConfig::none()) {
         Ok(crew) => time_crew(rt, crew, order, reads),
         Err(refused) => Err(Unmade::from(refused).into()),
     }

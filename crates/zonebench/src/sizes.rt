@@ -1,12 +1,12 @@
 //! The time of each workload over the sizes of zones, up to the largest.
 
-use crate::steps::Steps;
+use crate::steps::{Steps, begun};
 use crate::timing::{CALLS, print_line, tenths_a_call};
 use crate::workload::Workload;
 use std::alloc::Global;
 use std::rt::Clock;
 use zp_loads::{BlockSource, Cached, Seated};
-use zp_progress::{Meter, Progress, Task};
+use zp_progress::{Progress, Task};
 
 /// The sizes of the zones, in pages.
 const SIZES: [u32; 5] = [1 << 16, 1 << 18, 1 << 20, 1 << 22, 1 << 24];
@@ -37,6 +37,15 @@ const TASK: Task<'static> = Task {
     unit: "measurements",
 };
 
+/// Each size of a zone, with the number for `run` that makes about as many calls in it as are timed.
+fn with_ops(workload: &Workload) -> [(u32, u32); SIZES.len()] {
+    let mut sizes = [(0, 0); SIZES.len()];
+    for (size, pages) in sizes.iter_mut().zip(SIZES) {
+        *size = (pages, workload.ops(pages, CALLS));
+    }
+    sizes
+}
+
 /// Prints a line of the table: the time of a workload at each size.
 fn print_times<S: BlockSource>(
     rt: &(impl Print + Clock),
@@ -45,12 +54,9 @@ fn print_times<S: BlockSource>(
     name: &str,
     workload: &Workload,
 ) -> anyhow::Result<()> {
-    let mut line = [0; SIZES.len()];
-    for (tenths, pages) in line.iter_mut().zip(SIZES) {
-        let ops = workload.ops(pages, CALLS);
-        *tenths = tenths_a_call::<S>(rt, alloc, workload, pages, ops)?;
-        steps.step();
-    }
+    let line = steps.at_each(with_ops(workload), |(pages, ops)| {
+        tenths_a_call::<S>(rt, alloc, workload, pages, ops)
+    })?;
     print_line(rt, steps, name, &line)
 }
 
@@ -75,7 +81,7 @@ pub fn print_all(
     alloc: Global,
     is_watched: bool,
 ) -> anyhow::Result<()> {
-    let mut steps = Steps::new(Meter::new(rt, TASK, is_watched), MEASUREMENTS);
+    let mut steps = begun(rt, TASK, MEASUREMENTS, is_watched);
     println!(rt;
         "{:<40}{:>12}{:>12}{:>12}{:>12}{:>12}",
         "nanoseconds a call", "65536 pages", "262144", "1048576", "4194304", "16777216"

@@ -5,16 +5,17 @@ ghost use Rattle.zp_shared.specs.Rows.{opened_board, opened_key};
 ghost use Rattle.zp_zone.specs.Seats.{IsSeatOf, IsUnused};
 
 use crate::check::Sum;
+use crate::clock::timed;
 use std::alloc::Global;
 use std::rt::Clock;
 use std::sync::Wait;
 use std::sync::atomic::{AtomicBool, Ordering};
 use std::thread::{Threads, map_vec};
-use std::time::{Duration, Instant};
+use std::time::Duration;
 use zp_loads::{Checksum, Unmade, longest_lists};
 use zp_model::{Mark, MigrateType, Order};
 use zp_share::ListConfig;
-use zp_shared::{Crew, Keeps, Naming, OneZone, OpenedZone, WorkerAt, ZoneWorker};
+use zp_shared::{Keeps, Naming, OneZone, OpenedZone, WorkerAt, ZoneCrew, ZoneWorker};
 use zp_zone::Seat;
 
 /// What a worker takes and gives back, again and again.
@@ -28,20 +29,20 @@ pub enum Pairs {
 
 /// What so many workers of a zone do, all at the same time: so many pairs each.
 #[derive(Clone, Copy, PartialEq, Eq, Debug, Drop)]
-pub struct Plan {
+pub struct PairsPlan {
     pub workers: u32,
     pub pairs: Pairs,
     pub each: u32,
 }
 
-impl Plan {
+impl PairsPlan {
     /// What one of the workers does.
-    pub fn stint(&self) -> Result<Stint, Unmade> {
+    pub fn stint(&self) -> Result<PairsStint, Unmade> {
         let (lists, order) = match self.pairs {
             Pairs::Cached => (longest_lists()?, Order::zero()),
             Pairs::PastLists(order) => (ListConfig::none(), order),
         };
-        Ok(Stint {
+        Ok(PairsStint {
             lists,
             order,
             each: self.each,
@@ -51,7 +52,7 @@ impl Plan {
 
 /// What a worker has and does: the settings of its lists, the order of its blocks, and how many pairs it makes.
 #[derive(Clone, Copy, Drop)]
-pub struct Stint {
+pub struct PairsStint {
     lists: ListConfig,
     order: Order,
     each: u32,
@@ -77,7 +78,7 @@ fn work<J: Naming, R: Wait, K: Keeps>(
     rt: &R,
     worker: ZoneWorker<J>,
     zone: &OneZone<J, K>,
-    stint: &Stint,
+    stint: &PairsStint,
 ) -> Sum {
     let mut worker = worker.at(rt, zone);
     let mut checksum = Checksum::new();
@@ -131,14 +132,15 @@ impl TimedWork {
 /// The crew works, and is timed. All begin together; where no thread can be made, a worker waits for its turn in this one.
 fn time_crew<J: Naming + Send + Sync, R: Threads + Wait + Clock + Sync, K: Keeps + Send>(
     rt: &R,
-    crew: Crew<J, K>,
-    stint: &Stint,
+    crew: ZoneCrew<J, K>,
+    stint: &PairsStint,
 ) -> anyhow::Result<TimedWork> {
-    let Crew { zone, workers, .. } = crew;
-    let start = Instant::now(rt)?;
-    let sums = map_vec(rt, workers, &|worker| work(rt, worker, &zone, stint))?;
-    let time = start.elapsed(rt)?;
-    Ok(TimedWork { sums, time })
+    let ZoneCrew { zone, workers, .. } = crew;
+    let (sums, time) = timed(
+        rt,
+        || map_vec(rt, workers, &|worker| work(rt, worker, &zone, stint)),
+    )?;
+    Ok(TimedWork { sums: sums?, time })
 }
 
 /// The workers of these seats make their pairs.
@@ -147,14 +149,14 @@ pub fn time_as<J: Naming + Send + Sync, R: Threads + Wait + Clock + Sync, K: Kee
     alloc: Global,
     opened: OpenedZone<K>,
     seats: Vec<Seat>,
-    stint: &Stint,
+    stint: &PairsStint,
 ) -> anyhow::Result<TimedWork>
     requires named { J.zones ≡ opened_key opened ∷ [] }
     requires boards { J.boards ≡ opened_board opened ∷ [] }
     requires fits { All (IsSeatOf opened.zone) seats.items }
     requires unused { All IsUnused seats.items }
 {
-    match Crew::<J, K>::new(alloc, opened, seats, stint.lists) {
+    match ZoneCrew::<J, K>::new(alloc, opened, seats, stint.lists) {
         Ok(crew) => time_crew(rt, crew, stint),
         Err(refused) => Err(Unmade::from(refused).into()),
     }

@@ -3,20 +3,21 @@
 ghost use Rattle.std.specs.Prelude.{◌<◌};
 
 use crate::board::BoardBench;
+use crate::clock::timed;
 use crate::counting::HOW_TO_COUNT;
 use crate::locked::{self, KEPT, Kept, SECTIONS};
 use crate::reading;
-use crate::steps::Steps;
-use crate::threads::{Pairs, Plan};
+use crate::steps::{Steps, begun};
+use crate::threads::{Pairs, PairsPlan};
 use crate::workload::{SIZES, Workload};
 use std::alloc::Global;
 use std::rt::Clock;
 use std::sync::Wait;
 use std::thread::Threads;
-use std::time::{Duration, Instant};
+use std::time::Duration;
 use zp_loads::{BlockSource, Cached, Load, PastLists, Seated, Unmade};
 use zp_model::Order;
-use zp_progress::{Meter, Progress, Task};
+use zp_progress::{Progress, Task};
 
 /// The calls that are timed, about.
 pub const CALLS: u32 = 2_000_000;
@@ -92,10 +93,8 @@ fn tenths_of_run<S: BlockSource>(
     workload: &Workload,
     ops: u32,
 ) -> anyhow::Result<u128> {
-    let start = Instant::now(rt)?;
-    let calls = workload.run(bench, ops)?;
-    let time = start.elapsed(rt)?;
-    Ok(tenths_each(time, calls))
+    let (calls, time) = timed(rt, || workload.run(bench, ops))?;
+    Ok(tenths_each(time, calls?))
 }
 
 /// Tenths of a nanosecond for each of so many calls.
@@ -130,6 +129,12 @@ fn print_heading(
     Ok(())
 }
 
+/// Each size of a zone, with so many calls at it.
+fn with_sizes(ops: [u32; 3]) -> [(u32, u32); 3] {
+    let [few, more, most] = SIZES;
+    [(few, ops[0]), (more, ops[1]), (most, ops[2])]
+}
+
 /// Prints a line of the table: the time of a workload at each size.
 fn print_times<S: BlockSource>(
     rt: &(impl Print + Clock),
@@ -139,11 +144,9 @@ fn print_times<S: BlockSource>(
     workload: &Workload,
     ops: [u32; 3],
 ) -> anyhow::Result<()> {
-    let mut line = [0; SIZES.len()];
-    for place in 0..SIZES.len() {
-        line[place] = tenths_a_call::<S>(rt, alloc, workload, SIZES[place], ops[place])?;
-        steps.step();
-    }
+    let line = steps.at_each(with_sizes(ops), |(pages, ops)| {
+        tenths_a_call::<S>(rt, alloc, workload, pages, ops)
+    })?;
     print_line(rt, steps, name, &line)
 }
 
@@ -153,7 +156,7 @@ fn tenths_a_section<R: Clock + Threads + Wait + Sync>(
     alloc: Global,
     pages: u32,
     kept: Kept,
-    plan: &Plan,
+    plan: &PairsPlan,
 ) -> anyhow::Result<u128> {
     let mut least = u128::MAX;
     for _ in 0..SAMPLES {
@@ -164,10 +167,10 @@ fn tenths_a_section<R: Clock + Threads + Wait + Sync>(
 }
 
 /// As many pairs past the lists as there is room for in a journal, by so many workers together.
-fn pairs_of(workers: u32, order: Order) -> Plan
+fn pairs_of(workers: u32, order: Order) -> PairsPlan
     requires { 0 < workers }
 {
-    Plan {
+    PairsPlan {
         workers,
         pairs: Pairs::PastLists(order),
         each: SECTIONS / 2 / workers,
@@ -184,11 +187,10 @@ fn print_section_times<R: Print + Clock + Threads + Wait + Sync>(
     order: Order,
 ) -> anyhow::Result<()> {
     let plan = pairs_of(1, order);
-    let mut line = [0; SIZES.len()];
-    for (tenths, pages) in line.iter_mut().zip(SIZES) {
-        *tenths = tenths_a_section(rt, alloc, pages, kept, &plan)?;
-        steps.step();
-    }
+    let line = steps.at_each(
+        SIZES,
+        |pages| tenths_a_section(rt, alloc, pages, kept, &plan),
+    )?;
     print_line(rt, steps, name, &line)
 }
 
@@ -268,7 +270,7 @@ fn print_shared_time<R: Print + Clock + Threads + Wait + Sync>(
     name: &str,
     workers: u32,
 ) -> anyhow::Result<()> {
-    let plan = Plan {
+    let plan = PairsPlan {
         workers,
         pairs: Pairs::Cached,
         each: CALLS / 2,
@@ -364,7 +366,7 @@ pub fn print_all<R: Print + Eprint + Clock + Threads + Wait + Sync>(
     alloc: Global,
     is_watched: bool,
 ) -> anyhow::Result<()> {
-    let mut steps = Steps::new(Meter::new(rt, TASK, is_watched), MEASUREMENTS);
+    let mut steps = begun(rt, TASK, MEASUREMENTS, is_watched);
     print_table(rt, alloc, &mut steps)?;
     print_locked_lines(rt, alloc, &mut steps)?;
     print_crew_lines(rt, alloc, &mut steps)?;

@@ -1,16 +1,16 @@
 //! How long the dearest requests that are known take, each call by itself.
 
+use crate::clock::timed;
 use crate::grounds::{Ground, PAGES};
 use crate::shapes::{
     Draining, Giving, Isolating, Nothing, Refilling, Shape, Taking, WISHES, list_end, wishes,
 };
-use crate::steps::Steps;
+use crate::steps::{Steps, begun};
 use crate::times::Times;
 use std::alloc::Global;
 use std::rt::Clock;
-use std::time::Instant;
 use zp_loads::Unmade;
-use zp_progress::{Meter, Progress, Task};
+use zp_progress::{Progress, Task};
 
 /// The calls of each request.
 const CALLS: u32 = 10_000;
@@ -54,9 +54,8 @@ fn times_of(
 ) -> anyhow::Result<Times> {
     let mut times = Times::new(alloc, calls)?;
     for _ in 0..calls {
-        let start = Instant::now(rt)?;
-        shape.ask();
-        times.add(start.elapsed(rt)?)?;
+        let ((), time) = timed(rt, || shape.ask())?;
+        times.add(time)?;
         shape.restore()?;
     }
     Ok(times)
@@ -115,7 +114,7 @@ pub fn print_all(
     alloc: Global,
     is_watched: bool,
 ) -> anyhow::Result<()> {
-    let mut steps = Steps::new(Meter::new(rt, TASK, is_watched), REQUESTS);
+    let mut steps = begun(rt, TASK, REQUESTS, is_watched);
     println!(rt;
         "{:<36}{:>10}{:>14}",
         "nanoseconds of one call", "median", "99.9 per cent"

@@ -2,10 +2,10 @@
 
 use crate::digest::Digest;
 use crate::errors::Broken;
-use crate::making::{MOST_LINES, Plan, Reach, TraceMaker};
+use crate::making::{MOST_LINES, Reach, TraceMaker, TracePlan};
 use crate::memory::{DigestWriter, TextReader};
 use crate::replays::replayed;
-use crate::text::Lists;
+use crate::text::ListLengths;
 use std::alloc::Global;
 use zp_replay::{Ending, replay_serial};
 
@@ -16,12 +16,12 @@ const LABELS: usize = 2046;
 const FEW_LINES: usize = 300;
 
 /// A worker alone.
-fn alone() -> Plan {
-    Plan {
+fn alone() -> TracePlan {
+    TracePlan {
         zones: 1,
         min: 0,
         workers: 1,
-        lists: Lists::None,
+        lists: ListLengths::None,
         lines: MOST_LINES,
         labels: 4096,
         reach: Reach::All,
@@ -29,12 +29,12 @@ fn alone() -> Plan {
 }
 
 /// Four workers over four zones.
-fn together() -> Plan {
-    Plan {
+fn together() -> TracePlan {
+    TracePlan {
         zones: 4,
         min: 512,
         workers: 4,
-        lists: Lists::Longest,
+        lists: ListLengths::Longest,
         lines: MOST_LINES,
         labels: 4096,
         reach: Reach::All,
@@ -42,12 +42,12 @@ fn together() -> Plan {
 }
 
 /// All workers that there may be, with few commands.
-fn crowd() -> Plan {
-    Plan {
+fn crowd() -> TracePlan {
+    TracePlan {
         zones: 4,
         min: 512,
         workers: 32,
-        lists: Lists::Longest,
+        lists: ListLengths::Longest,
         lines: FEW_LINES,
         labels: 4096,
         reach: Reach::All,
@@ -83,11 +83,11 @@ fn draw_infos(alloc: Global, maker: &mut TraceMaker) -> Result<(), Broken> {
 
 /// The last line is bad: which line it is.
 fn draw_bad(alloc: Global, maker: &mut TraceMaker) -> Result<(), Broken> {
-    let plan = Plan {
+    let plan = TracePlan {
         zones: 4,
         min: 512,
         workers: 4,
-        lists: Lists::Longest,
+        lists: ListLengths::Longest,
         lines: MOST_LINES - 1,
         labels: 4096,
         reach: Reach::All,

@@ -14,7 +14,7 @@ use zp_journal::Journal;
 use zp_loads::{Unmade, config};
 use zp_progress::Progress;
 use zp_share::ListConfig;
-use zp_shared::{Crew, CutJournal, Naming, OpenedZone};
+use zp_shared::{CutJournal, Naming, OpenedZone, ZoneCrew};
 use zp_zone::{Seat, Zone};
 
 /// How many pages each worker takes and gives back: two sections each. There is a cut after 180 to 190 sections.
@@ -38,8 +38,8 @@ fn run_as<J: Naming + Send + Sync, R: Threads + Wait + Sync>(
     requires fits { All (IsSeatOf opened.zone) seats.items }
     requires unused { All IsUnused seats.items }
 {
-    let crew = Crew::<J, CutJournal>::new(alloc, opened, seats, ListConfig::none())?;
-    let Crew { zone, workers, .. } = crew;
+    let crew = ZoneCrew::<J, CutJournal>::new(alloc, opened, seats, ListConfig::none())?;
+    let ZoneCrew { zone, workers, .. } = crew;
     work_in_pieces(rt, alloc, config(PAGES), WORKERS, zone, workers, ROUNDS).ok_or(Unmade::Other)
 }
 

@@ -15,7 +15,7 @@ use uses::{EndlessRun, work_without_end};
 use zp_loads::Unmade;
 use zp_progress::Progress;
 use zp_share::ListConfig;
-use zp_shared::{Crew, Naming, NoJournal, OpenedZone};
+use zp_shared::{Naming, NoJournal, OpenedZone, ZoneCrew};
 use zp_zone::Seat;
 
 /// How many sections the zone has numbers for.
@@ -36,8 +36,8 @@ fn run_as<J: Naming + Send + Sync, R: Threads + Wait + Sync>(
     requires fits { All (IsSeatOf opened.zone) seats.items }
     requires unused { All IsUnused seats.items }
 {
-    let crew = Crew::<J, NoJournal>::new(alloc, opened, seats, ListConfig::none())?;
-    let Crew { zone, workers, .. } = crew;
+    let crew = ZoneCrew::<J, NoJournal>::new(alloc, opened, seats, ListConfig::none())?;
+    let ZoneCrew { zone, workers, .. } = crew;
     work_without_end(rt, zone, workers, u32::MAX).ok_or(Unmade::Other)
 }
 

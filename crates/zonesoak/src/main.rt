@@ -15,7 +15,7 @@ mod watch;
 
 use soak::LOADS;
 use std::io::IsTerminal;
-use zp_progress::{Meter, Progress, Task, is_watched};
+use zp_progress::{Progress, ProgressMeter, Task, is_watched};
 
 /// How many workers each zone has, where it is not said.
 const WORKERS: u32 = 4;
@@ -31,7 +31,7 @@ const PARTS: usize = LOADS.len() + 3;
 
 fn main(rt: HostRuntime) -> anyhow::Result<()> {
     let is_watched = is_watched(&rt, rt.stderr().is_terminal());
-    let mut progress = Meter::new(&rt, TASK, is_watched);
+    let mut progress = ProgressMeter::new(&rt, TASK, is_watched);
     soak::print(&rt, rt.alloc(), &mut progress)?;
     ended::print(&rt, rt.alloc(), &mut progress)?;
     progress.at(PARTS - 2, PARTS);

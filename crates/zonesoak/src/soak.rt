@@ -6,8 +6,8 @@ ghost use Rattle.zp_shared.specs.Rows.{opened_board, opened_key};
 ghost use Rattle.zp_zone.specs.Seats.{IsSeatOf, IsUnused};
 
 use crate::endless::endless;
-use crate::stint::{Stint, work};
-use crate::watch::{Watch, read_all_the_while};
+use crate::stint::{SoakStint, work};
+use crate::watch::{BoardWatch, read_all_the_while};
 use crate::{PARTS, WORKERS};
 use std::alloc::Global;
 use std::marker::Brand;
@@ -17,23 +17,23 @@ use zp_loads::Unmade;
 use zp_model::{MAX_WORKERS, NARROW_PAGES};
 use zp_progress::Progress;
 use zp_share::ListConfig;
-use zp_shared::{Crew, Naming, NoJournal, OneZone, OpenedZone};
+use zp_shared::{Naming, NoJournal, OneZone, OpenedZone, ZoneCrew};
 use zp_zone::Seat;
 
 /// How many workers a zone has, and how many requests each of them makes.
 #[derive(Clone, Copy, PartialEq, Eq, Debug, Drop)]
-pub struct Load {
+pub struct SoakLoad {
     workers: u32,
     requests: u32,
 }
 
 /// What is asked of a zone, each load of a new one.
-pub const LOADS: [Load; 2] = [
-    Load {
+pub const LOADS: [SoakLoad; 2] = [
+    SoakLoad {
         workers: WORKERS,
         requests: 2_500_000,
     },
-    Load {
+    SoakLoad {
         workers: MAX_WORKERS,
         requests: 40_000,
     },
@@ -45,12 +45,12 @@ struct Soak {
     sections: u64,
     lent_pages: u64,
     free_pages: u64,
-    watch: Watch,
+    watch: BoardWatch,
 }
 
 /// All that the workers leave.
-fn all_of(stints: &[Stint]) -> Stint {
-    let mut all = Stint {
+fn all_of(stints: &[SoakStint]) -> SoakStint {
+    let mut all = SoakStint {
         sections: 0,
         lent_pages: 0,
     };
@@ -64,13 +64,13 @@ fn all_of(stints: &[Stint]) -> Stint {
 /// What is seen of the zone when all its workers have ended.
 fn end_of<J: Naming>(
     zone: OneZone<J, NoJournal>,
-    stints: &[Stint],
-    watch: Watch,
+    stints: &[SoakStint],
+    watch: BoardWatch,
 ) -> Result<Soak, Unmade> {
     let Some(zone) = zone.into_zone() else {
         return Err(Unmade::Other);
     };
-    let Stint {
+    let SoakStint {
         sections,
         lent_pages,
     } = all_of(stints);
@@ -85,10 +85,10 @@ fn end_of<J: Naming>(
 /// The workers make their requests, all at the same time, and the reader reads all the while.
 fn run_crew<J: Naming + Send + Sync, R: Threads + Wait + Sync>(
     rt: &R,
-    crew: Crew<J, NoJournal>,
-    load: Load,
+    crew: ZoneCrew<J, NoJournal>,
+    load: SoakLoad,
 ) -> Result<Soak, Unmade> {
-    let Crew {
+    let ZoneCrew {
         zone,
         workers,
         reader,
@@ -115,19 +115,19 @@ fn run_as<J: Naming + Send + Sync, R: Threads + Wait + Sync>(
     alloc: Global,
     opened: OpenedZone<NoJournal>,
     seats: Vec<Seat>,
-    load: Load,
+    load: SoakLoad,
 ) -> Result<Soak, Unmade>
     requires named { J.zones ≡ opened_key opened ∷ [] }
     requires boards { J.boards ≡ opened_board opened ∷ [] }
     requires fits { All (IsSeatOf opened.zone) seats.items }
     requires unused { All IsUnused seats.items }
 {
-    let crew = Crew::<J, NoJournal>::new(alloc, opened, seats, ListConfig::none())?;
+    let crew = ZoneCrew::<J, NoJournal>::new(alloc, opened, seats, ListConfig::none())?;
     run_crew(rt, crew, load)
 }
 
 /// Makes a zone, and all the requests of it.
-fn run<R: Threads + Wait + Sync>(rt: &R, alloc: Global, load: Load) -> Result<Soak, Unmade> {
+fn run<R: Threads + Wait + Sync>(rt: &R, alloc: Global, load: SoakLoad) -> Result<Soak, Unmade> {
     match endless(alloc, NARROW_PAGES, load.workers, u64::MAX) {
         Ok((opened, seats)) => run_as::<Brand, R>(rt, alloc, opened, seats, load),
         Err(unmade) => Err(unmade),

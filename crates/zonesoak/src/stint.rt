@@ -16,7 +16,7 @@ type Slots = [Option<Lent>; SLOTS];
 
 /// What a worker leaves.
 #[derive(Clone, Copy, PartialEq, Eq, Debug, Drop)]
-pub struct Stint {
+pub struct SoakStint {
     /// How many sections it made.
     pub sections: u64,
     /// How many pages it has still.
@@ -62,7 +62,7 @@ pub fn work<J: Naming, R: Wait, K: Keeps>(
     worker: ZoneWorker<J>,
     zone: &OneZone<J, K>,
     requests: u32,
-) -> Stint {
+) -> SoakStint {
     let mut worker = worker.at(rt, zone);
     let mut random = Pcg32::new(u64::from(requests), u64::from(worker.number()));
     let mut slots: Slots = [None; SLOTS];
@@ -71,7 +71,7 @@ pub fn work<J: Naming, R: Wait, K: Keeps>(
         let order = order_of(random.next_u32());
         ask(&mut worker, &mut slots[slot], order);
     }
-    Stint {
+    SoakStint {
         sections: worker.sections(),
         lent_pages: pages_of(&slots),
     }

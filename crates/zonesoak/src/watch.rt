@@ -8,7 +8,7 @@ const MOST_READINGS: u32 = 1_000_000_000;
 
 /// What a reader saw.
 #[derive(Clone, Copy, PartialEq, Eq, Debug, Drop)]
-pub struct Watch {
+pub struct BoardWatch {
     /// The place of its last reading.
     pub place: u64,
     /// Whether no reading was of an earlier place than the one before it, and each one's free pages were those of its blocks.
@@ -35,9 +35,9 @@ pub fn read_all_the_while<J: Naming, R, K: Keeps>(
     reader: ZoneReader<J>,
     zone: &OneZone<J, K>,
     requests: u64,
-) -> Watch {
+) -> BoardWatch {
     let mut reader = reader.at(rt, zone);
-    let mut watch = Watch {
+    let mut watch = BoardWatch {
         place: 0,
         are_good: true,
     };

@@ -12,7 +12,7 @@ use std::marker::Brand;
 use std::rt::Clock;
 use std::sync::ledger::{Blank, Ledger};
 use zp_capture::{CaptureFault, EventOptions, Form, Summary, print_events};
-use zp_progress::{Meter, Task};
+use zp_progress::{ProgressMeter, Task};
 use zp_streams::{Failures, Source};
 
 /// The status of a run that tells nothing, or not all.
@@ -70,7 +70,7 @@ fn carry_out<L: Ledger>(
         Form::Lines(_every) => screen.is_watched && !screen.is_terminal,
         Form::Table(_) | Form::Chart => screen.is_watched,
     };
-    let meter = Meter::new(rt, TASK, is_watched);
+    let meter = ProgressMeter::new(rt, TASK, is_watched);
     let reader = Source::new(rt.reader(), Failures::<L>::new(failures));
     let writer = BufWriter::new(rt.alloc(), io::writer(rt))?;
     print_events(rt.alloc(), reader, options, writer, meter)

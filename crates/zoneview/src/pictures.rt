@@ -11,7 +11,7 @@ use std::rt::Clock;
 use zp_drawing::MapStyle;
 use zp_model::Order;
 use zp_pictures::{MapOptions, Shown, print_chart, print_film, print_map, print_pagetypeinfo};
-use zp_progress::{Meter, Progress, Task};
+use zp_progress::{Progress, ProgressMeter, Task};
 
 /// The status of a run whose text is no trace.
 const BAD_TRACE: u8 = 1;
@@ -63,7 +63,7 @@ pub fn run(
         }
     };
     let text = read_input(rt)?;
-    let mut meter = Meter::new(rt, picture.task(), screen.is_watched);
+    let mut meter = ProgressMeter::new(rt, picture.task(), screen.is_watched);
     let shown = if screen.is_watched && screen.is_terminal {
         print_whole(rt, picture, text.as_slice(), &options, &mut meter)?
     } else {

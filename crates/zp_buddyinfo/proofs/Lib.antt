@@ -1,5 +1,4 @@
 pub mod Made
-pub mod Numbers
 pub mod SizeWords
 pub mod WordLists
 pub mod TableRows

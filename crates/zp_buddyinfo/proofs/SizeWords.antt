@@ -6,7 +6,7 @@ use Rattle.std.proofs.lemmas.List.{append-nil, get_or_push, length_push, same_fr
 use Rattle.zp_buddyinfo.specs.Sizes.{EndsInNoLetter, IsSize, bytes_of, letter_of}
 use Rattle.zp_buddyinfo.specs.declared.page.SizeUnit.{SizeUnit}
 use Rattle.zp_buddyinfo.specs.declared.page.SizeUnit.TheVariants.{Byte, Kibibyte, Mebibyte, Gibibyte}
-use Rattle.zp_buddyinfo.proofs.Numbers.{digit}
+use Rattle.zp_numbers.proofs.Numbers.{digit}
 
 -- no number ends in a letter
 no_digit : (d : List ℕ) (c n : ℕ) → n < 2 ^ 64 → 57 < c → d ++ c ∷ [] ≡ decimal n → ⊥

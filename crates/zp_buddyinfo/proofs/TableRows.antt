@@ -6,26 +6,26 @@ use Rattle.std.proofs.lemmas.Bool.Decides.{nat_tests}
 use Rattle.std.proofs.lemmas.List.{length-map, get_or-map, map-append, append-nil, nil_from_length}
 use Rattle.std.proofs.lemmas.List.Elements.{filter_more, All-nil, All-push}
 use borrow.Author.Count.{below_more}
-use Rattle.zp_buddyinfo.specs.declared.row.Row.{Row}
+use Rattle.zp_buddyinfo.specs.declared.row.BuddyinfoRow.{BuddyinfoRow}
 use Rattle.zp_buddyinfo.specs.Rows.{spelled, lines_of, words_of, row_words, IsRow, IsGoodLine, IsBadLine, AreRowsOf}
 use Rattle.zp_buddyinfo.proofs.WordLists.{nowhere}
 
-abbrev pub words_told : Row → List (List ℕ)
+abbrev pub words_told : BuddyinfoRow → List (List ℕ)
 words_told r = row_words r.node r.zone.now r.blocks
 
-abbrev pub IsSound : Row → Type 0
+abbrev pub IsSound : BuddyinfoRow → Type 0
 IsSound r = IsRow r.node r.zone.now r.blocks
 
 abbrev has_words : List (List ℕ) → Bool
 has_words words = nat_lt 0 (length words)
 
 -- the rows of the first i lines, which are good
-pub record RowsSoFar (lines : List (List ℕ)) (i : ℕ) (rows : List Row) : Type 0 where
+pub record RowsSoFar (lines : List (List ℕ)) (i : ℕ) (rows : List BuddyinfoRow) : Type 0 where
   pub sound : All (λ r. IsRow r.node r.zone.now r.blocks) rows
   pub written : map (λ r. row_words r.node r.zone.now r.blocks) rows ≡ filter (λ words. nat_lt 0 (length words)) (take i (map words_of lines))
   pub good : (k : ℕ) → k < i → IsGoodLine (slice_index_or lines k [])
 
-pub none_so_far : (lines : List (List ℕ)) (rows : List Row) → rows ≡ [] → RowsSoFar lines 0 rows
+pub none_so_far : (lines : List (List ℕ)) (rows : List BuddyinfoRow) → rows ≡ [] → RowsSoFar lines 0 rows
 none_so_far lines rows is = record {
   sound = subst (All IsSound) (sym is) (All-nil IsSound);
   written = ap (map words_told) is;
@@ -38,14 +38,14 @@ line_more lines i lt =
     filter_more has_words (map words_of lines) i [] (omega (arith, length-map lines words_of))
     ∙ ap (λ (w : List (List ℕ)). filter has_words (take i (map words_of lines)) ++ cond (has_words w) (w ∷ []) []) (get_or-map words_of lines i [] [] lt)
 
-pub blank_so_far : (lines : List (List ℕ)) (i : ℕ) (rows : List Row) → i < length lines → RowsSoFar lines i rows → words_of (get_or lines i []) ≡ [] → RowsSoFar lines (i + 1) rows
+pub blank_so_far : (lines : List (List ℕ)) (i : ℕ) (rows : List BuddyinfoRow) → i < length lines → RowsSoFar lines i rows → words_of (get_or lines i []) ≡ [] → RowsSoFar lines (i + 1) rows
 blank_so_far lines i rows lt so_far blank = record {
   sound = so_far.sound;
   written = so_far.written ∙ sym (line_more lines i lt ∙ ap (λ (w : List (List ℕ)). filter has_words (take i (map words_of lines)) ++ cond (has_words w) (w ∷ []) []) blank ∙ append-nil _);
   good = below_more (λ k. IsGoodLine (get_or lines k [])) i so_far.good (inl blank);
 }
 
-pub row_so_far : (lines : List (List ℕ)) (i : ℕ) (rows next : List Row) (r : Row) → i < length lines → RowsSoFar lines i rows → IsRow r.node r.zone.now r.blocks →
+pub row_so_far : (lines : List (List ℕ)) (i : ℕ) (rows next : List BuddyinfoRow) (r : BuddyinfoRow) → i < length lines → RowsSoFar lines i rows → IsRow r.node r.zone.now r.blocks →
     words_of (get_or lines i []) ≡ row_words r.node r.zone.now r.blocks → next ≡ rows ++ r ∷ [] → RowsSoFar lines (i + 1) next
 row_so_far lines i rows next r lt so_far sound words is =
     let told : has_words (words_told r) ≡ true = grind (arith, nat_tests) in
@@ -58,14 +58,14 @@ row_so_far lines i rows next r lt so_far sound words is =
       good = below_more (λ k. IsGoodLine (get_or lines k [])) i so_far.good (inr (r.node, r.zone.now, r.blocks, sound, words));
     }
 
-pub all_rows : (text : List ℕ) (i : ℕ) (rows : List Row) → length (lines_of text) ≤ i → RowsSoFar (lines_of text) i rows → AreRowsOf text rows
+pub all_rows : (text : List ℕ) (i : ℕ) (rows : List BuddyinfoRow) → length (lines_of text) ≤ i → RowsSoFar (lines_of text) i rows → AreRowsOf text rows
 all_rows text i rows far so_far = record {
   sound = so_far.sound;
   written = so_far.written ∙ ap (filter has_words) (take_all i (map words_of (lines_of text)) (omega (arith, far, length-map (lines_of text) words_of)));
 }
 
 -- a line that has words, but not those of a row
-pub bad_line : (text : List ℕ) (i : ℕ) (rows : List Row) → i < length (lines_of text) → RowsSoFar (lines_of text) i rows → words_of (get_or (lines_of text) i []) ≢ [] →
+pub bad_line : (text : List ℕ) (i : ℕ) (rows : List BuddyinfoRow) → i < length (lines_of text) → RowsSoFar (lines_of text) i rows → words_of (get_or (lines_of text) i []) ≢ [] →
     ((node : ℕ) (zone blocks : List ℕ) → IsRow node zone blocks → words_of (get_or (lines_of text) i []) ≡ row_words node zone blocks → ⊥) → IsBadLine text (i + 1)
 bad_line text i rows lt so_far some none = record {
   counted = omega arith;

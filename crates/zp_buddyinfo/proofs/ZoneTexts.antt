@@ -5,7 +5,7 @@ use Rattle.std.specs.Fmt.{decimal}
 use Rattle.std.proofs.lemmas.List.FromFn.{length-range_with_len, get_or-range_with_len}
 use Rattle.zp_buddyinfo.specs.declared.index.FragmentationIndex.{FragmentationIndex}
 use Rattle.zp_buddyinfo.specs.declared.style.Style.{Style}
-use Rattle.zp_buddyinfo.specs.declared.row.Row.{Row}
+use Rattle.zp_buddyinfo.specs.declared.row.BuddyinfoRow.{BuddyinfoRow}
 use Rattle.zp_buddyinfo.specs.Figures.{free_pages, largest_order}
 use Rattle.zp_buddyinfo.specs.Report.{right_aligned, thousandths, fragmentation_text, above, bar, yellow, red, figures_line, order_line, order_lines, largest_text, head_line, column_heads, zone_text}
 use Rattle.zp_buddyinfo.proofs.Parts.{first, then, item_more}
@@ -72,7 +72,7 @@ heads_written style a b c d spaces same e1 e2 e3 =
     e3).text
 
 -- the text of a zone
-pub zone_written : (page : ℕ) (style : Style) (row : Row) (a b c d : List ℕ) (node free : ℕ) (largest : Option ℕ) →
+pub zone_written : (page : ℕ) (style : Style) (row : BuddyinfoRow) (a b c d : List ℕ) (node free : ℕ) (largest : Option ℕ) →
     node ≡ row.node → free ≡ free_pages row.blocks → largest ≡ largest_order row.blocks → b ≡ a ++ head_line page node row.zone.now free largest → c ≡ b ++ column_heads style → d ≡ c ++ order_lines style row.blocks → d ≡ a ++ zone_text page style row
 unfolding zone_text
 zone_written page style row a b c d node free largest nodes frees largests e1 e2 e3 =

@@ -6,7 +6,7 @@ use Rattle.zp_buddyinfo.specs.declared.bounds.TheConstants.{WHOLE}
 use Rattle.zp_buddyinfo.specs.declared.index.FragmentationIndex.{FragmentationIndex}
 use Rattle.zp_buddyinfo.specs.declared.index.FragmentationIndex.TheVariants.{Served, NothingFree, Above, Below}
 use Rattle.zp_buddyinfo.specs.declared.style.Style.{Style}
-use Rattle.zp_buddyinfo.specs.declared.row.Row.{Row}
+use Rattle.zp_buddyinfo.specs.declared.row.BuddyinfoRow.{BuddyinfoRow}
 use Rattle.zp_buddyinfo.specs.Figures.{free_pages, largest_order, unusable_index, fragmentation_index}
 
 -- a text right-aligned in so many places; a longer one stands whole
@@ -105,9 +105,9 @@ unfoldable pub column_heads : Style → List ℕ
 column_heads style = concat (codes "order     blocks  unusable " ∷ repeat style.cells (codes " ") ∷ codes "  fragmentation\n" ∷ [])
 
 -- the text of a zone, with pages of so many bytes
-unfoldable pub zone_text : ℕ → Style → Row → List ℕ
+unfoldable pub zone_text : ℕ → Style → BuddyinfoRow → List ℕ
 zone_text page style row =
     concat (head_line page row.node row.zone.now (free_pages row.blocks) (largest_order row.blocks) ∷ column_heads style ∷ order_lines style row.blocks ∷ [])
 
-abbrev pub report : ℕ → Style → List Row → List ℕ
+abbrev pub report : ℕ → Style → List BuddyinfoRow → List ℕ
 report page style rows = flat_map (zone_text page style) rows

@@ -4,7 +4,7 @@ use Rattle.std.specs.List.{slice_split}
 use Rattle.std.specs.Char.{is_ascii_graphic}
 use Rattle.std.specs.Fmt.{decimal}
 use Rattle.std.specs.Borrow.{Bor}
-use Rattle.zp_buddyinfo.specs.declared.row.Row.{Row}
+use Rattle.zp_buddyinfo.specs.declared.row.BuddyinfoRow.{BuddyinfoRow}
 use Rattle.zp_buddyinfo.specs.Figures.{AreFreeBlocks}
 
 abbrev pub space : ℕ
@@ -51,6 +51,6 @@ pub record IsBadLine (text : List ℕ) (n : ℕ) : Type 0 where
   pub first : (k : ℕ) → k + 1 < n → IsGoodLine (slice_index_or (lines_of text) k [])
 
 -- the rows of a text are those that its lines with words write, in their order
-pub record AreRowsOf (text : List ℕ) (rows : List Row) : Type 0 where
+pub record AreRowsOf (text : List ℕ) (rows : List BuddyinfoRow) : Type 0 where
   pub sound : All (λ r. IsRow r.node r.zone.now r.blocks) rows
   pub written : map (λ r. row_words r.node r.zone.now r.blocks) rows ≡ filter (λ words. nat_lt 0 (length words)) (map words_of (lines_of text))

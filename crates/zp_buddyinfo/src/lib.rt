@@ -4,7 +4,6 @@
 
 mod bounds;
 mod index;
-mod number;
 mod page;
 mod report;
 mod row;
@@ -17,6 +16,6 @@ pub use bounds::{ORDERS, PAGE_LIMIT, WHOLE};
 pub use index::{FragmentationIndex, FreeBlocks};
 pub use page::parse_size;
 pub use report::report_text;
-pub use row::Row;
+pub use row::BuddyinfoRow;
 pub use style::Style;
 pub use table::{TableFault, read_table};

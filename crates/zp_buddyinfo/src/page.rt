@@ -2,7 +2,7 @@
 ghost use Rattle.std.specs.Prelude.{◌≡◌, ◌<◌, ◌++◌, IfSome, IfNone};
 ghost use Rattle.zp_buddyinfo.specs.Sizes.{EndsInNoLetter, IsNoSize, IsSize, letter_of, bytes_of};
 
-use crate::number::parse_number;
+use zp_numbers::parse_u64;
 
 /// What a size counts.
 #[derive(Clone, Copy, PartialEq, Eq, Debug, Drop)]
@@ -46,6 +46,6 @@ pub fn parse_size(word: &str) -> Option<u64>
     ensures none { IfNone result (IsNoSize word.now) }
 {
     let (digits, unit) = split_unit(word.as_bytes());
-    let bytes = parse_number(digits)?.checked_mul(unit.bytes())?;
+    let bytes = parse_u64(digits)?.checked_mul(unit.bytes())?;
     (bytes > 0).then_some(bytes)
 }

@@ -5,7 +5,7 @@ ghost use Rattle.std.specs.Fmt.{decimal};
 
 use crate::bounds::{ORDERS, WHOLE};
 use crate::index::{FragmentationIndex, FreeBlocks};
-use crate::row::Row;
+use crate::row::BuddyinfoRow;
 use crate::style::Style;
 use crate::text::{push_number, push_padded, push_parts, push_right, push_thousandths};
 use std::alloc::{AllocError, Global};
@@ -261,7 +261,7 @@ fn push_zone(
     text: &mut String,
     page: u64,
     style: Style,
-    row: &Row,
+    row: &BuddyinfoRow,
 ) -> Result<(), AllocError>
     ensures { OnOk result (string_bytes text.new ≡ string_bytes text.old ++ zone_text page style row.now) }
 {
@@ -278,7 +278,7 @@ pub fn report_text(
     alloc: Global,
     page: u64,
     style: Style,
-    rows: &[Row],
+    rows: &[BuddyinfoRow],
 ) -> Result<String, AllocError>
     ensures { IfOk result (λ text. string_bytes text ≡ report page style rows.now) }
 {

@@ -6,13 +6,13 @@ ghost use Rattle.zp_buddyinfo.specs.Rows.{spelled, IsZoneName, IsRow, row_words}
 
 use crate::bounds::ORDERS;
 use crate::index::FreeBlocks;
-use crate::number::parse_number;
 use crate::words::is_text;
 use arrayvec::ArrayVec;
+use zp_numbers::{parse_u32, parse_u64};
 
 /// A zone, as a line of buddyinfo tells it.
 #[derive(Drop)]
-pub struct Row<'a> {
+pub struct BuddyinfoRow<'a> {
     pub node: u32,
     /// The zone's name, where it lies in the text.
     pub zone: &'a str,
@@ -49,10 +49,7 @@ fn node_of(word: &[u8]) -> Option<u32>
     if *comma != b',' {
         return None;
     }
-    let Ok(node) = u32::try_from(parse_number(digits)?) else {
-        return None;
-    };
-    Some(node)
+    parse_u32(digits)
 }
 
 /// The free blocks that words count, one for each order.
@@ -65,13 +62,13 @@ fn blocks_of(words: &[&[u8]]) -> Option<FreeBlocks>
         if by_order.is_full() {
             return None;
         }
-        by_order.push(parse_number(word)?);
+        by_order.push(parse_u64(word)?);
     }
     FreeBlocks::new(by_order)
 }
 
 /// The row that such words tell.
-pub fn row_of<'a>(words: &[&'a [u8]]) -> Option<Row<'a>>
+pub fn row_of<'a>(words: &[&'a [u8]]) -> Option<BuddyinfoRow<'a>>
     ensures some { IfSome result (λ r. IsRow r.node r.zone.now r.blocks × (spelled words.now ≡ row_words r.node r.zone.now r.blocks)) }
     ensures none { IfNone result ((node : ℕ) (zone blocks : List ℕ) → IsRow node zone blocks → spelled words.now ≡ row_words node zone blocks → ⊥) }
 {
@@ -84,5 +81,5 @@ pub fn row_of<'a>(words: &[&'a [u8]]) -> Option<Row<'a>>
     let node = node_of(node)?;
     let zone = zone_of(zone)?;
     let blocks = blocks_of(counts)?;
-    Some(Row { node, zone, blocks })
+    Some(BuddyinfoRow { node, zone, blocks })
 }

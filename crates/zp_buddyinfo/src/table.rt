@@ -3,7 +3,7 @@ ghost use Rattle.std.specs.Prelude.{◌≡◌, ℕ, IfOk, Err};
 ghost use Rattle.zp_buddyinfo.specs.declared.table.TableFault.TheVariants as fault;
 ghost use Rattle.zp_buddyinfo.specs.Rows.{AreRowsOf, IsBadLine};
 
-use crate::row::{Row, row_of};
+use crate::row::{BuddyinfoRow, row_of};
 use crate::words::{pieces, words_of};
 use std::alloc::{AllocError, Global};
 
@@ -27,7 +27,7 @@ impl From<AllocError> for TableFault {
 }
 
 /// The rows of a text: of each line with words the row that it tells. A line without words is passed over.
-pub fn read_table(alloc: Global, text: &[u8]) -> Result<Vec<Row<'_>>, TableFault>
+pub fn read_table(alloc: Global, text: &[u8]) -> Result<Vec<BuddyinfoRow<'_>>, TableFault>
     ensures rows { IfOk result (λ rows. AreRowsOf text.now rows.items) }
     ensures bad { (n : ℕ) → result ≡ Err (fault.BadLine n) → IsBadLine text.now n }
 {

@@ -1,4 +1,3 @@
-pub mod Seating
 pub mod PlannedZones
 pub mod MachineTelling
 pub mod Summing

@@ -1,10 +1,10 @@
 -- The zones that are planned.
-use Rattle.std.proofs.Common.{ℕ, zero, suc, ◌≡◌, ◌≢◌, ◌<◌, ◌≤◌, ◌+◌, ◌++◌, inl, inr, List, [], ◌∷◌, All, refl, sym, ap, subst, ◌∙◌, arith, length, map, take, drop, get_or}
+use Rattle.std.proofs.Common.{ℕ, ◌≡◌, ◌<◌, ◌+◌, ◌++◌, List, [], ◌∷◌, All, refl, sym, ap, subst, ◌∙◌, arith, length, map, take, drop, get_or}
 use Rattle.std.proofs.lemmas.List.{drop_more, take_more, take-append-drop, length-map, length-take}
 use Rattle.std.proofs.lemmas.List.Elements.{All-push}
 use Rattle.zp_capture.specs.declared.plan.ZonePlan.{ZonePlan}
 use Rattle.zp_capture.specs.declared.zone_info.MemoryZone.{MemoryZone}
-use Rattle.zp_capture.specs.Plans.{AreInPlace, ArePlansOf, CannotBe, HasPlace, IsFirst, in_place}
+use Rattle.zp_capture.specs.Plans.{ArePlansOf, CannotBe, HasPlace, IsFirst, in_place}
 
 -- the first elements and the next one
 next : {X : Type 0} (xs : List X) (i : ℕ) (x : X) → i < length xs → x ≡ get_or xs i x → drop i xs ≡ x ∷ drop (i + 1) xs

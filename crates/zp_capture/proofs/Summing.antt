@@ -1,9 +1,9 @@
 -- The run of a capture, as it is summed up.
-use Rattle.std.proofs.Common.{ℕ, ◌≡◌, ◌++◌, inl, inr, List, [], ◌∷◌, Option, None, Some, refl, sym, ap, subst, ◌∙◌}
+use Rattle.std.proofs.Common.{ℕ, ◌≡◌, ◌++◌, inl, inr, List, [], ◌∷◌, Option, None, Some, sym, ap, subst, ◌∙◌}
 use Rattle.zp_events.specs.declared.text.AtBroken.{AtBroken}
 use Rattle.zp_events.specs.Reading.{Spot}
 use Rattle.zp_events.specs.Texts.{lines_of}
-use Rattle.zp_kernel.specs.Events.{KernelState}
+use Rattle.zp_kernel.specs.Events.{PlainKernel}
 use Rattle.zp_kernel.specs.Lines.{AreCounted, no_lines}
 use Rattle.zp_kernel.specs.Runs.{AreHeard, IsCarriedOut, IsRunOver, RunState}
 use Rattle.zp_capture.specs.declared.options.EventOptions.{EventOptions}
@@ -15,7 +15,7 @@ module _ {W : Type 0} (options : W → EventOptions) (told : W → Told) (mode :
   abbrev pub Hears : W → List ℕ → W → Type 0
   Hears w line v = (options v ≡ options w) × IsNoted (told w) line (told v)
 
-  abbrev pub Opens : W → KernelState → Type 0
+  abbrev pub Opens : W → PlainKernel → Type 0
   Opens w k = AreOpened (options w) (told w) k
 
   -- what a watch heard is what was told, by the same options
@@ -28,7 +28,7 @@ module _ {W : Type 0} (options : W → EventOptions) (told : W → Told) (mode :
       (rest.0, inl (told u, none, noted, rest.1))
   heard o (line ∷ lines) w v is (inr (keep, broken, more)) = let rest = heard o lines w v is more in (rest.0, inr (keep, broken, rest.1))
 
-  carried : (o : EventOptions) (lines : List (List ℕ)) (w : W) (k : Option KernelState) → options w ≡ o → IsCarriedOut mode Hears Opens w lines None k →
+  carried : (o : EventOptions) (lines : List (List ℕ)) (w : W) (k : Option PlainKernel) → options w ≡ o → IsCarriedOut mode Hears Opens w lines None k →
       IsCarriedOut mode IsNoted (AreOpened o) (told w) lines None k
   carried o lines w None is (v, h) = (told v, (heard o lines w v is h).1)
   carried o lines w (Some k) is r =

@@ -1,5 +1,5 @@
 -- Zones of ours in the place of a machine's (this profile).
-use Rattle.std.specs.Prelude.{ℕ, suc, ◌≡◌, ◌≤◌, ◌<◌, ◌+◌, ◌++◌, ◌-◌, ◌%◌, ◌⊎◌, List, [], ◌∷◌, All, length, map, min, slice_index_or, ⊤}
+use Rattle.std.specs.Prelude.{ℕ, ◌≡◌, ◌≤◌, ◌<◌, ◌+◌, ◌++◌, ◌-◌, ◌%◌, ◌⊎◌, List, [], ◌∷◌, All, length, map, min, slice_index_or, ⊤}
 use Rattle.zp_model.specs.declared.constants.TheConstants.{BASE_LIMIT, BASE_STEP, MAX_PAGES, MAX_ZONES}
 use Rattle.zp_capture.specs.declared.plan.ZonePlan.{ZonePlan}
 use Rattle.zp_capture.specs.declared.planning.PlanFault.{PlanFault}

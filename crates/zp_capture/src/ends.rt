@@ -5,7 +5,7 @@ use std::alloc::Global;
 use std::fmt::Display;
 use std::io;
 use std::io::Write;
-use zp_buddyinfo::Row;
+use zp_buddyinfo::BuddyinfoRow;
 use zp_zone::Zone;
 
 /// How many orders the blocks of a zone can have.
@@ -36,7 +36,7 @@ fn write_cell<W: Write, N: Display + Drop>(writer: &mut W, count: Option<N>) -> 
 }
 
 /// Writes the free blocks of a zone by order, and the kernel's beside them: all orders that the one has or the other.
-fn write_beside<W: Write>(writer: &mut W, zone: &Zone, row: &Row<'_>) -> io::Result<()> {
+fn write_beside<W: Write>(writer: &mut W, zone: &Zone, row: &BuddyinfoRow<'_>) -> io::Result<()> {
     let (node, name) = (row.node, row.zone);
     writeln!(writer, "Node {node}, zone {name}: free blocks at the end")?;
     writeln!(writer, "order         here  the kernel")?;
@@ -58,7 +58,7 @@ pub fn write_beside_kernel<W: Write>(
     writer: &mut W,
     plans: &[ZonePlan],
     zones: &[Zone],
-    rows: &[Row<'_>],
+    rows: &[BuddyinfoRow<'_>],
 ) -> io::Result<()> {
     for (plan, zone) in plans.iter().zip(zones) {
         for row in rows {

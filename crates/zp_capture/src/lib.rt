@@ -3,6 +3,7 @@
 #![tactic(auto)]
 
 mod capture;
+mod capture_watch;
 mod counts_rows;
 mod ends;
 mod fault;
@@ -13,17 +14,15 @@ mod plan;
 mod planning;
 mod printing;
 mod report;
-mod rows;
 mod samples;
-mod seat_row;
+mod share_row;
 mod summary;
 mod type_changes;
-mod watch;
 mod zone_info;
 
 pub use capture::Capture;
 pub use fault::CaptureFault;
-pub use opening::Making;
+pub use opening::ZoneSettings;
 pub use options::{EventOptions, Form};
 pub use plan::{ZonePlan, plan_of};
 pub use planning::{PlanFault, plans_of};

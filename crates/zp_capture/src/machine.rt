@@ -6,7 +6,7 @@ ghost use Rattle.zp_capture.specs.Opening.{IsOpenedBy};
 ghost use Rattle.zp_model.specs.declared.constants.TheConstants.{MAX_WORKERS, MAX_ZONES};
 
 use crate::fault::CaptureFault;
-use crate::opening::{Making, opened};
+use crate::opening::{ZoneSettings, opened};
 use crate::plan::ZonePlan;
 use std::alloc::Global;
 use zp_events::ZoneLimit;
@@ -70,16 +70,21 @@ pub fn limits_of(plans: &[ZonePlan]) -> Limits
 }
 
 /// The zones that are planned, before the first event.
-pub fn kernel_of(alloc: Global, plans: &[ZonePlan], making: &Making) -> Result<Kernel, CaptureFault>
+pub fn kernel_of(
+    alloc: Global,
+    plans: &[ZonePlan],
+    settings: &ZoneSettings,
+) -> Result<Kernel, CaptureFault>
     requires some { 1 ≤ length plans.now }
     requires few { length plans.now ≤ MAX_ZONES }
-    requires workers { 1 ≤ making.now.workers }
-    ensures kernel { IfOk result (λ k. IsOpenedBy making.now plans.now k) }
+    requires workers { 1 ≤ settings.now.workers }
+    ensures kernel { IfOk result (λ k. IsOpenedBy settings.now plans.now k) }
 {
-    let (zones, shares) = opened(alloc, plans, making)?;
+    let crew = opened(alloc, plans, settings)?;
     let setting = Setting {
-        largest: making.largest.order(),
+        largest: settings.largest.order(),
         limits: limits_of(plans),
     };
-    Ok(Kernel::new(alloc, PlainZones::new(zones), shares, setting))
+    let zones = PlainZones::new(crew.zones);
+    Ok(Kernel::new(alloc, zones, crew.shares, setting))
 }

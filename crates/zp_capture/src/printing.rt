@@ -3,15 +3,15 @@ ghost use Rattle.std.specs.Prelude.{◌≤◌, length, IfOk};
 ghost use Rattle.zp_capture.specs.Summaries.{IsSummaryOfAll};
 
 use crate::capture::Capture;
+use crate::capture_watch::{CaptureWatch, Opened};
 use crate::ends::{info_lines, write_beside_kernel};
 use crate::fault::{CaptureFault, fault_of};
 use crate::options::{EventOptions, Form};
 use crate::plan::ZonePlan;
-use crate::report::{Told, write_table};
-use crate::rows::page_row;
+use crate::report::{CaptureReport, write_table};
 use crate::samples::Samples;
+use crate::share_row::ShareRow;
 use crate::summary::{Summary, counts_of};
-use crate::watch::{Opened, Watch};
 use std::alloc::Global;
 use std::io;
 use std::io::Write;
@@ -20,10 +20,12 @@ use zp_drawing::{
     ChartedZone, Span, write_chart_end, write_chart_head, write_way, write_zone_chart,
 };
 use zp_events::Lines;
-use zp_kernel::{Kernel, Run};
+use zp_kernel::{EventRun, Kernel};
+use zp_model::PageNo;
 use zp_progress::Progress;
 use zp_share::Share;
 use zp_streams::Reader;
+use zp_view::page_row;
 use zp_zone::Zone;
 
 /// Carries out the events of a text, and writes what is asked for; nothing, where it has no event. The zones are those that are named, or else
@@ -38,7 +40,7 @@ pub fn print_events<R: Reader + Drop, W: Write + Drop, P: Progress + Drop>(
     ensures { IfOk result (IsSummaryOfAll options.now (R.remaining reader)) }
 {
     let mut lines = Lines::new(alloc, reader)?;
-    let mut run = Run::new(Watch::new(alloc, options, writer, progress));
+    let mut run = EventRun::new(CaptureWatch::new(alloc, options, writer, progress));
     if let Err(fault) = run.read(&mut lines, options.at_broken) {
         return Err(fault_of(fault, run.onlooker.fault.take()));
     }
@@ -55,9 +57,9 @@ fn write_run<'x, W: Write + Drop, P: Progress + Drop>(
     alloc: Global,
     options: &'x EventOptions,
     summary: &'x Summary,
-    run: Run<Watch<'_, W, P>>,
+    run: EventRun<CaptureWatch<'_, W, P>>,
 ) -> Result<(), CaptureFault> {
-    let Run {
+    let EventRun {
         onlooker,
         kernel,
         lines: _,
@@ -135,7 +137,7 @@ fn tell<W: Write>(
 ) -> Result<(), CaptureFault> {
     let (zones, shares) = kernel.into_parts();
     let (claims, borrows) = ended.opened.types.counts();
-    let told = Told {
+    let told = CaptureReport {
         plans: &ended.opened.plans,
         workers: ended.opened.workers,
         lines: ended.summary.lines,
@@ -200,7 +202,8 @@ fn write_zone_way<W: Write>(
     place: usize,
     shares: &[Share],
 ) -> Result<(), CaptureFault> {
-    let row = page_row(alloc, zone, place, plan.base, shares)?;
+    let lenders = ShareRow { shares };
+    let row = page_row(alloc, zone, &lenders, place, PageNo::new(plan.base))?;
     let workers = u8::try_from(shares.len()).unwrap_or(u8::MAX);
     write_way(writer, &row, plan.base, zone.largest().order(), workers)?;
     Ok(())

@@ -8,7 +8,7 @@ use zp_model::TYPES;
 
 /// What is told of a run.
 #[derive(Clone, Copy, Drop)]
-pub struct Told<'a> {
+pub struct CaptureReport<'a> {
     pub plans: &'a [ZonePlan],
     pub workers: u32,
     pub lines: LineCounts,
@@ -30,7 +30,7 @@ fn write_count<W: Write>(writer: &mut W, name: &str, count: u64, done: &str) -> 
 }
 
 /// Writes the zones over which the events were carried out.
-fn write_zones<W: Write>(writer: &mut W, told: &Told<'_>) -> io::Result<()> {
+fn write_zones<W: Write>(writer: &mut W, told: &CaptureReport<'_>) -> io::Result<()> {
     for plan in told.plans {
         let name = plan.name.as_str();
         let (pages, base, min) = (plan.pages, plan.base, plan.min);
@@ -41,7 +41,7 @@ fn write_zones<W: Write>(writer: &mut W, told: &Told<'_>) -> io::Result<()> {
 }
 
 /// Writes what became of the kernel's requests.
-fn write_requests<W: Write>(writer: &mut W, told: &Told<'_>) -> io::Result<()> {
+fn write_requests<W: Write>(writer: &mut W, told: &CaptureReport<'_>) -> io::Result<()> {
     let counts = &told.counts;
     write_count(writer, "handed out by the kernel", told.lines.allocs, "")?;
     write_count(writer, "  given here", counts.given, "")?;
@@ -79,7 +79,7 @@ fn write_requests<W: Write>(writer: &mut W, told: &Told<'_>) -> io::Result<()> {
 }
 
 /// Writes what became of what the kernel freed.
-fn write_frees<W: Write>(writer: &mut W, told: &Told<'_>) -> io::Result<()> {
+fn write_frees<W: Write>(writer: &mut W, told: &CaptureReport<'_>) -> io::Result<()> {
     let counts = &told.counts;
     write_count(writer, "freed by the kernel", told.lines.frees, "")?;
     write_count(writer, "  a block", counts.freed, "given back")?;
@@ -115,7 +115,7 @@ fn write_frees<W: Write>(writer: &mut W, told: &Told<'_>) -> io::Result<()> {
 }
 
 /// Writes how often a request got a block of a pageblock of another type.
-fn write_changes<W: Write>(writer: &mut W, told: &Told<'_>) -> io::Result<()> {
+fn write_changes<W: Write>(writer: &mut W, told: &CaptureReport<'_>) -> io::Result<()> {
     let [unmovable, reclaimable, movable] = told.claims;
     write_count(writer, "pageblocks claimed: Unmovable", unmovable, "")?;
     write_count(writer, "  Reclaimable", reclaimable, "")?;
@@ -133,7 +133,7 @@ fn write_changes<W: Write>(writer: &mut W, told: &Told<'_>) -> io::Result<()> {
 }
 
 /// Writes the table.
-pub fn write_table<W: Write>(writer: &mut W, told: &Told<'_>) -> io::Result<()> {
+pub fn write_table<W: Write>(writer: &mut W, told: &CaptureReport<'_>) -> io::Result<()> {
     write_zones(writer, told)?;
     write_count(writer, "page events", told.lines.events(), "")?;
     write_requests(writer, told)?;

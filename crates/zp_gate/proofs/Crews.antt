@@ -1,7 +1,6 @@
--- The crew of a room's one zone.
-use Rattle.std.proofs.Common.{ℕ, zero, suc, ◌≡◌, ◌<◌, ◌≤◌, ◌+◌, ◌-◌, ◌∙◌, List, [], ◌∷◌, All, ap, length, take, slice_index_or, inl, inr, sym, subst, arith}
+-- Numbers and values, one by one.
+use Rattle.std.proofs.Common.{ℕ, zero, suc, ◌≡◌, ◌<◌, ◌+◌, List, [], ◌∷◌, All, length, slice_index_or, inl, inr, subst, arith}
 use Rattle.std.proofs.lemmas.Bool.{cases_lt}
-use Rattle.std.proofs.lemmas.List.{take-take, length-take-le}
 
 -- where it is so of each number below another, and of that
 pub below_next : (P : ℕ → Type 0) (n : ℕ) → ((w : ℕ) → w < n → P w) → P n → (w : ℕ) → w < n + 1 → P w
@@ -16,12 +15,3 @@ pub of_one : {A : Type 0} (P : A → Type 0) (xs : List A) (none : A) → length
 of_one P [] none e p = λ k d lt. absurd (omega (arith, e))
 of_one P (x ∷ []) none e p = each P x p
 of_one P (x ∷ y ∷ xs) none e p = λ k d lt. absurd (omega (arith, e))
-
--- who has left some of the last zones, and one more
-pub left_next : {A : Type 0} (was now old : List A) → was ≡ take (length was) old → length was ≤ length old → now ≡ take (length was - 1) was →
-    (now ≡ take (length now) old) × (length now ≡ length was - 1)
-left_next was now old e le is =
-    let n = length was in
-    let here : now ≡ take (n - 1) old = is ∙ ap (take (n - 1)) e ∙ take-take (n - 1) n old (omega arith) in
-    let long : length now ≡ n - 1 = ap length here ∙ length-take-le (n - 1) old (omega (arith, le)) in
-    (here ∙ ap (λ k. take k old) (sym long), long)

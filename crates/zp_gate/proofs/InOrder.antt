@@ -6,7 +6,7 @@ use Rattle.std.proofs.lemmas.List.FromFn.{get_or-map-range_with_len, length-map-
 use Rattle.atomic_table.specs.Seated.{TableId}
 use Rattle.zp_model.specs.Books.{Books, part}
 use Rattle.zp_zone.specs.Seats.{SeatState, seats_of}
-use Rattle.zp_gate.specs.Workers.{AllDown, AreInOrder}
+use Rattle.zp_gate.specs.GatedWorkers.{AllDown, AreInOrder}
 
 abbrev seat_of : TableId → Books → ℕ → SeatState
 seat_of t b w = record { tie = t; worker = w; part = part w b }

@@ -11,12 +11,12 @@ use Rattle.zp_model.specs.Zone.{PostedBlock, zone_opening}
 use Rattle.zp_laws.proofs.Opening.{free-opening, largest-opening}
 use Rattle.zp_zone.specs.Seats.{SeatState, ZoneState, seats_of}
 use Rattle.zp_share.specs.Shares.{ZoneKey, key_of}
-use Rattle.zp_gate.specs.declared.row.OpenedZone.{OpenedZone}
-use Rattle.zp_gate.specs.Gates.{IsSeatBy}
-use Rattle.zp_gate.specs.Rows.{gate_key}
+use Rattle.zp_gate.specs.declared.opening.OpenedZone.{OpenedZone}
+use Rattle.zp_gate.specs.GatedZones.{IsSeatBy}
+use Rattle.zp_gate.specs.GatedRows.{lock_key}
 
 abbrev pub key_in : OpenedZone → ZoneKey
-key_in z = gate_key (arc_value z.gate)
+key_in z = lock_key (arc_value z.lock)
 
 -- a zone that was opened has the key that it was made with
 pub opening_key : (z : ZoneState) (t : TableId) (name : List ℕ) (m base pages min workers : ℕ) → z ≡ record { tie = t; name = name; plain = zone_opening m base pages min workers; entries = [] } →

@@ -1,4 +1,8 @@
-pub mod Moves
+pub mod Keeping
+pub mod Rooms
+pub mod Refusals
+pub mod Leaving
+pub mod Steps
 pub mod Crews
 pub mod Keys
 pub mod InOrder

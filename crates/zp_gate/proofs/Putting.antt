@@ -11,7 +11,7 @@ use Rattle.zp_share.specs.declared.page_use.PageUse.TheVariants.{Away, Lent, Cac
 use Rattle.zp_share.specs.PlainShares.{PlainZoneShare, Putting, list_of, put, putting_as, used_as}
 use Rattle.zp_share.specs.ZoneShares.{ZoneShareState, opening_share, plain_share}
 use Rattle.zp_share.specs.Shares.{ShareState, no_seat, share_at, with_zone_share}
-use Rattle.zp_gate.specs.Workers.{IsPut}
+use Rattle.zp_gate.specs.GatedWorkers.{IsPut}
 
 -- a put of a page that is lent: whether as one of order 0, and whether its list has room
 abbrev tried : Bool → Bool → PlainZoneShare → PlainZoneShare → Putting

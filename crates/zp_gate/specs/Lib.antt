@@ -1,4 +1,7 @@
-pub mod Gates
-pub mod Workers
+pub mod GatedZones
+pub mod Calls
+pub mod Locks
+pub mod Visits
+pub mod GatedWorkers
 pub mod Readings
-pub mod Rows
+pub mod GatedRows

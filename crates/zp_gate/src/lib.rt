@@ -1,18 +1,24 @@
-//! A row of zones, each behind a gate that one caller at a time may enter; whoever comes meanwhile is told so. Nobody waits here, so
+//! A row of zones, each behind a lock that one caller at a time may hold; whoever comes meanwhile is told so. Nobody waits here, so
 //! that a static library may have it, and the caller's lock is checked: a lock that was forgotten makes calls fail, and breaks nothing.
 #![tactic(auto)]
 
-mod denied;
-mod desk;
-mod gate;
-mod room;
-mod row;
-mod told;
-mod worker;
+mod call;
+mod call_error;
+mod gated_row;
+mod gated_share;
+mod gated_worker;
+mod gated_zone;
+mod lists;
+mod opening;
+mod question;
+mod try_lock;
+mod visit_view;
+mod zone_facts;
 
-pub use denied::Denied;
-pub use gate::Gate;
-pub use room::Room;
-pub use row::{Row, open_row};
-pub use told::Told;
-pub use worker::Worker;
+pub use call::{Given, ZoneCall};
+pub use call_error::CallError;
+pub use gated_row::GatedRow;
+pub use gated_worker::GatedWorker;
+pub use opening::open_row;
+pub use question::{Answer, Question, ZoneTold};
+pub use try_lock::{Busy, GatherError, Gathered};

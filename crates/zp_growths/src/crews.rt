@@ -12,7 +12,7 @@ use zp_makings::lists;
 use zp_makings::zones::{FRONT, PAGES};
 use zp_model::Order;
 use zp_share::ListConfig;
-use zp_shared::{Crew, Keeps, Naming, OpenedZone, WorkerAt};
+use zp_shared::{Keeps, Naming, OpenedZone, WorkerAt, ZoneCrew};
 use zp_zone::{Seat, Zone};
 
 /// A crew of one worker with lists, and so many rounds of its commands.
@@ -45,8 +45,8 @@ fn crew_as<J: Naming, R: Wait>(
     requires fits { All (IsSeatOf opened.zone) seats.items }
     requires unused { All IsUnused seats.items }
 {
-    let crew = Crew::<J, _>::new(alloc, opened, seats, lists)?;
-    let Crew {
+    let crew = ZoneCrew::<J, _>::new(alloc, opened, seats, lists)?;
+    let ZoneCrew {
         zone,
         mut workers,
         ..

@@ -9,7 +9,7 @@ use zp_makings::{boards, buddies, shares, zones};
 
 /// What can be made.
 #[derive(Clone, Copy, PartialEq, Eq, Debug, Drop)]
-pub enum Making {
+pub enum MakingKind {
     /// Nothing: the growths are those of the command line.
     Nothing,
     PageTable,
@@ -29,7 +29,7 @@ pub enum Making {
     SharedZone,
     WithoutJournal,
     WithPieces,
-    Crew,
+    ZoneCrew,
     Trace,
     Script,
     Shares,
@@ -45,7 +45,7 @@ pub enum Making {
 #[derive(Clone, Copy, Drop)]
 pub struct MakingWord {
     pub name: &'static str,
-    making: Making,
+    making: MakingKind,
     /// Whether there are calls on what is made.
     pub has_calls: bool,
 }
@@ -54,148 +54,148 @@ pub struct MakingWord {
 pub const WORDS: [MakingWord; 28] = [
     MakingWord {
         name: "nothing",
-        making: Making::Nothing,
+        making: MakingKind::Nothing,
         has_calls: false,
     },
     MakingWord {
         name: "PageTable",
-        making: Making::PageTable,
+        making: MakingKind::PageTable,
         has_calls: false,
     },
     MakingWord {
         name: "Lists",
-        making: Making::Lists,
+        making: MakingKind::Lists,
         has_calls: false,
     },
     MakingWord {
         name: "OrderTree",
-        making: Making::OrderTree,
+        making: MakingKind::OrderTree,
         has_calls: false,
     },
     MakingWord {
         name: "FreeArea",
-        making: Making::FreeArea,
+        making: MakingKind::FreeArea,
         has_calls: false,
     },
     MakingWord {
         name: "Buddy",
-        making: Making::Buddy,
+        making: MakingKind::Buddy,
         has_calls: true,
     },
     MakingWord {
         name: "Zone",
-        making: Making::Zone,
+        making: MakingKind::Zone,
         has_calls: true,
     },
     MakingWord {
         name: "ZoneShare",
-        making: Making::ZoneShare,
+        making: MakingKind::ZoneShare,
         has_calls: false,
     },
     MakingWord {
         name: "Share",
-        making: Making::Share,
+        making: MakingKind::Share,
         has_calls: true,
     },
     MakingWord {
         name: "Journal",
-        making: Making::Journal,
+        making: MakingKind::Journal,
         has_calls: false,
     },
     MakingWord {
         name: "new_board",
-        making: Making::Board,
+        making: MakingKind::Board,
         has_calls: true,
     },
     MakingWord {
         name: "new_turning_board",
-        making: Making::TurningBoard,
+        making: MakingKind::TurningBoard,
         has_calls: true,
     },
     MakingWord {
         name: "new_wide_board",
-        making: Making::WideBoard,
+        making: MakingKind::WideBoard,
         has_calls: true,
     },
     MakingWord {
         name: "OpenedZone",
-        making: Making::OpenedZone,
+        making: MakingKind::OpenedZone,
         has_calls: false,
     },
     MakingWord {
         name: "reader_rows",
-        making: Making::Readers,
+        making: MakingKind::Readers,
         has_calls: false,
     },
     MakingWord {
         name: "SharedZone",
-        making: Making::SharedZone,
+        making: MakingKind::SharedZone,
         has_calls: true,
     },
     MakingWord {
         name: "without_journal",
-        making: Making::WithoutJournal,
+        making: MakingKind::WithoutJournal,
         has_calls: true,
     },
     MakingWord {
         name: "with_pieces",
-        making: Making::WithPieces,
+        making: MakingKind::WithPieces,
         has_calls: true,
     },
     MakingWord {
-        name: "Crew",
-        making: Making::Crew,
+        name: "ZoneCrew",
+        making: MakingKind::ZoneCrew,
         has_calls: true,
     },
     MakingWord {
         name: "parse_trace",
-        making: Making::Trace,
+        making: MakingKind::Trace,
         has_calls: false,
     },
     MakingWord {
         name: "script_of",
-        making: Making::Script,
+        making: MakingKind::Script,
         has_calls: false,
     },
     MakingWord {
         name: "opened",
-        making: Making::Shares,
+        making: MakingKind::Shares,
         has_calls: false,
     },
     MakingWord {
         name: "Desk",
-        making: Making::Desk,
+        making: MakingKind::Desk,
         has_calls: false,
     },
     MakingWord {
         name: "opened_desks",
-        making: Making::Desks,
+        making: MakingKind::Desks,
         has_calls: false,
     },
     MakingWord {
         name: "Office",
-        making: Making::Office,
+        making: MakingKind::Office,
         has_calls: true,
     },
     MakingWord {
         name: "run_zones",
-        making: Making::Run,
+        making: MakingKind::Run,
         has_calls: false,
     },
     MakingWord {
         name: "replay_journal",
-        making: Making::Replay,
+        making: MakingKind::Replay,
         has_calls: false,
     },
     MakingWord {
         name: "counts_after",
-        making: Making::CountsAfter,
+        making: MakingKind::CountsAfter,
         has_calls: false,
     },
 ];
 
 /// What a word names.
-pub fn making_of(name: &str) -> Option<Making> {
+pub fn making_of(name: &str) -> Option<MakingKind> {
     for word in &WORDS {
         if word.name == name {
             return Some(word.making);
@@ -208,37 +208,37 @@ pub fn making_of(name: &str) -> Option<Making> {
 pub fn make<R: Threads + Wait + Sync>(
     rt: &R,
     alloc: Global,
-    making: Making,
+    making: MakingKind,
     calls: u32,
 ) -> Result<(), Unmade> {
     match making {
-        Making::Nothing => Ok(()),
-        Making::PageTable => buddies::table(alloc),
-        Making::Lists => buddies::lists(alloc),
-        Making::OrderTree => buddies::tree(alloc),
-        Making::FreeArea => buddies::area(alloc),
-        Making::Buddy => buddies::buddy(alloc, calls),
-        Making::Zone => zones::zone(alloc, calls),
-        Making::ZoneShare => shares::zone_share(alloc),
-        Making::Share => shares::share(alloc, calls),
-        Making::Journal => boards::journal(alloc),
-        Making::Board => boards::board(alloc, calls),
-        Making::TurningBoard => boards::turning_board(alloc, calls),
-        Making::WideBoard => boards::wide_board(alloc, calls),
-        Making::OpenedZone => locked::opened(alloc),
-        Making::Readers => locked::readers(alloc),
-        Making::SharedZone => locked::shared(rt, alloc, calls),
-        Making::WithoutJournal => locked::without_journal(rt, alloc, calls),
-        Making::WithPieces => locked::with_pieces(rt, alloc, calls),
-        Making::Crew => crews::crew(rt, alloc, calls),
-        Making::Trace => offices::trace(alloc),
-        Making::Script => offices::script(alloc),
-        Making::Shares => offices::shares(alloc),
-        Making::Desk => offices::desk(alloc),
-        Making::Desks => offices::desks(alloc),
-        Making::Office => offices::office(alloc, calls),
-        Making::Run => offices::run(rt, alloc),
-        Making::Replay => offices::replay(rt, alloc),
-        Making::CountsAfter => offices::counts(rt, alloc),
+        MakingKind::Nothing => Ok(()),
+        MakingKind::PageTable => buddies::table(alloc),
+        MakingKind::Lists => buddies::lists(alloc),
+        MakingKind::OrderTree => buddies::tree(alloc),
+        MakingKind::FreeArea => buddies::area(alloc),
+        MakingKind::Buddy => buddies::buddy(alloc, calls),
+        MakingKind::Zone => zones::zone(alloc, calls),
+        MakingKind::ZoneShare => shares::zone_share(alloc),
+        MakingKind::Share => shares::share(alloc, calls),
+        MakingKind::Journal => boards::journal(alloc),
+        MakingKind::Board => boards::board(alloc, calls),
+        MakingKind::TurningBoard => boards::turning_board(alloc, calls),
+        MakingKind::WideBoard => boards::wide_board(alloc, calls),
+        MakingKind::OpenedZone => locked::opened(alloc),
+        MakingKind::Readers => locked::readers(alloc),
+        MakingKind::SharedZone => locked::shared(rt, alloc, calls),
+        MakingKind::WithoutJournal => locked::without_journal(rt, alloc, calls),
+        MakingKind::WithPieces => locked::with_pieces(rt, alloc, calls),
+        MakingKind::ZoneCrew => crews::crew(rt, alloc, calls),
+        MakingKind::Trace => offices::trace(alloc),
+        MakingKind::Script => offices::script(alloc),
+        MakingKind::Shares => offices::shares(alloc),
+        MakingKind::Desk => offices::desk(alloc),
+        MakingKind::Desks => offices::desks(alloc),
+        MakingKind::Office => offices::office(alloc, calls),
+        MakingKind::Run => offices::run(rt, alloc),
+        MakingKind::Replay => offices::replay(rt, alloc),
+        MakingKind::CountsAfter => offices::counts(rt, alloc),
     }
 }

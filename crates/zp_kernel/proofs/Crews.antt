@@ -1,13 +1,11 @@
 -- A row of zones and the shares of its workers after a command of one worker.
-use Rattle.std.proofs.Common.{ℕ, ◌≡◌, ◌<◌, sym, ◌∙◌, ap, subst, arith, refl, List, length, map, get_or, set, Some, All, Ok, Err, inl, inr, zero-add}
+use Rattle.std.proofs.Common.{ℕ, ◌≡◌, ◌<◌, ◌≤◌, sym, ◌∙◌, ap, subst, arith, refl, List, length, map, get_or, set, Some, All, Ok, Err, inl, inr}
 use Rattle.std.specs.Prelude.{Result, Option, Bool, true, false, cond, OnOk}
 use Rattle.std.specs.List.{range_with_len}
 use Rattle.std.proofs.lemmas.Bool.{cases_lt}
 use Rattle.std.proofs.Math.Seq.{map-set_same}
-use Rattle.std.proofs.Math.ListN.{get_or-map}
 use Rattle.std.proofs.lemmas.List.{length-map, length-set, map-set, get_or_past, get_or-map as get_or-there}
-use Rattle.std.proofs.lemmas.List.Elements.{All-map, All-set}
-use Rattle.std.proofs.lemmas.List.FromFn.{get_or-range_with_len}
+use Rattle.std.proofs.lemmas.List.Elements.{All-set}
 use Rattle.zp_model.specs.declared.block.Block.{Block}
 use Rattle.zp_model.specs.declared.refused.Refused.{Refused}
 use Rattle.zp_model.specs.declared.request.Reply.{Reply}
@@ -17,14 +15,17 @@ use Rattle.zp_zone.specs.NamedZone.{NamedZone, block_reply}
 use Rattle.zp_zone.specs.Seats.{ZoneState}
 use Rattle.zp_share.specs.PlainShares.{PlainShare}
 use Rattle.zp_share.specs.Sections.{done_reply}
-use Rattle.zp_share.specs.ZoneShares.{ZoneShareState, answered, plain_share}
+use Rattle.zp_share.specs.ZoneShares.{answered, plain_share}
 use Rattle.zp_share.specs.Commands.{World, Done, told_as, done_answer}
-use Rattle.zp_share.specs.Shares.{ShareState, ZoneKey, IsShareOf, IsDone, HasWorkerAt, is_section, key_of, named_zone, no_key, noted_at, plain, share_at, with_zone_share, world, workers_at}
-use Rattle.zp_kernel.specs.Crews.{CrewState, AreSharesOf, IsCrewDone, IsSameCrew, block_answer, by_worker, crew_of, share_of, no_share}
+use Rattle.zp_share.specs.Shares.{ShareState, IsShareOf, IsDone, is_section, key_of, named_zone, noted_at, plain, share_at, with_zone_share, world}
+use Rattle.zp_share.specs.Crews.{CrewState, AreSharesOf, crew_of}
+use Rattle.zp_share.proofs.Crews.{fits_there, keys-length, keys-workers, places}
+use Rattle.zp_kernel.specs.Crews.{IsCrewDone, IsSameCrew, block_answer, by_worker, share_of, no_share}
 
 -- worker w's share s, which stands at place n, has become u, and the zones have become others with the same keys
 pub record IsTurn (zones new : List ZoneState) (shares : List ShareState) (n w : ℕ) (s d u : ShareState) (before : CrewState) : Type 0 where
   pub view : crew_of zones shares ≡ before
+  pub some : 1 ≤ length shares
   pub are : AreSharesOf zones shares
   pub place : n ≡ w
   pub there : n < length shares
@@ -33,19 +34,6 @@ pub record IsTurn (zones new : List ZoneState) (shares : List ShareState) (n w :
   pub fits : IsShareOf (map key_of new) u
   pub worker : u.worker ≡ s.worker
 
--- zones with the same keys are as many
-keys-length : (zones new : List ZoneState) → map key_of new ≡ map key_of zones → length new ≡ length zones
-keys-length zones new e = sym (length-map new key_of) ∙ ap length e ∙ length-map zones key_of
-
--- and have the same numbers of workers
-keys-workers : (zones new : List ZoneState) (n : ℕ) → map key_of new ≡ map key_of zones → All (λ (z : ZoneState). workers_of z.plain ≡ n) zones →
-    All (λ (z : ZoneState). workers_of z.plain ≡ n) new
-keys-workers zones new n e are k d lt =
-    ap (λ (x : ZoneKey). x.workers) (sym (get_or-map key_of new k d))
-    ∙ ap (λ (xs : List ZoneKey). (get_or xs k (key_of d)).workers) e
-    ∙ ap (λ (x : ZoneKey). x.workers) (get_or-map key_of zones k d)
-    ∙ are k d (omega (arith, keys-length zones new e))
-
 -- as many shares as contracts see
 pub shares-length : (zones : List ZoneState) (shares : List ShareState) (before : CrewState) → crew_of zones shares ≡ before → length before.shares ≡ length shares
 shares-length zones shares before view = ap (λ (c : CrewState). length c.shares) (sym view) ∙ length-map shares plain
@@ -53,30 +41,11 @@ shares-length zones shares before view = ap (λ (c : CrewState). length c.shares
 pub zones-length : (zones : List ZoneState) (shares : List ShareState) (before : CrewState) → crew_of zones shares ≡ before → length before.zones ≡ length zones
 zones-length zones shares before view = ap (λ (c : CrewState). length c.zones) (sym view) ∙ length-map zones named_zone
 
--- a share has as many places as there are zones
-pub places : (zones : List ZoneState) (s : ShareState) → IsShareOf (map key_of zones) s → length s.zones ≡ length zones
-places zones s fits =
-    sym (length-map s.zones (λ (x : ZoneShareState). x.seat.tie)) ∙ ap length fits ∙ length-map (map key_of zones) (λ (k : ZoneKey). k.tie) ∙ length-map zones key_of
-
--- each share is one of the zones
-pub fits_there : (zones : List ZoneState) (shares : List ShareState) (n : ℕ) (s d : ShareState) → AreSharesOf zones shares → n < length shares → s ≡ get_or shares n d →
-    IsShareOf (map key_of zones) s
-fits_there zones shares n s d are lt e = subst (IsShareOf (map key_of zones)) (sym e) (are.fit n d lt)
-
--- each zone has each of the workers
-pub worker_there : (zones : List ZoneState) (shares : List ShareState) (i w : ℕ) → AreSharesOf zones shares → i < length zones → w < length shares →
-    HasWorkerAt (map key_of zones) i w
-worker_there zones shares i w are lt below =
-    let all : All (λ (k : ZoneKey). k.workers ≡ length shares) (map key_of zones) = All-map (λ (k : ZoneKey). k.workers ≡ length shares) key_of zones are.crew in
-    let here : workers_at (map key_of zones) i ≡ length shares = all i no_key (omega (arith, length-map zones key_of)) in
-    omega (arith, here, below)
-
 -- the shares after a turn are those of the zones after it
-pub shares_after : (zones new : List ZoneState) (shares : List ShareState) (n w : ℕ) (s d u : ShareState) (before : CrewState) → IsTurn zones new shares n w s d u before →
+shares_after : (zones new : List ZoneState) (shares : List ShareState) (n w : ℕ) (s d u : ShareState) (before : CrewState) → IsTurn zones new shares n w s d u before →
     AreSharesOf new (set shares n u)
 shares_after zones new shares n w s d u before x =
     record {
-      some = omega (arith, x.are.some, length-set shares n u);
       fit =
           subst (λ ks. All (λ (t : ShareState). IsShareOf ks t) (set shares n u)) (sym x.keys)
           (All-set (λ (t : ShareState). IsShareOf (map key_of zones) t) shares n u (subst (λ ks. IsShareOf ks u) x.keys x.fits) x.are.fit);
@@ -86,6 +55,10 @@ shares_after zones new shares n w s d u before x =
           ∙ ap (λ m. range_with_len 0 m) (sym (length-set shares n u));
       crew = subst (λ m. All (λ (z : ZoneState). workers_of z.plain ≡ m) new) (sym (length-set shares n u)) (keys-workers zones new (length shares) x.keys x.are.crew);
     }
+
+pub crew_after : (zones new : List ZoneState) (shares : List ShareState) (n w : ℕ) (s d u : ShareState) (before : CrewState) → IsTurn zones new shares n w s d u before →
+    (1 ≤ length (set shares n u)) × AreSharesOf new (set shares n u)
+crew_after zones new shares n w s d u before x = (omega (arith, x.some, length-set shares n u), shares_after zones new shares n w s d u before x)
 
 -- and as many as before
 pub same_after : (zones new : List ZoneState) (shares : List ShareState) (n w : ℕ) (s d u : ShareState) (before : CrewState) → IsTurn zones new shares n w s d u before →
@@ -180,12 +153,3 @@ noted_worker s u i r q e =
 pub on_ok : {A E : Type 0} (P : Type 0) (r : Result A E) → P → OnOk r P
 on_ok P (Ok x) p = p
 on_ok P (Err e) p = tt
-
--- a share's worker is the number of its place
-pub worker_at : (zones : List ZoneState) (shares : List ShareState) (n : ℕ) (s d : ShareState) → AreSharesOf zones shares → n < length shares → s ≡ get_or shares n d → s.worker ≡ n
-worker_at zones shares n s d are lt e =
-    ap (λ (t : ShareState). t.worker) e
-    ∙ sym (get_or-there (λ (t : ShareState). t.worker) shares n d 0 lt)
-    ∙ ap (λ l. get_or l n 0) are.workers
-    ∙ get_or-range_with_len 0 (length shares) n 0 lt
-    ∙ zero-add n

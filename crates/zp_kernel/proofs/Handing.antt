@@ -10,14 +10,15 @@ use Rattle.zp_events.specs.declared.event.PageRequest.{PageRequest}
 use Rattle.zp_model.specs.declared.migrate_type.MigrateType.{MigrateType}
 use Rattle.zp_model.specs.declared.refused.Refused.{Refused}
 use Rattle.zp_share.specs.declared.commands.Lent.{Lent}
-use Rattle.zp_kernel.specs.declared.books.Books.{Books}
+use Rattle.zp_kernel.specs.declared.kernel_state.KernelState.{KernelState}
 use Rattle.zp_kernel.specs.declared.event_counts.EventCounts.{EventCounts}
 use Rattle.zp_kernel.specs.declared.event_counts.Happening.TheVariants as happened
 use Rattle.zp_kernel.specs.declared.held.Held.{Held}
 use Rattle.zp_kernel.specs.declared.setting.Setting.{Setting}
-use Rattle.zp_kernel.specs.Books.{holding_none, noting}
+use Rattle.zp_kernel.specs.KernelStates.{holding_none, noting}
 use Rattle.zp_kernel.specs.Counts.{noted, pages_out}
-use Rattle.zp_kernel.specs.Crews.{CrewState, IsCrewDone, asked_by}
+use Rattle.zp_share.specs.Crews.{CrewState}
+use Rattle.zp_kernel.specs.Crews.{IsCrewDone, asked_by}
 use Rattle.zp_kernel.specs.Events.{answered, asked, asked_for, cleared, handed_out, still_held}
 use Rattle.zp_kernel.specs.Frames.{Frames}
 use Rattle.zp_kernel.specs.Settings.{kind_of, top_of}
@@ -55,44 +56,44 @@ module _ {X : Type 0} where
       last false x y z = refl
 
 -- a request that was met
-pub asked_ok : (w : ℕ) (x : FrameBlock) (k i pages : ℕ) (t : MigrateType) (b : Books) (r : Result Lent Refused) (l : Lent) (crew : CrewState) (fs : Frames) (counts : EventCounts) →
+pub asked_ok : (w : ℕ) (x : FrameBlock) (k i pages : ℕ) (t : MigrateType) (b : KernelState) (r : Result Lent Refused) (l : Lent) (crew : CrewState) (fs : Frames) (counts : EventCounts) →
     k ≡ x.order → IsCrewDone (asked_by w k t i b.crew) r crew → r ≡ Ok l → pages ≡ 2 ^ k → fs ≡ insert b.frames x.frame (record { lent = l; in_use = pages; worker = w })
     → counts ≡ pages_out pages (noted happened.Given b.counts) →
-    let after : Books = record { crew = crew; frames = fs; counts = counts } in after ≡ asked w x t i (holding_none x.frame b)
+    let after : KernelState = record { crew = crew; frames = fs; counts = counts } in after ≡ asked w x t i (holding_none x.frame b)
 asked_ok w x k i pages t b r l crew fs counts same done is many frames noted_is =
     let d = asked_by w x.order t i b.crew in
     let here : IsCrewDone (asked_by w x.order t i b.crew) r crew = subst (λ n. IsCrewDone (asked_by w n t i b.crew) r crew) same done in
-    let c : Books = holding_none x.frame b in
+    let c : KernelState = holding_none x.frame b in
     let size : pages ≡ 2 ^ x.order = many ∙ ap (λ n. 2 ^ n) same in
     let held : ℕ → Held = λ n. record { lent = l; in_use = n; worker = w } in
     let to : fs ≡ insert (remove b.frames x.frame) x.frame (held (2 ^ x.order)) =
     frames ∙ ap (λ n. insert b.frames x.frame (held n)) size ∙ sym (insert_removed b.frames x.frame (held (2 ^ x.order))) in
     let counted : counts ≡ pages_out (2 ^ x.order) (noted happened.Given b.counts) = noted_is ∙ ap (λ n. pages_out n (noted happened.Given b.counts)) size in
-    let first : ◌≡◌ {A = Books} (record { crew = crew; frames = fs; counts = counts }) (answered w x.frame x.order crew (Ok l) c) = joined crew _ _ _ _ to counted in
+    let first : ◌≡◌ {A = KernelState} (record { crew = crew; frames = fs; counts = counts }) (answered w x.frame x.order crew (Ok l) c) = joined crew _ _ _ _ to counted in
     first
     ∙ ap (λ a. answered w x.frame x.order crew a c) (sym is ∙ here.answer)
     ∙ ap (λ y. answered w x.frame x.order y d.answer c) here.crew
   where
     joined : (crew : CrewState) (fs gs : Frames) (a b : EventCounts) → fs ≡ gs → a ≡ b →
-        ◌≡◌ {A = Books} (record { crew = crew; frames = fs; counts = a }) (record { crew = crew; frames = gs; counts = b })
+        ◌≡◌ {A = KernelState} (record { crew = crew; frames = fs; counts = a }) (record { crew = crew; frames = gs; counts = b })
     joined crew fs gs a b e f = cc
 
 -- what a block's frame held still is none of the frames' any more
-pub still_frames : (w : ℕ) (o : Option Held) (b : Books) → (still_held w o b).frames ≡ b.frames
+pub still_frames : (w : ℕ) (o : Option Held) (b : KernelState) → (still_held w o b).frames ≡ b.frames
 still_frames w None b = refl
 still_frames w (Some h) b = refl
 
-pub place_stays : (w f : ℕ) (o : Option Held) (b c : Books) (place : Held) → c ≡ still_held w o b → (fs : Frames) → b.frames ≡ insert fs f place → IsSome (get c.frames f)
+pub place_stays : (w f : ℕ) (o : Option Held) (b c : KernelState) (place : Held) → c ≡ still_held w o b → (fs : Frames) → b.frames ≡ insert fs f place → IsSome (get c.frames f)
 place_stays w f o b c place e fs is =
-    let there : get c.frames f ≡ Some place = ap (λ (x : Books). get x.frames f) e ∙ ap (λ gs. get gs f) (still_frames w o b ∙ is) ∙ get_inserted fs f place in
+    let there : get c.frames f ≡ Some place = ap (λ (x : KernelState). get x.frames f) e ∙ ap (λ gs. get gs f) (still_frames w o b ∙ is) ∙ get_inserted fs f place in
     subst (λ (r : Option Held). IsSome r) (sym there) refl
 
-cleared_is : (w f : ℕ) (o : Option Held) (b : Books) (place : Held) → holding_none f (still_held w o (record b { frames = insert b.frames f place })) ≡ still_held w o (holding_none f b)
-cleared_is w f None b place = ap (λ fs. let x : Books = record b { frames = fs } in x) (remove_inserted b.frames f place)
-cleared_is w f (Some h) b place = ap (λ fs. still_held w (Some h) (let x : Books = record b { frames = fs } in x)) (remove_inserted b.frames f place)
+cleared_is : (w f : ℕ) (o : Option Held) (b : KernelState) (place : Held) → holding_none f (still_held w o (record b { frames = insert b.frames f place })) ≡ still_held w o (holding_none f b)
+cleared_is w f None b place = ap (λ fs. let x : KernelState = record b { frames = fs } in x) (remove_inserted b.frames f place)
+cleared_is w f (Some h) b place = ap (λ fs. still_held w (Some h) (let x : KernelState = record b { frames = fs } in x)) (remove_inserted b.frames f place)
 
 -- a block of an order and a type that our zones have was handed out
-pub handed : (s : Setting) (w : ℕ) (x : FrameBlock) (r : PageRequest) (t : MigrateType) (i : ℕ) (o : Option Held) (place : Held) (b c d : Books) → x.order ≤ s.largest →
+pub handed : (s : Setting) (w : ℕ) (x : FrameBlock) (r : PageRequest) (t : MigrateType) (i : ℕ) (o : Option Held) (place : Held) (b c d : KernelState) → x.order ≤ s.largest →
     Some t ≡ kind_of r.migrate_type → i ≡ top_of s.limits r.zone_limit → o ≡ get b.frames x.frame → c ≡ still_held w o (record b { frames = insert b.frames x.frame place })
     → d ≡ asked w x t i (holding_none x.frame c) → d ≡ handed_out s w x r b
 handed s w x r t i o place b c d within kind top before still after =

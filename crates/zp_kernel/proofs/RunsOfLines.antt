@@ -1,5 +1,5 @@
 -- A sink that carries out the events of lines makes the run of these events.
-use Rattle.std.proofs.Common.{ℕ, ◌≡◌, ◌++◌, inl, inr, List, [], ◌∷◌, Option, None, Some, Result, Ok, Err, IfErr, IfOk, refl, sym, ap, subst, ◌∙◌}
+use Rattle.std.proofs.Common.{ℕ, ◌≡◌, inl, inr, List, [], ◌∷◌, Option, None, Some, Result, Ok, Err, IfErr, IfOk, refl, sym, ap, subst, ◌∙◌}
 use Rattle.zp_events.specs.declared.event.PageEvent.{PageEvent}
 use Rattle.zp_events.specs.declared.text.AtBroken.{AtBroken}
 use Rattle.zp_events.specs.declared.text.TextFault.{TextFault}
@@ -8,13 +8,12 @@ use Rattle.zp_events.specs.declared.text.AtBroken.TheVariants as at_broken
 use Rattle.zp_events.specs.Lines.{BeginsAsEvent, IsBroken, IsEvent}
 use Rattle.zp_events.specs.Reading.{Spot}
 use Rattle.zp_events.specs.Texts.{AreAllTaken, AreTaken, AreTakenTo, IsStoppedBy}
-use Rattle.zp_kernel.specs.declared.line_counts.LineCounts.{LineCounts}
-use Rattle.zp_kernel.specs.Events.{KernelState}
+use Rattle.zp_kernel.specs.Events.{PlainKernel}
 use Rattle.zp_kernel.specs.Lines.{AreCounted}
-use Rattle.zp_kernel.specs.Runs.{AreEventsOf, AreHeard, IsCarriedOut, IsRun, IsRunFromFirst, IsRunOf, IsRunOver, IsRunTo, IsRunUntil, RunState, after_events}
+use Rattle.zp_kernel.specs.Runs.{AreEventsOf, AreHeard, IsCarriedOut, IsRun, IsRunOf, IsRunOver, IsRunTo, IsRunUntil, RunState, after_events}
 use Rattle.zp_kernel.specs.LineSteps.{AreOpen, Carries, Drops, Passes, after_one}
 
-module _ {S O : Type 0} (state : S → RunState O) (hears : O → List ℕ → O → Type 0) (opens : O → KernelState → Type 0) (mode : AtBroken) where
+module _ {S O : Type 0} (state : S → RunState O) (hears : O → List ℕ → O → Type 0) (opens : O → PlainKernel → Type 0) (mode : AtBroken) where
   abbrev pub Carried : S → PageEvent → S → Type 0
   Carried s e t = Carries hears opens (state s) e (state t)
 
@@ -28,8 +27,8 @@ module _ {S O : Type 0} (state : S → RunState O) (hears : O → List ℕ → O
   Taken s lines t = AreTaken Carried Passed Dropped mode s lines t
 
   -- these events more
-  abbrev ran : List PageEvent → KernelState → KernelState
-  ran events k = record k { books = after_events k.setting k.books events }
+  abbrev ran : List PageEvent → PlainKernel → PlainKernel
+  ran events k = record k { state = after_events k.setting k.state events }
 
   -- the lines are counted
   counted : (lines : List (List ℕ)) (s t : S) → Taken s lines t → AreCounted (state s).lines lines (state t).lines
@@ -40,16 +39,16 @@ module _ {S O : Type 0} (state : S → RunState O) (hears : O → List ℕ → O
   counted (line ∷ lines) s t (u, inr (inr (keep, broken, h)), rest) = ((state u).lines, inr (inr (broken, h.lines)), counted lines u t rest)
 
   -- zones that were open are those that the event finds
-  found : (o : O) (was : Option KernelState) (k l : KernelState) → was ≡ Some k → AreOpen opens o was l → l ≡ k
+  found : (o : O) (was : Option PlainKernel) (k l : PlainKernel) → was ≡ Some k → AreOpen opens o was l → l ≡ k
   found o was k l is h = subst (λ w. AreOpen opens o w l) is h
 
   -- zones that are open are after the events of the lines
-  pub record IsOpenRun (lines : List (List ℕ)) (k : KernelState) (o : Option KernelState) : Type 0 where
-    pub after : KernelState
+  pub record IsOpenRun (lines : List (List ℕ)) (k : PlainKernel) (o : Option PlainKernel) : Type 0 where
+    pub after : PlainKernel
     pub is : o ≡ Some after
     pub run : IsRunOf mode lines k after
 
-  event_more : (line : List ℕ) (lines : List (List ℕ)) (e : PageEvent) (k : KernelState) (o : Option KernelState) → IsEvent line e → IsOpenRun lines (after_one e k) o →
+  event_more : (line : List ℕ) (lines : List (List ℕ)) (e : PageEvent) (k : PlainKernel) (o : Option PlainKernel) → IsEvent line e → IsOpenRun lines (after_one e k) o →
       IsOpenRun (line ∷ lines) k o
   unfolding AreEventsOf after_events
   event_more line lines e k o is h =
@@ -59,7 +58,7 @@ module _ {S O : Type 0} (state : S → RunState O) (hears : O → List ℕ → O
         run = record { events = e ∷ h.run.events; are = inl (e, h.run.events, is, refl, h.run.are); run = h.run.run };
       }
 
-  open_run : (lines : List (List ℕ)) (s t : S) (k : KernelState) → (state s).kernel ≡ Some k → Taken s lines t → IsOpenRun lines k (state t).kernel
+  open_run : (lines : List (List ℕ)) (s t : S) (k : PlainKernel) → (state s).kernel ≡ Some k → Taken s lines t → IsOpenRun lines k (state t).kernel
   unfolding AreTaken AreEventsOf after_events
   open_run [] s t k is e = record { after = k; is = ap (λ x. (state x).kernel) (sym e) ∙ is; run = record { events = []; are = refl; run = refl } }
   open_run (line ∷ lines) s t k is (u, inl (event, is_event, h), rest) =
@@ -76,11 +75,11 @@ module _ {S O : Type 0} (state : S → RunState O) (hears : O → List ℕ → O
   abbrev CarriedOut : S → List (List ℕ) → S → Type 0
   CarriedOut s lines t = IsCarriedOut mode hears opens (state s).onlooker lines (state s).kernel (state t).kernel
 
-  over_open : (o : O) (lines : List (List ℕ)) (k : KernelState) (was left : Option KernelState) → was ≡ Some k → IsOpenRun lines k left → IsCarriedOut mode hears opens o lines was left
+  over_open : (o : O) (lines : List (List ℕ)) (k : PlainKernel) (was left : Option PlainKernel) → was ≡ Some k → IsOpenRun lines k left → IsCarriedOut mode hears opens o lines was left
   over_open o lines k was left is h = subst (λ w. IsCarriedOut mode hears opens o lines w left) (sym is) (subst (λ l. IsCarriedOut mode hears opens o lines (Some k) l) (sym h.is) h.run)
 
   -- a line more before the first event
-  heard_more : (o p : O) (line : List ℕ) (lines : List (List ℕ)) (left : Option KernelState) → (BeginsAsEvent line → ⊥) → hears o line p → IsCarriedOut mode hears opens p lines None left →
+  heard_more : (o p : O) (line : List ℕ) (lines : List (List ℕ)) (left : Option PlainKernel) → (BeginsAsEvent line → ⊥) → hears o line p → IsCarriedOut mode hears opens p lines None left →
       IsCarriedOut mode hears opens o (line ∷ lines) None left
   unfolding AreHeard
   heard_more o p line lines None none h (q, more) = (q, inl (p, none, h, more))
@@ -99,7 +98,7 @@ module _ {S O : Type 0} (state : S → RunState O) (hears : O → List ℕ → O
         run = r.run;
       }
 
-  dropped_more : (o : O) (line : List ℕ) (lines : List (List ℕ)) (left : Option KernelState) → mode ≡ at_broken.KeepGoing → IsBroken line → IsCarriedOut mode hears opens o lines None left →
+  dropped_more : (o : O) (line : List ℕ) (lines : List (List ℕ)) (left : Option PlainKernel) → mode ≡ at_broken.KeepGoing → IsBroken line → IsCarriedOut mode hears opens o lines None left →
       IsCarriedOut mode hears opens o (line ∷ lines) None left
   unfolding AreHeard
   dropped_more o line lines None keep broken (q, more) = (q, inr (keep, broken, more))
@@ -119,7 +118,7 @@ module _ {S O : Type 0} (state : S → RunState O) (hears : O → List ℕ → O
       }
 
   -- the first event opens the zones
-  first_event : (o : O) (line : List ℕ) (lines : List (List ℕ)) (e : PageEvent) (k : KernelState) (left : Option KernelState) → IsEvent line e → opens o k → IsOpenRun lines (after_one e k) left →
+  first_event : (o : O) (line : List ℕ) (lines : List (List ℕ)) (e : PageEvent) (k : PlainKernel) (left : Option PlainKernel) → IsEvent line e → opens o k → IsOpenRun lines (after_one e k) left →
       IsCarriedOut mode hears opens o (line ∷ lines) None left
   unfolding AreHeard
   first_event o line lines e k left is opened h =
@@ -143,7 +142,7 @@ module _ {S O : Type 0} (state : S → RunState O) (hears : O → List ℕ → O
       dropped_more (state s).onlooker line lines (state t).kernel keep broken
       (subst (λ o. IsCarriedOut mode hears opens o lines None (state t).kernel) h.onlooker (carried_closed lines u t (h.kernel ∙ is) rest))
 
-  carried : (lines : List (List ℕ)) (s t : S) (was : Option KernelState) → (state s).kernel ≡ was → Taken s lines t → CarriedOut s lines t
+  carried : (lines : List (List ℕ)) (s t : S) (was : Option PlainKernel) → (state s).kernel ≡ was → Taken s lines t → CarriedOut s lines t
   carried lines s t None is h = subst (λ w. IsCarriedOut mode hears opens (state s).onlooker lines w (state t).kernel) (sym is) (carried_closed lines s t is h)
   carried lines s t (Some k) is h = over_open (state s).onlooker lines k (state s).kernel (state t).kernel is (open_run lines s t k is h)
 

@@ -1,6 +1,5 @@
--- A row of zones with the shares of all its workers, and what the commands of one worker make of them (this profile).
-use Rattle.std.specs.Prelude.{ℕ, ◌≡◌, ◌≤◌, List, [], All, length, map, slice_index_or, slice_set, Result, Ok, Err}
-use Rattle.std.specs.List.{range_with_len}
+-- What the commands of one worker make of a row of zones and the shares of all its workers (this profile).
+use Rattle.std.specs.Prelude.{ℕ, ◌≡◌, [], length, slice_index_or, slice_set, Result, Ok, Err}
 use Rattle.zp_model.specs.declared.block.Block.{Block}
 use Rattle.zp_model.specs.declared.mark.Mark.TheVariants.{Min}
 use Rattle.zp_model.specs.declared.migrate_type.MigrateType.{MigrateType}
@@ -8,29 +7,10 @@ use Rattle.zp_model.specs.declared.refused.Refused.{Refused}
 use Rattle.zp_model.specs.declared.refused.Refused.TheVariants.{NoBlock}
 use Rattle.zp_model.specs.declared.request.Request.TheVariants as request
 use Rattle.zp_model.specs.declared.request.Reply.{Reply}
-use Rattle.zp_model.specs.Zone.{workers_of}
-use Rattle.zp_zone.specs.NamedZone.{NamedZone}
-use Rattle.zp_zone.specs.Seats.{ZoneState}
 use Rattle.zp_share.specs.declared.commands.Lent.{Lent}
 use Rattle.zp_share.specs.PlainShares.{PlainShare}
+use Rattle.zp_share.specs.Crews.{CrewState}
 use Rattle.zp_share.specs.Commands.{World, Done, told_as, section, done_answer, alloc_down, free_in}
-use Rattle.zp_share.specs.Shares.{ShareState, IsShareOf, key_of, named_zone, plain}
-
-pub record CrewState : Type 0 where
-  -- the zones, the lowest first, and the share of each worker in order
-  pub zones : List NamedZone
-  pub shares : List PlainShare
-
--- what contracts see of zones and shares
-abbrev pub crew_of : List ZoneState → List ShareState → CrewState
-crew_of zones shares = record { zones = map named_zone zones; shares = map plain shares }
-
--- these are the shares of the workers of the zones, in order
-pub record AreSharesOf (zones : List ZoneState) (shares : List ShareState) : Type 0 where
-  pub some : 1 ≤ length shares
-  pub fit : All (IsShareOf (map key_of zones)) shares
-  pub workers : map (λ (s : ShareState). s.worker) shares ≡ range_with_len 0 (length shares)
-  pub crew : All (λ (z : ZoneState). workers_of z.plain ≡ length shares) zones
 
 -- there are as many zones as before, and as many workers
 pub record IsSameCrew (c d : CrewState) : Type 0 where

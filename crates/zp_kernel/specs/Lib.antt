@@ -2,7 +2,7 @@ pub mod Crews
 pub mod Frames
 pub mod Counts
 pub mod Settings
-pub mod Books
+pub mod KernelStates
 pub mod Events
 pub mod Lines
 pub mod Runs

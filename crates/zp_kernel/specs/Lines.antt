@@ -1,5 +1,5 @@
 -- What the lines of a text of page events are, counted (this profile).
-use Rattle.std.specs.Prelude.{ℕ, zero, suc, ◌≡◌, ◌+◌, ◌-◌, ◌⊎◌, ◌↔◌, Bool, true, false, List, [], ◌∷◌, IsTrue}
+use Rattle.std.specs.Prelude.{ℕ, zero, suc, ◌≡◌, ◌-◌, ◌⊎◌, ◌↔◌, Bool, true, false, List, [], ◌∷◌, IsTrue}
 use Rattle.zp_events.specs.declared.event.Action.{Action}
 use Rattle.zp_events.specs.declared.event.Action.TheVariants as action
 use Rattle.zp_events.specs.declared.event.PageEvent.{PageEvent}

@@ -9,20 +9,20 @@ use Rattle.zp_events.specs.declared.text.TextFault.TheVariants as fault
 use Rattle.zp_events.specs.Lines.{BeginsAsEvent, IsBroken, IsEvent}
 use Rattle.zp_events.specs.Reading.{ArePassed, HasNoLineFeed, IsNextLine, IsTooLong, Spot}
 use Rattle.zp_events.specs.Texts.{lines_of}
-use Rattle.zp_kernel.specs.declared.books.Books.{Books}
+use Rattle.zp_kernel.specs.declared.kernel_state.KernelState.{KernelState}
 use Rattle.zp_kernel.specs.declared.line_counts.LineCounts.{LineCounts}
 use Rattle.zp_kernel.specs.declared.setting.Setting.{Setting}
-use Rattle.zp_kernel.specs.Events.{KernelState, after_event}
+use Rattle.zp_kernel.specs.Events.{PlainKernel, after_event}
 use Rattle.zp_kernel.specs.Lines.{AreCounted}
 
 -- who looks on, the zones with what events made of them, once they are opened, and what was counted of the lines
 pub record RunState (O : Type 0) : Type 0 where
   pub onlooker : O
-  pub kernel : Option KernelState
+  pub kernel : Option PlainKernel
   pub lines : LineCounts
 
 -- the events are carried out, one after another
-unfoldable pub after_events : Setting → Books → List PageEvent → Books
+unfoldable pub after_events : Setting → KernelState → List PageEvent → KernelState
 after_events s b [] = b
 after_events s b (event ∷ events) = after_events s (after_event s b event) events
 
@@ -35,13 +35,13 @@ module _ (mode : AtBroken) where
       ⊎ (((BeginsAsEvent line → ⊥) × AreEventsOf lines events) ⊎ ((mode ≡ at_broken.KeepGoing) × IsBroken line × AreEventsOf lines events))
 
   -- the events of these lines are carried out, and nothing else is done
-  pub record IsRunOf (lines : List (List ℕ)) (before after : KernelState) : Type 0 where
+  pub record IsRunOf (lines : List (List ℕ)) (before after : PlainKernel) : Type 0 where
     pub events : List PageEvent
     pub are : AreEventsOf lines events
-    pub run : after ≡ record before { books = after_events before.setting before.books events }
+    pub run : after ≡ record before { state = after_events before.setting before.state events }
 
   -- who looks on hears the lines that are none of an event, and opens zones by what it heard
-  module _ {O : Type 0} (hears : O → List ℕ → O → Type 0) (opens : O → KernelState → Type 0) where
+  module _ {O : Type 0} (hears : O → List ℕ → O → Type 0) (opens : O → PlainKernel → Type 0) where
     -- no line is an event: each is heard, but the broken ones
     unfoldable pub AreHeard : O → List (List ℕ) → O → Type 0
     AreHeard o [] p = o ≡ p
@@ -49,7 +49,7 @@ module _ (mode : AtBroken) where
         ((q : O) × (BeginsAsEvent line → ⊥) × hears o line q × AreHeard q lines p) ⊎ ((mode ≡ at_broken.KeepGoing) × IsBroken line × AreHeard o lines p)
 
     -- zones are opened at the first event, by what the lines before it told; its event and those behind it are carried out over them
-    pub record IsRunFromFirst (o : O) (lines : List (List ℕ)) (after : KernelState) : Type 0 where
+    pub record IsRunFromFirst (o : O) (lines : List (List ℕ)) (after : PlainKernel) : Type 0 where
       pub head : List (List ℕ)
       pub first : List ℕ
       pub rest : List (List ℕ)
@@ -58,12 +58,12 @@ module _ (mode : AtBroken) where
       pub is : IsEvent first event
       pub heard : O
       pub head_is : AreHeard o head heard
-      pub opened : KernelState
+      pub opened : PlainKernel
       pub opened_is : opens heard opened
       pub run : IsRunOf (first ∷ rest) opened after
 
     -- what the lines make of the zones, which are not opened, or are
-    abbrev pub IsCarriedOut : O → List (List ℕ) → Option KernelState → Option KernelState → Type 0
+    abbrev pub IsCarriedOut : O → List (List ℕ) → Option PlainKernel → Option PlainKernel → Type 0
     IsCarriedOut o lines None None = (heard : O) × AreHeard o lines heard
     IsCarriedOut o lines None (Some l) = IsRunFromFirst o lines l
     IsCarriedOut o lines (Some k) None = ⊥

@@ -5,11 +5,11 @@ ghost use Rattle.zp_kernel.specs.Crews.{IsSameCrew};
 ghost use Rattle.zp_kernel.specs.Events.{freed, freed_at, freed_held};
 ghost use Rattle.zp_kernel.specs.Frames.{holder_around, reaching};
 
-use crate::books::Books;
 use crate::event_counts::Happening;
 use crate::frame_table::FrameTable;
 use crate::giving_back::{free_part, give_up};
 use crate::held::{Held, Holder};
+use crate::kernel_state::KernelState;
 use zp_events::FrameBlock;
 use zp_model::{ORDERS, Worker};
 
@@ -48,15 +48,15 @@ fn holder_around(frames: &FrameTable, frame: u64) -> Option<Holder>
 }
 
 /// At a frame that holds a block.
-fn free_held(books: &mut Books, by: Worker, block: &FrameBlock, held: &Held)
-    requires worker { by < length books.old.crew.shares }
-    requires held { get books.old.frames block.now.frame ≡ Some held.now }
-    ensures after { books.new ≡ freed_held by block.now held.now books.old }
-    ensures same { IsSameCrew books.old.crew books.new.crew }
+fn free_held(state: &mut KernelState, by: Worker, block: &FrameBlock, held: &Held)
+    requires worker { by < length state.old.crew.shares }
+    requires held { get state.old.frames block.now.frame ≡ Some held.now }
+    ensures after { state.new ≡ freed_held by block.now held.now state.old }
+    ensures same { IsSameCrew state.old.crew state.new.crew }
 {
     let order = u32::from(held.lent.order.number());
     if block.order < order {
-        free_part(books, by, block.frame, held, block.order);
+        free_part(state, by, block.frame, held, block.order);
         return;
     }
     let happening = if block.order == order {
@@ -64,30 +64,30 @@ fn free_held(books: &mut Books, by: Worker, block: &FrameBlock, held: &Held)
     } else {
         Happening::Larger
     };
-    books.counts.note(happening);
-    give_up(books, by, block.frame, held);
+    state.counts.note(happening);
+    give_up(state, by, block.frame, held);
 }
 
 /// At a frame that holds none.
-fn free_inside(books: &mut Books, by: Worker, block: &FrameBlock)
-    requires worker { by < length books.old.crew.shares }
-    ensures after { books.new ≡ freed_at by block.now None books.old }
-    ensures same { IsSameCrew books.old.crew books.new.crew }
+fn free_inside(state: &mut KernelState, by: Worker, block: &FrameBlock)
+    requires worker { by < length state.old.crew.shares }
+    ensures after { state.new ≡ freed_at by block.now None state.old }
+    ensures same { IsSameCrew state.old.crew state.new.crew }
 {
-    match holder_around(&books.frames, block.frame) {
-        Some(holder) => free_part(books, by, holder.frame, &holder.held, block.order),
-        None => books.counts.note(Happening::Unknown),
+    match holder_around(&state.frames, block.frame) {
+        Some(holder) => free_part(state, by, holder.frame, &holder.held, block.order),
+        None => state.counts.note(Happening::Unknown),
     }
 }
 
 /// The kernel freed this block, and the worker gives back what stands for it.
-pub fn free_block(books: &mut Books, by: Worker, block: &FrameBlock)
-    requires worker { by < length books.old.crew.shares }
-    ensures after { books.new ≡ freed by block.now books.old }
-    ensures same { IsSameCrew books.old.crew books.new.crew }
+pub fn free_block(state: &mut KernelState, by: Worker, block: &FrameBlock)
+    requires worker { by < length state.old.crew.shares }
+    ensures after { state.new ≡ freed by block.now state.old }
+    ensures same { IsSameCrew state.old.crew state.new.crew }
 {
-    match books.frames.get(block.frame) {
-        Some(held) => free_held(books, by, block, &held),
-        None => free_inside(books, by, block),
+    match state.frames.get(block.frame) {
+        Some(held) => free_held(state, by, block, &held),
+        None => free_inside(state, by, block),
     }
 }

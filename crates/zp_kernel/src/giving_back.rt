@@ -1,13 +1,13 @@
 //! A block goes back.
 ghost use Rattle.std.specs.Prelude.{◌≡◌, ◌-◌, ◌^◌, ◌<◌, Some, length};
 ghost use Rattle.std.specs.FinMap.{get};
-ghost use Rattle.zp_kernel.specs.Books.{back_by, given_back, given_up, lent_of, part_freed, passed_back, passing_noted, refusal_noted};
+ghost use Rattle.zp_kernel.specs.KernelStates.{back_by, given_back, given_up, lent_of, part_freed, passed_back, passing_noted, refusal_noted};
 ghost use Rattle.zp_kernel.specs.Crews.{IsCrewDone, IsSameCrew};
 
-use crate::books::Books;
-use crate::crew::Crew;
 use crate::event_counts::{EventCounts, Happening};
 use crate::held::Held;
+use crate::kernel_state::KernelState;
+use crate::kernel_zones::KernelZones;
 use zp_model::{Block, Refused, Worker};
 use zp_share::Lent;
 
@@ -23,7 +23,7 @@ fn lent_of(zone: usize, block: &Block) -> Lent
 }
 
 /// Another worker's block comes to this one, which gives it back.
-fn pass_back(crew: &mut Crew, from: Worker, lent: &Lent, to: Worker) -> Result<(), Refused>
+fn pass_back(crew: &mut KernelZones, from: Worker, lent: &Lent, to: Worker) -> Result<(), Refused>
     requires { to < length crew.old.shares }
     ensures done { IsCrewDone (passed_back from lent.now to crew.old) result crew.new }
     ensures same { IsSameCrew crew.old crew.new }
@@ -34,7 +34,7 @@ fn pass_back(crew: &mut Crew, from: Worker, lent: &Lent, to: Worker) -> Result<(
 }
 
 /// The worker gives back a block, its own or another's.
-fn back_by(crew: &mut Crew, by: Worker, held: &Held) -> Result<(), Refused>
+fn back_by(crew: &mut KernelZones, by: Worker, held: &Held) -> Result<(), Refused>
     requires { by < length crew.old.shares }
     ensures done { IsCrewDone (back_by by held.now crew.old) result crew.new }
     ensures same { IsSameCrew crew.old crew.new }
@@ -63,25 +63,25 @@ fn note_refusal(counts: &mut EventCounts, outcome: Result<(), Refused>)
 }
 
 /// The worker gives back a block that no frame holds any more.
-pub fn give_back(books: &mut Books, by: Worker, held: &Held)
-    requires { by < length books.old.crew.shares }
-    ensures after { books.new ≡ given_back by held.now books.old }
-    ensures same { IsSameCrew books.old.crew books.new.crew }
+pub fn give_back(state: &mut KernelState, by: Worker, held: &Held)
+    requires { by < length state.old.crew.shares }
+    ensures after { state.new ≡ given_back by held.now state.old }
+    ensures same { IsSameCrew state.old.crew state.new.crew }
 {
-    books.counts.note_back(held.lent.order.pages());
-    note_passing(&mut books.counts, held.worker.number() == by.number());
-    let outcome = back_by(&mut books.crew, by, held);
-    note_refusal(&mut books.counts, outcome);
+    state.counts.note_back(held.lent.order.pages());
+    note_passing(&mut state.counts, held.worker.number() == by.number());
+    let outcome = back_by(&mut state.crew, by, held);
+    note_refusal(&mut state.counts, outcome);
 }
 
 /// The frame gives up its block.
-pub fn give_up(books: &mut Books, by: Worker, frame: u64, held: &Held)
-    requires { by < length books.old.crew.shares }
-    ensures after { books.new ≡ given_up by frame held.now books.old }
-    ensures same { IsSameCrew books.old.crew books.new.crew }
+pub fn give_up(state: &mut KernelState, by: Worker, frame: u64, held: &Held)
+    requires { by < length state.old.crew.shares }
+    ensures after { state.new ≡ given_up by frame held.now state.old }
+    ensures same { IsSameCrew state.old.crew state.new.crew }
 {
-    let _held = books.frames.remove(frame);
-    give_back(books, by, held);
+    let _held = state.frames.remove(frame);
+    give_back(state, by, held);
 }
 
 /// So many pages are in use when 2^order of them no longer are.
@@ -96,17 +96,17 @@ fn without(in_use: u32, order: u32) -> u32
 }
 
 /// 2^order of the pages of the block that the frame holds are freed.
-pub fn free_part(books: &mut Books, by: Worker, frame: u64, held: &Held, order: u32)
-    requires worker { by < length books.old.crew.shares }
-    requires held { get books.old.frames frame ≡ Some held.now }
-    ensures after { books.new ≡ part_freed by order frame held.now books.old }
-    ensures same { IsSameCrew books.old.crew books.new.crew }
+pub fn free_part(state: &mut KernelState, by: Worker, frame: u64, held: &Held, order: u32)
+    requires worker { by < length state.old.crew.shares }
+    requires held { get state.old.frames frame ≡ Some held.now }
+    ensures after { state.new ≡ part_freed by order frame held.now state.old }
+    ensures same { IsSameCrew state.old.crew state.new.crew }
 {
-    books.counts.note(Happening::Part);
+    state.counts.note(Happening::Part);
     let in_use = without(held.in_use, order);
     if in_use == 0 {
-        give_up(books, by, frame, held);
+        give_up(state, by, frame, held);
         return;
     }
-    books.frames.set(frame, Held { in_use, ..*held });
+    state.frames.set(frame, Held { in_use, ..*held });
 }

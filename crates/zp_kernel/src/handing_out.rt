@@ -1,15 +1,15 @@
 //! The kernel handed out a block.
 ghost use Rattle.std.specs.Prelude.{◌≡◌, ◌<◌, ◌≤◌, ◌↔◌, IfSome, IsSome, OnOk, OnErr, length};
 ghost use Rattle.std.specs.FinMap.{get};
-ghost use Rattle.zp_kernel.specs.Books.{holding_none};
+ghost use Rattle.zp_kernel.specs.KernelStates.{holding_none};
 ghost use Rattle.zp_kernel.specs.Crews.{IsSameCrew};
 ghost use Rattle.zp_kernel.specs.Events.{asked, handed_out, still_held};
 ghost use Rattle.zp_kernel.specs.Settings.{AreBelow};
 
-use crate::books::Books;
 use crate::event_counts::Happening;
 use crate::giving_back::give_back;
 use crate::held::Held;
+use crate::kernel_state::KernelState;
 use crate::setting::{Setting, kind_of};
 use std::alloc::AllocError;
 use zp_events::{FrameBlock, PageRequest};
@@ -29,15 +29,15 @@ fn order_within(number: u32, largest: Order) -> Option<Order>
 }
 
 /// What the frame held still goes back.
-fn clear(books: &mut Books, by: Worker, before: Option<Held>)
-    requires { by < length books.old.crew.shares }
-    ensures after { books.new ≡ still_held by before books.old }
-    ensures same { IsSameCrew books.old.crew books.new.crew }
+fn clear(state: &mut KernelState, by: Worker, before: Option<Held>)
+    requires { by < length state.old.crew.shares }
+    ensures after { state.new ≡ still_held by before state.old }
+    ensures same { IsSameCrew state.old.crew state.new.crew }
 {
     match before {
         Some(held) => {
-            books.counts.note(Happening::Again);
-            give_back(books, by, &held);
+            state.counts.note(Happening::Again);
+            give_back(state, by, &held);
         }
         None => (),
     }
@@ -45,24 +45,24 @@ fn clear(books: &mut Books, by: Worker, before: Option<Held>)
 
 /// The worker asks for the block, of this order, which is the block's. The frame has a place in the table already, whatever stands there.
 fn ask(
-    books: &mut Books,
+    state: &mut KernelState,
     by: Worker,
     block: &FrameBlock,
     order: Order,
     kind: MigrateType,
     top: usize,
 )
-    requires worker { by < length books.old.crew.shares }
-    requires zone { top < length books.old.crew.zones }
+    requires worker { by < length state.old.crew.shares }
+    requires zone { top < length state.old.crew.zones }
     requires order { order ≡ block.now.order }
-    requires place { IsSome (get books.old.frames block.now.frame) }
-    ensures after { books.new ≡ asked by block.now kind top (holding_none block.now.frame books.old) }
-    ensures same { IsSameCrew books.old.crew books.new.crew }
+    requires place { IsSome (get state.old.frames block.now.frame) }
+    ensures after { state.new ≡ asked by block.now kind top (holding_none block.now.frame state.old) }
+    ensures same { IsSameCrew state.old.crew state.new.crew }
 {
-    match books.crew.alloc(by, order, kind, top) {
+    match state.crew.alloc(by, order, kind, top) {
         Ok(lent) => {
             let in_use = order.pages();
-            books.frames.set(
+            state.frames.set(
                 block.frame,
                 Held {
                     lent,
@@ -70,12 +70,12 @@ fn ask(
                     worker: by,
                 },
             );
-            books.counts.note(Happening::Given);
-            books.counts.note_out(in_use);
+            state.counts.note(Happening::Given);
+            state.counts.note_out(in_use);
         }
         Err(refused) => {
-            let _place = books.frames.remove(block.frame);
-            books.counts.note(Happening::Refused(refused));
+            let _place = state.frames.remove(block.frame);
+            state.counts.note(Happening::Refused(refused));
         }
     }
 }
@@ -83,24 +83,24 @@ fn ask(
 /// The kernel handed out this block for this request, and the worker asks for one. Refused where there is no memory to note it;
 /// then nothing was asked, and nothing changed.
 pub fn hand_out(
-    books: &mut Books,
+    state: &mut KernelState,
     setting: &Setting,
     by: Worker,
     block: &FrameBlock,
     request: &PageRequest,
 ) -> Result<(), AllocError>
-    requires worker { by < length books.old.crew.shares }
-    requires limits { AreBelow (length books.old.crew.zones) setting.now.limits }
-    ensures after { OnOk result (books.new ≡ handed_out setting.now by block.now request.now books.old) }
-    ensures left { OnErr result (books.new ≡ books.old) }
-    ensures same { IsSameCrew books.old.crew books.new.crew }
+    requires worker { by < length state.old.crew.shares }
+    requires limits { AreBelow (length state.old.crew.zones) setting.now.limits }
+    ensures after { OnOk result (state.new ≡ handed_out setting.now by block.now request.now state.old) }
+    ensures left { OnErr result (state.new ≡ state.old) }
+    ensures same { IsSameCrew state.old.crew state.new.crew }
 {
     let Some(order) = order_within(block.order, setting.largest) else {
-        books.counts.note(Happening::TooLarge);
+        state.counts.note(Happening::TooLarge);
         return Ok(());
     };
     let Some(kind) = kind_of(request.migrate_type) else {
-        books.counts.note(Happening::OtherType);
+        state.counts.note(Happening::OtherType);
         return Ok(());
     };
     let top = setting.limits.top(request.zone_limit);
@@ -115,8 +115,8 @@ pub fn hand_out(
         in_use: 1,
         worker: by,
     };
-    let before = books.frames.insert(block.frame, place)?;
-    clear(books, by, before);
-    ask(books, by, block, order, kind, top);
+    let before = state.frames.insert(block.frame, place)?;
+    clear(state, by, before);
+    ask(state, by, block, order, kind, top);
     Ok(())
 }

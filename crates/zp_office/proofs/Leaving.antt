@@ -6,10 +6,10 @@ use Rattle.std.proofs.lemmas.List.{append-nil, length-map}
 use Rattle.std.proofs.lemmas.List.Elements.{All-map}
 use Rattle.zp_model.specs.Zone.{workers_of}
 use Rattle.zp_zone.specs.Seats.{ZoneState}
+use Rattle.zp_share.specs.Crews.{CrewState, AreSharesOf, crew_of}
 use Rattle.zp_share.specs.PlainShares.{PlainShare}
 use Rattle.zp_share.specs.Shares.{ShareState, IsShareOf, key_of, named_zone, plain}
 use Rattle.zp_office.specs.Desks.{DeskState, PlainDesk, plain_desk}
-use Rattle.zp_office.specs.Crews.{CrewState, AreSharesOf, crew_of}
 use Rattle.zp_office.specs.Offices.{AreDesksOf, crew_in, office_of}
 
 -- the shares of the desks
@@ -20,7 +20,6 @@ pub shares_are : (zones : List ZoneState) (ds : List DeskState) → AreDesksOf z
 shares_are zones ds are =
     let long : length (shares_in ds) ≡ length ds = length-map ds (λ (d : DeskState). d.share) in
     record {
-      few = are.few;
       fit = All-map (IsShareOf (map key_of zones)) (λ (d : DeskState). d.share) ds are.fit;
       workers = map-map (λ (s : ShareState). s.worker) (λ (d : DeskState). d.share) ds ∙ are.workers ∙ ap (range_with_len 0) (sym long);
       crew = subst (λ n. All (λ (z : ZoneState). workers_of z.plain ≡ n) zones) (sym long) are.crew;

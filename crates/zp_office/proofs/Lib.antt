@@ -5,8 +5,7 @@ pub mod FirstBinders
 pub mod Bound
 pub mod Declared
 pub mod Makings
-pub mod Seating
-pub mod DeskNumbers
+pub mod DeclaredZones
 pub mod Turns
 pub mod Bases
 pub mod Commands

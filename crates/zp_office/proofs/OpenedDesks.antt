@@ -13,6 +13,7 @@ use Rattle.zp_trace.specs.declared.trace.Trace.{Trace}
 use Rattle.zp_trace.specs.Grammar.{IsBeginning, lines_of}
 use Rattle.zp_trace.proofs.CommandLines.{each_command}
 use Rattle.zp_zone.specs.Seats.{ZoneState}
+use Rattle.zp_share.specs.Crews.{AreSharesOf}
 use Rattle.zp_share.specs.PlainShares.{PlainShare}
 use Rattle.zp_share.specs.Shares.{ShareState, ZoneKey, IsShareOf, key_of, named_zone, plain}
 use Rattle.zp_share.proofs.Owners.{sum-map}
@@ -21,10 +22,10 @@ use Rattle.zp_office.specs.Scripts.{calls_of, script_of}
 use Rattle.zp_office.proofs.Declared.{names_there}
 use Rattle.zp_office.proofs.Makings.{script_count}
 use Rattle.zp_office.proofs.Scripts.{script_for}
-use Rattle.zp_office.specs.Crews.{AreSharesOf}
 use Rattle.zp_office.specs.Opening.{declared_zone, opening_share}
 use Rattle.zp_office.specs.Offices.{AreDesksOf, HaveCommands, desk_for, desk_of, no_desk, office_of, opened_desk, opened_office, turns, workers_in}
-use Rattle.zp_office.proofs.Seating.{shares_count, zones_count}
+use Rattle.zp_crew.proofs.Seating.{shares_count}
+use Rattle.zp_office.proofs.DeclaredZones.{zones_count}
 
 -- one share goes over to those before it
 pub share_over : (before rest all after : List ShareState) (s : ShareState) → before ++ rest ≡ all → rest ≡ s ∷ after → (before ++ s ∷ []) ++ after ≡ all
@@ -55,7 +56,7 @@ desks_from t a (suc n) (s ∷ ss) e f =
 pub desks_opened : (t : Trace) (ss : List ShareState) → map plain ss ≡ map (opening_share t.header) (range_with_len 0 t.header.workers) →
     map (λ (s : ShareState). s.worker) ss ≡ range_with_len 0 (length ss) → map plain_desk (map (desk_for t) ss) ≡ map (opened_desk t) (range_with_len 0 t.header.workers)
 desks_opened t ss e f =
-    desks_from t 0 t.header.workers ss e (f ∙ ap (range_with_len 0) (shares_count t.header.workers ss t.header e))
+    desks_from t 0 t.header.workers ss e (f ∙ ap (range_with_len 0) (shares_count t.header.workers ss (opening_share t.header) e))
 
 -- a worker's script names what is in the row of zones that the header declares
 script_fits : (t : Trace) (keys : List ZoneKey) (w : ℕ) → IsBeginning (lines_of t) → length keys ≡ length t.header.zones → length keys ≤ TRACE_ZONES →
@@ -65,19 +66,19 @@ script_fits t keys w begins count few crew =
     (names_there t.header t.commands w (calls_of t.commands w) (each_command t.header t.commands begins))
 
 -- the desks are those of the zones' workers
-pub desks_fit : (t : Trace) (zs : List ZoneState) (ss : List ShareState) → IsBeginning (lines_of t) →
+pub desks_fit : (t : Trace) (zs : List ZoneState) (ss : List ShareState) → IsBeginning (lines_of t) → length zs ≤ TRACE_ZONES →
     map named_zone zs ≡ map (declared_zone t.header.workers) t.header.zones → map plain ss ≡ map (opening_share t.header) (range_with_len 0 t.header.workers) →
     AreSharesOf zs ss → AreDesksOf zs (map (desk_for t) ss)
-desks_fit t zs ss begins declared opened are =
+desks_fit t zs ss begins most declared opened are =
     let keys = map key_of zs in
     let long : length (map (desk_for t) ss) ≡ length ss = length-map ss (desk_for t) in
     let count : length keys ≡ length t.header.zones = length-map zs key_of ∙ zones_count t.header.workers t.header.zones zs declared in
-    let few : length keys ≤ TRACE_ZONES = omega (arith, length-map zs key_of, are.few) in
-    let many : length ss ≡ t.header.workers = shares_count t.header.workers ss t.header opened in
+    let few : length keys ≤ TRACE_ZONES = omega (arith, length-map zs key_of, most) in
+    let many : length ss ≡ t.header.workers = shares_count t.header.workers ss (opening_share t.header) opened in
     let crew : All (λ (k : ZoneKey). k.workers ≡ t.header.workers) keys =
     All-map (λ (k : ZoneKey). k.workers ≡ t.header.workers) key_of zs (λ k d lt. are.crew k d lt ∙ many) in
     record {
-      few = are.few;
+      few = most;
       fit = All-map (λ (d : DeskState). IsShareOf keys d.share) (desk_for t) ss are.fit;
       scripts =
           All-map (λ (d : DeskState). IsScriptFor keys d.script) (desk_for t) ss

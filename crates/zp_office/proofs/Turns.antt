@@ -2,13 +2,13 @@
 use Rattle.std.proofs.Common.{ℕ, ◌≡◌, ◌<◌, sym, ◌∙◌, ap, subst, arith, List, length, map, get_or, set, Some, All}
 use Rattle.std.specs.List.{range_with_len}
 use Rattle.std.proofs.Math.Seq.{map-set_same}
-use Rattle.std.proofs.Math.ListN.{get_or-map}
 use Rattle.std.proofs.lemmas.List.{length-map, length-set, map-set, get_or-map as get_or-there}
 use Rattle.std.proofs.lemmas.List.Elements.{All-set}
 use Rattle.zp_model.specs.Zone.{workers_of}
 use Rattle.zp_zone.specs.NamedZone.{NamedZone}
 use Rattle.zp_zone.specs.Seats.{ZoneState}
-use Rattle.zp_share.specs.Shares.{ZoneKey, IsShareOf, key_of, named_zone}
+use Rattle.zp_share.specs.Shares.{IsShareOf, key_of, named_zone}
+use Rattle.zp_share.proofs.Crews.{keys-length, keys-workers}
 use Rattle.zp_office.specs.Desks.{DeskState, DeskWorld, PlainDesk, IsDeskLeft, IsNextAnswered, IsScriptFor, after_command, desk_world, next_of, plain_desk}
 use Rattle.zp_office.specs.Offices.{OfficeState, AreDesksOf, desk_of, next_at, next_done, office_of}
 
@@ -22,19 +22,6 @@ pub record IsTurn (zones new : List ZoneState) (desks : List DeskState) (n w : �
   pub keys : map key_of new ≡ map key_of zones
   pub fits : IsShareOf (map key_of new) u.share
   pub answered : IsNextAnswered s u
-
--- zones with the same keys are as many
-pub keys-length : (zones new : List ZoneState) → map key_of new ≡ map key_of zones → length new ≡ length zones
-keys-length zones new e = sym (length-map new key_of) ∙ ap length e ∙ length-map zones key_of
-
--- and have the same numbers of workers
-pub keys-workers : (zones new : List ZoneState) (n : ℕ) → map key_of new ≡ map key_of zones → All (λ (z : ZoneState). workers_of z.plain ≡ n) zones →
-    All (λ (z : ZoneState). workers_of z.plain ≡ n) new
-keys-workers zones new n e are k d lt =
-    ap (λ (x : ZoneKey). x.workers) (sym (get_or-map key_of new k d))
-    ∙ ap (λ (xs : List ZoneKey). (get_or xs k (key_of d)).workers) e
-    ∙ ap (λ (x : ZoneKey). x.workers) (get_or-map key_of zones k d)
-    ∙ are k d (omega (arith, keys-length zones new e))
 
 -- a worker's place is one of the desks'
 pub there_in : (zones : List ZoneState) (desks : List DeskState) (n w : ℕ) (before : OfficeState) → office_of zones desks ≡ before → n ≡ w → w < length before.desks → n < length desks

@@ -1,7 +1,6 @@
 pub mod Desks
 pub mod Scripts
 pub mod Slots
-pub mod Crews
 pub mod Opening
 pub mod Offices
 pub mod Bases

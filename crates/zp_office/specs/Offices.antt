@@ -7,12 +7,12 @@ use Rattle.zp_trace.specs.declared.line.CommandLine.{CommandLine}
 use Rattle.zp_trace.specs.declared.trace.Trace.{Trace}
 use Rattle.zp_zone.specs.NamedZone.{NamedZone}
 use Rattle.zp_zone.specs.Seats.{ZoneState}
+use Rattle.zp_share.specs.Crews.{CrewState}
 use Rattle.zp_share.specs.Shares.{ShareState, IsShareOf, key_of, named_zone}
 use Rattle.zp_office.specs.declared.command.Command.{Command}
 use Rattle.zp_office.specs.declared.command.Command.TheVariants.{Info}
 use Rattle.zp_office.specs.Desks.{DeskState, DeskWorld, PlainDesk, IsScriptFor, after_command, opening_desk, plain_desk}
 use Rattle.zp_office.specs.Scripts.{script_of}
-use Rattle.zp_office.specs.Crews.{CrewState}
 use Rattle.zp_office.specs.Opening.{opened_crew, opening_share}
 
 pub record OfficeState : Type 0 where

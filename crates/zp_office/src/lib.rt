@@ -15,7 +15,6 @@ mod opening;
 mod places;
 mod reply;
 mod script;
-mod seat_row;
 mod sharing;
 mod workers;
 mod working;

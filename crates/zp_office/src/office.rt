@@ -2,10 +2,10 @@
 ghost use Rattle.std.specs.Prelude.{◌≡◌, ◌<◌, ◌≤◌, [], IfOk, IfErr, length, map, vec_capacity};
 ghost use Rattle.zp_model.specs.declared.constants.TheConstants.{TRACE_ZONES};
 ghost use Rattle.zp_trace.specs.Grammar.{IsBeginning, lines_of};
+ghost use Rattle.zp_share.specs.Crews.{AreSharesOf, crew_of};
 ghost use Rattle.zp_share.specs.Shares.{named_zone};
 ghost use Rattle.zp_share.specs.PlainShares.{lends, own_at};
 ghost use Rattle.zp_office.specs.Bases.{bases_of};
-ghost use Rattle.zp_office.specs.Crews.{AreSharesOf, crew_of};
 ghost use Rattle.zp_office.specs.Offices.{AreDesksOf, HaveCommands, crew_in, desk_of, in_order, next_done, office_of, opened_office, workers_in};
 
 use crate::desk::Desk;
@@ -118,6 +118,7 @@ impl Office {
     pub fn into_parts(self, room: Vec<Share>) -> (PlainZones, Vec<Share>)
         requires empty { room.items ≡ [] }
         requires room { length self.desks ≤ vec_capacity room }
+        ensures few { length result.0 ≤ TRACE_ZONES }
         ensures shares { AreSharesOf result.0 result.1.items }
         ensures crew { crew_of result.0 result.1.items ≡ crew_in self }
     {

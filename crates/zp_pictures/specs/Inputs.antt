@@ -3,12 +3,12 @@ use Rattle.std.specs.Prelude.{ℕ, ◌+◌, ◌-◌, List, length, Option, None,
 use Rattle.zp_trace.specs.declared.trace.Trace.{Trace}
 use Rattle.zp_trace.specs.Grammar.{IsBadLine, IsTraceText}
 use Rattle.zp_trace.specs.declared.trace.Header.{Header}
-use Rattle.zp_pictures.specs.declared.input.Reading.{Reading}
+use Rattle.zp_pictures.specs.declared.input.TraceReading.{TraceReading}
 
 -- the trace that the text writes, or its bad line
-abbrev pub IsReadingOf : List ℕ → Reading → Type 0
-IsReadingOf text (Reading.Trace t) = IsTraceText text t
-IsReadingOf text (Reading.BadLine n) = IsBadLine text n
+abbrev pub IsReadingOf : List ℕ → TraceReading → Type 0
+IsReadingOf text (TraceReading.Trace t) = IsTraceText text t
+IsReadingOf text (TraceReading.BadLine n) = IsBadLine text n
 
 -- how many lines stand before the requests: those of the zones, of the workers and of their lists
 abbrev pub header_lines : Header → ℕ

@@ -5,7 +5,7 @@ ghost use Rattle.zp_states.specs.Replays.{office_at};
 ghost use Rattle.zp_pictures.specs.Shown.{IsDrawn};
 
 use crate::fault::PictureFault;
-use crate::input::{Reading, Shown, read_trace, requests_to};
+use crate::input::{Shown, TraceReading, read_trace, requests_to};
 use std::alloc::{AllocError, Global};
 use std::io::Write;
 use zp_drawing::{ChartedZone, Span, write_chart_end, write_chart_head, write_zone_chart};
@@ -106,8 +106,8 @@ pub fn print_chart<W: Write, P: Progress>(
     ensures { IfOk result (IsDrawn text.now (W.contents writer.old) (W.contents writer.new)) }
 {
     let trace = match read_trace(alloc, text)? {
-        Reading::Trace(trace) => trace,
-        Reading::BadLine(number) => return Ok(Shown::BadLine(number)),
+        TraceReading::Trace(trace) => trace,
+        TraceReading::BadLine(number) => return Ok(Shown::BadLine(number)),
     };
     write_charts(alloc, &trace, requests_to(&trace, line), writer, progress)?;
     Ok(Shown::Picture)

@@ -5,7 +5,7 @@ ghost use Rattle.zp_pictures.specs.Shown.{IsDrawn};
 
 use crate::fault::PictureFault;
 use crate::film_states::draw_rows;
-use crate::input::{Reading, Shown, read_trace, requests_to};
+use crate::input::{Shown, TraceReading, read_trace, requests_to};
 use crate::labels::Label;
 use crate::layout::{Layout, lay_out, strips_of};
 use crate::legend::{legend_height, write_legend};
@@ -130,8 +130,8 @@ pub fn print_film<W: Write, P: Progress>(
     ensures { IfOk result (IsDrawn text.now (W.contents writer.old) (W.contents writer.new)) }
 {
     let trace = match read_trace(alloc, text)? {
-        Reading::Trace(trace) => trace,
-        Reading::BadLine(number) => return Ok(Shown::BadLine(number)),
+        TraceReading::Trace(trace) => trace,
+        TraceReading::BadLine(number) => return Ok(Shown::BadLine(number)),
     };
     write_film(alloc, &trace, requests_to(&trace, line), writer, progress)?;
     Ok(Shown::Picture)

@@ -25,19 +25,19 @@ pub enum Shown {
 
 /// What a text was read as.
 #[derive(Drop)]
-pub enum Reading {
+pub enum TraceReading {
     Trace(Trace),
     BadLine(u32),
 }
 
 /// The trace that a text writes, or the number of the text's bad line. Memory.
-pub fn read_trace(alloc: Global, text: &[u8]) -> Result<Reading, PictureFault>
+pub fn read_trace(alloc: Global, text: &[u8]) -> Result<TraceReading, PictureFault>
     ensures reading { IfOk result (IsReadingOf text.now) }
     ensures why { IfErr result (λ e. e ≡ PictureFault.Memory) }
 {
     match parse_trace(alloc, text) {
-        Ok(trace) => Ok(Reading::Trace(trace)),
-        Err(TraceFault::BadLine(number)) => Ok(Reading::BadLine(number)),
+        Ok(trace) => Ok(TraceReading::Trace(trace)),
+        Err(TraceFault::BadLine(number)) => Ok(TraceReading::BadLine(number)),
         Err(TraceFault::Memory) => Err(PictureFault::Memory),
     }
 }

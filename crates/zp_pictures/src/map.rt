@@ -5,7 +5,7 @@ ghost use Rattle.zp_states.specs.Replays.{office_at};
 ghost use Rattle.zp_pictures.specs.Shown.{IsShown};
 
 use crate::fault::PictureFault;
-use crate::input::{Reading, Shown, read_trace, requests_to, write_bad_line};
+use crate::input::{Shown, TraceReading, read_trace, requests_to, write_bad_line};
 use std::alloc::Global;
 use std::io::Write;
 use zp_drawing::{MapStyle, write_map};
@@ -66,8 +66,8 @@ pub fn print_map<W: Write>(
     ensures { IfOk result (IsShown text.now (W.contents writer.old) (W.contents writer.new)) }
 {
     let trace = match read_trace(alloc, text)? {
-        Reading::Trace(trace) => trace,
-        Reading::BadLine(number) => return write_bad_line(writer, number),
+        TraceReading::Trace(trace) => trace,
+        TraceReading::BadLine(number) => return write_bad_line(writer, number),
     };
     write_zones(alloc, &trace, options, writer)?;
     Ok(Shown::Picture)

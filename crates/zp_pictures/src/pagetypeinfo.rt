@@ -8,7 +8,7 @@ ghost use Rattle.zp_pictures.specs.Shown.{IsCutShort, IsShownAs};
 ghost use Rattle.zp_pictures.specs.Tables.{blocks_by_order, largest_of, tables_of, type_counts, zones_to};
 
 use crate::fault::PictureFault;
-use crate::input::{Reading, Shown, read_trace, requests_to, write_bad_line};
+use crate::input::{Shown, TraceReading, read_trace, requests_to, write_bad_line};
 use crate::output::write_text;
 use std::alloc::{AllocError, Global};
 use std::io::Write;
@@ -125,8 +125,8 @@ pub fn print_pagetypeinfo<W: Write>(
     ensures fault { IfErr result (IsCutShort (λ t. tables_of (zones_to t line)) text.now (W.contents writer.old) (W.contents writer.new)) }
 {
     let trace = match read_trace(alloc, text)? {
-        Reading::Trace(trace) => trace,
-        Reading::BadLine(number) => return write_bad_line(writer, number),
+        TraceReading::Trace(trace) => trace,
+        TraceReading::BadLine(number) => return write_bad_line(writer, number),
     };
     let tables = tables_to(alloc, &trace, line)?;
     write_text(writer, &tables)?;

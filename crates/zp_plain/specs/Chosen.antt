@@ -6,9 +6,9 @@ use Rattle.zp_model.specs.PageblockType.{pageblock_type}
 use Rattle.zp_model.specs.Rows.{front}
 use Rattle.zp_model.specs.Area.{Area, free_list}
 use Rattle.zp_model.specs.Choose.{Chosen, is_claimable}
-use Rattle.zp_plain.specs.declared.choose.Choice.{Choice}
+use Rattle.zp_plain.specs.declared.choose.PlainChoice.{PlainChoice}
 
-abbrev pub as_chosen : Choice → Chosen
+abbrev pub as_chosen : PlainChoice → Chosen
 as_chosen c = record { head = c.head; claims = c.claims }
 
 -- the front block of order o in the pageblocks of type f

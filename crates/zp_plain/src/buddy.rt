@@ -23,13 +23,13 @@ use zp_model::{Counts, Largest, MigrateType, Order, PageAt, PageblockType, State
 /// The free area of a zone, what is noted of its pages, and further lists of pages that are not free. Contracts see the
 /// plain free area with these.
 #[derive(Drop)]
-pub struct Buddy {
+pub struct PlainBuddy {
     area: PlainArea,
     notes: Vec<State>,
     sides: Vec<PageRow>,
 }
 
-impl Model for Buddy {
+impl Model for PlainBuddy {
     ghost use Rattle.zp_model.specs.Frames.{Frames, IsFramed};
 
     ghost Value = { Frames };
@@ -39,14 +39,14 @@ impl Model for Buddy {
     ghost invariant = { λ b. IsFramed (record { area = b.area; states = b.notes.items; sides = b.sides.items }) };
 }
 
-impl Buddy {
+impl PlainBuddy {
     /// A zone of so many pages, all free, whose largest block has this order, with so many empty further lists.
     pub fn new(
         alloc: Global,
         pages: u32,
         largest: Largest,
         side: usize,
-    ) -> Result<Buddy, AllocError>
+    ) -> Result<PlainBuddy, AllocError>
         requires pages { pages ≤ PLAIN_PAGES }
         requires side { side < 2 ^ 32 }
         ensures { IfOk result (λ b. b ≡ frames_opening largest pages side) }
@@ -55,7 +55,7 @@ impl Buddy {
         let sides = empty_rows(alloc, side)?;
         let mut notes = Vec::from_elem(alloc, State::Tail, pages as usize)?;
         restate_all(largest, area.marks(), &mut notes);
-        Ok(Buddy { area, notes, sides })
+        Ok(PlainBuddy { area, notes, sides })
     }
 
     /// Takes a block of this order for this type, as the lists offer it: of the type's own, or of a pageblock that is claimed,

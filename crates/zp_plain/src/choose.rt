@@ -13,7 +13,7 @@ use zp_model::{MigrateType, Order, PageAt};
 
 /// A chosen block's head, and whether its pageblock is claimed.
 #[derive(Clone, Copy, Drop)]
-pub struct Choice {
+pub struct PlainChoice {
     pub head: PageAt,
     pub claims: bool,
 }
@@ -120,20 +120,20 @@ fn claim(area: &PlainArea, order: Order, kind: MigrateType) -> Option<PageAt>
 }
 
 /// The block that a request for a block of this order and type takes.
-pub fn choose(area: &PlainArea, order: Order, kind: MigrateType) -> Option<Choice>
+pub fn choose(area: &PlainArea, order: Order, kind: MigrateType) -> Option<PlainChoice>
     ensures { option_map as_chosen result ≡ choose area.now order kind }
 {
     if let Some(head) = own(area, order, kind) {
-        return Some(Choice {
+        return Some(PlainChoice {
             head,
             claims: false,
         });
     }
     if let Some(head) = claim(area, order, kind) {
-        return Some(Choice { head, claims: true });
+        return Some(PlainChoice { head, claims: true });
     }
     let head = borrow(area, order, kind)?;
-    Some(Choice {
+    Some(PlainChoice {
         head,
         claims: false,
     })

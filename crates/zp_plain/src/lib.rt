@@ -18,5 +18,5 @@ mod page_row;
 mod room;
 mod take;
 
-pub use buddy::Buddy;
+pub use buddy::PlainBuddy;
 pub use room::PLAIN_PAGES;

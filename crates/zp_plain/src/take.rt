@@ -14,7 +14,7 @@ ghost use Rattle.zp_plain.specs.Sound.{IsSoundArea};
 use crate::area::{available_size, kind_at, list_of, settle, size_in};
 use crate::block::{add_run, remove_run};
 use crate::block_set::{largest_in, lowest};
-use crate::choose::Choice;
+use crate::choose::PlainChoice;
 use crate::page_row::{PageRow, empty_rows};
 use crate::room::PLAIN_PAGES;
 use std::alloc::{AllocError, Global};
@@ -210,13 +210,13 @@ impl PlainArea {
     }
 
     /// Takes the chosen block.
-    pub fn take_chosen(&mut self, chosen: Choice, order: Order, kind: MigrateType)
+    pub fn take_chosen(&mut self, chosen: PlainChoice, order: Order, kind: MigrateType)
         requires { chosen.head < length self.old.free }
         ensures { self.new ≡ taken self.old order kind (Some (as_chosen chosen)) }
     {
         // a clause of this call says that there is a type for each pageblock
         let _marks = self.marks();
-        let Choice { head, claims } = chosen;
+        let PlainChoice { head, claims } = chosen;
         if claims {
             let pageblock = self.largest().pageblock_of(head);
             self.retype(pageblock, kind.pageblock_type());

@@ -7,7 +7,7 @@ mod meter;
 mod pace;
 mod told;
 
-pub use line::{CLEARED, Line};
-pub use meter::{Meter, Task, is_watched};
+pub use line::{CLEARED, ProgressLine};
+pub use meter::{ProgressMeter, Task, is_watched};
 pub use pace::is_due;
 pub use told::{Progress, Unwatched};

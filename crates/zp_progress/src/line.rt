@@ -8,7 +8,7 @@ pub const CLEARED: &str = "\r\x1b[K";
 
 /// A line, as `zoneview film: 1200 of 4096 requests`, or `zoneview events: 1024 page events`.
 #[derive(Clone, Copy, PartialEq, Eq, Debug, Drop)]
-pub struct Line<'a> {
+pub struct ProgressLine<'a> {
     pub task: &'a str,
     pub done: u64,
     /// Of how much, where that is known.
@@ -17,14 +17,14 @@ pub struct Line<'a> {
     pub unit: &'a str,
 }
 
-impl Display for Line<'_> {
+impl Display for ProgressLine<'_> {
     ghost use Rattle.std.specs.Prelude.{Some};
     ghost use Rattle.zp_progress.specs.Lines.{line_text};
 
     ghost output = { λ line. Some (line_text line) };
 
     fn fmt<W: fmt::Write>(&self, f: &mut Formatter<W>) -> fmt::Result {
-        let Line {
+        let ProgressLine {
             task,
             done,
             of,

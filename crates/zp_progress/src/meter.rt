@@ -2,7 +2,7 @@
 
 ghost use Rattle.std.specs.Prelude.{◌≡◌, false, None};
 
-use crate::line::{CLEARED, Line};
+use crate::line::{CLEARED, ProgressLine};
 use crate::pace::is_due;
 use crate::told::Progress;
 use std::env;
@@ -17,7 +17,7 @@ pub struct Task<'a> {
 }
 
 /// Tells on standard error how far a task is.
-pub struct Meter<'a, R: Eprint + Clock> {
+pub struct ProgressMeter<'a, R: Eprint + Clock> {
     rt: &'a R,
     task: Task<'a>,
     /// When the task began, where somebody looks on.
@@ -41,13 +41,13 @@ pub fn is_watched(rt: &(impl Env + AllocGlobal), is_terminal: bool) -> bool
     }
 }
 
-impl<'a, R: Eprint + Clock> Meter<'a, R> {
+impl<'a, R: Eprint + Clock> ProgressMeter<'a, R> {
     /// For a task that begins now. Where nobody looks on, and where there is no clock, it tells nothing.
-    pub fn new(rt: &'a R, task: Task<'a>, is_watched: bool) -> Meter<'a, R>
+    pub fn new(rt: &'a R, task: Task<'a>, is_watched: bool) -> ProgressMeter<'a, R>
         ensures silent { is_watched ≡ false → result.began ≡ None }
         ensures fresh { result.stands ≡ false }
     {
-        Meter {
+        ProgressMeter {
             rt,
             task,
             began: if is_watched {
@@ -73,7 +73,7 @@ impl<'a, R: Eprint + Clock> Meter<'a, R> {
         if is_due(passed, self.shown) {
             self.shown = Some(passed);
             let Task { name, unit } = self.task;
-            self.show(Line {
+            self.show(ProgressLine {
                 task: name,
                 done,
                 of,
@@ -83,13 +83,13 @@ impl<'a, R: Eprint + Clock> Meter<'a, R> {
     }
 
     /// Writes over the line. Where standard error fails, the work goes on.
-    fn show(&mut self, line: Line<'_>) {
+    fn show(&mut self, line: ProgressLine<'_>) {
         let _ = eprint!(self.rt; "{CLEARED}{line}");
         self.stands = true;
     }
 }
 
-impl<R: Eprint + Clock> Progress for Meter<'_, R> {
+impl<R: Eprint + Clock> Progress for ProgressMeter<'_, R> {
     fn at(&mut self, done: usize, of: usize)
         ensures silent { self.old.began ≡ None → self.new ≡ self.old }
     {
@@ -113,9 +113,9 @@ impl<R: Eprint + Clock> Progress for Meter<'_, R> {
 }
 
 /// A line that stands there goes with it, whatever became of the task.
-impl<R: Eprint + Clock> Drop for Meter<'_, R> {
+impl<R: Eprint + Clock> Drop for ProgressMeter<'_, R> {
     fn drop(self) {
-        let Meter {
+        let ProgressMeter {
             rt,
             task: _task,
             began: _began,

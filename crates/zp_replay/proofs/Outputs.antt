@@ -5,7 +5,7 @@ use Rattle.std.proofs.lemmas.List.FromFn.{get_or-range_with_len, get_or-map-rang
 use Rattle.zp_share.specs.declared.gathering.Totals.{Totals}
 use Rattle.zp_share.specs.Commands.{zone_at}
 use Rattle.zp_share.specs.Gathering.{gathered, totals_of, owns_at}
-use Rattle.zp_office.specs.Crews.{CrewState}
+use Rattle.zp_share.specs.Crews.{CrewState}
 use Rattle.zp_trace.specs.declared.trace.Trace.{Trace}
 use Rattle.zp_trace.specs.declared.line.CommandLine.{CommandLine}
 use Rattle.zp_office.specs.Offices.{OfficeState, workers_in}

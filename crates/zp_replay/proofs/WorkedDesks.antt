@@ -16,7 +16,7 @@ use Rattle.zp_share.specs.Shares.{ZoneKey, IsShareOf, key_of, named_zone, openin
 use Rattle.zp_office.specs.Desks.{DeskState, IsScriptFor, IsWorked, PlainDesk, plain_desk}
 use Rattle.zp_office.specs.Runs.{HaveShare, HaveShares}
 use Rattle.zp_office.specs.Offices.{AreDesksOf, office_of}
-use Rattle.zp_office.proofs.Turns.{keys-length, keys-workers}
+use Rattle.zp_share.proofs.Crews.{keys-length, keys-workers}
 use Rattle.zp_replay.specs.Serving.{AreSections, AreSectionsOf, IsDeskServed, IsOfficeServed, as_made, entries_in}
 
 front : {X : Type 0} (P : X → Type 0) (x : X) (xs : List X) → All P (x ∷ xs) → P x

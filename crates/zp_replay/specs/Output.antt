@@ -12,7 +12,7 @@ use Rattle.zp_share.specs.declared.gathering.Totals.{Totals}
 use Rattle.zp_share.specs.Commands.{zone_at}
 use Rattle.zp_share.specs.Gathering.{totals_of, owns_at}
 use Rattle.zp_office.specs.declared.reply.CommandReply.{CommandReply}
-use Rattle.zp_office.specs.Crews.{CrewState}
+use Rattle.zp_share.specs.Crews.{CrewState}
 use Rattle.zp_office.specs.Offices.{OfficeState, crew_in, desk_of, in_order, opened_office, turns, workers_in}
 use Rattle.zp_replay.specs.Replies.{line_feed, info_of, reply_text}
 

@@ -7,7 +7,7 @@ ghost use Rattle.zp_streams.specs.Streams.{IsWritten, IsBegun};
 ghost use Rattle.zp_share.specs.Commands.{zone_at};
 ghost use Rattle.zp_share.specs.Gathering.{AddsUp, owns_at, totals_of};
 ghost use Rattle.zp_share.specs.Shares.{named_zone, plain};
-ghost use Rattle.zp_office.specs.Crews.{AreSharesOf, crew_of};
+ghost use Rattle.zp_share.specs.Crews.{AreSharesOf, crew_of};
 ghost use Rattle.zp_office.specs.Offices.{crew_in, workers_in};
 ghost use Rattle.zp_replay.specs.Output.{replies_text, reply_at, report, total_lines, total_of};
 ghost use Rattle.zp_replay.specs.Replies.{info_lines, info_of, reply_text};
@@ -156,7 +156,8 @@ fn write_total_lines<W: Writer>(
     zones: &mut PlainZones,
     shares: &mut [Share],
 ) -> Result<(), WriteFault>
-    requires { AreSharesOf zones.old shares.old }
+    requires few { length zones.old ≤ TRACE_ZONES }
+    requires shares { AreSharesOf zones.old shares.old }
     ensures ok { OnOk result (IsWritten (W.contents writer.old) (W.contents writer.new) (total_lines (crew_of zones.old shares.old))) }
     ensures calm { OnOk result (W.failures writer.new ≡ W.failures writer.old) }
     ensures err { OnErr result (IsBegun (W.contents writer.old) (W.contents writer.new) (total_lines (crew_of zones.old shares.old))) }

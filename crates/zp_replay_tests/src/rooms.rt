@@ -12,14 +12,14 @@ use zp_text::{WriteFault, Writer};
 
 /// What is taken of a piece.
 #[derive(Clone, Copy, Drop)]
-pub enum Taking {
+pub enum RoomTaking {
     /// All of it, or nothing.
     Whole,
     /// Half of it, or what there is room for.
     Half,
 }
 
-impl Taking {
+impl RoomTaking {
     /// How many bytes are taken of a piece of so many, where there is room for so many: none of a piece that is refused.
     fn taken(self, room: usize, piece: usize) -> usize
         ensures taken { result ≡ taken self room piece }
@@ -27,9 +27,9 @@ impl Taking {
         ensures piece { result ≤ piece }
     {
         match self {
-            Taking::Whole if piece <= room => piece,
-            Taking::Whole => 0,
-            Taking::Half => room.min(piece - piece / 2),
+            RoomTaking::Whole if piece <= room => piece,
+            RoomTaking::Whole => 0,
+            RoomTaking::Half => room.min(piece - piece / 2),
         }
     }
 }
@@ -40,7 +40,7 @@ pub struct RoomWriter<L: Ledger> {
     bytes: Vec<u8>,
     asked: Vec<usize>,
     room: usize,
-    taking: Taking,
+    taking: RoomTaking,
     failures: Failures<L>,
 }
 
@@ -54,7 +54,12 @@ impl<L: Ledger> Model for RoomWriter<L> {
 
 impl<L: Ledger> RoomWriter<L> {
     /// It has no bytes yet, and room for so many.
-    pub fn new(alloc: Global, room: usize, taking: Taking, failures: Failures<L>) -> RoomWriter<L>
+    pub fn new(
+        alloc: Global,
+        room: usize,
+        taking: RoomTaking,
+        failures: Failures<L>,
+    ) -> RoomWriter<L>
         ensures { result ≡ record { bytes = []; asked = []; room = room; taking = taking; failures = failures } }
     {
         RoomWriter {

@@ -13,3 +13,4 @@ pub mod DrainingAll
 pub mod Drained
 pub mod Owners
 pub mod Gathered
+pub mod Crews

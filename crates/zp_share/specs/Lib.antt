@@ -7,3 +7,4 @@ pub mod Commands
 pub mod Shares
 pub mod Readings
 pub mod Gathering
+pub mod Crews

@@ -1,17 +1,15 @@
 //! What a page is to a share, in one byte.
-ghost use Rattle.std.specs.Prelude.{◌≡◌, ◌≤◌, ◌<◌, ◌+◌, ◌*◌, ◌/◌, ◌%◌, ◌↔◌, IsSome, IsTrue};
+ghost use Rattle.std.specs.Prelude.{◌≡◌, ◌≤◌, ◌+◌, ◌*◌, ◌↔◌, IsSome, IsTrue};
 ghost use Rattle.zp_model.specs.MigrateType.{type_number};
 ghost use Rattle.zp_share.specs.PageUses.{is_lent_as};
 ghost use Rattle.zp_share.specs.PlainShares.{lent_kind};
-ghost use Rattle.zp_share.specs.PackedUse.{type_numbered};
 ghost use Rattle.zp_share.specs.declared.packed_use.TheConstants.{CACHED, TYPE_ROOM};
-ghost use Rattle.zp_model.specs.declared.constants.TheConstants.{TYPES};
 
 use crate::page_use::PageUse;
 use std::marker::Model;
 use zp_model::{LARGEST_ORDER, MigrateType, Order};
 
-/// How many types the low bits have room for. It is a power of two, so that they are told by a mask and a shift.
+/// How many types the low bits have room for. It is a power of two, so that what stands above them is told by a shift.
 pub const TYPE_ROOM: u8 = 4;
 
 /// What stands above the type of a cached page. Above that of a lent block stands one more than its order, and 0 is no
@@ -52,22 +50,6 @@ impl PackedUse {
         PackedUse { byte }
     }
 
-    /// The whole of it.
-    #[inline(always)]
-    pub fn used(self) -> PageUse
-        ensures { result ≡ self }
-    {
-        let what = self.byte / TYPE_ROOM;
-        let kind = kind_of(self.byte);
-        if what == 0 {
-            PageUse::Away
-        } else if what < CACHED {
-            PageUse::Lent(Order::at(what - 1), kind)
-        } else {
-            PageUse::Cached(kind)
-        }
-    }
-
     /// Whether a block of this order is lent. What stands above the type is compared, and nothing is unpacked.
     #[inline(always)]
     pub fn is_lent(self, order: Order) -> bool
@@ -82,10 +64,13 @@ impl PackedUse {
         ensures kind { result ≡ lent_kind self order }
         ensures lent { IsSome result ↔ IsTrue (is_lent_as order self) }
     {
-        if self.is_lent(order) {
-            Some(kind_of(self.byte))
-        } else {
-            None
+        // the bytes of blocks that are lent with one order stand in a row, by their types
+        let first = byte_of(order.number() + 1, MigrateType::Unmovable);
+        match self.byte.wrapping_sub(first) {
+            0 => Some(MigrateType::Unmovable),
+            1 => Some(MigrateType::Reclaimable),
+            2 => Some(MigrateType::Movable),
+            _ => None,
         }
     }
 }
@@ -97,18 +82,4 @@ fn byte_of(what: u8, kind: MigrateType) -> u8
     ensures { result ≡ what * TYPE_ROOM + type_number kind }
 {
     what * TYPE_ROOM + kind.number() as u8
-}
-
-/// The type in a byte. It has the number that the low bits make, so that no branch is taken for it.
-#[inline(always)]
-fn kind_of(byte: u8) -> MigrateType
-    requires { byte % TYPE_ROOM < TYPES }
-    ensures { result ≡ type_numbered (byte % TYPE_ROOM) }
-{
-    match byte % TYPE_ROOM {
-        0 => MigrateType::Unmovable,
-        1 => MigrateType::Reclaimable,
-        2 => MigrateType::Movable,
-        _ => unreachable!(),
-    }
 }

@@ -16,7 +16,7 @@ use zp_model::{Mark, MigrateType, Order, PageNo, Refused, Reply, Request};
 /// One byte for each page of a zone, made with the share.
 #[derive(Drop)]
 pub struct PageUses {
-    base: u32,
+    base: usize,
     uses: Vec<PackedUse>,
 }
 
@@ -35,17 +35,10 @@ impl PageUses {
     {
         let away = PackedUse::new(PageUse::Away);
         let uses = Vec::from_elem(alloc, away, pages as usize)?;
-        Ok(PageUses { base, uses })
-    }
-
-    /// What an absolute page is to the worker.
-    pub fn of(&self, page: PageNo) -> PageUse
-        ensures { result ≡ use_of self.now.base self.now.uses page }
-    {
-        match self.packed(page) {
-            Some(packed) => packed.used(),
-            None => PageUse::Away,
-        }
+        Ok(PageUses {
+            base: base as usize,
+            uses,
+        })
     }
 
     /// Whether a block of this order is lent at an absolute page. Nothing else of the page's use is unpacked.
@@ -75,11 +68,8 @@ impl PageUses {
         ensures some { IfSome result (λ packed. packed ≡ use_of self.now.base self.now.uses page) }
         ensures none { IfNone result (use_of self.now.base self.now.uses page ≡ Away) }
     {
-        let number = page.number();
-        if number < self.base {
-            return None;
-        }
-        self.uses.get((number - self.base) as usize).copied()
+        let place = (page.number() as usize).checked_sub(self.base)?;
+        self.uses.get(place).copied()
     }
 
     /// An absolute page of the zone gets another use.
@@ -108,7 +98,7 @@ impl PageUses {
         requires { IsPlace self.old page }
         ensures { self.new ≡ record self.old { uses = slice_set self.old.uses (page - self.old.base) packed } }
     {
-        self.uses[(page.number() - self.base) as usize] = packed;
+        self.uses[page.number() as usize - self.base] = packed;
     }
 
     /// What a request for a block of this order for this type, answered so, makes of the pages.

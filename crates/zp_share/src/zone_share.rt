@@ -161,12 +161,9 @@ impl ZoneShare {
         ensures seat { self.new.seat ≡ self.old.seat }
         ensures lists { HasAtMost high_len self.old → HasAtMost high_len self.new }
     {
-        let PageUse::Lent(order, kind) = self.uses.of(page) else {
+        let Some(kind) = self.uses.lent_kind(page, Order::zero()) else {
             return Err(Refused::NotLent);
         };
-        if order.number() != 0 {
-            return Err(Refused::NotLent);
-        }
         if self.cached_len(kind) >= high_len {
             return Err(Refused::ListFull);
         }

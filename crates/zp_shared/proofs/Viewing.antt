@@ -1,10 +1,9 @@
 -- What a worker's view has read when a request under the lock of a place was answered.
-use Rattle.std.proofs.Common.{ℕ, ◌≡◌, ◌≢◌, ◌<◌, ◌≤◌, ◌+◌, ◌⊎◌, inl, inr, Bool, true, false, List, length, map, refl, sym, ◌∙◌, ap, subst, arith, cond}
+use Rattle.std.proofs.Common.{ℕ, ◌≡◌, ◌<◌, ◌≤◌, ◌+◌, inl, inr, Bool, true, false, List, length, refl, sym, ◌∙◌, ap, subst, arith}
 use Rattle.std.specs.Prelude.{slice_index_or, slice_set}
 use Rattle.std.proofs.lemmas.Bool.{leb-true}
 use Rattle.std.proofs.lemmas.List.{get_or_default, set-get_or}
 use mathlib.Core.List.{IsPrefix}
-use Rattle.zp_model.specs.declared.counts.Counts.{Counts}
 use Rattle.zp_model.specs.Entries.{Entry}
 use Rattle.zp_model.specs.declared.refused.Refused.TheVariants.{NotLent, JournalFull}
 use Rattle.zp_model.specs.declared.request.Request.{Request}
@@ -14,10 +13,10 @@ use Rattle.zp_zone.specs.Seats.{ZoneState}
 use Rattle.zp_counts.specs.CountBoards.{CountsSeen}
 use Rattle.zp_share.specs.PlainShares.{lends_for, refusal}
 use Rattle.zp_share.specs.Sections.{ComesOf}
-use Rattle.zp_share.specs.ZoneShares.{ZoneShareState, IsLeft, IsSection, plain_share}
+use Rattle.zp_share.specs.ZoneShares.{ZoneShareState, IsSection, plain_share}
 use Rattle.zp_share.specs.Shares.{ShareState, ZoneKey, is_section, share_at}
 use Rattle.zp_share.proofs.Tried.{full_of}
-use Rattle.zp_shared.specs.Rows.{GuardedZone, HasReadAfter, HaveSeen, IsAskedUnderLock, IsPublished, IsReadAfter, IsReadWhole, ViewState, is_journal_full, is_not_lent, seen_at, seen_by}
+use Rattle.zp_shared.specs.Rows.{GuardedZone, HasReadAfter, IsAskedUnderLock, IsPublished, IsReadAfter, IsReadWhole, ViewState, is_journal_full, is_not_lent, seen_at, seen_by}
 use Rattle.zp_shared.proofs.Guarding.{filter_few}
 use Rattle.zp_shared.proofs.Readers.{known_put, seen_beside, seen_here, seen_put, seen_same}
 

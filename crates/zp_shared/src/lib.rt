@@ -16,9 +16,11 @@ mod zone_worker;
 pub use guarded::Guarded;
 pub use locked_zones::LockedZones;
 pub use naming::{Earlier, Naming};
-pub use one_zone::{Crew, OneZone};
+pub use one_zone::{OneZone, ZoneCrew};
 pub use opened::OpenedZone;
-pub use row::{close_zones, open_zones, reader_rows, readers_of, share_zones};
+pub use row::{
+    close_zones, open_zones, open_zones_without_journals, reader_rows, readers_of, share_zones,
+};
 pub use shared_zone::{Closed, SharedZone};
 pub use zone_reader::{ReaderAt, ZoneReader};
 pub use zone_worker::{WorkerAt, ZoneWorker};

@@ -75,13 +75,13 @@ impl<J: Naming, K: Keeps> OneZone<J, K> {
 
 /// One zone, a worker for each of its seats, and a reader that has none: for a thread each.
 #[derive(Drop)]
-pub struct Crew<J: Naming, K: Keeps = WholeJournal> {
+pub struct ZoneCrew<J: Naming, K: Keeps = WholeJournal> {
     pub zone: OneZone<J, K>,
     pub workers: Vec<ZoneWorker<J>>,
     pub reader: ZoneReader<J>,
 }
 
-impl<J: Naming, K: Keeps> Crew<J, K> {
+impl<J: Naming, K: Keeps> ZoneCrew<J, K> {
     /// The opened zone behind its lock, with a worker for each of these seats, whose lists have these settings. Refused 6, and then the zone
     /// is lost.
     pub fn new(
@@ -89,7 +89,7 @@ impl<J: Naming, K: Keeps> Crew<J, K> {
         mut opened: OpenedZone<K>,
         seats: Vec<Seat>,
         lists: ListConfig,
-    ) -> Result<Crew<J, K>, Refused>
+    ) -> Result<ZoneCrew<J, K>, Refused>
         requires named { J.zones ≡ opened_key opened ∷ [] }
         requires boards { J.boards ≡ opened_board opened ∷ [] }
         requires fits { All (IsSeatOf opened.zone) seats.items }
@@ -100,7 +100,7 @@ impl<J: Naming, K: Keeps> Crew<J, K> {
         let workers = workers_of(alloc, &mut opened, seats, lists)?;
         let reader = reader_of(alloc, &mut opened)?;
         let zone = OneZone::of(alloc, opened)?;
-        Ok(Crew {
+        Ok(ZoneCrew {
             zone,
             workers,
             reader,

@@ -16,7 +16,7 @@ use crate::opened::OpenedZone;
 use crate::shared_zone::SharedZone;
 use std::alloc::Global;
 use zp_counts::{Board, BoardReader};
-use zp_journal::{Journal, Keeps};
+use zp_journal::{Journal, Keeps, NoJournal};
 use zp_model::Refused;
 use zp_zone::Zone;
 
@@ -38,6 +38,28 @@ pub fn open_zones(
     };
     for zone in zones {
         row.push_reserved(OpenedZone::new(alloc, zone, capacity)?);
+    }
+    Ok(row)
+}
+
+/// The same for zones that keep nothing of what is asked of them, and make so many sections at most. Refused 6.
+pub fn open_zones_without_journals(
+    alloc: Global,
+    zones: Vec<Zone>,
+    sections: u64,
+) -> Result<Vec<OpenedZone<NoJournal>>, Refused>
+    requires { All (λ (z : ZoneState). z.entries ≡ []) zones.items }
+    ensures zones { IfOk result (λ row. map (λ (o : OpenedState). o.zone) row.items ≡ zones.items) }
+    ensures keys { IfOk result (λ row. map opened_key row.items ≡ map key_of zones.items) }
+    ensures sections { IfOk result (λ row. All (λ (o : OpenedState). (o.board.capacity ≡ sections) × (o.capacity ≡ sections)) row.items) }
+    ensures published { IfOk result (λ row. All (λ (o : OpenedState). o.published ≡ zone_counts o.zone ∷ []) row.items) }
+    ensures why { IfErr result (λ e. e ≡ Memory) }
+{
+    let Ok(mut row) = Vec::with_capacity(alloc, zones.len()) else {
+        return Err(Refused::Memory);
+    };
+    for zone in zones {
+        row.push_reserved(OpenedZone::without_journal(alloc, zone, sections)?);
     }
     Ok(row)
 }

@@ -2,7 +2,5 @@
 #![tactic(auto)]
 
 mod replaying;
-mod states;
 
 pub use replaying::Replay;
-pub use states::{PageBlock, block_at, page_row};

@@ -6,16 +6,16 @@ ghost use Rattle.zp_share.specs.Commands.{zone_at};
 ghost use Rattle.zp_share.specs.Shares.{named_zone};
 ghost use Rattle.zp_zone.specs.NamedZone.{IsPageOf};
 ghost use Rattle.zp_view.specs.Tables.{typed_blocks, typed_pageblocks};
+ghost use Rattle.zp_view.specs.States.{IsPageBlock, IsRowOf};
+ghost use Rattle.zp_states.specs.Lent.{is_lent_to};
 ghost use Rattle.zp_states.specs.Replays.{office_at};
-ghost use Rattle.zp_states.specs.States.{IsPageBlock, IsRowOf};
 
-use crate::states::{PageBlock, block_at, page_row};
 use std::alloc::{AllocError, Global};
 use std::marker::Model;
-use zp_model::{Order, PageNo, PageblockType, Refused};
+use zp_model::{Order, PageNo, PageblockType, Refused, Worker};
 use zp_office::Office;
 use zp_trace::Trace;
-use zp_view::{PageState, free_blocks, pageblocks};
+use zp_view::{Lenders, PageBlock, PageState, block_at, free_blocks, page_row, pageblocks};
 use zp_zone::Zone;
 
 /// The zones of a trace and its workers' desks, after its first requests, which were carried out one after another.
@@ -114,17 +114,18 @@ impl<'a> Replay<'a> {
     pub fn block_at(&self, zone: usize, page: PageNo) -> Option<PageBlock>
         requires { zone < length (office_at self.now).zones }
         ensures when { IsSome result ↔ IsPageOf (zone_at (office_at self.now).zones zone).plain page }
-        ensures block { IfSome result (IsPageBlock (office_at self.now) zone page) }
+        ensures block { IfSome result (IsPageBlock (is_lent_to (office_at self.now) zone) (zone_at (office_at self.now).zones zone).plain page) }
     {
-        block_at(&self.office, zone, page)
+        block_at(&self.office.zones()[zone], self, zone, page)
     }
 
     /// The state of each page of a zone, in order.
     pub fn page_row(&self, alloc: Global, zone: usize) -> Result<Vec<PageState>, AllocError>
         requires { zone < length (office_at self.now).zones }
-        ensures { IfOk result (λ row. IsRowOf (office_at self.now) zone row.items) }
+        ensures { IfOk result (λ row. IsRowOf (is_lent_to (office_at self.now) zone) (zone_at (office_at self.now).zones zone).plain row.items) }
     {
-        page_row(alloc, &self.office, zone, self.first_page(zone))
+        let first = self.first_page(zone);
+        page_row(alloc, &self.office.zones()[zone], self, zone, first)
     }
 
     /// How many free blocks of this order a zone has in pageblocks of this type.
@@ -142,5 +143,16 @@ impl<'a> Replay<'a> {
         ensures { result ≡ typed_pageblocks (zone_at (office_at self.now).zones zone).plain.area kind }
     {
         pageblocks(&self.office.zones()[zone], kind)
+    }
+}
+
+impl Lenders for Replay<'_> {
+    ghost use Rattle.zp_states.specs.Lent.{is_lent_to};
+    ghost use Rattle.zp_states.specs.Replays.{office_at};
+
+    ghost lent = { λ r. is_lent_to (office_at r) };
+
+    fn is_lent(&self, worker: Worker, zone: usize, page: PageNo, order: Order) -> bool {
+        self.office.is_lent(worker, zone, page, order)
     }
 }

@@ -1,4 +1,3 @@
-pub mod Numbers
 pub mod WordLists
 pub mod HeaderLines
 pub mod CommandLines

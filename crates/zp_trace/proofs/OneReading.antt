@@ -17,7 +17,7 @@ use Rattle.zp_trace.specs.Lines as line
 use Rattle.zp_trace.specs.Spelling.{line_feed, joined, AreWords, line_words, line_text, largest_words, zone_words, kind_word, mark_word, call_words, command_words, text_of}
 use Rattle.zp_trace.specs.Grammar.{IsZoneLine, IsHeader, IsCallOf, IsCommandOf, IsAllowedAfter, IsBeginning, lines_of, IsTraceText, IsBadLine}
 use Rattle.zp_trace.proofs.WordLists.{zone_are_words, workers_are_words, lists_are_words, command_are_words, words_are_line}
-use Rattle.zp_trace.proofs.Numbers.{same_number}
+use Rattle.zp_numbers.proofs.Numbers.{same_number}
 use Rattle.zp_trace.proofs.HeaderLines.{header_is}
 use Rattle.zp_trace.proofs.CommandLines.{same_trace}
 use Rattle.zp_trace.proofs.BadLines.{zones_are_no_trace, workers_are_no_trace}

@@ -12,7 +12,7 @@ use Rattle.std.specs.Fmt.{decimal}
 use Rattle.std.specs.Str.Parse.{AllDigits}
 use Rattle.std.proofs.lemmas.Str.Parse.{digit_from_value}
 use Rattle.zp_model.specs.Naming.{IsName}
-use Rattle.zp_trace.proofs.Numbers.{digits}
+use Rattle.zp_numbers.proofs.Numbers.{digits}
 use Rattle.zp_model.specs.declared.migrate_type.MigrateType.{MigrateType}
 use Rattle.zp_model.specs.declared.migrate_type.MigrateType.TheVariants.{Unmovable, Reclaimable, Movable}
 use Rattle.zp_model.specs.declared.mark.Mark.{Mark}
@@ -128,7 +128,7 @@ digits_are_word [] h = tt
 digits_are_word (d ∷ word) h = (omega (arith, (digit_from_value d h.0).0), digits_are_word word h.1)
 
 pub number_is_word : (n : ℕ) → n < 4294967296 → IsWord (decimal n)
-number_is_word n small = digits_are_word (decimal n) (digits (decimal n) n small refl)
+number_is_word n small = digits_are_word (decimal n) (digits (decimal n) n (omega (arith, small)) refl)
 
 above_space : (b : ℕ) → IsTrue (is_ascii_alphanumeric b) → space < b
 above_space b h = grind (arith, nat_tests)

@@ -7,9 +7,9 @@ ghost use Rattle.zp_trace.specs.Spelling.{spelled, largest_words, zone_words, wo
 ghost use Rattle.zp_trace.specs.Grammar.{IsZoneLine, IsAbove};
 
 use crate::line::ZoneLine;
-use crate::number::parse_number;
 use crate::values::{base_of, crew_of, is_text, largest_of, min_of, pages_of};
 use zp_model::{LONGEST_LIST, Largest, MAX_BATCH, Name, TRACE_ZONES};
+use zp_numbers::parse_u32;
 
 /// The largest order that such words name, which are no words where a line names none.
 fn named_largest(words: &[&[u8]]) -> Option<Option<Largest>>
@@ -106,8 +106,8 @@ pub fn lists_of(words: &[&[u8]]) -> Option<(u32, u32)>
     if !is_text(keyword, "lists") {
         return None;
     }
-    let batch = parse_number(batch)?;
-    let high = parse_number(high)?;
+    let batch = parse_u32(batch)?;
+    let high = parse_u32(high)?;
     if may_be_lists(batch, high) {
         Some((batch, high))
     } else {

@@ -11,7 +11,6 @@ mod grammar_law;
 mod keys;
 mod labels;
 mod line;
-mod number;
 mod parser;
 mod trace;
 mod values;

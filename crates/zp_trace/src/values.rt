@@ -7,11 +7,11 @@ ghost use Rattle.zp_model.specs.Bounds.{IsBase, IsPages, IsLargest, IsCrew};
 ghost use Rattle.zp_trace.specs.Spelling.{kind_word, mark_word};
 
 use crate::bounds::LARGEST_PAGEBLOCK;
-use crate::number::parse_number;
 use zp_model::{
     BASE_STEP, LARGEST_ORDER, Largest, MAX_WORKERS, Mark, MigrateType, NARROW_BASE_LIMIT,
     NARROW_PAGES, Order, Worker,
 };
+use zp_numbers::parse_u32;
 
 pub fn is_word(word: &[u8], other: &[u8]) -> bool
     ensures { IsTrue result ↔ (word.now ≡ other.now) }
@@ -31,7 +31,7 @@ pub fn base_of(word: &[u8]) -> Option<u32>
     ensures some { IfSome result (λ n. IsBase n × (word.now ≡ decimal n)) }
     ensures none { IfNone result ((n : ℕ) → IsBase n → word.now ≡ decimal n → ⊥) }
 {
-    let base = parse_number(word)?;
+    let base = parse_u32(word)?;
     if base % BASE_STEP == 0 && base <= NARROW_BASE_LIMIT {
         Some(base)
     } else {
@@ -44,7 +44,7 @@ pub fn pages_of(word: &[u8]) -> Option<u32>
     ensures some { IfSome result (λ n. IsPages n × (word.now ≡ decimal n)) }
     ensures none { IfNone result ((n : ℕ) → IsPages n → word.now ≡ decimal n → ⊥) }
 {
-    let pages = parse_number(word)?;
+    let pages = parse_u32(word)?;
     if 0 < pages && pages <= NARROW_PAGES {
         Some(pages)
     } else {
@@ -57,7 +57,7 @@ pub fn min_of(word: &[u8], pages: u32) -> Option<u32>
     ensures some { IfSome result (λ n. (n ≤ pages) × (word.now ≡ decimal n)) }
     ensures none { IfNone result ((n : ℕ) → n ≤ pages → word.now ≡ decimal n → ⊥) }
 {
-    let min = parse_number(word)?;
+    let min = parse_u32(word)?;
     if min <= pages { Some(min) } else { None }
 }
 
@@ -66,7 +66,7 @@ pub fn largest_of(word: &[u8]) -> Option<Largest>
     ensures some { IfSome result (λ m. IsLargest m × (word.now ≡ decimal m)) }
     ensures none { IfNone result ((m : ℕ) → IsLargest m → word.now ≡ decimal m → ⊥) }
 {
-    let largest = parse_number(word)?;
+    let largest = parse_u32(word)?;
     if largest <= LARGEST_ORDER as u32 {
         Largest::new(largest as u8)
     } else {
@@ -79,7 +79,7 @@ pub fn crew_of(word: &[u8]) -> Option<u32>
     ensures some { IfSome result (λ n. IsCrew n × (word.now ≡ decimal n)) }
     ensures none { IfNone result ((n : ℕ) → IsCrew n → word.now ≡ decimal n → ⊥) }
 {
-    let workers = parse_number(word)?;
+    let workers = parse_u32(word)?;
     if 0 < workers && workers <= MAX_WORKERS {
         Some(workers)
     } else {
@@ -93,7 +93,7 @@ pub fn worker_of(word: &[u8], workers: u32) -> Option<Worker>
     ensures some { IfSome result (λ w. (w < workers) × (word.now ≡ decimal w)) }
     ensures none { IfNone result ((w : ℕ) → w < workers → word.now ≡ decimal w → ⊥) }
 {
-    let number = parse_number(word)?;
+    let number = parse_u32(word)?;
     if number < workers {
         Worker::new(number as u8)
     } else {
@@ -112,7 +112,7 @@ pub fn pageblock_of(word: &[u8]) -> Option<u32>
     ensures some { IfSome result (λ n. (n ≤ LARGEST_PAGEBLOCK) × (word.now ≡ decimal n)) }
     ensures none { IfNone result ((n : ℕ) → n ≤ LARGEST_PAGEBLOCK → word.now ≡ decimal n → ⊥) }
 {
-    let pageblock = parse_number(word)?;
+    let pageblock = parse_u32(word)?;
     if may_be_pageblock(pageblock) {
         Some(pageblock)
     } else {
@@ -124,7 +124,7 @@ pub fn order_of(word: &[u8]) -> Option<Order>
     ensures some { IfSome result (λ k. (k ≤ LARGEST_ORDER) × (word.now ≡ decimal k)) }
     ensures none { IfNone result ((k : ℕ) → k ≤ LARGEST_ORDER → word.now ≡ decimal k → ⊥) }
 {
-    let number = parse_number(word)?;
+    let number = parse_u32(word)?;
     if number <= LARGEST_ORDER as u32 {
         Order::new(number as u8)
     } else {

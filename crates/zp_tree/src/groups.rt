@@ -6,10 +6,10 @@ ghost use Rattle.zp_tree.specs.Marks.{IsLowAlone, IsWords, IsInGroups, HasHigh, 
 
 use crate::constants::{GROUP_PAGES, PLACES, WORD_LEVELS};
 use crate::meter::Meter;
-use crate::metered::MeteredWords;
+use crate::metered::Metered;
 use crate::place::{group_of, high_place, low_place, low_word};
 use crate::rank::Rank;
-use crate::word::union;
+use crate::word::{Word, union};
 use zp_model::{Order, PageAt};
 
 /// The number of the first low word of a group.
@@ -21,7 +21,7 @@ pub fn first_word(group: usize) -> usize
 }
 
 /// The rank of the blocks of a group.
-pub fn rank_of(low: &MeteredWords, high: &MeteredWords, group: usize) -> Rank
+pub fn rank_of(low: &Metered<Word>, high: &Metered<Word>, group: usize) -> Rank
     requires words { IsWords low.now high.now }
     requires group { group < length high.now }
     requires few { length high.now ≤ MOST_GROUPS }
@@ -38,7 +38,7 @@ pub fn rank_of(low: &MeteredWords, high: &MeteredWords, group: usize) -> Rank
 }
 
 /// Whether the low word around a page has a block of this order and none above. Where it does, the page's group has a block of the order.
-pub fn has_in_word(low: &MeteredWords, at: PageAt, order: Order) -> bool
+pub fn has_in_word(low: &Metered<Word>, at: PageAt, order: Order) -> bool
     requires { at / PLACES < length low.now }
     ensures { IsTrue result → (i : ℕ) × HasLow low.now i order × (i / PLACES ≡ at / PLACES) }
 {
@@ -49,7 +49,7 @@ pub fn has_in_word(low: &MeteredWords, at: PageAt, order: Order) -> bool
 
 /// The first block of this order or more of those below order 5 that start in some first low words of a group.
 fn first_low(
-    low: &MeteredWords,
+    low: &Metered<Word>,
     group: usize,
     words: u32,
     order: Order,
@@ -78,7 +78,7 @@ fn first_low(
 
 /// The first block of this order or more of those from order 5 on of a group. Where its rank tells that there are none, no word is read.
 fn first_high(
-    high: &MeteredWords,
+    high: &Metered<Word>,
     group: usize,
     rank: Rank,
     order: Order,
@@ -115,8 +115,8 @@ fn words_before(block: &Option<(PageAt, Order)>) -> u32
 
 /// The first block of this order or more of a group with blocks of this rank. At most as many words are read as it has low ones.
 pub fn first_of(
-    low: &MeteredWords,
-    high: &MeteredWords,
+    low: &Metered<Word>,
+    high: &Metered<Word>,
     group: usize,
     rank: Rank,
     order: Order,
@@ -155,8 +155,8 @@ fn order_of(level: Option<u8>, place: u8) -> Option<Order>
 
 /// The largest order of a block that lies in the range of this order at a page.
 pub fn largest_in(
-    low: &MeteredWords,
-    high: &MeteredWords,
+    low: &Metered<Word>,
+    high: &Metered<Word>,
     at: PageAt,
     order: Order,
 ) -> Option<Order>

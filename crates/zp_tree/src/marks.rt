@@ -1,5 +1,5 @@
 //! The bits of blocks in the low and the high words.
-ghost use Rattle.std.specs.Prelude.{◌≡◌, ◌≤◌, ◌<◌, ◌+◌, ◌^◌, length};
+ghost use Rattle.std.specs.Prelude.{◌≡◌, ◌≤◌, ◌<◌, ◌+◌, ◌^◌, cond, length};
 ghost use Rattle.zp_model.specs.Block.{head};
 ghost use Rattle.zp_tree.specs.declared.constants.TheConstants.{WORD_LEVELS, MOST_GROUPS};
 ghost use Rattle.zp_tree.specs.Marks.{mark, AreEmptied, IsWords, IsInGroups, IsGroupCleared, IsRemarked, IsJoinedUp, IsSplitUp};
@@ -7,48 +7,34 @@ ghost use Rattle.zp_tree.specs.Marks.{mark, AreEmptied, IsWords, IsInGroups, IsG
 use crate::constants::{PLACES, WORD_LEVELS};
 use crate::groups::first_word;
 use crate::meter::Meter;
-use crate::metered::MeteredWords;
+use crate::metered::Metered;
 use crate::place::{group_of, high_place, low_place, low_word};
 use crate::word::Word;
 use zp_model::{Order, PageAt};
 
-/// Sets the bit of a block.
-#[inline]
-pub fn set_mark(low: &mut MeteredWords, high: &mut MeteredWords, at: PageAt, order: Order)
+/// Sets the bit of a block, or clears it.
+#[inline(always)]
+pub fn put_mark(
+    low: &mut Metered<Word>,
+    high: &mut Metered<Word>,
+    at: PageAt,
+    order: Order,
+    is_set: bool,
+)
     requires words { IsWords low.old high.old }
     requires inside { IsInGroups high.old at order }
-    ensures { IsRemarked low.old high.old low.new high.new at order 1 }
+    ensures { IsRemarked low.old high.old low.new high.new at order (cond is_set 1 0) }
 {
     let mut meter = Meter::new();
     let level = order.number();
     if level < WORD_LEVELS {
         let word = low_word(at);
         let old = low.read(word, &mut meter);
-        low.write(word, old.with(low_place(at), level));
+        low.write(word, old.put(low_place(at), level, is_set));
     } else {
         let word = group_of(at);
         let old = high.read(word, &mut meter);
-        high.write(word, old.with(high_place(at), level - WORD_LEVELS));
-    }
-}
-
-/// Clears the bit of a block.
-#[inline]
-pub fn clear_mark(low: &mut MeteredWords, high: &mut MeteredWords, at: PageAt, order: Order)
-    requires words { IsWords low.old high.old }
-    requires inside { IsInGroups high.old at order }
-    ensures { IsRemarked low.old high.old low.new high.new at order 0 }
-{
-    let mut meter = Meter::new();
-    let level = order.number();
-    if level < WORD_LEVELS {
-        let word = low_word(at);
-        let old = low.read(word, &mut meter);
-        low.write(word, old.without(low_place(at), level));
-    } else {
-        let word = group_of(at);
-        let old = high.read(word, &mut meter);
-        high.write(word, old.without(high_place(at), level - WORD_LEVELS));
+        high.write(word, old.put(high_place(at), level - WORD_LEVELS, is_set));
     }
 }
 
@@ -56,8 +42,8 @@ pub fn clear_mark(low: &mut MeteredWords, high: &mut MeteredWords, at: PageAt, o
 /// word is written, and a second one where the chain goes from a high word into a low one.
 #[inline]
 pub fn split_marks(
-    low: &mut MeteredWords,
-    high: &mut MeteredWords,
+    low: &mut Metered<Word>,
+    high: &mut Metered<Word>,
     at: PageAt,
     from: Order,
     to: Order,
@@ -95,8 +81,8 @@ pub fn split_marks(
 /// around it. One word is written, and a second one where the chain goes from a low word into a high one.
 #[inline]
 pub fn join_marks(
-    low: &mut MeteredWords,
-    high: &mut MeteredWords,
+    low: &mut Metered<Word>,
+    high: &mut Metered<Word>,
     at: PageAt,
     from: Order,
     to: Order,
@@ -130,7 +116,7 @@ pub fn join_marks(
 }
 
 /// Empties so many words from one on.
-fn empty_words(words: &mut MeteredWords, from: usize, count: usize)
+fn empty_words(words: &mut Metered<Word>, from: usize, count: usize)
     requires inside { from + count ≤ length words.old }
     requires room { from + count < 2 ^ 64 }
     ensures { AreEmptied words.old words.new from count }
@@ -141,7 +127,7 @@ fn empty_words(words: &mut MeteredWords, from: usize, count: usize)
 }
 
 /// Clears the bits of all blocks of a group.
-pub fn clear_marks(low: &mut MeteredWords, high: &mut MeteredWords, group: usize)
+pub fn clear_marks(low: &mut Metered<Word>, high: &mut Metered<Word>, group: usize)
     requires words { IsWords low.old high.old }
     requires group { group < length high.old }
     requires few { length high.old ≤ MOST_GROUPS }

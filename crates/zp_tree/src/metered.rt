@@ -1,94 +1,60 @@
 //! The nodes of a status tree. The only reads of them are by a meter, which each raises by one.
-ghost use Rattle.std.specs.Prelude.{◌≡◌, ◌≤◌, ◌<◌, ◌+◌, ◌^◌, ℕ, IfOk, length, replicate, slice_index, slice_set};
+ghost use Rattle.std.specs.Prelude.{◌≡◌, ◌≤◌, ◌<◌, ◌+◌, ◌^◌, ℕ, IfOk, length, replicate, slice_index, slice_index_or, slice_set};
 ghost use Rattle.zp_tree.specs.declared.constants.TheConstants.{FAN};
 
 use crate::constants::FAN;
 use crate::meter::Meter;
 use crate::rank::Rank;
-use crate::word::Word;
 use std::alloc::{AllocError, Global};
 use std::marker::Model;
 
-/// Words side by side. Contracts see the row of them.
+/// Nodes side by side: words, or ranks. Contracts see the row of them.
 #[derive(Drop)]
-pub struct MeteredWords {
-    words: Vec<Word>,
+pub struct Metered<T> {
+    nodes: Vec<T>,
 }
 
-impl Model for MeteredWords {
-    ghost use Rattle.std.specs.Prelude.{ℕ, List};
+impl<T> Model for Metered<T> {
+    ghost use Rattle.std.specs.Prelude.{List};
 
-    ghost Value = { List ℕ };
+    ghost Value = { List T };
 
-    ghost view = { λ w. w.words.items };
+    ghost view = { λ m. m.nodes.items };
 }
 
-impl MeteredWords {
-    /// So many words of no block.
-    pub fn new(alloc: Global, count: usize) -> Result<MeteredWords, AllocError>
-        ensures { IfOk result (λ w. w ≡ replicate count 0) }
+impl<T: Copy + Drop> Metered<T> {
+    /// So many nodes like this one.
+    pub fn new(alloc: Global, node: T, count: usize) -> Result<Metered<T>, AllocError>
+        requires { (y : T) → T.is_clone node y → y ≡ node }
+        ensures { IfOk result (λ m. m ≡ replicate count node) }
     {
-        let words = Vec::from_elem(alloc, Word::empty(), count)?;
-        Ok(MeteredWords { words })
+        let nodes = Vec::from_elem(alloc, node, count)?;
+        Ok(Metered { nodes })
     }
 
-    /// The word at a place. One read.
+    /// The node at a place. One read.
     #[inline(always)]
-    pub fn read(&self, at: usize, meter: &mut Meter) -> Word
+    pub fn read(&self, at: usize, meter: &mut Meter) -> T
         requires inside { at < length self.now }
         requires count { meter.old + 1 < 2 ^ 64 }
-        ensures word { result ≡ slice_index self.now at }
+        ensures node { (past : T) → result ≡ slice_index_or self.now at past }
         ensures counted { meter.new ≡ meter.old + 1 }
     {
         meter.rise();
-        self.words[at]
+        self.nodes[at]
     }
 
-    /// Puts a word at a place.
+    /// Puts a node at a place.
     #[inline(always)]
-    pub fn write(&mut self, at: usize, word: Word)
+    pub fn write(&mut self, at: usize, node: T)
         requires { at < length self.old }
-        ensures { self.new ≡ slice_set self.old at word }
+        ensures { self.new ≡ slice_set self.old at node }
     {
-        self.words[at] = word;
+        self.nodes[at] = node;
     }
 }
 
-/// Ranks side by side. Contracts see the row of them.
-#[derive(Drop)]
-pub struct MeteredRanks {
-    ranks: Vec<Rank>,
-}
-
-impl Model for MeteredRanks {
-    ghost use Rattle.std.specs.Prelude.{ℕ, List};
-
-    ghost Value = { List ℕ };
-
-    ghost view = { λ r. r.ranks.items };
-}
-
-impl MeteredRanks {
-    /// So many ranks of no block.
-    pub fn new(alloc: Global, count: usize) -> Result<MeteredRanks, AllocError>
-        ensures { IfOk result (λ r. r ≡ replicate count 0) }
-    {
-        let ranks = Vec::from_elem(alloc, Rank::none(), count)?;
-        Ok(MeteredRanks { ranks })
-    }
-
-    /// The rank at a place. One read.
-    #[inline(always)]
-    pub fn read(&self, at: usize, meter: &mut Meter) -> Rank
-        requires inside { at < length self.now }
-        requires count { meter.old + 1 < 2 ^ 64 }
-        ensures rank { result ≡ slice_index self.now at }
-        ensures counted { meter.new ≡ meter.old + 1 }
-    {
-        meter.rise();
-        self.ranks[at]
-    }
-
+impl Metered<Rank> {
     /// The ranks from a place on that are one word. One read.
     #[inline(always)]
     pub fn read_eight(&self, from: usize, meter: &mut Meter) -> &[Rank]
@@ -100,15 +66,6 @@ impl MeteredRanks {
         ensures counted { meter.new ≡ meter.old + 1 }
     {
         meter.rise();
-        &self.ranks[from..from + FAN]
-    }
-
-    /// Puts a rank at a place.
-    #[inline(always)]
-    pub fn write(&mut self, at: usize, rank: Rank)
-        requires { at < length self.old }
-        ensures { self.new ≡ slice_set self.old at rank }
-    {
-        self.ranks[at] = rank;
+        &self.nodes[from..from + FAN]
     }
 }

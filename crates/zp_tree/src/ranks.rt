@@ -1,11 +1,11 @@
 //! The ranks of groups, and a tree over them.
-ghost use Rattle.std.specs.Prelude.{◌≡◌, ◌≤◌, ◌<◌, ◌+◌, ◌^◌, ℕ, IfOk, length, slice_index, slice_set};
+ghost use Rattle.std.specs.Prelude.{◌≡◌, ◌≤◌, ◌<◌, ◌+◌, ◌^◌, ℕ, true, false, IfOk, length, slice_index, slice_set};
 ghost use Rattle.zp_tree.specs.declared.constants.TheConstants.{FAN, MOST_GROUPS};
 ghost use Rattle.zp_tree.specs.RankRows.{best_from, IsFirstAmong, IsFirstOfEight, IsFirstRank, IsTopRank, IsLeastRow, IsOpen, IsRaised, IsMended};
 
 use crate::constants::FAN;
 use crate::meter::Meter;
-use crate::metered::MeteredRanks;
+use crate::metered::Metered;
 use crate::rank::Rank;
 use std::alloc::{AllocError, Global};
 use std::marker::Model;
@@ -18,7 +18,7 @@ const ROOT: usize = 1;
 pub struct RankTree {
     /// How many ranks the row has, and the node of the first.
     first: usize,
-    nodes: MeteredRanks,
+    nodes: Metered<Rank>,
 }
 
 impl Model for RankTree {
@@ -34,7 +34,7 @@ impl Model for RankTree {
 }
 
 /// The largest of the ranks that stand side by side from a node on. They are one read.
-fn best_of_eight(nodes: &MeteredRanks, node: usize, meter: &mut Meter) -> Rank
+fn best_of_eight(nodes: &Metered<Rank>, node: usize, meter: &mut Meter) -> Rank
     requires inside { node + FAN ≤ length nodes.now }
     requires count { meter.old + 1 < 2 ^ 64 }
     ensures best { result ≡ best_from nodes.now node FAN }
@@ -58,7 +58,7 @@ fn first_among(eight: &[Rank], rank: Rank) -> Option<usize>
 
 /// The first node with this rank or more of those side by side from a node on, and its rank. They are one read.
 fn first_of_eight(
-    nodes: &MeteredRanks,
+    nodes: &Metered<Rank>,
     node: usize,
     rank: Rank,
     meter: &mut Meter,
@@ -74,7 +74,7 @@ fn first_of_eight(
 }
 
 /// Mends the nodes above a rank that fell, up to the first that still holds as much as one of those below it.
-fn mend(nodes: &mut MeteredRanks, rank: usize)
+fn mend(nodes: &mut Metered<Rank>, rank: usize)
     requires { IsOpen nodes.old rank }
     ensures { IsMended nodes.old nodes.new rank }
 {
@@ -92,7 +92,7 @@ fn mend(nodes: &mut MeteredRanks, rank: usize)
 }
 
 /// Raises the nodes above a rank that was written, up to the first that holds as much already.
-fn raise(nodes: &mut MeteredRanks, place: usize, rank: Rank)
+fn raise(nodes: &mut Metered<Rank>, place: usize, rank: Rank)
     requires { IsRaised nodes.old place rank }
     ensures { IsMended nodes.old nodes.new place }
 {
@@ -107,6 +107,20 @@ fn raise(nodes: &mut MeteredRanks, place: usize, rank: Rank)
     }
 }
 
+/// Settles the nodes above a rank that was written, which rose or fell.
+#[inline(always)]
+fn settle(nodes: &mut Metered<Rank>, place: usize, rank: Rank, rises: bool)
+    requires up { rises ≡ true → IsRaised nodes.old place rank }
+    requires down { rises ≡ false → IsOpen nodes.old place }
+    ensures { IsMended nodes.old nodes.new place }
+{
+    if rises {
+        raise(nodes, place, rank);
+    } else {
+        mend(nodes, place);
+    }
+}
+
 impl RankTree {
     /// So many ranks of no block, or some more: the row is the shortest that has room for them.
     pub fn new(alloc: Global, groups: usize) -> Result<RankTree, AllocError>
@@ -118,7 +132,7 @@ impl RankTree {
         'rows: while first < groups {
             first *= FAN;
         }
-        let nodes = MeteredRanks::new(alloc, 2 * first)?;
+        let nodes = Metered::new(alloc, Rank::none(), 2 * first)?;
         Ok(RankTree { first, nodes })
     }
 
@@ -132,26 +146,17 @@ impl RankTree {
         self.nodes.read(self.first + group, &mut meter)
     }
 
-    /// Gives a group a rank that is no larger.
-    pub fn lower(&mut self, group: usize, rank: Rank)
+    /// Gives a group a rank that is no smaller where it rises, and else no larger.
+    #[inline(always)]
+    pub fn put(&mut self, group: usize, rank: Rank, rises: bool)
         requires group { group < length self.old }
-        requires down { rank ≤ slice_index self.old group }
+        requires up { rises ≡ true → slice_index self.old group ≤ rank }
+        requires down { rises ≡ false → rank ≤ slice_index self.old group }
         ensures { self.new ≡ slice_set self.old group rank }
     {
         let node = self.first + group;
         self.nodes.write(node, rank);
-        mend(&mut self.nodes, node);
-    }
-
-    /// Gives a group a rank that is no smaller.
-    pub fn raise(&mut self, group: usize, rank: Rank)
-        requires group { group < length self.old }
-        requires up { slice_index self.old group ≤ rank }
-        ensures { self.new ≡ slice_set self.old group rank }
-    {
-        let node = self.first + group;
-        self.nodes.write(node, rank);
-        raise(&mut self.nodes, node, rank);
+        settle(&mut self.nodes, node, rank, rises);
     }
 
     /// The largest rank.

@@ -2,14 +2,14 @@
 //!
 //! Six levels of a binary tree in its own numbering: bit 1 stands for all places, bits 2 and 3 for its halves, and so on to bits 32 to 63
 //! for single places. A bit is set where its places are a block.
-ghost use Rattle.std.specs.Prelude.{◌≡◌, ◌≤◌, ◌<◌, ◌+◌, ◌*◌, ◌^◌, length};
+ghost use Rattle.std.specs.Prelude.{◌≡◌, ◌≤◌, ◌<◌, ◌+◌, ◌*◌, ◌^◌, cond, length};
 ghost use Rattle.zp_tree.specs.declared.constants.TheConstants.{PLACES, WORD_LEVELS};
 ghost use Rattle.zp_tree.specs.Words.{node, IsPlace, IsMarked, IsChain, IsHalved, IsUnpaired, IsRow, IsLargestIn, IsFirstOf, IsFirst, IsUnion};
 
 use crate::buddies::BUDDIES;
 use crate::constants::{PLACES, WORD_LEVELS};
 use crate::meter::Meter;
-use crate::metered::MeteredWords;
+use crate::metered::Metered;
 use std::marker::Model;
 
 /// The blocks of 32 places. Contracts see the number whose bits they are.
@@ -90,6 +90,19 @@ impl Word {
     {
         Word {
             bits: self.bits & !(1 << node_of(place, level)),
+        }
+    }
+
+    /// With the block of this level at a place, or without it.
+    #[inline(always)]
+    pub fn put(self, place: u32, level: u8, is_set: bool) -> Word
+        requires { IsPlace place level }
+        ensures { IsMarked self result place level (cond is_set 1 0) }
+    {
+        if is_set {
+            self.with(place, level)
+        } else {
+            self.without(place, level)
         }
     }
 
@@ -196,7 +209,7 @@ impl Word {
 }
 
 /// The blocks of some words together, at their places in each. Each word is read once.
-pub fn union(words: &MeteredWords, from: usize, count: usize, meter: &mut Meter) -> Word
+pub fn union(words: &Metered<Word>, from: usize, count: usize, meter: &mut Meter) -> Word
     requires inside { from + count ≤ length words.now }
     requires room { from + count < 2 ^ 64 }
     requires count { meter.old + count < 2 ^ 64 }

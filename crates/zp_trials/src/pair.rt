@@ -35,7 +35,7 @@ const SIDES: usize = 2;
 #[derive(Drop)]
 pub struct Pair {
     buddy: zp_buddy::Buddy,
-    plain: zp_plain::Buddy,
+    plain: zp_plain::PlainBuddy,
 }
 
 impl Pair {
@@ -45,7 +45,7 @@ impl Pair {
     {
         Ok(Pair {
             buddy: zp_buddy::Buddy::new(alloc, pages, largest, SIDES)?,
-            plain: zp_plain::Buddy::new(alloc, pages, largest, SIDES)?,
+            plain: zp_plain::PlainBuddy::new(alloc, pages, largest, SIDES)?,
         })
     }
 

@@ -1,3 +1,4 @@
 pub mod Lying
 pub mod Counted
 pub mod Least
+pub mod Wholes

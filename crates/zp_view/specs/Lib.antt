@@ -1,3 +1,4 @@
 pub mod Blocks
 pub mod Tables
 pub mod Ways
+pub mod States

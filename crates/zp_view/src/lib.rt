@@ -6,10 +6,12 @@
 
 mod blocks;
 mod page_state;
+mod states;
 mod tables;
 mod ways;
 
 pub use blocks::{ZoneBlock, block_around, has_page};
 pub use page_state::PageState;
+pub use states::{Lenders, PageBlock, block_at, page_row};
 pub use tables::{free_blocks, pageblocks};
 pub use ways::{Holdings, holdings_in, least_used_run, used_pages};

@@ -2,7 +2,7 @@
 ghost use Rattle.std.specs.Prelude.{◌≡◌, ◌<◌};
 
 use super::*;
-use crate::rooms::{RoomWriter, Taking};
+use crate::rooms::{RoomTaking, RoomWriter};
 use std::alloc::{AllocError, Global};
 use zp_journal::Journal;
 use zp_model::{Entry, Refused};
@@ -65,7 +65,7 @@ fn write_output<K: Ledger, R: AllocGlobal, W: Writer>(
 }
 
 /// What comes of it on a writer with room for so many bytes.
-fn written<R: AllocGlobal>(rt: &R, output: Output<'_>, taking: Taking, room: usize) -> Attempt {
+fn written<R: AllocGlobal>(rt: &R, output: Output<'_>, taking: RoomTaking, room: usize) -> Attempt {
     let (reads, writes) = (Blank::new(1), Blank::new(1));
     written_on::<Brand, Brand, R>(rt, output, taking, room, reads, writes)
 }
@@ -73,7 +73,7 @@ fn written<R: AllocGlobal>(rt: &R, output: Output<'_>, taking: Taking, room: usi
 fn written_on<K: Ledger, L: Ledger, R: AllocGlobal>(
     rt: &R,
     output: Output<'_>,
-    taking: Taking,
+    taking: RoomTaking,
     room: usize,
     reads: Blank,
     writes: Blank,
@@ -137,7 +137,7 @@ struct Expected {
 }
 
 fn expectation<R: AllocGlobal>(rt: &R, output: Output<'_>) -> Result<Expected, AllocError> {
-    let whole = written(rt, output, Taking::Whole, usize::MAX);
+    let whole = written(rt, output, RoomTaking::Whole, usize::MAX);
     let lines = lengths_of_lines(rt.alloc(), whole.bytes.as_slice())?;
     Ok(Expected {
         text: whole.bytes,
@@ -149,9 +149,9 @@ fn expectation<R: AllocGlobal>(rt: &R, output: Output<'_>) -> Result<Expected, A
 /// Whether a writer that takes a piece whole or not at all has the lines that fit, as if each were a piece of its own.
 fn has_lines<R: AllocGlobal>(rt: &R, output: Output<'_>, expected: &Expected, room: usize) -> bool {
     let text = expected.text.as_slice();
-    let gathered = written(rt, output, Taking::Whole, room);
+    let gathered = written(rt, output, RoomTaking::Whole, room);
     let by_lines = Output::Pieces(text, expected.lines.as_slice());
-    let by_lines = written(rt, by_lines, Taking::Whole, room);
+    let by_lines = written(rt, by_lines, RoomTaking::Whole, room);
     gathered.bytes == by_lines.bytes && gathered.is_whole == (room >= text.len())
 }
 
@@ -159,9 +159,9 @@ fn has_lines<R: AllocGlobal>(rt: &R, output: Output<'_>, expected: &Expected, ro
 /// are never tried line by line: the first refusal ends that, but where it comes behind the end of a line.
 fn has_parts<R: AllocGlobal>(rt: &R, output: Output<'_>, expected: &Expected, room: usize) -> bool {
     let text = expected.text.as_slice();
-    let gathered = written(rt, output, Taking::Half, room);
+    let gathered = written(rt, output, RoomTaking::Half, room);
     let in_pieces = Output::Pieces(text, expected.pieces.as_slice());
-    let in_pieces = written(rt, in_pieces, Taking::Half, room);
+    let in_pieces = written(rt, in_pieces, RoomTaking::Half, room);
     gathered.bytes.as_slice() == &text[..room.min(text.len())]
         && gathered.bytes == in_pieces.bytes
         && (gathered.asked == in_pieces.asked

@@ -46,8 +46,7 @@ impl Share {
         ensures section { IsAsked (request.Alloc order kind mark) (page_reply result) zone.old zone.new (share_at self.old place) (share_at self.new place) }
         ensures others { self.new ≡ with_zone_share place (share_at self.new place) self.old }
     {
-        let request = Request::Alloc(order, kind, mark);
-        answered!(self.section(zone, place, &request), Reply::Page(page) => page)
+        self.zones[place].alloc_block(zone, order, kind, mark)
     }
 
     /// The lowest block of this order, which is then lent. Refused 11 or 30.

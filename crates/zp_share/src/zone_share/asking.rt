@@ -62,7 +62,7 @@ impl ZoneShare {
 
     /// A block of this order for this type, held to this mark, which is then lent: its first page. Refused 10, 11 or 30.
     #[inline(always)]
-    fn alloc_block(
+    pub fn alloc_block(
         &mut self,
         zone: &mut Zone,
         order: Order,

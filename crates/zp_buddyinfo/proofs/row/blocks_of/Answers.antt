@@ -10,16 +10,16 @@ use Rattle.zp_buddyinfo.proofs.row.blocks_of.Goals as goal
 abbrev NoBlocks : List (List ℕ) → Type 0
 NoBlocks words = (blocks : List ℕ) → AreFreeBlocks blocks → words ≡ map decimal blocks → ⊥
 
-pub returns-in_err-parse_number-clause-none : goal.returns-in_err-parse_number-clause-none
-returns-in_err-parse_number-clause-none c =
+pub returns-in_err-parse_u64-clause-none : goal.returns-in_err-parse_u64-clause-none
+returns-in_err-parse_u64-clause-none c =
     at_none _ {P = NoBlocks (spelled c.args.words.now)} (λ blocks are e.
     let word = word_of_block c.args.words.now _ c.loop-word.word-index blocks e c.loop-word-test.true in
-    c.in_err-parse_number.ensures.none _ (all_at (λ n. n < 2 ^ 64) blocks c.loop-word.word-index word.0 (blocks_small blocks are)) word.1)
+    c.in_err-parse_u64.ensures.none _ (all_at (λ n. n < 2 ^ 64) blocks c.loop-word.word-index word.0 (blocks_small blocks are)) word.1)
 
 pub loop-word-preserved : goal.loop-word-preserved
 loop-word-preserved c = record {
-  written = number_more c.args.words.now _ _ _ _ _ c.loop-word-test.true c.loop-word.invariant.written c.push.ensures.items c.in_ok-parse_number.ensures.some;
-  small = all_push (λ n. n < 2 ^ 64) _ _ _ c.push.ensures.items c.loop-word.invariant.small c.in_ok-parse_number.ensures.fits;
+  written = number_more c.args.words.now _ _ _ _ _ c.loop-word-test.true c.loop-word.invariant.written c.push.ensures.items c.in_ok-parse_u64.ensures.some;
+  small = all_push (λ n. n < 2 ^ 64) _ _ _ c.push.ensures.items c.loop-word.invariant.small c.in_ok-parse_u64.ensures.fits;
   as_many = omega (arith, c.push.ensures.len, c.loop-word.invariant.as_many);
 }
 

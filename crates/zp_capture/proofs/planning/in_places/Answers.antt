@@ -1,7 +1,7 @@
 use Rattle.std.proofs.Common.{refl, ap, arith, ◌∙◌}
 use Rattle.zp_capture.specs.Plans.{in_place}
 use Rattle.zp_capture.proofs.PlannedZones.{first_is, made_so_far, placed_more}
-use Rattle.zp_capture.proofs.Seating.{made_more}
+use Rattle.zp_crew.proofs.Seating.{made_more}
 use Rattle.zp_capture.proofs.planning.in_places.Goals as goal
 
 pub returns-in-None-clause-why : goal.returns-in-None-clause-why

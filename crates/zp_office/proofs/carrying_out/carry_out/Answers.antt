@@ -1,4 +1,4 @@
-use Rattle.std.proofs.Common.{ap, arith, length, map, subst, ◌≡◌, ◌≤◌, ◌∙◌, sym}
+use Rattle.std.proofs.Common.{ap, arith, length, subst, ◌≡◌, ◌≤◌, ◌∙◌, sym}
 use Rattle.std.proofs.lemmas.List.{length-map}
 use Rattle.zp_model.specs.declared.constants.TheConstants.{TRACE_ZONES}
 use Rattle.zp_share.specs.declared.commands.Lent.{Lent}

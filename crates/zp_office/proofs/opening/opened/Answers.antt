@@ -1,79 +1,62 @@
-use Rattle.std.proofs.Common.{◌≡◌, ◌≤◌, All, length, map, ap, sym, subst, ◌∙◌, arith}
+use Rattle.std.proofs.Common.{◌≡◌, ◌≤◌, ◌∙◌, List, All, ap, arith, length, map, subst, sym}
 use Rattle.std.specs.List.{range_with_len}
+use Rattle.std.specs.Prelude.{IfOk}
 use Rattle.std.proofs.lemmas.List.{length-map}
-use Rattle.std.proofs.lemmas.List.Elements.{All-push}
-use Rattle.zp_share.specs.Shares.{ShareState, IsShareOf, key_of, plain}
-use Rattle.zp_office.specs.Opening.{opening_share}
-use Rattle.zp_model.proofs.RowLists.{written_back}
-use Rattle.zp_office.proofs.Seating.{seat_in, seats_left, left_some, fronts_are, rests_are, zones_count, own_count, all_are, all_unused, opened_as, opened_fits, opened_worker, shares_more, workers_more, shares_count, crew_is}
+use Rattle.std.proofs.lemmas.Result.{IfErr-weaker, IfOk-weaker}
+use Rattle.std.proofs.lemmas.Simd.{map-map}
+use Rattle.zp_model.specs.declared.constants.TheConstants.{TRACE_ZONES}
+use Rattle.zp_zone.specs.NamedZone.{NamedZone}
+use Rattle.zp_share.specs.PlainShares.{PlainShare}
+use Rattle.zp_share.specs.Shares.{named_zone, plain}
+use Rattle.zp_crew.specs.declared.opening.Crew.{Crew}
+use Rattle.zp_crew.specs.Opening as crew
+use Rattle.zp_crew.specs.Opening.{CanBeMade, PlainConfig, opened_zone, plain_config}
+use Rattle.zp_crew.proofs.Refusing.{memory_wants}
+use Rattle.zp_office.specs.Opening.{declared_config}
+use Rattle.zp_office.proofs.DeclaredZones.{all_can}
 use Rattle.zp_office.proofs.opening.opened.Goals as goal
 
-pub next_seats-requires : goal.next_seats-requires
-next_seats-requires c =
-    left_some c.args.header.now.workers c.loop.counter c.in_ok-zones.zones.items c.deref_mut.result.now (omega (arith, c.loop-test.true)) (c.deref_mut.ensures.value ∙ c.loop.invariant.rows)
+pub open_crew-requires-clause-some : goal.open_crew-requires-clause-some
+open_crew-requires-clause-some c =
+    let zones = c.args.header.now.zones in
+    let same = ap (map plain_config) c.deref.ensures.value ∙ c.in_ok-configs.ensures.configs ∙ ap (map declared_config) c.as_slice.ensures.same in
+    omega (arith, length-map c.deref.result.now plain_config, ap length same, length-map zones declared_config, c.requires.some)
 
-pub new-requires-in-loop-clause-worker : goal.new-requires-in-loop-clause-worker
-new-requires-in-loop-clause-worker c =
+pub open_crew-requires-clause-few : goal.open_crew-requires-clause-few
+open_crew-requires-clause-few c =
+    let zones = c.args.header.now.zones in
+    let same = ap (map plain_config) c.deref.ensures.value ∙ c.in_ok-configs.ensures.configs ∙ ap (map declared_config) c.as_slice.ensures.same in
+    omega (arith, length-map c.deref.result.now plain_config, ap length same, length-map zones declared_config, c.requires.few)
+
+pub returns-clause-zones : goal.returns-clause-zones
+returns-clause-zones c =
     let h = c.args.header.now in
-    let w = c.loop.counter in
-    let zs = c.in_ok-zones.zones.items in
-    let own = c.in_ok-own.own.items in
-    let mine : own ≡ map (seat_in w) zs =
-    fronts_are h.workers w zs c.deref_mut.result.now own (omega (arith, c.loop-test.true)) (c.deref_mut.ensures.value ∙ c.loop.invariant.rows) c.in_ok-own.ensures.front in
-    all_are w zs own (omega (arith, own_count w zs own mine, zones_count h.workers h.zones zs c.in_ok-zones.ensures.zones, c.requires.some)) mine
+    let same = ap (map plain_config) c.deref.ensures.value ∙ c.in_ok-configs.ensures.configs ∙ ap (map declared_config) c.as_slice.ensures.same in
+    subst (λ (l : List NamedZone). IfOk c.open_crew.result (λ (k : Crew). map named_zone k.zones.items ≡ l))
+    (ap (map (opened_zone h.workers)) same ∙ map-map (opened_zone h.workers) declared_config h.zones)
+    c.open_crew.ensures.zones
 
-pub new-requires-in-loop-clause-unused : goal.new-requires-in-loop-clause-unused
-new-requires-in-loop-clause-unused c =
+pub returns-clause-shares : goal.returns-clause-shares
+returns-clause-shares c =
     let h = c.args.header.now in
-    let w = c.loop.counter in
-    let zs = c.in_ok-zones.zones.items in
-    let own = c.in_ok-own.own.items in
-    let mine : own ≡ map (seat_in w) zs =
-    fronts_are h.workers w zs c.deref_mut.result.now own (omega (arith, c.loop-test.true)) (c.deref_mut.ensures.value ∙ c.loop.invariant.rows) c.in_ok-own.ensures.front in
-    all_unused h.workers w zs c.in_ok-zones.seats.items own (omega (arith, c.loop-test.true)) c.in_ok-zones.ensures.seats mine
+    let same = ap (map plain_config) c.deref.ensures.value ∙ c.in_ok-configs.ensures.configs ∙ ap (map declared_config) c.as_slice.ensures.same in
+    let batch : c.in-Some.lists.batch ≡ h.batch = omega (arith, c.in-Some.ensures.some.0, c.requires.lists.most) in
+    let high : c.in-Some.lists.high_len ≡ h.high = omega (arith, c.in-Some.ensures.some.1, c.requires.lists.longest) in
+    subst (λ (l : List PlainShare). IfOk c.open_crew.result (λ (k : Crew). map plain k.shares.items ≡ l))
+    (λ i. map (crew.opening_share (batch i) (high i) (same i)) (range_with_len 0 h.workers))
+    c.open_crew.ensures.shares
 
-pub push_reserved-requires : goal.push_reserved-requires
-push_reserved-requires c =
-    omega (arith, shares_count c.loop.counter c.loop.shares.items c.args.header.now c.loop.invariant.shares, c.loop.shares.ok.0, c.loop.invariant.room, c.loop-test.true)
+pub returns-clause-few : goal.returns-clause-few
+returns-clause-few c =
+    let zones = c.args.header.now.zones in
+    let same = ap (map plain_config) c.deref.ensures.value ∙ c.in_ok-configs.ensures.configs ∙ ap (map declared_config) c.as_slice.ensures.same in
+    IfOk-weaker c.open_crew.result (λ (k : Crew). length k.zones.items ≡ length c.deref.result.now) (λ (k : Crew). length k.zones.items ≤ TRACE_ZONES)
+    (λ k many. omega (arith, many, length-map c.deref.result.now plain_config, ap length same, length-map zones declared_config, c.requires.few))
+    c.open_crew.ensures.many
 
-pub loop-preserved : goal.loop-preserved
-loop-preserved c =
+pub returns-clause-why : goal.returns-clause-why
+returns-clause-why c =
     let h = c.args.header.now in
-    let was = c.loop.invariant in
-    let w = c.loop.counter in
-    let zs = c.in_ok-zones.zones.items in
-    let declared = c.in_ok-zones.ensures.zones in
-    let rows = c.deref_mut.result.now in
-    let left = c.next_seats.new.seats in
-    let own = c.in_ok-own.own.items in
-    let ss = c.loop.shares.items in
-    let s = c.in_ok-new.field-0 in
-    let b = c.in-Some.lists.batch in
-    let g = c.in-Some.lists.high_len in
-    let pushed = c.push_reserved.ensures in
-    let rows_are : rows ≡ map (seats_left h.workers w) zs = c.deref_mut.ensures.value ∙ was.rows in
-    let mine : own ≡ map (seat_in w) zs = fronts_are h.workers w zs rows own (omega (arith, c.loop-test.true)) rows_are c.in_ok-own.ensures.front in
-    let some : 1 ≤ length own = omega (arith, own_count w zs own mine, zones_count h.workers h.zones zs declared, c.requires.some) in
-    let batch : b ≡ h.batch = omega (arith, c.in-Some.ensures.some.0, c.requires.lists.most) in
-    let high : g ≡ h.high = omega (arith, c.in-Some.ensures.some.1, c.requires.lists.longest) in
-    record {
-      rows =
-          written_back left c.loop.seats.items c.loop.seats.len (ap length c.in_ok-own.ensures.rest ∙ length-map rows _ ∙ ap length c.deref_mut.ensures.value) c.loop.seats.ok.0
-          ∙ rests_are h.workers w zs rows left rows_are c.in_ok-own.ensures.rest;
-      shares = ap (map plain) pushed.items ∙ shares_more h w ss s was.shares (opened_as h w zs own b g s declared mine batch high c.in_ok-new.ensures.share);
-      workers = ap (map (λ (x : ShareState). x.worker)) pushed.items ∙ workers_more w ss s was.workers (opened_worker w zs own b g s some mine c.in_ok-new.ensures.share);
-      fit =
-          subst (λ l. All (IsShareOf (map key_of zs)) l) (sym pushed.items)
-          (All-push (IsShareOf (map key_of zs)) ss s was.fit (opened_fits w zs own b g s mine c.in_ok-new.ensures.share));
-      room = omega (arith, was.room, pushed.capacity);
-    }
-
-pub returns-clause-crew : goal.returns-clause-crew
-returns-clause-crew c =
-    let h = c.args.header.now in
-    let was = c.loop.invariant in
-    let all : c.loop.counter ≡ h.workers = omega (arith, c.loop-test.false, c.loop.auto.counter-end) in
-    crew_is h c.in_ok-zones.zones.items c.loop.shares.items c.requires.few c.in_ok-zones.ensures.zones
-    (was.shares ∙ ap (λ n. map (opening_share h) (range_with_len 0 n)) all)
-    (was.workers ∙ ap (range_with_len 0) all)
-    was.fit
+    let same = ap (map plain_config) c.deref.ensures.value ∙ c.in_ok-configs.ensures.configs ∙ ap (map declared_config) c.as_slice.ensures.same in
+    let all : All (CanBeMade h.workers) (map plain_config c.deref.result.now) = subst (λ (l : List PlainConfig). All (CanBeMade h.workers) l) (sym same) (all_can h c.requires) in
+    IfErr-weaker c.open_crew.result _ _ (λ r why. memory_wants h.workers (map plain_config c.deref.result.now) r all why) c.open_crew.ensures.why

@@ -1,10 +1,10 @@
-use Rattle.std.proofs.Common.{ℕ, ◌≡◌, ◌<◌, Some, ap, arith, below_more, get_or, length, map, set, subst, sym, ◌∙◌}
+use Rattle.std.proofs.Common.{◌≡◌, ◌<◌, Some, ap, arith, below_more, get_or, length, set, subst, sym, ◌∙◌}
 use Rattle.std.specs.List.{slice_get}
 use Rattle.std.proofs.lemmas.List.{set-get_or}
 use Rattle.std.proofs.lemmas.Option.{get_or_from_slice_get, slice_get_within}
 use Rattle.zp_zone.specs.Seats.{IsSeatOf, ZoneState}
 use Rattle.zp_share.specs.ZoneShares.{SharesIn}
-use Rattle.zp_share.specs.Shares.{IsShareOf, key_of, share_at}
+use Rattle.zp_share.specs.Shares.{share_at}
 use Rattle.zp_share.proofs.Telling.{as_many, seat_at}
 use Rattle.zp_office.specs.Desks.{DeskState}
 use Rattle.zp_office.proofs.sharing.check_desk.Goals as goal

@@ -1,4 +1,4 @@
-use Rattle.std.proofs.Common.{◌≡◌, ◌≤◌, All, ap, arith, get_or, length, set, subst, sym, take, ◌∙◌}
+use Rattle.std.proofs.Common.{All, ap, get_or, set, subst, ◌∙◌}
 use Rattle.std.proofs.lemmas.List.{set-get_or, take_all}
 use Rattle.std.proofs.lemmas.List.Elements.{All-more}
 use Rattle.zp_office.specs.Runs.{HaveShare}

@@ -3,7 +3,7 @@ use Rattle.zp_share.specs.Shares.{named_zone}
 use Rattle.std.specs.List.{flat_map}
 use Rattle.std.proofs.lemmas.Result.{on_err_weaker, on_ok_weaker}
 use Rattle.zp_streams.proofs.Written.{written-same, written-then, begun-then, begun-longer, begun-same, on_err}
-use Rattle.zp_office.specs.Crews.{CrewState, crew_of}
+use Rattle.zp_share.specs.Crews.{CrewState, crew_of}
 use Rattle.zp_replay.specs.Output.{total_lines}
 use Rattle.zp_replay.specs.Replies.{info_of}
 use Rattle.zp_replay.proofs.report.write_report.Goals as goal

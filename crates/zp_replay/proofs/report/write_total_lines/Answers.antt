@@ -7,8 +7,8 @@ use Rattle.zp_text.proofs.Gathered.{begun_items, gathered-same, gathered_begun, 
 use Rattle.zp_share.specs.declared.gathering.Totals.{Totals}
 use Rattle.std.proofs.lemmas.List.{length-map, take_all}
 use Rattle.zp_share.specs.Shares.{named_zone}
-use Rattle.zp_office.specs.Crews.{CrewState, crew_of}
-use Rattle.zp_office.proofs.DeskNumbers.{crew_there}
+use Rattle.zp_share.specs.Crews.{CrewState, crew_of}
+use Rattle.zp_share.proofs.Crews.{crew_there}
 use Rattle.zp_replay.specs.Output.{total_of}
 use Rattle.zp_replay.proofs.Outputs.{gathered_here, length-gathered, number_here}
 use Rattle.zp_replay.proofs.report.write_total_lines.Goals as goal
@@ -65,4 +65,4 @@ returns-clause-err g c =
     on_err_weaker c.write_gathered.result (λ w. gathered_begun _ _ _ _ _ all (begun-same _ _ _ _ c.as_bytes.ensures w)) c.write_gathered.ensures.err
 
 pub gather-totals-requires-clause-crew : goal.gather-totals-requires-clause-crew
-gather-totals-requires-clause-crew g c = crew_there c.args.zones.now c.args.shares.now c.requires
+gather-totals-requires-clause-crew g c = crew_there c.args.zones.now c.args.shares.now c.requires.shares

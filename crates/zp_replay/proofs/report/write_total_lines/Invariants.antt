@@ -3,7 +3,7 @@ use Rattle.std.specs.List.{flat_map, range_with_len}
 use Rattle.zp_text.specs.Gathering.{IsGathered}
 use Rattle.zp_share.specs.Gathering.{gathered}
 use Rattle.zp_share.specs.Shares.{named_zone, plain}
-use Rattle.zp_office.specs.Crews.{crew_of}
+use Rattle.zp_share.specs.Crews.{crew_of}
 use Rattle.zp_replay.specs.Output.{total_of}
 use Rattle.zp_replay.proofs.report.write_total_lines.Given as goal
 

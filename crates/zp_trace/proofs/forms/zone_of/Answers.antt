@@ -5,7 +5,7 @@ use Rattle.zp_trace.specs.declared.line.ZoneLine.{ZoneLine}
 use Rattle.zp_model.specs.Naming.{IsName}
 use Rattle.zp_trace.specs.Spelling.{spelled, largest_words, zone_words}
 use Rattle.zp_trace.specs.Grammar.{IsZoneLine}
-use Rattle.zp_trace.proofs.Numbers.{same_number}
+use Rattle.zp_numbers.proofs.Numbers.{same_number}
 use Rattle.zp_trace.proofs.WordLists.{at_none, word_at, after_five, five_and, nowhere}
 use Rattle.zp_trace.proofs.forms.zone_of.Goals as goal
 

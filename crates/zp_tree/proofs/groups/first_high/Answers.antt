@@ -7,7 +7,7 @@ use Rattle.zp_tree.proofs.groups.first_high.Goals.{After-read}
 use Rattle.zp_tree.proofs.groups.first_high.Goals as goal
 
 read : (c : After-read) → c.read.result ≡ slice_index c.args.high.now c.args.group
-read c = c.read.ensures.word
+read c = c.read.ensures.node 0
 
 here : (c : After-read) (i o : ℕ) → HasHigh c.args.high.now i o → i / GROUP_PAGES ≡ c.args.group → Has c.read.result (i / PLACES % PLACES) (o - WORD_LEVELS)
 here c i o h e = let P : ℕ → Type 0 = λ w. Has w (i / PLACES % PLACES) (o - WORD_LEVELS) in subst P (ap (slice_index c.args.high.now) e ∙ sym (read c)) (high_has c.args.high.now i o h)

@@ -10,7 +10,7 @@ use Rattle.zp_tree.proofs.groups.first_low.Goals as goal
 -- the word that is read
 read : (c : After-read) → c.read.result ≡ slice_index c.args.low.now (PLACES * c.args.group + c.words.word)
 read c =
-    c.read.ensures.word ∙ ap (λ r. slice_index c.args.low.now (r + c.words.word)) c.first_word-first.ensures
+    c.read.ensures.node 0 ∙ ap (λ r. slice_index c.args.low.now (r + c.words.word)) c.first_word-first.ensures
 
 -- a block that starts in it
 here : (c : After-read) (i o : ℕ) → HasLow c.args.low.now i o → i / PLACES ≡ PLACES * c.args.group + c.words.word → Has c.read.result (i % PLACES) o

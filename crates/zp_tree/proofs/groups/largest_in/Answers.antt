@@ -15,7 +15,7 @@ pub returns-then-level-lt-WORD_LEVELS : goal.returns-then-level-lt-WORD_LEVELS
 returns-then-level-lt-WORD_LEVELS c =
     let lt : c.args.order < WORD_LEVELS = omega arith in
     let read : c.read-word.result ≡ slice_index c.args.low.now (c.args.at / PLACES) =
-    c.read-word.ensures.word ∙ ap (slice_index c.args.low.now) c.low_word.ensures in
+    c.read-word.ensures.node 0 ∙ ap (slice_index c.args.low.now) c.low_word.ensures in
     let m : IsLargestIn (slice_index c.args.low.now (c.args.at / PLACES)) (c.args.at % PLACES) c.args.order c.largest_in.result = rw (read, c.low_place.ensures.place, c.number-level.ensures.same) at c.largest_in.ensures in
     rw c.order_of.ensures (largest_small c.args.low.now c.args.high.now c.args.at c.args.order c.largest_in.result c.requires.words c.requires.aligned lt m)
 
@@ -26,7 +26,7 @@ largest_in-requires-2 c = rw (c.high_place.ensures.place, c.number-level.ensures
 high : (c : After-largest_in-2) → IsLargestIn (slice_index c.args.high.now (c.args.at / GROUP_PAGES)) (c.args.at / PLACES % PLACES) (c.args.order - WORD_LEVELS) c.largest_in-2.result
 high c =
     let read : c.read-word-2.result ≡ slice_index c.args.high.now (c.args.at / GROUP_PAGES) =
-    c.read-word-2.ensures.word ∙ ap (slice_index c.args.high.now) c.group_of.ensures in
+    c.read-word-2.ensures.node 0 ∙ ap (slice_index c.args.high.now) c.group_of.ensures in
     rw (read, c.high_place.ensures.place, c.number-level.ensures.same) at c.largest_in-2.ensures
 
 -- an order is told where a level is

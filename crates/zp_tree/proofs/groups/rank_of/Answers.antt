@@ -9,12 +9,12 @@ united : (c : After-union) → IsUnion c.args.low.now (PLACES * c.args.group) PL
 united c = rw (← c.first_word.ensures) c.union.ensures.union
 
 none : (c : After-union) → IsLargestIn (slice_index c.args.high.now c.args.group) 0 WORD_LEVELS None
-none c = let P : ℕ → Type 0 = λ w. IsLargestIn w 0 WORD_LEVELS None in subst P c.read.ensures.word c.in_default.ensures
+none c = let P : ℕ → Type 0 = λ w. IsLargestIn w 0 WORD_LEVELS None in subst P (c.read.ensures.node 0) c.in_default.ensures
 
 pub returns-in-Some : goal.returns-in-Some
 returns-in-Some c =
     let P : ℕ → Type 0 = λ w. IsLargestIn w 0 WORD_LEVELS (Some c.in-Some.level) in
-    rank_of_high _ _ _ c.in-Some.level _ c.requires.words c.requires.group (subst P c.read.ensures.word c.in-Some.ensures) c.of_number.ensures
+    rank_of_high _ _ _ c.in-Some.level _ c.requires.words c.requires.group (subst P (c.read.ensures.node 0) c.in-Some.ensures) c.of_number.ensures
 
 pub returns-in-Some-largest : goal.returns-in-Some-largest
 returns-in-Some-largest c =

@@ -18,7 +18,7 @@ returns-then-top-lt-WORD_LEVELS c =
     let room = (low_place c.args.high.now (head c.args.at c.args.to) c.args.to c.requires.inside lt).word in
     let around = head_around c.args.at c.args.to WORD_LEVELS (omega arith) in
     let read : c.read-old.result ≡ slice_index c.args.low.now (c.args.at / PLACES) =
-    c.read-old.ensures.word ∙ ap (slice_index c.args.low.now) c.low_word-word.ensures in
+    c.read-old.ensures.node 0 ∙ ap (slice_index c.args.low.now) c.low_word-word.ensures in
     let a : IsUnpaired (slice_index c.args.low.now (c.args.at / PLACES)) c.without_buddies-left.result (c.args.at % PLACES) c.args.from c.args.to = rw (read, c.low_place-place.ensures.place, c.number-least.ensures.same, c.number-top.ensures.same) at c.without_buddies-left.ensures in
     let m : IsMarked c.without_buddies-left.result c.with.result (head c.args.at c.args.to % PLACES) c.args.to 1 = rw (c.low_place.ensures.place, c.head-head.ensures, c.number-top.ensures.same) at c.with.ensures in
     rw (c.write.ensures, c.low_word-word.ensures) (low_joined c.args.low.now c.args.high.now _ _ c.args.at c.args.from c.args.to c.requires.words c.requires.inside lt a m)
@@ -40,7 +40,7 @@ high c f least le start =
     let around = head_around c.args.at c.args.to (WORD_LEVELS + WORD_LEVELS) (omega (arith, c.requires.inside.order)) in
     let w = c.read-old-2 in
     let read : w.result ≡ slice_index c.args.high.now (c.args.at / GROUP_PAGES) =
-    w.ensures.word ∙ ap (slice_index c.args.high.now) c.group_of-group.ensures in
+    w.ensures.node 0 ∙ ap (slice_index c.args.high.now) c.group_of-group.ensures in
     let a : IsUnpaired (slice_index c.args.high.now (c.args.at / GROUP_PAGES)) c.without_buddies-left-2.result (c.args.at / PLACES % PLACES) (f - WORD_LEVELS) (c.args.to - WORD_LEVELS) = rw (read, c.high_place.ensures.place, start, c.number-top.ensures.same) at c.without_buddies-left-2.ensures in
     let m : IsMarked c.without_buddies-left-2.result c.with-2.result (head c.args.at c.args.to / PLACES % PLACES) (c.args.to - WORD_LEVELS) 1 = rw (c.high_place-2.ensures.place, c.head-head.ensures, c.number-top.ensures.same) at c.with-2.ensures in
     rw c.group_of-group.ensures (high_joined c.args.low.now c.args.high.now _ _ c.args.at f c.args.to c.requires.words c.requires.inside least le a m)
@@ -54,7 +54,7 @@ returns c =
           let around = head_around c.args.at c.args.to (WORD_LEVELS + WORD_LEVELS) (omega (arith, c.requires.inside.order)) in
           let v = w.read-old in
           let read : v.result ≡ slice_index c.args.low.now (c.args.at / PLACES) =
-          v.ensures.word ∙ ap (slice_index c.args.low.now) c.low_word-word.ensures in
+          v.ensures.node 0 ∙ ap (slice_index c.args.low.now) c.low_word-word.ensures in
           let u = w.without_buddies in
           let a : IsUnpaired (slice_index c.args.low.now (c.args.at / PLACES)) u.result (c.args.at % PLACES) c.args.from WORD_LEVELS = rw (read, w.low_place-place.ensures.place, c.number-least.ensures.same) at u.ensures in
           let s = high after WORD_LEVELS (omega arith) (omega arith) (omega arith) in

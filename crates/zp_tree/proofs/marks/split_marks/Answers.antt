@@ -18,7 +18,7 @@ returns-then-top-lt-WORD_LEVELS c =
     let lt : c.args.from < WORD_LEVELS = omega arith in
     let room = (low_place c.args.high.now c.args.at c.args.from c.requires.inside lt).word in
     let read : c.read-old.result ≡ slice_index c.args.low.now (c.args.at / PLACES) =
-    c.read-old.ensures.word ∙ ap (slice_index c.args.low.now) c.low_word-word.ensures in
+    c.read-old.ensures.node 0 ∙ ap (slice_index c.args.low.now) c.low_word-word.ensures in
     let m : IsMarked (slice_index c.args.low.now (c.args.at / PLACES)) c.without.result (c.args.at % PLACES) c.args.from 0 = rw (read, c.low_place-place.ensures.place, c.number-top.ensures.same) at c.without.ensures in
     let h : IsHalved c.without.result c.with_halves-new.result (c.args.at % PLACES) c.args.from c.args.to = rw (c.low_place-place.ensures.place, c.number-top.ensures.same, c.number-least.ensures.same) at c.with_halves-new.ensures in
     rw (c.write.ensures, c.low_word-word.ensures) (low_split c.args.low.now c.args.high.now c.without.result c.with_halves-new.result c.args.at c.args.from c.args.to c.requires.words c.requires.inside lt m h)
@@ -35,7 +35,7 @@ high c t e =
     let le : WORD_LEVELS ≤ c.args.from = omega arith in
     let room = (high_place c.args.high.now c.args.at c.args.from c.requires.inside le).word in
     let read : c.read-old-2.result ≡ slice_index c.args.high.now (c.args.at / GROUP_PAGES) =
-    c.read-old-2.ensures.word ∙ ap (slice_index c.args.high.now) c.group_of-group.ensures in
+    c.read-old-2.ensures.node 0 ∙ ap (slice_index c.args.high.now) c.group_of-group.ensures in
     let end : c.max-end.result ≡ t = omega arith in
     let m : IsMarked (slice_index c.args.high.now (c.args.at / GROUP_PAGES)) c.without-2.result (c.args.at / PLACES % PLACES) (c.args.from - WORD_LEVELS) 0 = rw (read, c.high_place-place.ensures.place, c.number-top.ensures.same) at c.without-2.ensures in
     let h : IsHalved c.without-2.result c.with_halves-new-2.result (c.args.at / PLACES % PLACES) (c.args.from - WORD_LEVELS) (t - WORD_LEVELS) = rw (c.high_place-place.ensures.place, c.number-top.ensures.same, end) at c.with_halves-new-2.ensures in
@@ -47,7 +47,7 @@ returns-then-least-lt-WORD_LEVELS c =
     let room = (high_place c.args.high.now c.args.at c.args.from c.requires.inside (omega arith)).word in
     let w = c.read-old-then-least-lt-WORD_LEVELS in
     let read : w.result ≡ slice_index c.args.low.now (c.args.at / PLACES) =
-    w.ensures.word ∙ ap (slice_index c.args.low.now) c.low_word-word.ensures in
+    w.ensures.node 0 ∙ ap (slice_index c.args.low.now) c.low_word-word.ensures in
     let h : IsHalved (slice_index c.args.low.now (c.args.at / PLACES)) c.with_halves.result 0 WORD_LEVELS c.args.to = rw (read, c.number-least.ensures.same) at c.with_halves.ensures in
     rw (c.write-2.ensures, c.write-then-least-lt-WORD_LEVELS.ensures, c.low_word-word.ensures) (split_on c.args.low.now c.args.high.now _ _ _ c.args.at c.args.from c.args.to (omega arith) (omega arith) c.requires.inside s h)
 

@@ -33,7 +33,7 @@ returns-then-is_some c d at but =
     let up = row_above v.0 c.mending.node v.2 (omega arith) in
     let y = c.mending.node / FAN in
     let held = c.read-held.result in
-    let read : slice_index c.mending.nodes y ≡ held = sym c.read-held.ensures.rank in
+    let read : slice_index c.mending.nodes y ≡ held = sym (c.read-held.ensures.node 0) in
     let found : held ≤ best_from c.mending.nodes (FAN * y) FAN = found_as_much c.first_of_eight.result c.mending.nodes (FAN * y) held c.first_of_eight.ensures.first (search rules) in
     let here : slice_index c.mending.nodes y ≡ best_from c.mending.nodes (FAN * y) FAN = omega (arith, found, read, v.5 (omega (arith, up.1))) in
     (node_right d up.0 y c.mending.nodes v.3 up.2 here, v.4)

@@ -24,7 +24,7 @@ pub read-requires-clause-inside : goal.read-requires-clause-inside
 read-requires-clause-inside c = room (goal.at.read-requires-clause-inside c).In-rising
 
 read : (c : After-is_at_least) → slice_index c.rising.nodes (c.rising.node / FAN) ≡ c.read.result
-read c = sym c.read.ensures.rank
+read c = sym (c.read.ensures.node 0)
 
 pub returns-then-is_at_least : goal.returns-then-is_at_least
 returns-then-is_at_least c d at but =

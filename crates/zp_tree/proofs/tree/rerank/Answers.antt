@@ -10,8 +10,8 @@ within : (ls hs : List ℕ) (g q r : ℕ) → IsRankOf ls hs g r → IsRankBound
 within ls hs g q zero x b = omega arith
 within ls hs g q (suc k) x b = let w = x.some k (omega arith) in omega (arith, b w.0 k w.1 w.2)
 
-pub lower-requires-clause-down : goal.lower-requires-clause-down
-lower-requires-clause-down c = rw c.group_of-group.ensures (within _ _ _ _ _ (rw c.group_of-group.ensures at c.rank_of.ensures) c.requires.down)
+pub put-requires-clause-down : goal.put-requires-clause-down
+put-requires-clause-down c _ = rw c.group_of-group.ensures (within _ _ _ _ _ (rw c.group_of-group.ensures at c.rank_of.ensures) c.requires.down)
 
 -- a block of the order is left in the page's low word
 pub returns-then-has_in_word : goal.returns-then-has_in_word
@@ -27,4 +27,4 @@ returns-then-has_in_word c =
     }
 
 pub returns : goal.returns
-returns c = rw (← c.group_of-group.ensures) (record { rank = c.rank_of.result; after = c.lower.ensures; is = c.rank_of.ensures })
+returns c = rw (← c.group_of-group.ensures) (record { rank = c.rank_of.result; after = c.put.ensures; is = c.rank_of.ensures })

@@ -8,7 +8,7 @@ pub words-preserved : goal.words-preserved
 words-preserved c =
     let b = c.words.bits in
     let w = c.word.inside.bits in
-    let at : slice_index c.args.words.now (c.args.from + c.words.place) ≡ w = sym c.read-word.ensures.word ∙ sym c.word.view_is in
+    let at : slice_index c.args.words.now (c.args.from + c.words.place) ≡ w = sym (c.read-word.ensures.node 0) ∙ sym c.word.view_is in
     let u = c.words.invariant.union in
     record {
       union = record {

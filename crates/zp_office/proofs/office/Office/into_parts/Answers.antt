@@ -1,6 +1,6 @@
 use Rattle.std.proofs.Common.{rules, ◌≡◌, ◌∙◌, length, sym, ap, subst, List}
+use Rattle.zp_share.specs.Crews.{AreSharesOf, crew_of}
 use Rattle.zp_share.specs.Shares.{ShareState}
-use Rattle.zp_office.specs.Crews.{AreSharesOf, crew_of}
 use Rattle.zp_office.specs.Offices.{OfficeState, crew_in}
 use Rattle.zp_office.proofs.Leaving.{all_taken, crew_left, shares_are, shares_in}
 use Rattle.zp_office.proofs.office.Office.into_parts.Goals as goal

@@ -1,4 +1,4 @@
-use Rattle.std.proofs.Common.{◌∙◌, ap, sym}
+use Rattle.std.proofs.Common.{◌∙◌, ap}
 use Rattle.zp_share.specs.Shares.{share_at}
 use Rattle.zp_share.specs.ZoneShares.{is_lent}
 use Rattle.zp_shared.specs.OneZones.{WorkerState}

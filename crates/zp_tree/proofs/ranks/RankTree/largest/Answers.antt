@@ -15,4 +15,4 @@ pub returns : goal.returns
 returns c =
     let inv = c.self.invariant in
     let P : List ℕ → Type 0 = λ rs. IsTopRank rs c.read.result in
-    subst P c.self.view_is (rw (inv.3, c.read.ensures.rank) (root_top inv.0 c.self.inside.nodes inv.4))
+    subst P c.self.view_is (rw (inv.3, (c.read.ensures.node 0)) (root_top inv.0 c.self.inside.nodes inv.4))

@@ -28,7 +28,7 @@ pub rows-smaller : goal.rows-smaller
 rows-smaller c = omega (arith, c.rows.invariant.2, row_pos c.rows.invariant.0)
 
 items : (c : In_ok-nodes) → c.in_ok-nodes.nodes ≡ replicate (2 * c.rows.first) 0
-items c = c.in_ok-nodes.ensures
+items c = c.in_ok-nodes.ensures ∙ ap (replicate (2 * c.rows.first)) c.none.ensures
 
 pub invariant_of-result : goal.invariant_of-result
 invariant_of-result c =

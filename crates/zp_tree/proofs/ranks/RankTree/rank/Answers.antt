@@ -16,4 +16,4 @@ pub read-requires-clause-inside : goal.read-requires-clause-inside
 read-requires-clause-inside c = omega (arith, (at (goal.at.read-requires-clause-inside c).After-self).to, c.self.invariant.4.size)
 
 pub returns : goal.returns
-returns c = c.read.ensures.rank ∙ sym (get_or-drop c.self.inside.first c.self.inside.nodes c.args.group 0) ∙ ap (λ rs. slice_index rs c.args.group) c.self.view_is
+returns c = c.read.ensures.node 0 ∙ sym (get_or-drop c.self.inside.first c.self.inside.nodes c.args.group 0) ∙ ap (λ rs. slice_index rs c.args.group) c.self.view_is

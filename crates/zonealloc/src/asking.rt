@@ -1,0 +1,84 @@
+//! The one road from a worker's handle to a zone: the worker is taken out of the handle, makes the request, and goes back. What is asked
+//! most, a block and a block back, has a function of its own.
+ghost use Rattle.std.specs.Prelude.{IfErr, IfOk, OnOk};
+ghost use Rattle.zp_model.specs.declared.request.Request.TheVariants as request;
+ghost use Rattle.zp_model.specs.declared.request.Reply.TheVariants as reply;
+ghost use Rattle.zp_gate.specs.GatedWorkers.{IsGrantedAt};
+ghost use Rattle.zp_gate.specs.Calls.{reply_of, request_of};
+ghost use Rattle.zonealloc.specs.Calls.{IsAskDenied, IsOfBoth};
+
+use crate::answers::{BAD_HANDLE, call_error};
+use crate::handles::{WorkerHandle, put_worker, worker_of};
+use std::alloc::Global;
+use zp_gate::{Given, ZoneCall};
+use zp_model::{Mark, MigrateType, Order, PageNo};
+
+/// A block for the worker in a handle: its first page, else the number of why there is none.
+#[inline(always)]
+pub fn ask_alloc(
+    alloc: Global,
+    worker: &mut WorkerHandle,
+    zone: u32,
+    order: Order,
+    kind: MigrateType,
+    mark: Mark,
+) -> Result<PageNo, u32>
+    ensures granted { IfOk result (λ page. IsOfBoth (IsGrantedAt zone (request.Alloc order kind mark) (reply.Page page)) worker.old.slot.value worker.new.slot.value) }
+    ensures denied { IfErr result (λ n. IsAskDenied zone (request.Alloc order kind mark) n worker.old.slot.value worker.new.slot.value) }
+{
+    let Some(mut held) = worker_of(alloc, worker) else {
+        return Err(BAD_HANDLE);
+    };
+    let answer = held.worker.alloc(zone as usize, order, kind, mark);
+    put_worker(worker, held);
+    match answer {
+        Ok(page) => Ok(page),
+        Err(why) => Err(call_error(why)),
+    }
+}
+
+/// A block back from the worker in a handle; else the number of why it was not taken.
+#[inline(always)]
+pub fn ask_free(
+    alloc: Global,
+    worker: &mut WorkerHandle,
+    zone: u32,
+    page: PageNo,
+    order: Order,
+) -> Result<(), u32>
+    ensures granted { OnOk result (IsOfBoth (IsGrantedAt zone (request.Free page order) reply.Freed) worker.old.slot.value worker.new.slot.value) }
+    ensures denied { IfErr result (λ n. IsAskDenied zone (request.Free page order) n worker.old.slot.value worker.new.slot.value) }
+{
+    let Some(mut held) = worker_of(alloc, worker) else {
+        return Err(BAD_HANDLE);
+    };
+    let answer = held.worker.free(zone as usize, page, order);
+    put_worker(worker, held);
+    match answer {
+        Ok(()) => Ok(()),
+        Err(why) => Err(call_error(why)),
+    }
+}
+
+/// Another request of the worker in a handle to the zone at a place: what is given, else the number of why nothing is.
+// (inlined, so that each export has the way of its own call alone)
+#[inline(always)]
+pub fn ask(
+    alloc: Global,
+    worker: &mut WorkerHandle,
+    zone: u32,
+    call: ZoneCall,
+) -> Result<Given, u32>
+    ensures granted { IfOk result (λ g. IsOfBoth (IsGrantedAt zone (request_of call) (reply_of call g)) worker.old.slot.value worker.new.slot.value) }
+    ensures denied { IfErr result (λ n. IsAskDenied zone (request_of call) n worker.old.slot.value worker.new.slot.value) }
+{
+    let Some(mut held) = worker_of(alloc, worker) else {
+        return Err(BAD_HANDLE);
+    };
+    let answer = held.worker.section(zone as usize, call);
+    put_worker(worker, held);
+    match answer {
+        Ok(given) => Ok(given),
+        Err(why) => Err(call_error(why)),
+    }
+}

@@ -1,0 +1,53 @@
+-- What one call makes of what stands behind a lock: it is the zone of the same key still.
+use Rattle.std.proofs.Common.{◌≡◌, ◌⊎◌, ◌<◌, List, [], ◌∷◌, ◌++◌, length, All, slice_index_or, set, refl, sym, ap, ◌∙◌, subst, inl, inr, arith}
+use Rattle.std.specs.Prelude.{Option, Some, None, Result, Ok, Err}
+use Rattle.std.proofs.lemmas.List.{length-set}
+use Rattle.std.proofs.lemmas.List.Elements.{All-append}
+use Rattle.zp_model.specs.declared.refused.Refused.{Refused}
+use Rattle.zp_model.specs.declared.request.Request.{Request}
+use Rattle.zp_model.specs.declared.request.Reply.{Reply}
+use Rattle.zp_model.specs.Step.{step as stepping}
+use Rattle.zp_laws.proofs.Sameness.{step-same}
+use Rattle.zp_zone.specs.Seats.{ZoneState}
+use Rattle.zp_share.specs.PlainShares.{refusal_of}
+use Rattle.zp_share.specs.Sections.{ComesOf, IsAsked, IsRefilled}
+use Rattle.zp_share.specs.Shares.{ShareState, ZoneKey, key_of, share_at, with_zone_share}
+use Rattle.zp_share.specs.ZoneShares.{ZoneShareState, plain_share}
+use Rattle.zp_share.proofs.Telling.{same-key}
+use Rattle.zp_gate.specs.GatedZones.{GatedState, IsBehind, IsOneCall, IsOneShare, IsSectionOf, no_zone}
+use Rattle.zp_gate.proofs.Crews.{each}
+
+-- whatever is asked, the zone's key stays
+key_came : (e : Option Refused) (r : Request) (q : Reply) (z y : ZoneState) (a b : ZoneShareState) → ComesOf e r q z y a b → key_of y ≡ key_of z
+key_came (Some e) r q z y a b x = ap key_of x.1.zone
+key_came None r q z y a b x = ap key_of x.zone ∙ same-key z (stepping z.plain a.seat.worker r).zone (step-same z.plain a.seat.worker r)
+
+pub key_stays : (r : Request) (q : Reply) (z y : ZoneState) (a b : ZoneShareState) → IsAsked r q z y a b → key_of y ≡ key_of z
+key_stays r q z y a b x = key_came (refusal_of r (plain_share a)) r q z y a b x.made
+
+-- what stands behind a lock stands there after one call
+pub one_call_behind : (key : ZoneKey) (y z : GatedState) → IsBehind key y → IsOneCall key y z → IsBehind key z
+one_call_behind key y z behind (inl x) =
+    let asked = x.4.0 in
+    record {
+      known = key_stays x.0 x.1 y.zone z.zone (share_at x.2 0) (share_at x.3 0) asked ∙ behind.known;
+      left = subst (λ (ss : List ShareState). All (IsOneShare key) ss) (sym (ap (λ (g : GatedState). g.left) x.4.1)) behind.left;
+    }
+one_call_behind key y z behind (inr (inl x)) =
+    record {
+      known = ap (λ (g : GatedState). key_of g.zone) x.2 ∙ behind.known;
+      left = subst (λ (ss : List ShareState). All (IsOneShare key) ss) (sym (ap (λ (g : GatedState). g.left) x.2))
+          (All-append (IsOneShare key) y.left (x.0 ∷ []) behind.left (each (IsOneShare key) x.0 x.1));
+    }
+one_call_behind key y z behind (inr (inr same)) = subst (IsBehind key) (sym same) behind
+
+base_came : (e : Option Refused) (r : Request) (q : Reply) (z y : ZoneState) (s t : ZoneShareState) → ComesOf e r q z y s t → t.seat.part.base ≡ s.seat.part.base
+base_came (Some e) r q z y s t x = ap (λ (a : ZoneShareState). a.seat.part.base) x.1.share
+base_came None r q z y s t x = ap (λ (a : ZoneShareState). a.seat.part.base) x.share
+
+-- a share that made a section is one of the same zone still
+pub share_stays : (key : ZoneKey) (r : Request) (q : Reply) (y z : GatedState) (s t : ShareState) → IsOneShare key s → IsSectionOf r q y z s t → t ≡ with_zone_share 0 (share_at t 0) s → IsOneShare key t
+share_stays key r q y z s t one x rest = (
+  ap (λ (u : ShareState). length u.zones) rest ∙ length-set s.zones 0 (share_at t 0) ∙ one.0,
+  (x.0.same.tie ∙ one.1.0, base_came (refusal_of r (plain_share (share_at s 0))) r q y.zone z.zone (share_at s 0) (share_at t 0) x.0.made ∙ one.1.1),
+)

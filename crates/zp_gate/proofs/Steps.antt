@@ -1,0 +1,129 @@
+-- Each step on a lock keeps its rule.
+use Rattle.std.proofs.Common.{◌≡◌, ◌⊎◌, ℕ, zero, suc, ◌<◌, ◌==◌, List, [], ◌∷◌, ◌++◌, length, map, set, refl, sym, ap, ◌∙◌, subst, inl, inr, arith}
+use Rattle.std.specs.Prelude.{Option, Some, None}
+use mathlib.Core.Option.{some, none, some-ne-none, some-injective}
+use lib.ListN.{get_elem?}
+use prog.Atomic.{either}
+use Rattle.std.specs.List.{slice_index}
+use Rattle.atomic_table.specs.Table.{State, Me, Act, opening, Valid, step, stepped, keeps, takes, gives, carried_after, rest, Allows, put_back}
+use Rattle.atomic_table.specs.Table.{Enters as Entering}
+use Rattle.atomic_table.specs.Seated.{TableId}
+use Rattle.atomic_table.specs.declared.shared.Seat.{Seat}
+use Rattle.atomic_table.proofs.Lists.{at_set, set_here, exchanged}
+use Rattle.zp_share.specs.Shares.{ZoneKey}
+use Rattle.zp_gate.specs.declared.visit_view.VisitView.{VisitView}
+use Rattle.zp_gate.specs.GatedZones.{GatedState, IsBehind, IsOneCall}
+use Rattle.zp_gate.specs.Locks.{IsAtHome, IsGated, IsIn, MayLeave, Comes, Enters, Leaves, first_held, inside, outside}
+use Rattle.zp_gate.specs.Visits.{IsVisit}
+use Rattle.zp_gate.proofs.Keeping.{one_call_behind}
+
+-- each visitor knows the lock's key
+abbrev Views : ZoneKey → List VisitView → Type 0
+Views key views = (by : ℕ) (v : VisitView) → get_elem? views by ≡ some v → v.key ≡ key
+
+at_end : {A : Type 0} (l : List A) (a b : A) (j : ℕ) → get_elem? (l ++ a ∷ []) j ≡ some b → (get_elem? l j ≡ some b) ⊎ ((j ≡ length l) × (a ≡ b))
+at_end [] a b zero e = inr (refl, some-injective a b e)
+at_end [] a b (suc j) e = absurd (some-ne-none b (sym e))
+at_end (x ∷ xs) a b zero e = inl e
+at_end (x ∷ xs) a b (suc j) e = elim (at_end xs a b j e) [ inl t ↦ inl t | inr t ↦ inr (ap suc t.0, t.1) ]
+
+views_end : (key : ZoneKey) (views : List VisitView) (w : VisitView) → w.key ≡ key → Views key views → Views key (views ++ w ∷ [])
+views_end key views w is old j u e = elim (at_end views w u j e) [ inl was ↦ old j u was | inr x ↦ ap (λ (v : VisitView). v.key) (sym x.1) ∙ is ]
+
+views_set : (key : ZoneKey) (views : List VisitView) (id : ℕ) (w : VisitView) → w.key ≡ key → Views key views → Views key (set views id w)
+views_set key views id w is old j u e = elim (at_set views id j w u e) [ inl x ↦ ap (λ (v : VisitView). v.key) (sym x.1) ∙ is | inr x ↦ old j u x.1 ]
+
+pub comes : (key : ZoneKey) (slots : ℕ) → Entering (IsGated key) slots 0 (λ n w. Comes (step slots 0 0 0 none) (outside key, []) n (w, []))
+comes key slots s gated len small = (outside key, (gated.0, gated.1, gated.2, views_end key s.views (outside key) refl gated.3), refl)
+
+abbrev Entered : ZoneKey → ℕ → ℕ → Me GatedState VisitView → State GatedState VisitView → Type 0
+Entered key slots id me s =
+    (w : VisitView) × (a : Act GatedState) × Valid s.homes me.1 a × IsGated key (stepped s 0 (either (slice_index s.words 0 == 0) 1 (slice_index s.words 0)) id me.1 w a) × Enters (step slots 0 0 1 none) me (slice_index s.words 0) (w, carried_after me.1 a)
+
+entered : (key : ZoneKey) (slots id : ℕ) (me : Me GatedState VisitView) (s : State GatedState VisitView) (w : ℕ) → s.words ≡ w ∷ [] → IsAtHome key w s → Views key s.views → get_elem? s.views id ≡ some me.0 → Entered key slots id me s
+entered key slots id me s zero e home views at =
+    let h = home refl in
+    let is : me.0.key ≡ key = views id me.0 at in (
+      inside me.0.key h.0,
+      takes 0 h.0,
+      h.1,
+      (1, ap (λ (ws : List ℕ). set ws 0 (either (slice_index ws 0 == 0) 1 (slice_index ws 0))) e, (λ no. absurd (omega (arith, no))), views_set key s.views id (inside me.0.key h.0) is views),
+      (λ found. (h.0, refl, refl, subst (λ (k : ZoneKey). IsBehind k h.0) (sym is) h.2)),
+    )
+entered key slots id me s (suc n) e home views at =
+    let is : me.0.key ≡ key = views id me.0 at in
+    let word : slice_index s.words 0 ≡ suc n = ap (λ (ws : List ℕ). slice_index ws 0) e in (
+      me.0,
+      keeps,
+      tt,
+      (suc n, ap (λ (ws : List ℕ). set ws 0 (either (slice_index ws 0 == 0) 1 (slice_index ws 0))) e ∙ ap (λ (k : ℕ). k ∷ []) (exchanged (suc n) 0 1 (λ k. k ≡ suc n) (λ z. absurd (omega (arith, z))) (λ ne. refl)), (λ no. absurd (omega (arith, no))), views_set key s.views id me.0 is views),
+      (λ found. absurd (omega (arith, found, word))),
+    )
+
+pub enters : (key : ZoneKey) (slots id : ℕ) (me : Me GatedState VisitView) → Allows (IsGated key) slots id me 0 (λ n. either (n == 0) 1 n) (Enters (step slots 0 0 1 none) me)
+enters key slots id me s gated len at small = entered key slots id me s gated.0 gated.1 gated.2 gated.3 at
+
+pub leaves : (key : ZoneKey) (id : TableId) (slots : ℕ) (p : Seat GatedState VisitView) → slots ≡ 1 → MayLeave id key p → Allows (IsGated key) slots p.id p.me 0 (λ _. 0) (λ _. Leaves (step slots 0 0 0 none) p.me 0)
+leaves key tid slots p one may s gated len at small =
+    let y : GatedState = may.1.0 in
+    let z : GatedState = may.1.1 in
+    let view : p.me.0 ≡ inside key y = may.1.2 in
+    let has : p.me.1 ≡ (0, z) ∷ [] = may.1.3 in
+    let behind : IsBehind key z = one_call_behind key y z may.1.4 may.1.5 in
+    let below : 0 < length s.homes = omega (arith, one, len) in
+    let home : get_elem? (put_back s.homes p.me.1) 0 ≡ some (some z) = subst (λ (c : List (ℕ × GatedState)). get_elem? (put_back s.homes c) 0 ≡ some (some z)) (sym has) (set_here s.homes 0 (some z) below) in
+    let now : VisitView = record p.me.0 { left = first_held p.me.1 } in (
+      now,
+      gives,
+      tt,
+      (0, ap (λ (ws : List ℕ). set ws 0 0) gated.1, (λ _. (z, home, behind)), views_set key s.views p.id now (ap (λ (v : VisitView). v.key) view) gated.3),
+      refl,
+    )
+
+-- whoever came in is in
+pub came_in : (id : TableId) (key : ZoneKey) (slots found : ℕ) (p q : Seat GatedState VisitView) → p.table_id ≡ id → p.me ≡ (outside key, []) → q.table_id ≡ p.table_id → found ≡ 0 →
+    Enters (step slots 0 0 1 none) p.me found q.me → IsIn id key q
+came_in id key slots found p q of me same none_in entered =
+    let e = entered none_in in
+    let y : GatedState = e.0 in
+    let is : p.me.0.key ≡ key = ap (λ (m : Me GatedState VisitView). m.0.key) me in (
+      same ∙ of,
+      (y, e.1 ∙ ap (λ (k : ZoneKey). inside k y) is, e.2 ∙ ap (λ (m : Me GatedState VisitView). (0, y) ∷ m.1) me, subst (λ (k : ZoneKey). IsBehind k y) is e.3),
+    )
+
+-- a new lock: what stands behind it is at home
+pub opened : (key : ZoneKey) (slots : List GatedState) (y : GatedState) → slots ≡ y ∷ [] → IsBehind key y → IsGated key (opening (0 ∷ []) slots (outside key))
+opened key slots y e behind =
+    (0, refl, (λ _. (y, ap (λ (ys : List GatedState). get_elem? (map (λ (u : GatedState). some u) ys) 0) e, behind)), views_end key [] (outside key) refl (λ by v no. absurd (some-ne-none v (sym no))))
+
+-- whoever is in has what stands there
+pub has_zone : (id : TableId) (key : ZoneKey) (p : Seat GatedState VisitView) → IsIn id key p → (p.table_id ≡ id) × ((x : GatedState) × (p.me.1 ≡ (0, x) ∷ rest p.me.1))
+has_zone id key p is =
+    let y : GatedState = is.1.0 in
+    let e : p.me.1 ≡ (0, y) ∷ [] = is.1.2 in
+    (is.0, (y, e ∙ sym (ap (λ (l : List (ℕ × GatedState)). (0, y) ∷ rest l) e)))
+
+first_zone : List (ℕ × GatedState) → GatedState → GatedState
+first_zone [] d = d
+first_zone (x ∷ xs) d = x.1
+
+-- what he sees there is what he found
+pub seen : (id : TableId) (key : ZoneKey) (p : Seat GatedState VisitView) (was : GatedState) → IsIn id key p → p.me.1 ≡ (0, was) ∷ rest p.me.1 → (p.me.0 ≡ inside key was) × IsBehind key was
+unfolding first_zone
+seen id key p was is has =
+    let y : GatedState = is.1.0 in
+    let e : p.me.1 ≡ (0, y) ∷ [] = is.1.2 in
+    let same : y ≡ was = ap (λ (l : List (ℕ × GatedState)). first_zone l y) (sym e ∙ has) in
+    (is.1.1 ∙ ap (inside key) same, subst (IsBehind key) same is.1.3)
+
+-- with what one call made of it in its place he may leave
+pub may_leave : (id : TableId) (key : ZoneKey) (p : Seat GatedState VisitView) (was now : GatedState) → IsIn id key p → p.me.1 ≡ (0, was) ∷ rest p.me.1 → IsOneCall key was now →
+    (p.table_id ≡ id) × ((y : GatedState) × (z : GatedState) × (p.me.0 ≡ inside key y) × ((0, now) ∷ rest p.me.1 ≡ (0, z) ∷ []) × IsBehind key y × IsOneCall key y z)
+may_leave id key p was now is has call =
+    let s = seen id key p was is has in
+    let e : p.me.1 ≡ (0, is.1.0) ∷ [] = is.1.2 in
+    (is.0, (was, now, s.0, ap (λ (l : List (ℕ × GatedState)). (0, now) ∷ rest l) e, s.1, call))
+
+-- and his visit then tells of both
+pub visited : (id : TableId) (key : ZoneKey) (p : Seat GatedState VisitView) (was now : GatedState) (v : VisitView) → IsIn id key p → p.me.1 ≡ (0, was) ∷ rest p.me.1 → v ≡ record { key = p.me.0.key; found = p.me.0.found; left = Some now } → IsVisit key was now v
+visited id key p was now v is has left = let s = seen id key p was is has in record { view = left ∙ ap (λ (u : VisitView). record u { left = Some now }) s.0; behind = s.1 }

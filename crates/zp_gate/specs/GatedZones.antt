@@ -1,0 +1,61 @@
+-- What stands behind a lock: a zone, whose posted blocks are its own, and the shares of it that workers left (this profile).
+use Rattle.std.specs.Prelude.{ℕ, ◌≡◌, ◌<◌, ◌++◌, ◌∷◌, ◌⊎◌, List, [], All, length, map}
+use Rattle.zp_model.specs.declared.request.Request.{Request}
+use Rattle.zp_model.specs.declared.request.Reply.{Reply}
+use Rattle.zp_model.specs.declared.migrate_type.MigrateType.{MigrateType}
+use Rattle.zp_model.specs.Run.{IsHistory}
+use Rattle.zp_zone.specs.Seats.{ZoneState, SeatState}
+use Rattle.zp_share.specs.Commands.{no_zone as no_named}
+use Rattle.zp_share.specs.declared.gathering.Totals.{Totals}
+use Rattle.zp_share.specs.Gathering.{AddsUp, IsCrewOf, IsOneOf, owns_at, totals_of}
+use Rattle.zp_share.specs.PlainShares.{back}
+use Rattle.zp_share.specs.Sections.{IsAsked}
+use Rattle.zp_share.specs.Shares.{ShareState, ZoneKey, key_of, no_tie, plain, share_at}
+use Rattle.zp_share.specs.ZoneShares.{cached_of}
+
+pub record GatedState : Type 0 where
+  pub zone : ZoneState
+  -- the shares that workers left, the first to leave in front
+  pub left : List ShareState
+
+-- there is always one
+abbrev pub no_zone : ZoneState
+no_zone = record { tie = no_tie; name = []; plain = no_named.plain; entries = [] }
+
+-- a seat of the zone with this key
+abbrev pub IsSeatBy : ZoneKey → SeatState → Type 0
+IsSeatBy k t = (t.tie ≡ k.tie) × (t.part.base ≡ k.base)
+
+-- a share of one zone, the one with this key
+abbrev pub IsOneShare : ZoneKey → ShareState → Type 0
+IsOneShare k s = (length s.zones ≡ 1) × IsSeatBy k (share_at s 0).seat
+
+-- it is the zone that the key tells of, and the shares that were left are of it
+pub record IsBehind (key : ZoneKey) (y : GatedState) : Type 0 where
+  pub known : key_of y.zone ≡ key
+  pub left : All (IsOneShare key) y.left
+
+-- the request for a drain of n pages from the back of a share's list
+abbrev pub drain_request : ℕ → MigrateType → ShareState → Request
+drain_request n k s = Request.Drain k (back n (cached_of (share_at s 0) k))
+
+-- a share made one section with the zone; the shares that were left stay
+abbrev pub IsSectionOf : Request → Reply → GatedState → GatedState → ShareState → ShareState → Type 0
+IsSectionOf r q y z s t = IsAsked r q y.zone z.zone (share_at s 0) (share_at t 0) × (z ≡ record y { zone = z.zone })
+
+-- a worker left its share; the zone stays
+abbrev pub IsLeavingOf : ShareState → GatedState → GatedState → Type 0
+IsLeavingOf s y z = z ≡ record y { left = y.left ++ s ∷ [] }
+
+-- what one call makes of what stands behind a lock: one section of a share, a share more that was left, or nothing
+abbrev pub IsOneCall : ZoneKey → GatedState → GatedState → Type 0
+IsOneCall key y z =
+    ((r : Request) × (q : Reply) × (s : ShareState) × (t : ShareState) × IsSectionOf r q y z s t) ⊎ (((s : ShareState) × IsOneShare key s × IsLeavingOf s y z) ⊎ (z ≡ y))
+
+-- where the pages of the zone are, each in one place, with the shares of all its workers, which agree with it
+pub record IsGatheredIn (y : GatedState) (t : Totals) : Type 0 where
+  pub crew : IsCrewOf y.left y.zone
+  pub agree : All (IsOneOf y.zone 0) y.left
+  pub totals : t ≡ totals_of y.zone.plain (owns_at (map plain y.left) 0)
+  pub adds_up : AddsUp y.zone.plain (owns_at (map plain y.left) 0)
+  pub history : IsHistory y.zone.plain y.zone.entries

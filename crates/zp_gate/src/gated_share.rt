@@ -1,0 +1,233 @@
+//! One worker's share of one zone behind its lock.
+ghost use Rattle.std.specs.Prelude.{◌≡◌, ◌<◌, ◌≤◌, ◌↔◌, true, false, length, IfOk, IfErr, OnOk, Err};
+ghost use Rattle.std.specs.Arc.{arc_value};
+ghost use Rattle.zp_model.specs.declared.request.Request.TheVariants as request;
+ghost use Rattle.zp_model.specs.declared.request.Reply.TheVariants as reply;
+ghost use Rattle.zp_model.specs.declared.refused.Refused.TheVariants.{Memory, NotLent};
+ghost use Rattle.zp_zone.specs.Seats.{IsUnused};
+ghost use Rattle.zp_share.specs.PlainShares.{lends_for};
+ghost use Rattle.zp_share.specs.Shares.{share_at};
+ghost use Rattle.zp_share.specs.ZoneShares.{cached_of, plain_share};
+ghost use Rattle.zp_gate.specs.Calls.{reply_of, request_of};
+ghost use Rattle.zp_gate.specs.GatedZones.{IsOneShare, IsSeatBy, drain_request};
+ghost use Rattle.zp_gate.specs.declared.call_error.CallError.TheVariants.{NoLists, NotEmpty, NoWorker, TooFew, Refused as Because};
+ghost use Rattle.zp_gate.specs.GatedRows.{lock_key};
+ghost use Rattle.zp_gate.specs.GatedWorkers.{HasPages, HasTooFew, HasTurned, IsDenial, IsDrained, IsFilled, IsGranted, IsNewShare, IsOfSection, LacksBlock, LacksWorker};
+ghost use Rattle.zp_gate.specs.Readings.{HasPage, HasPageblock, IsThen, Tells};
+ghost use Rattle.zp_gate.specs.Visits.{HasKept};
+
+use crate::call::{Given, ZoneCall};
+use crate::call_error::CallError;
+use crate::question::{Answer, Question};
+use crate::try_lock::{Busy, TryLock, Visit};
+use std::alloc::Global;
+use std::marker::Model;
+use std::sync::Arc;
+use zp_model::{Mark, MigrateType, Order, PageNo, Refused};
+use zp_share::{ListConfig, Share};
+use zp_zone::Seat;
+
+/// The lock of a zone, and a worker's share of the zone. Contracts see the zone's key and the share.
+#[derive(Drop)]
+pub struct GatedShare {
+    lock: Arc<TryLock, Global>,
+    pub(crate) share: Share,
+}
+
+impl Model for GatedShare {
+    ghost use Rattle.std.specs.Arc.{arc_value};
+    ghost use Rattle.zp_gate.specs.GatedZones.{IsOneShare};
+    ghost use Rattle.zp_gate.specs.GatedRows.{lock_key};
+    ghost use Rattle.zp_gate.specs.GatedWorkers.{GatedShareState};
+
+    ghost Value = { GatedShareState };
+
+    ghost view = { λ d. record { key = lock_key (arc_value d.lock); share = d.share } };
+
+    ghost invariant = { λ d. IsOneShare (lock_key (arc_value d.lock)) d.share };
+}
+
+impl GatedShare {
+    /// The share at this lock of a worker with which no request was made. Refused 6.
+    pub(crate) fn new(
+        alloc: Global,
+        lock: &Arc<TryLock, Global>,
+        seat: Seat,
+        lists: ListConfig,
+    ) -> Result<GatedShare, Refused>
+        requires unused { IsUnused seat }
+        requires of { IsSeatBy (lock_key (arc_value lock.now)) seat }
+        ensures new { IfOk result (λ d. IsNewShare seat.worker lists.batch lists.high_len d.share) }
+        ensures key { IfOk result (λ d. d.key ≡ lock_key (arc_value lock.now)) }
+        ensures why { IfErr result (λ e. e ≡ Memory) }
+    {
+        let Ok(seats) = Vec::from_array(alloc, [seat]) else {
+            return Err(Refused::Memory);
+        };
+        let share = Share::new(alloc, seats, lists)?;
+        let Ok(lock) = Arc::try_clone(lock) else {
+            return Err(Refused::Memory);
+        };
+        Ok(GatedShare { lock, share })
+    }
+
+    /// A block of this order for this type, held to this mark, which is then lent. Refused 10, 11 or 30.
+    #[inline(always)]
+    pub(crate) fn alloc(
+        &mut self,
+        order: Order,
+        kind: MigrateType,
+        mark: Mark,
+    ) -> Result<PageNo, CallError>
+        ensures ok { IfOk result (λ page. IsGranted (request.Alloc order kind mark) (reply.Page page) self.old self.new) }
+        ensures worker { ¬ (result ≡ Err NoWorker) }
+        ensures lent { ¬ (result ≡ Err (Because NotLent)) }
+        ensures why { IfErr result IsOfSection }
+        ensures denied { IfErr result (λ e. IsDenial (request.Alloc order kind mark) e self.old self.new) }
+    {
+        match self.lock.alloc(&mut self.share, order, kind, mark) {
+            Ok(Ok(page)) => Ok(page),
+            Ok(Err(refused)) => Err(CallError::Refused(refused)),
+            Err(busy) => Err(CallError::Busy(busy)),
+        }
+    }
+
+    /// Gives back a lent block. Whether it is lent is tested before anybody enters. Refused 20 or 30.
+    #[inline(always)]
+    pub(crate) fn free(&mut self, page: PageNo, order: Order) -> Result<(), CallError>
+        ensures ok { OnOk result (IsGranted (request.Free page order) reply.Freed self.old self.new) }
+        ensures worker { ¬ (result ≡ Err NoWorker) }
+        ensures lent { (result ≡ Err (Because NotLent)) ↔ LacksBlock (request.Free page order) self.old }
+        ensures why { IfErr result IsOfSection }
+        ensures denied { IfErr result (λ e. IsDenial (request.Free page order) e self.old self.new) }
+    {
+        if !self.share.is_lent(0, page, order) {
+            return Err(CallError::Refused(Refused::NotLent));
+        }
+        match self.lock.free(&mut self.share, page, order) {
+            Ok(Ok(())) => Ok(()),
+            Ok(Err(refused)) => Err(CallError::Refused(refused)),
+            Err(busy) => Err(CallError::Busy(busy)),
+        }
+    }
+
+    /// Another request to the zone. Whether the zone has the worker to whom a block is posted, and whether the block is lent, is tested before
+    /// anybody enters. Refused 20, and as the zone refuses it.
+    #[inline(always)]
+    pub(crate) fn section(&mut self, call: ZoneCall) -> Result<Given, CallError>
+        ensures ok { IfOk result (λ g. IsGranted (request_of call) (reply_of call g) self.old self.new) }
+        ensures worker { (result ≡ Err NoWorker) ↔ LacksWorker (request_of call) self.old }
+        ensures lent { (result ≡ Err (Because NotLent)) ↔ LacksBlock (request_of call) self.old }
+        ensures why { IfErr result IsOfSection }
+        ensures denied { IfErr result (λ e. IsDenial (request_of call) e self.old self.new) }
+    {
+        if self.lacks_worker(&call) {
+            return Err(CallError::NoWorker);
+        }
+        if !self.lends_for(&call) {
+            return Err(CallError::Refused(Refused::NotLent));
+        }
+        match self.lock.section(&mut self.share, call) {
+            Ok(Ok(given)) => Ok(given),
+            Ok(Err(refused)) => Err(CallError::Refused(refused)),
+            Err(busy) => Err(CallError::Busy(busy)),
+        }
+    }
+
+    /// Whether a block is to be posted to a worker that the zone does not have.
+    #[inline(always)]
+    fn lacks_worker(&self, call: &ZoneCall) -> bool
+        ensures yes { result ≡ true → LacksWorker (request_of call.now) self.now }
+        ensures no { result ≡ false → ¬ LacksWorker (request_of call.now) self.now }
+    {
+        match call {
+            ZoneCall::Post(_, _, to) => u32::from(to.number()) >= self.lock.workers,
+            _ => false,
+        }
+    }
+
+    /// Whether the block that is named, if one is, is lent.
+    #[inline(always)]
+    fn lends_for(&self, call: &ZoneCall) -> bool
+        ensures { result ≡ lends_for (request_of call.now) (plain_share (share_at self.now.share 0)) }
+    {
+        match call {
+            ZoneCall::Post(page, order, _) => self.share.is_lent(0, *page, *order),
+            _ => true,
+        }
+    }
+
+    /// Fills the worker's empty list of this type with up to a batch of pages. Refused 10, 11 or 30.
+    pub(crate) fn refill(&mut self, kind: MigrateType, mark: Mark) -> Result<(), CallError>
+        ensures ok { OnOk result (HasTurned (IsFilled self.old.key kind mark) self.old self.new) }
+        ensures lists { (result ≡ Err NoLists) ↔ (self.old.share.batch ≡ 0) }
+        ensures empty { (result ≡ Err NotEmpty) ↔ HasPages kind self.old.share }
+        ensures denied { IfErr result (λ e. IsDenial (request.Refill kind mark self.old.share.batch) e self.old self.new) }
+    {
+        if self.share.lists().batch() == 0 {
+            return Err(CallError::NoLists);
+        }
+        if self.share.cached_len(0, kind) != 0 {
+            return Err(CallError::NotEmpty);
+        }
+        match self.lock.fill(&mut self.share, kind, mark) {
+            Ok(Ok(())) => Ok(()),
+            Ok(Err(refused)) => Err(CallError::Refused(refused)),
+            Err(busy) => Err(CallError::Busy(busy)),
+        }
+    }
+
+    /// Gives back so many pages from the back of the worker's list of this type. Refused 30.
+    pub(crate) fn drain(&mut self, kind: MigrateType, count: usize) -> Result<(), CallError>
+        ensures ok { OnOk result (HasTurned (IsDrained self.old.key kind count) self.old self.new) }
+        ensures few { (result ≡ Err TooFew) ↔ HasTooFew kind count self.old.share }
+        ensures why { IfErr result (λ e. (¬ HasTooFew kind count self.old.share) → IsOfSection e) }
+        ensures denied { IfErr result (λ e. IsDenial (drain_request count kind self.old.share) e self.old self.new) }
+    {
+        if count == 0 || self.share.cached_len(0, kind) < count {
+            return Err(CallError::TooFew);
+        }
+        match self.lock.drain(&mut self.share, kind, count) {
+            Ok(Ok(())) => Ok(()),
+            Ok(Err(refused)) => Err(CallError::Refused(refused)),
+            Err(busy) => Err(CallError::Busy(busy)),
+        }
+    }
+
+    /// What the zone tells.
+    #[inline(always)]
+    pub(crate) fn tell(&mut self, question: Question) -> Result<Answer, Busy>
+        ensures same { self.new ≡ self.old }
+        ensures told { IfOk result (λ a. IsThen self.old.key self.old.share (Tells question a)) }
+    {
+        self.lock.tell(&mut self.share, question)
+    }
+
+    /// Whether a page is one of the zone's.
+    #[inline(always)]
+    pub(crate) fn has_page(&self, page: PageNo) -> bool
+        ensures { (result ≡ true) ↔ HasPage self.now.key page }
+    {
+        page.number() >= self.lock.base && page.number() - self.lock.base < self.lock.pages
+    }
+
+    /// Whether the zone has a pageblock of this number.
+    #[inline(always)]
+    pub(crate) fn has_pageblock(&self, pageblock: u32) -> bool
+        ensures { (result ≡ true) ↔ HasPageblock self.now.key pageblock }
+    {
+        (pageblock as usize) < self.lock.pageblocks
+    }
+
+    /// The worker leaves its share with the zone. It comes back where somebody is in, or where all workers left theirs.
+    pub(crate) fn leave(self) -> Result<Visit, GatedShare>
+        ensures left { IfOk result (HasKept self.key self.share) }
+        ensures same { IfErr result (λ s. s ≡ self) }
+    {
+        let GatedShare { lock, share } = self;
+        match lock.keep(share) {
+            Ok(visit) => Ok(visit),
+            Err(share) => Err(GatedShare { lock, share }),
+        }
+    }
+}

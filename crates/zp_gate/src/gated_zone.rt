@@ -1,0 +1,305 @@
+//! What stands behind a lock. Each call is exact here: what it does not name stays.
+ghost use Rattle.std.specs.Prelude.{ℕ, ◌≡◌, ◌<◌, ◌≤◌, ◌==◌, [], All, IfErr, IfNone, IfOk, IfSome, IsTrue, OnOk, Ok, Err, false, length, map};
+ghost use Rattle.std.specs.List.{count_by};
+ghost use Rattle.zp_model.specs.declared.refused.Refused.TheVariants.{Memory};
+ghost use Rattle.zp_model.specs.declared.request.Request.TheVariants as request;
+ghost use Rattle.zp_model.specs.Run.{IsHistory};
+ghost use Rattle.zp_model.specs.Zone.{workers_of};
+ghost use Rattle.zp_share.specs.Gathering.{AddsUp, IsCrewOf, IsOneOf, owns_at, totals_of};
+ghost use Rattle.zp_model.specs.declared.request.Reply.TheVariants as reply;
+ghost use Rattle.zp_zone.specs.NamedZone.{page_reply};
+ghost use Rattle.zp_zone.specs.Seats.{IsSeatOf};
+ghost use Rattle.zp_share.specs.Sections.{IsAsked, IsRefilled, MayAsk, done_reply};
+ghost use Rattle.zp_share.specs.Shares.{ShareState, key_of, plain, share_at, with_zone_share};
+ghost use Rattle.zp_share.specs.ZoneShares.{cached_of};
+ghost use Rattle.zp_gate.specs.Calls.{answer_of, request_of};
+ghost use Rattle.zp_gate.specs.GatedZones.{IsGatheredIn, IsLeavingOf, IsOneShare, IsSectionOf, drain_request};
+ghost use Rattle.zp_gate.specs.declared.call.Given.TheVariants.{Done};
+ghost use Rattle.zp_gate.specs.Readings.{IsZoneOf, Tells};
+
+use crate::call::{Given, ZoneCall};
+use crate::question::{Answer, Question, ZoneTold};
+use std::alloc::Global;
+use std::marker::Model;
+use zp_model::{Mark, MigrateType, Order, PageNo, Refused};
+use zp_share::{Share, Totals, gather};
+use zp_text::{TextBuffer, push_counts};
+use zp_zone::Zone;
+
+/// A zone, in a row of one, and the shares of it that workers left when they ended, for which there is room.
+#[derive(Drop)]
+pub struct GatedZone {
+    zones: Vec<Zone>,
+    workers: u32,
+    left: Vec<Share>,
+}
+
+impl Model for GatedZone {
+    ghost use Rattle.std.specs.Prelude.{◌≡◌, ◌≤◌, length, slice_index_or, vec_capacity};
+    ghost use Rattle.zp_model.specs.Zone.{workers_of};
+    ghost use Rattle.zp_gate.specs.GatedZones.{GatedState, no_zone};
+
+    ghost Value = { GatedState };
+
+    ghost view = { λ g. record { zone = slice_index_or g.zones.items 0 no_zone; left = g.left.items } };
+
+    ghost invariant = { λ g. (length g.zones.items ≡ 1) × (g.workers ≡ workers_of (slice_index_or g.zones.items 0 no_zone).plain) × (g.workers ≤ vec_capacity g.left) };
+}
+
+impl GatedZone {
+    /// A zone of so many workers, of whom none has left. Refused 6.
+    pub(crate) fn new(alloc: Global, zone: Zone, workers: u32) -> Result<GatedZone, Refused>
+        requires { workers ≡ workers_of zone.plain }
+        ensures new { IfOk result (λ g. g ≡ record { zone = zone; left = [] }) }
+        ensures why { IfErr result (λ e. e ≡ Memory) }
+    {
+        let Ok(left) = Vec::with_capacity(alloc, workers as usize) else {
+            return Err(Refused::Memory);
+        };
+        let Ok(zones) = Vec::from_array(alloc, [zone]) else {
+            return Err(Refused::Memory);
+        };
+        Ok(GatedZone {
+            zones,
+            workers,
+            left,
+        })
+    }
+
+    /// A block for a share of the zone.
+    #[inline(always)]
+    pub(crate) fn alloc(
+        &mut self,
+        share: &mut Share,
+        order: Order,
+        kind: MigrateType,
+        mark: Mark,
+    ) -> Result<PageNo, Refused>
+        requires share { IsOneShare (key_of self.old.zone) share.old }
+        ensures section { IsSectionOf (request.Alloc order kind mark) (page_reply result) self.old self.new share.old share.new }
+        ensures share { share.new ≡ with_zone_share 0 (share_at share.new 0) share.old }
+    {
+        share.alloc_block(&mut self.zones[0], 0, order, kind, mark)
+    }
+
+    /// A block back from a share of the zone.
+    #[inline(always)]
+    pub(crate) fn free(
+        &mut self,
+        share: &mut Share,
+        page: PageNo,
+        order: Order,
+    ) -> Result<(), Refused>
+        requires share { IsOneShare (key_of self.old.zone) share.old }
+        ensures section { IsSectionOf (request.Free page order) (done_reply reply.Freed result) self.old self.new share.old share.new }
+        ensures share { share.new ≡ with_zone_share 0 (share_at share.new 0) share.old }
+    {
+        share.free_block(&mut self.zones[0], 0, page, order)
+    }
+
+    /// Another request of a share to the zone.
+    #[inline(always)]
+    pub(crate) fn section(&mut self, share: &mut Share, call: ZoneCall) -> Result<Given, Refused>
+        requires share { IsOneShare (key_of self.old.zone) share.old }
+        requires may { MayAsk (workers_of self.old.zone.plain) share.old.batch (request_of call) (share_at share.old 0) }
+        ensures section { IsSectionOf (request_of call) (answer_of call result) self.old self.new share.old share.new }
+        ensures share { share.new ≡ with_zone_share 0 (share_at share.new 0) share.old }
+    {
+        asked(&mut self.zones[0], share, call)
+    }
+
+    /// Gives back so many pages from the back of the share's list of this type.
+    #[inline(always)]
+    pub(crate) fn drain(
+        &mut self,
+        share: &mut Share,
+        kind: MigrateType,
+        count: usize,
+    ) -> Result<(), Refused>
+        requires share { IsOneShare (key_of self.old.zone) share.old }
+        requires some { 1 ≤ count }
+        requires within { count ≤ length (cached_of (share_at share.old 0) kind) }
+        ensures section { IsSectionOf (drain_request count kind share.old) (done_reply reply.Drained result) self.old self.new share.old share.new }
+        ensures share { share.new ≡ with_zone_share 0 (share_at share.new 0) share.old }
+    {
+        share.drain(&mut self.zones[0], 0, kind, count)
+    }
+
+    /// Fills the share's empty list of this type, by the section of a refill whose pages are not answered.
+    #[inline(always)]
+    pub(crate) fn fill(
+        &mut self,
+        share: &mut Share,
+        kind: MigrateType,
+        mark: Mark,
+    ) -> Result<(), Refused>
+        requires share { IsOneShare (key_of self.old.zone) share.old }
+        requires empty { cached_of (share_at share.old 0) kind ≡ [] }
+        requires lists { 1 ≤ share.old.batch }
+        ensures section { IsRefilled (λ q. IsSectionOf (request.Refill kind mark share.old.batch) q self.old self.new share.old share.new) result }
+        ensures share { share.new ≡ with_zone_share 0 (share_at share.new 0) share.old }
+    {
+        share.fill(&mut self.zones[0], 0, kind, mark)
+    }
+
+    /// What the zone tells to a share of it.
+    #[inline(always)]
+    pub(crate) fn tell(&mut self, share: &mut Share, question: Question) -> Answer
+        requires share { IsOneShare (key_of self.old.zone) share.old }
+        ensures same { self.new ≡ self.old }
+        ensures share { share.new ≡ share.old }
+        ensures zone { IsZoneOf (key_of self.old.zone) share.old self.old.zone }
+        ensures told { Tells question result self.old.zone }
+    {
+        share.check(&mut self.zones[0], 0);
+        let zone = &self.zones[0];
+        zone.history();
+        told(zone, question)
+    }
+
+    /// A worker leaves its share. It comes back where as many were left as the zone has workers.
+    pub(crate) fn keep(&mut self, share: Share) -> Option<Share>
+        ensures kept { IfNone result (IsLeavingOf share self.old self.new) }
+        ensures full { IfSome result (λ s. (s ≡ share) × (workers_of self.old.zone.plain ≤ length self.old.left) × (self.new ≡ self.old)) }
+    {
+        if self.left.len() >= self.left.capacity() {
+            return Some(share);
+        }
+        self.left.push_reserved(share);
+        None
+    }
+
+    /// Where the pages of the zone are; nothing, exactly where a worker has not left its share.
+    pub(crate) fn gather(&mut self) -> Option<Totals>
+        requires left { All (IsOneShare (key_of self.old.zone)) self.old.left }
+        ensures same { self.new ≡ self.old }
+        ensures some { IfSome result (IsGatheredIn self.old) }
+        ensures none { IfNone result (¬ IsCrewOf self.old.left self.old.zone) }
+    {
+        if !is_crew(self.left.as_slice(), self.workers) {
+            return None;
+        }
+        Some(self.totals())
+    }
+
+    /// Nothing changes, and the shares that were left agree with the zone.
+    fn check_left(&mut self)
+        requires { All (IsOneShare (key_of self.old.zone)) self.old.left }
+        ensures same { self.new ≡ self.old }
+        ensures agree { All (IsOneOf self.old.zone 0) self.old.left }
+        ensures history { IsHistory self.old.zone.plain self.old.zone.entries }
+    {
+        check_all(&mut self.zones[0], self.left.as_mut_slice());
+        self.zones[0].history();
+    }
+
+    /// Where the pages of the zone are: each of its workers has left its share.
+    fn totals(&mut self) -> Totals
+        requires left { All (IsOneShare (key_of self.old.zone)) self.old.left }
+        requires crew { IsCrewOf self.old.left self.old.zone }
+        ensures same { self.new ≡ self.old }
+        ensures totals { IsGatheredIn self.old result }
+    {
+        self.check_left();
+        let mut totals = gather(self.zones.as_mut_slice(), self.left.as_mut_slice());
+        let Some(totals) = totals.pop() else {
+            unreachable!()
+        };
+        totals
+    }
+}
+
+/// One request of a share to a zone.
+#[inline(always)]
+fn asked(zone: &mut Zone, share: &mut Share, call: ZoneCall) -> Result<Given, Refused>
+    requires one { length share.old.zones ≡ 1 }
+    requires seat { IsSeatOf zone.old (share_at share.old 0).seat }
+    requires may { MayAsk (workers_of zone.old.plain) share.old.batch (request_of call) (share_at share.old 0) }
+    ensures asked { IsAsked (request_of call) (answer_of call result) zone.old zone.new (share_at share.old 0) (share_at share.new 0) }
+    ensures share { share.new ≡ with_zone_share 0 (share_at share.new 0) share.old }
+{
+    match call {
+        ZoneCall::AllocLow(order) => match share.alloc_low(zone, 0, order) {
+            Ok(block) => Ok(Given::Block(block)),
+            Err(refused) => Err(refused),
+        },
+        ZoneCall::Collect => match share.collect(zone, 0) {
+            Ok(block) => Ok(Given::Block(block)),
+            Err(refused) => Err(refused),
+        },
+        ZoneCall::Post(page, order, to) => done(share.post(zone, 0, page, order, to)),
+        ZoneCall::Isolate(pageblock) => done(share.isolate(zone, 0, pageblock)),
+        ZoneCall::Release(pageblock, kind) => done(share.release(zone, 0, pageblock, kind)),
+    }
+}
+
+/// What is given where nothing is.
+#[inline(always)]
+fn done(answer: Result<(), Refused>) -> Result<Given, Refused>
+    ensures ok { OnOk answer (result ≡ Ok Done) }
+    ensures err { IfErr answer (λ e. result ≡ Err e) }
+{
+    match answer {
+        Ok(()) => Ok(Given::Done),
+        Err(refused) => Err(refused),
+    }
+}
+
+/// What a zone tells.
+#[inline(always)]
+fn told(zone: &Zone, question: Question) -> Answer
+    ensures { Tells question result zone.now }
+{
+    match question {
+        Question::Zone => Answer::Zone(ZoneTold {
+            counts: zone.counts(),
+            level: zone.level(),
+            posted: zone.posted_pages(),
+        }),
+        Question::Line => {
+            let mut line = TextBuffer::new();
+            push_counts(&mut line, zone.name(), zone.largest(), &zone.counts());
+            Answer::Line(line)
+        }
+        Question::Page(page) => Answer::Page(zone.entry(page)),
+        Question::Pageblock(pageblock) => Answer::Pageblock(zone.pageblock(pageblock)),
+    }
+}
+
+/// Nothing changes, and each share agrees with the zone.
+fn check_all(zone: &mut Zone, shares: &mut [Share])
+    requires { All (IsOneShare (key_of zone.old)) shares.old }
+    ensures zone { zone.new ≡ zone.old }
+    ensures shares { shares.new ≡ shares.old }
+    ensures agree { All (IsOneOf zone.old 0) shares.old }
+{
+    for share in shares {
+        share.check(zone, 0);
+    }
+}
+
+/// Whether each of so many workers has exactly one of the shares.
+fn is_crew(shares: &[Share], workers: u32) -> bool
+    ensures yes { IsTrue result → (w : ℕ) → w < workers → count_by (λ (s : ShareState). s.worker == w) shares.now ≡ 1 }
+    ensures no { result ≡ false → ¬ ((w : ℕ) → w < workers → count_by (λ (s : ShareState). s.worker == w) shares.now ≡ 1) }
+{
+    for number in 0..workers {
+        if shares_of(shares, number) != 1 {
+            return false;
+        }
+    }
+    true
+}
+
+/// How many of the shares are those of the worker of this number.
+fn shares_of(shares: &[Share], number: u32) -> usize
+    ensures { result ≡ count_by (λ (s : ShareState). s.worker == number) shares.now }
+{
+    let mut count = 0;
+    for share in shares {
+        if u32::from(share.worker().number()) == number {
+            count += 1;
+        }
+    }
+    count
+}

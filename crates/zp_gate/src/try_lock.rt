@@ -1,0 +1,329 @@
+//! A lock that nobody waits for, with a zone behind it. A visitor enters where nobody is in, makes one call of what stands there, and
+//! leaves.
+ghost use Rattle.std.specs.Prelude.{◌≡◌, ◌<◌, ◌≤◌, IfErr, IfOk, [], length};
+ghost use Rattle.zp_model.specs.Area.{pageblocks_of};
+ghost use Rattle.zp_model.specs.declared.refused.Refused.TheVariants.{Memory};
+ghost use Rattle.zp_model.specs.declared.request.Request.TheVariants as request;
+ghost use Rattle.zp_model.specs.declared.request.Reply.TheVariants as reply;
+ghost use Rattle.zp_zone.specs.NamedZone.{page_reply};
+ghost use Rattle.zp_share.specs.Sections.{IsRefilled, MayAsk, done_reply};
+ghost use Rattle.zp_share.specs.Shares.{key_of, share_at};
+ghost use Rattle.zp_share.specs.ZoneShares.{cached_of};
+ghost use Rattle.zp_gate.specs.Calls.{answer_of, request_of};
+ghost use Rattle.zp_gate.specs.GatedZones.{IsOneShare, drain_request};
+ghost use Rattle.zp_gate.specs.Locks.{IsIn, MayLeave, first_held};
+ghost use Rattle.zp_gate.specs.Readings.{IsThen, Tells};
+ghost use Rattle.zp_gate.specs.Visits.{HasGathered, HasKept, IsAnswer, IsUngathered};
+
+use crate::call::{Given, ZoneCall};
+use crate::gated_zone::GatedZone;
+use crate::question::{Answer, Question};
+use crate::visit_view::VisitView;
+use crate::zone_facts::ZoneFacts;
+use atomic_table::{Play, Seat as Place, Table, TableRule};
+use std::alloc::Global;
+use std::marker::Model;
+use zp_model::{Mark, MigrateType, Order, PageNo, Refused};
+use zp_share::{Share, Totals};
+use zp_zone::Zone;
+
+/// The rule of a lock.
+pub(crate) struct Gated;
+
+impl TableRule<GatedZone, VisitView, ZoneFacts> for Gated {
+    ghost use Rattle.zp_gate.specs.Locks.{IsGated, outside};
+
+    ghost holds = { IsGated };
+
+    ghost first = { outside };
+}
+
+/// A new visitor, outside.
+struct Come;
+
+impl Play<GatedZone, VisitView> for Come {
+    ghost use Rattle.zp_gate.specs.Locks.{Comes};
+
+    ghost then = { Comes };
+}
+
+/// A visitor enters, where nobody is in.
+struct Enter;
+
+impl Play<GatedZone, VisitView> for Enter {
+    ghost use Rattle.zp_gate.specs.Locks.{Enters};
+
+    ghost then = { Enters };
+}
+
+/// The visitor leaves.
+struct Leave;
+
+impl Play<GatedZone, VisitView> for Leave {
+    ghost use Rattle.zp_gate.specs.Locks.{Leaves};
+
+    ghost then = { Leaves };
+}
+
+/// Who is in.
+pub(crate) type Visitor = Place<GatedZone, VisitView>;
+
+/// A visit that is over, of no bytes: contracts see what the visitor found and what he left. Only a lock has visits.
+#[derive(Drop)]
+pub struct Visit {
+    seat: Visitor,
+}
+
+impl Model for Visit {
+    ghost use Rattle.zp_gate.specs.declared.visit_view.VisitView.{VisitView};
+
+    ghost Value = { VisitView };
+
+    ghost view = { λ v. v.seat.me.0 };
+}
+
+/// That somebody was in. Only a lock says so.
+#[derive(Clone, Copy, Drop)]
+pub struct Busy {
+    _found: (),
+}
+
+/// Where the pages of a zone are, as this visit found it.
+#[derive(Drop)]
+pub struct Gathered {
+    pub totals: Totals,
+    pub visit: Visit,
+}
+
+/// Why it is not told where the pages of a zone are.
+#[derive(Drop)]
+pub enum GatherError {
+    /// Somebody is with the zone.
+    Busy(Busy),
+    /// A worker has not left its share, as this visit found.
+    HasWorkers(Visit),
+}
+
+const FREE: u64 = 0;
+
+const TAKEN: u64 = 1;
+
+/// A zone that one caller at a time may enter.
+#[derive(Drop)]
+pub struct TryLock {
+    pub(crate) table: Table<GatedZone, VisitView, ZoneFacts, Gated, Global>,
+    pub(crate) base: u32,
+    pub(crate) pages: u32,
+    pub(crate) pageblocks: usize,
+    pub(crate) workers: u32,
+    ghost words: { table.shared.table_id.words ≡ 1 },
+    ghost slots: { table.shared.table_id.slots ≡ 1 },
+    ghost first: { base ≡ table.shared.key.base },
+    ghost length: { pages ≡ table.shared.key.pages },
+    ghost blocks: { pageblocks ≡ pageblocks_of table.shared.key.largest table.shared.key.pages },
+    ghost crew: { workers ≡ table.shared.key.workers },
+}
+
+impl TryLock {
+    /// A lock with this zone behind it, which no worker has left yet. Refused 6.
+    pub(crate) fn new(alloc: Global, zone: Zone, key: &ZoneFacts) -> Result<TryLock, Refused>
+        requires key { key_of zone ≡ key.now }
+        ensures key { IfOk result (λ l. l.table.shared.key ≡ key.now) }
+        ensures why { IfErr result (λ e. e ≡ Memory) }
+    {
+        let pageblocks = key.largest.pageblocks(zone.pages());
+        let behind = GatedZone::new(alloc, zone, key.workers)?;
+        let Ok(slots) = Vec::from_array(alloc, [behind]) else {
+            return Err(Refused::Memory);
+        };
+        match Table::new(alloc, &[FREE], slots, key) {
+            Ok((table, _place)) => Ok(TryLock {
+                table,
+                base: key.base,
+                pages: key.pages,
+                pageblocks,
+                workers: key.workers,
+            }),
+            Err(_) => Err(Refused::Memory),
+        }
+    }
+
+    /// Enters where nobody is in.
+    #[inline(always)]
+    fn enter(&self) -> Result<Visitor, Busy>
+        ensures { IfOk result (IsIn self.now.table.shared.table_id self.now.table.shared.key) }
+    {
+        let shared = &self.table.shared;
+        let (_, mut visitor) = shared.load_new_seat::<Come>(0);
+        if shared.compare_exchange::<Enter>(&mut visitor, 0, FREE, TAKEN) != FREE {
+            return Err(Busy { _found: () });
+        }
+        Ok(visitor)
+    }
+
+    /// The visitor leaves.
+    #[inline(always)]
+    fn leave(&self, visitor: Visitor) -> Visit
+        requires { MayLeave self.now.table.shared.table_id self.now.table.shared.key visitor }
+        ensures { result ≡ record visitor.me.0 { left = first_held visitor.me.1 } }
+    {
+        let mut seat = visitor;
+        self.table.shared.store::<Leave>(&mut seat, 0, FREE);
+        Visit { seat }
+    }
+
+    /// A block for a share of the zone.
+    #[inline(always)]
+    pub(crate) fn alloc(
+        &self,
+        share: &mut Share,
+        order: Order,
+        kind: MigrateType,
+        mark: Mark,
+    ) -> Result<Result<PageNo, Refused>, Busy>
+        requires share { IsOneShare self.now.table.shared.key share.old }
+        ensures share { IsOneShare self.now.table.shared.key share.new }
+        ensures ok { IfOk result (λ a. IsAnswer self.now.table.shared.key (request.Alloc order kind mark) (page_reply a) share.old share.new) }
+        ensures busy { IfErr result (λ _. share.new ≡ share.old) }
+    {
+        let mut visitor = self.enter()?;
+        let zone = visitor.slot_mut(&self.table.shared, 0);
+        let answer = zone.alloc(share, order, kind, mark);
+        self.leave(visitor);
+        Ok(answer)
+    }
+
+    /// A block back from a share of the zone.
+    #[inline(always)]
+    pub(crate) fn free(
+        &self,
+        share: &mut Share,
+        page: PageNo,
+        order: Order,
+    ) -> Result<Result<(), Refused>, Busy>
+        requires share { IsOneShare self.now.table.shared.key share.old }
+        ensures share { IsOneShare self.now.table.shared.key share.new }
+        ensures ok { IfOk result (λ a. IsAnswer self.now.table.shared.key (request.Free page order) (done_reply reply.Freed a) share.old share.new) }
+        ensures busy { IfErr result (λ _. share.new ≡ share.old) }
+    {
+        let mut visitor = self.enter()?;
+        let zone = visitor.slot_mut(&self.table.shared, 0);
+        let answer = zone.free(share, page, order);
+        self.leave(visitor);
+        Ok(answer)
+    }
+
+    /// Another request of a share to the zone.
+    #[inline(always)]
+    pub(crate) fn section(
+        &self,
+        share: &mut Share,
+        call: ZoneCall,
+    ) -> Result<Result<Given, Refused>, Busy>
+        requires share { IsOneShare self.now.table.shared.key share.old }
+        requires may { MayAsk self.now.table.shared.key.workers share.old.batch (request_of call) (share_at share.old 0) }
+        ensures share { IsOneShare self.now.table.shared.key share.new }
+        ensures ok { IfOk result (λ a. IsAnswer self.now.table.shared.key (request_of call) (answer_of call a) share.old share.new) }
+        ensures busy { IfErr result (λ _. share.new ≡ share.old) }
+    {
+        let mut visitor = self.enter()?;
+        let zone = visitor.slot_mut(&self.table.shared, 0);
+        let answer = zone.section(share, call);
+        self.leave(visitor);
+        Ok(answer)
+    }
+
+    /// Gives back so many pages from the back of the share's list of this type.
+    #[inline(always)]
+    pub(crate) fn drain(
+        &self,
+        share: &mut Share,
+        kind: MigrateType,
+        count: usize,
+    ) -> Result<Result<(), Refused>, Busy>
+        requires share { IsOneShare self.now.table.shared.key share.old }
+        requires some { 1 ≤ count }
+        requires within { count ≤ length (cached_of (share_at share.old 0) kind) }
+        ensures share { IsOneShare self.now.table.shared.key share.new }
+        ensures ok { IfOk result (λ a. IsAnswer self.now.table.shared.key (drain_request count kind share.old) (done_reply reply.Drained a) share.old share.new) }
+        ensures busy { IfErr result (λ _. share.new ≡ share.old) }
+    {
+        let mut visitor = self.enter()?;
+        let zone = visitor.slot_mut(&self.table.shared, 0);
+        let answer = zone.drain(share, kind, count);
+        self.leave(visitor);
+        Ok(answer)
+    }
+
+    /// Fills the share's empty list of this type, by the section of a refill whose pages are not answered.
+    #[inline(always)]
+    pub(crate) fn fill(
+        &self,
+        share: &mut Share,
+        kind: MigrateType,
+        mark: Mark,
+    ) -> Result<Result<(), Refused>, Busy>
+        requires share { IsOneShare self.now.table.shared.key share.old }
+        requires empty { cached_of (share_at share.old 0) kind ≡ [] }
+        requires lists { 1 ≤ share.old.batch }
+        ensures share { IsOneShare self.now.table.shared.key share.new }
+        ensures ok { IfOk result (IsRefilled (λ q. IsAnswer self.now.table.shared.key (request.Refill kind mark share.old.batch) q share.old share.new)) }
+        ensures busy { IfErr result (λ _. share.new ≡ share.old) }
+    {
+        let mut visitor = self.enter()?;
+        let zone = visitor.slot_mut(&self.table.shared, 0);
+        let filled = zone.fill(share, kind, mark);
+        self.leave(visitor);
+        Ok(filled)
+    }
+
+    /// What the zone tells to a share of it.
+    #[inline(always)]
+    pub(crate) fn tell(&self, share: &mut Share, question: Question) -> Result<Answer, Busy>
+        requires share { IsOneShare self.now.table.shared.key share.old }
+        ensures same { share.new ≡ share.old }
+        ensures told { IfOk result (λ a. IsThen self.now.table.shared.key share.old (Tells question a)) }
+    {
+        let mut visitor = self.enter()?;
+        let zone = visitor.slot_mut(&self.table.shared, 0);
+        let answer = zone.tell(share, question);
+        self.leave(visitor);
+        Ok(answer)
+    }
+
+    /// A worker leaves its share. It comes back where somebody is in, or where all workers left theirs.
+    pub(crate) fn keep(&self, share: Share) -> Result<Visit, Share>
+        requires { IsOneShare self.now.table.shared.key share }
+        ensures kept { IfOk result (HasKept self.now.table.shared.key share) }
+        ensures same { IfErr result (λ s. s ≡ share) }
+    {
+        let Ok(mut visitor) = self.enter() else {
+            return Err(share);
+        };
+        let zone = visitor.slot_mut(&self.table.shared, 0);
+        let back = zone.keep(share);
+        let visit = self.leave(visitor);
+        match back {
+            Some(share) => Err(share),
+            None => Ok(visit),
+        }
+    }
+
+    /// Where the pages of the zone are.
+    pub(crate) fn gather(&self) -> Result<Gathered, GatherError>
+        ensures ok { IfOk result (λ g. HasGathered self.now.table.shared.key g.totals g.visit) }
+        ensures missed { IfErr result (IsUngathered self.now.table.shared.key) }
+    {
+        let mut visitor = match self.enter() {
+            Ok(visitor) => visitor,
+            Err(busy) => return Err(GatherError::Busy(busy)),
+        };
+        let zone = visitor.slot_mut(&self.table.shared, 0);
+        let totals = zone.gather();
+        let visit = self.leave(visitor);
+        match totals {
+            Some(totals) => Ok(Gathered { totals, visit }),
+            None => Err(GatherError::HasWorkers(visit)),
+        }
+    }
+}
