@@ -1,5 +1,5 @@
 -- Why the zones that C describes come to no row, by why their configs come to none.
-use Rattle.std.proofs.Common.{ℕ, ◌≡◌, ◌<◌, ◌≤◌, ◌∙◌, List, [], ◌∷◌, All, ap, arith, inl, inr, length, map, refl, slice_index_or, subst, sym, take}
+use Rattle.std.proofs.Common.{ℕ, ◌≡◌, ◌<◌, ◌∙◌, List, [], ◌∷◌, All, ap, arith, inl, inr, length, map, refl, slice_index_or, subst, sym}
 use Rattle.std.proofs.lemmas.List.{get_or_default, get_or-map, get_or-take, length-map, length-take-le}
 use Rattle.zp_model.specs.declared.refused.Refused.{Refused}
 use Rattle.zp_model.specs.Refused.{refused_number}
@@ -9,7 +9,7 @@ use Rattle.zp_zone.specs.declared.config.ZoneConfig.{ZoneConfig}
 use Rattle.zp_gate.specs.GatedRows.{IsOfFirstConfig, IsWhyNoRow, wanted_by}
 use Rattle.zonealloc.specs.declared.zone_spec.ZoneSpec.{ZoneSpec}
 use Rattle.zonealloc.specs.Rows.{IsUnopened}
-use Rattle.zonealloc.specs.Zones.{IsConfig, IsGoodZone, wanted_zone}
+use Rattle.zonealloc.specs.Zones.{IsConfig, wanted_zone}
 
 module _ (n : ℕ) (configs : List ZoneConfig) (z : ZoneSpec) (zs : List ZoneSpec) (same : map (wanted_by n) configs ≡ map (wanted_zone n) (z ∷ zs)) where
   many : length configs ≡ length (z ∷ zs)

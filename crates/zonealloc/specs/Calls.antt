@@ -1,5 +1,5 @@
 -- What a C program's call of a worker's handle comes to, by the number it is answered (this profile).
-use Rattle.std.specs.Prelude.{ℕ, List, [], ◌≡◌, ◌≢◌, ◌<◌, ◌≤◌, ◌⊎◌, ◌↔◌, Bool, false, length, cond, Option, None, Some, Result, Ok, Err}
+use Rattle.std.specs.Prelude.{ℕ, List, [], ◌≡◌, ◌≢◌, ◌<◌, ◌≤◌, ◌⊎◌, ◌↔◌, length, cond, Option, None, Some, Result, Ok, Err}
 use Rattle.zp_model.specs.declared.request.Request.{Request}
 use Rattle.zp_model.specs.declared.request.Reply.{Reply}
 use Rattle.zp_model.specs.declared.block.Block.{Block}
@@ -13,7 +13,7 @@ use Rattle.zp_share.specs.ZoneShares.{cached_of, is_lent}
 use Rattle.zp_gate.specs.declared.call_error.CallError.{CallError}
 use Rattle.zp_gate.specs.GatedZones.{drain_request}
 use Rattle.zp_gate.specs.Visits.{IsAnswer}
-use Rattle.zp_gate.specs.GatedWorkers.{GatedShareState, WorkerState, AreDrained, AreDrainedTill, HasPages, HasTooFew, HasTurned, HasZone, IsAt, IsAtShare, IsGrantedAt, IsPut, IsTaken, LacksBlock, LacksWorker, gated_at, worker_share}
+use Rattle.zp_gate.specs.GatedWorkers.{WorkerState, AreDrained, AreDrainedTill, HasPages, HasTooFew, HasTurned, HasZone, IsAt, IsAtShare, IsGrantedAt, IsPut, IsTaken, LacksBlock, LacksWorker, gated_at, worker_share}
 use Rattle.zonealloc.specs.Numbers.{error_number, mark_number}
 
 -- there is a worker in the handle, and this is so of it

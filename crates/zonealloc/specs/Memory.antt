@@ -1,5 +1,5 @@
 -- How much memory a row takes at most (this profile).
-use Rattle.std.specs.Prelude.{ℕ, ◌≡◌, ◌≤◌, ◌<◌, ◌⊎◌, ◌+◌, ◌-◌, ◌*◌, ◌/◌, List, All, length}
+use Rattle.std.specs.Prelude.{ℕ, ◌≡◌, ◌≤◌, ◌⊎◌, ◌+◌, ◌-◌, ◌*◌, ◌/◌, List, All, length}
 use Rattle.std.specs.List.{sum_by}
 use Rattle.zp_model.specs.Area.{lists_count, pageblocks_of}
 use Rattle.zp_model.specs.Bounds.{IsLargest}

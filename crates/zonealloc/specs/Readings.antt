@@ -1,5 +1,5 @@
 -- What a C program is told of a zone, by numbers (this profile).
-use Rattle.std.specs.Prelude.{ℕ, ◌≡◌, ◌<◌, ◌≤◌, ◌⊎◌, List, ◌++◌, take, drop, length, Option, None, Some}
+use Rattle.std.specs.Prelude.{ℕ, ◌≡◌, ◌≤◌, ◌⊎◌, List, ◌++◌, take, drop, length, Option, None, Some}
 use Rattle.zp_model.specs.declared.mark.Level.{Level}
 use Rattle.zp_model.specs.declared.mark.Level.TheVariants as level
 use Rattle.zp_model.specs.declared.state.State.{State}

@@ -1,5 +1,5 @@
 -- What the making and unmaking of a row come to, by their answers (this profile).
-use Rattle.std.specs.Prelude.{ℕ, ◌≡◌, ◌<◌, ◌≤◌, ◌⊎◌, ◌↔◌, List, All, length, map, slice_index_or, take, Option, None, Some, Result, Ok, Err}
+use Rattle.std.specs.Prelude.{ℕ, ◌≡◌, ◌<◌, ◌≤◌, ◌⊎◌, ◌↔◌, List, All, length, map, slice_index_or, Option, None, Some, Result, Ok, Err}
 use Rattle.zp_model.specs.Bounds.{AreLists}
 use Rattle.zp_model.specs.declared.refused.Refused.{Refused}
 use Rattle.zp_model.specs.Refused.{refused_number}

@@ -8,15 +8,13 @@ ghost use Rattle.zp_gate.specs.Calls.{reply_of, request_of};
 ghost use Rattle.zonealloc.specs.Calls.{IsAskDenied, IsOfBoth};
 
 use crate::answers::{BAD_HANDLE, call_error};
-use crate::handles::{WorkerHandle, put_worker, worker_of};
-use std::alloc::Global;
+use crate::handles::WorkerHandle;
 use zp_gate::{Given, ZoneCall};
 use zp_model::{Mark, MigrateType, Order, PageNo};
 
 /// A block for the worker in a handle: its first page, else the number of why there is none.
 #[inline(always)]
 pub fn ask_alloc(
-    alloc: Global,
     worker: &mut WorkerHandle,
     zone: u32,
     order: Order,
@@ -26,12 +24,11 @@ pub fn ask_alloc(
     ensures granted { IfOk result (λ page. IsOfBoth (IsGrantedAt zone (request.Alloc order kind mark) (reply.Page page)) worker.old.slot.value worker.new.slot.value) }
     ensures denied { IfErr result (λ n. IsAskDenied zone (request.Alloc order kind mark) n worker.old.slot.value worker.new.slot.value) }
 {
-    let Some(mut held) = worker_of(alloc, worker) else {
+    if !worker.is_live() {
         return Err(BAD_HANDLE);
-    };
-    let answer = held.worker.alloc(zone as usize, order, kind, mark);
-    put_worker(worker, held);
-    match answer {
+    }
+    let held = worker.slot.held();
+    match held.alloc(zone as usize, order, kind, mark) {
         Ok(page) => Ok(page),
         Err(why) => Err(call_error(why)),
     }
@@ -39,22 +36,15 @@ pub fn ask_alloc(
 
 /// A block back from the worker in a handle; else the number of why it was not taken.
 #[inline(always)]
-pub fn ask_free(
-    alloc: Global,
-    worker: &mut WorkerHandle,
-    zone: u32,
-    page: PageNo,
-    order: Order,
-) -> Result<(), u32>
+pub fn ask_free(worker: &mut WorkerHandle, zone: u32, page: PageNo, order: Order) -> Result<(), u32>
     ensures granted { OnOk result (IsOfBoth (IsGrantedAt zone (request.Free page order) reply.Freed) worker.old.slot.value worker.new.slot.value) }
     ensures denied { IfErr result (λ n. IsAskDenied zone (request.Free page order) n worker.old.slot.value worker.new.slot.value) }
 {
-    let Some(mut held) = worker_of(alloc, worker) else {
+    if !worker.is_live() {
         return Err(BAD_HANDLE);
-    };
-    let answer = held.worker.free(zone as usize, page, order);
-    put_worker(worker, held);
-    match answer {
+    }
+    let held = worker.slot.held();
+    match held.free(zone as usize, page, order) {
         Ok(()) => Ok(()),
         Err(why) => Err(call_error(why)),
     }
@@ -63,21 +53,15 @@ pub fn ask_free(
 /// Another request of the worker in a handle to the zone at a place: what is given, else the number of why nothing is.
 // (inlined, so that each export has the way of its own call alone)
 #[inline(always)]
-pub fn ask(
-    alloc: Global,
-    worker: &mut WorkerHandle,
-    zone: u32,
-    call: ZoneCall,
-) -> Result<Given, u32>
+pub fn ask(worker: &mut WorkerHandle, zone: u32, call: ZoneCall) -> Result<Given, u32>
     ensures granted { IfOk result (λ g. IsOfBoth (IsGrantedAt zone (request_of call) (reply_of call g)) worker.old.slot.value worker.new.slot.value) }
     ensures denied { IfErr result (λ n. IsAskDenied zone (request_of call) n worker.old.slot.value worker.new.slot.value) }
 {
-    let Some(mut held) = worker_of(alloc, worker) else {
+    if !worker.is_live() {
         return Err(BAD_HANDLE);
-    };
-    let answer = held.worker.section(zone as usize, call);
-    put_worker(worker, held);
-    match answer {
+    }
+    let held = worker.slot.held();
+    match held.section(zone as usize, call) {
         Ok(given) => Ok(given),
         Err(why) => Err(call_error(why)),
     }

@@ -10,15 +10,12 @@ ghost use Rattle.zonealloc.specs.Numbers.{IsNoMark, IsNoOrder, IsNoType};
 use crate::answers::{
     BAD_ARGUMENT, BAD_HANDLE, DONE, LIST_EMPTY, call_error, kind_of, mark_of, order_of,
 };
-use crate::handles::{WorkerHandle, put_worker, worker_of};
-use std::alloc::Global;
-use zp_gate::GatedWorker;
+use crate::handles::WorkerHandle;
 use zp_model::{MigrateType, PageNo};
 
 /// The page in front of the worker's list of this type, which is then lent.
 #[unsafe(no_mangle)]
 pub extern "C" fn zonealloc_take(
-    alloc: Global,
     worker: &mut WorkerHandle,
     zone: u32,
     kind: u32,
@@ -30,59 +27,38 @@ pub extern "C" fn zonealloc_take(
     let Some(kind) = kind_of(kind) else {
         return BAD_ARGUMENT;
     };
-    let Some(mut held) = worker_of(alloc, worker) else {
+    if !worker.is_live() {
         return BAD_HANDLE;
-    };
-    let answer = taken(&mut held.worker, zone as usize, kind);
-    put_worker(worker, held);
-    match answer {
-        Ok(first) => {
+    }
+    let held = worker.slot.held();
+    if zone as usize >= held.zones() {
+        return BAD_ARGUMENT;
+    }
+    match held.take(zone as usize, kind) {
+        Some(first) => {
             *page = first.number();
             DONE
         }
-        Err(why) => why,
-    }
-}
-
-/// The page in front of a list, where there is one; else the number of why not.
-#[inline(always)]
-fn taken(worker: &mut GatedWorker, zone: usize, kind: MigrateType) -> Result<PageNo, u32>
-    ensures ok { IfOk result (λ page. IsAt zone (IsTaken kind page) worker.old worker.new) }
-    ensures same { IfErr result (λ n. worker.new ≡ worker.old) }
-    ensures why { IfErr result (λ n. ((n ≡ 40) × HasNoZone zone worker.old) ⊎ ((n ≡ 44) × IsAtZone zone (λ s. cached_of (share_at s 0) kind ≡ []) worker.old)) }
-{
-    if zone >= worker.zones() {
-        return Err(BAD_ARGUMENT);
-    }
-    match worker.take(zone, kind) {
-        Some(page) => Ok(page),
-        None => Err(LIST_EMPTY),
+        None => LIST_EMPTY,
     }
 }
 
 /// A lent page to the front of the worker's list of its type.
 #[tactic(auto, using(crate::proofs::Putting::put_denied, crate::proofs::Putting::put_number_of, crate::proofs::Putting::put_lists))]
 #[unsafe(no_mangle)]
-pub extern "C" fn zonealloc_put(
-    alloc: Global,
-    worker: &mut WorkerHandle,
-    zone: u32,
-    page: u32,
-) -> u32
+pub extern "C" fn zonealloc_put(worker: &mut WorkerHandle, zone: u32, page: u32) -> u32
     ensures call { IsPutCall zone page result worker.old.slot.value worker.new.slot.value }
     ensures denied { IsDenied ⊥ (HasNoZone zone) (λ n. (n < 40) ⊎ (n ≡ 46)) result worker.old.slot.value }
     ensures lists { (result ≡ 46) ↔ IsOf (IsAtZone zone (λ s. s.batch ≡ 0)) worker.old.slot.value }
 {
-    let Some(mut held) = worker_of(alloc, worker) else {
+    if !worker.is_live() {
         return BAD_HANDLE;
-    };
-    if zone as usize >= held.worker.zones() {
-        put_worker(worker, held);
+    }
+    let held = worker.slot.held();
+    if zone as usize >= held.zones() {
         return BAD_ARGUMENT;
     }
-    let answer = held.worker.put(zone as usize, PageNo::new(page));
-    put_worker(worker, held);
-    match answer {
+    match held.put(zone as usize, PageNo::new(page)) {
         Ok(()) => DONE,
         Err(why) => call_error(why),
     }
@@ -91,7 +67,6 @@ pub extern "C" fn zonealloc_put(
 /// Whether the block is lent to the worker with this order: 1 or 0.
 #[unsafe(no_mangle)]
 pub extern "C" fn zonealloc_is_lent(
-    alloc: Global,
     worker: &mut WorkerHandle,
     zone: u32,
     page: u32,
@@ -104,15 +79,14 @@ pub extern "C" fn zonealloc_is_lent(
     let Some(order) = order_of(order) else {
         return BAD_ARGUMENT;
     };
-    let Some(held) = worker_of(alloc, worker) else {
+    if !worker.is_live() {
         return BAD_HANDLE;
-    };
-    if zone as usize >= held.worker.zones() {
-        put_worker(worker, held);
+    }
+    let held = worker.slot.held();
+    if zone as usize >= held.zones() {
         return BAD_ARGUMENT;
     }
-    let is_lent = held.worker.is_lent(zone as usize, PageNo::new(page), order);
-    put_worker(worker, held);
+    let is_lent = held.is_lent(zone as usize, PageNo::new(page), order);
     *lent = u32::from(is_lent);
     DONE
 }
@@ -120,7 +94,6 @@ pub extern "C" fn zonealloc_is_lent(
 /// How many pages the worker's list of this type has.
 #[unsafe(no_mangle)]
 pub extern "C" fn zonealloc_cached(
-    alloc: Global,
     worker: &mut WorkerHandle,
     zone: u32,
     kind: u32,
@@ -132,15 +105,14 @@ pub extern "C" fn zonealloc_cached(
     let Some(kind) = kind_of(kind) else {
         return BAD_ARGUMENT;
     };
-    let Some(held) = worker_of(alloc, worker) else {
+    if !worker.is_live() {
         return BAD_HANDLE;
-    };
-    if zone as usize >= held.worker.zones() {
-        put_worker(worker, held);
+    }
+    let held = worker.slot.held();
+    if zone as usize >= held.zones() {
         return BAD_ARGUMENT;
     }
-    let cached = held.worker.cached_len(zone as usize, kind);
-    put_worker(worker, held);
+    let cached = held.cached_len(zone as usize, kind);
     *pages = cached as u32;
     DONE
 }
@@ -149,7 +121,6 @@ pub extern "C" fn zonealloc_cached(
 #[tactic(auto, using(crate::proofs::Answering::denied_at))]
 #[unsafe(no_mangle)]
 pub extern "C" fn zonealloc_refill(
-    alloc: Global,
     worker: &mut WorkerHandle,
     zone: u32,
     kind: u32,
@@ -165,12 +136,11 @@ pub extern "C" fn zonealloc_refill(
     let Some(mark) = mark_of(mark) else {
         return BAD_ARGUMENT;
     };
-    let Some(mut held) = worker_of(alloc, worker) else {
+    if !worker.is_live() {
         return BAD_HANDLE;
-    };
-    let answer = held.worker.refill(zone as usize, kind, mark);
-    put_worker(worker, held);
-    match answer {
+    }
+    let held = worker.slot.held();
+    match held.refill(zone as usize, kind, mark) {
         Ok(()) => DONE,
         Err(why) => call_error(why),
     }
@@ -179,7 +149,6 @@ pub extern "C" fn zonealloc_refill(
 /// Gives back so many pages from the back of the worker's list of this type.
 #[unsafe(no_mangle)]
 pub extern "C" fn zonealloc_drain(
-    alloc: Global,
     worker: &mut WorkerHandle,
     zone: u32,
     kind: u32,
@@ -191,12 +160,11 @@ pub extern "C" fn zonealloc_drain(
     let Some(kind) = kind_of(kind) else {
         return BAD_ARGUMENT;
     };
-    let Some(mut held) = worker_of(alloc, worker) else {
+    if !worker.is_live() {
         return BAD_HANDLE;
-    };
-    let answer = held.worker.drain(zone as usize, kind, count as usize);
-    put_worker(worker, held);
-    match answer {
+    }
+    let held = worker.slot.held();
+    match held.drain(zone as usize, kind, count as usize) {
         Ok(()) => DONE,
         Err(why) => call_error(why),
     }
@@ -205,16 +173,15 @@ pub extern "C" fn zonealloc_drain(
 /// Gives back all pages of the worker's lists of this zone, a list at a time. Where it does not answer 0 the lists before the one that was
 /// refused are empty, and the rest is as it was.
 #[unsafe(no_mangle)]
-pub extern "C" fn zonealloc_drain_all(alloc: Global, worker: &mut WorkerHandle, zone: u32) -> u32
+pub extern "C" fn zonealloc_drain_all(worker: &mut WorkerHandle, zone: u32) -> u32
     ensures call { IsDrainAllCall zone result worker.old.slot.value worker.new.slot.value }
     ensures denied { IsDenied ⊥ (HasNoZone zone) (λ n. (n ≡ 30) ⊎ (n ≡ 42)) result worker.old.slot.value }
 {
-    let Some(mut held) = worker_of(alloc, worker) else {
+    if !worker.is_live() {
         return BAD_HANDLE;
-    };
-    let answer = held.worker.drain_all(zone as usize);
-    put_worker(worker, held);
-    match answer {
+    }
+    let held = worker.slot.held();
+    match held.drain_all(zone as usize) {
         Ok(()) => DONE,
         Err(why) => call_error(why),
     }

@@ -8,7 +8,6 @@ ghost use Rattle.zonealloc.specs.Numbers.{IsNoMark, IsNoOrder, IsNoType, IsNoWor
 use crate::answers::{BAD_ARGUMENT, DONE, kind_of, mark_of, number_of, order_of};
 use crate::asking::{ask, ask_alloc, ask_free};
 use crate::handles::WorkerHandle;
-use std::alloc::Global;
 use zp_gate::{Given, ZoneCall};
 use zp_model::PageNo;
 
@@ -16,7 +15,6 @@ use zp_model::PageNo;
 #[tactic(auto, using(crate::proofs::Answering::denied_call, crate::proofs::Answering::denied_by))]
 #[unsafe(no_mangle)]
 pub extern "C" fn zonealloc_alloc(
-    alloc: Global,
     worker: &mut WorkerHandle,
     zone: u32,
     order: u32,
@@ -36,7 +34,7 @@ pub extern "C" fn zonealloc_alloc(
     let Some(mark) = mark_of(mark) else {
         return BAD_ARGUMENT;
     };
-    match ask_alloc(alloc, worker, zone, order, kind, mark) {
+    match ask_alloc(worker, zone, order, kind, mark) {
         Ok(first) => {
             *page = first.number();
             DONE
@@ -49,7 +47,6 @@ pub extern "C" fn zonealloc_alloc(
 #[tactic(auto, using(crate::proofs::Answering::denied_call, crate::proofs::Answering::denied_by))]
 #[unsafe(no_mangle)]
 pub extern "C" fn zonealloc_alloc_low(
-    alloc: Global,
     worker: &mut WorkerHandle,
     zone: u32,
     order: u32,
@@ -61,7 +58,7 @@ pub extern "C" fn zonealloc_alloc_low(
     let Some(order) = order_of(order) else {
         return BAD_ARGUMENT;
     };
-    match ask(alloc, worker, zone, ZoneCall::AllocLow(order)) {
+    match ask(worker, zone, ZoneCall::AllocLow(order)) {
         Ok(Given::Block(block)) => {
             *page = block.page.number();
             DONE
@@ -74,13 +71,7 @@ pub extern "C" fn zonealloc_alloc_low(
 /// Gives back a lent block.
 #[tactic(auto, using(crate::proofs::Answering::denied_call, crate::proofs::Answering::denied_by))]
 #[unsafe(no_mangle)]
-pub extern "C" fn zonealloc_free(
-    alloc: Global,
-    worker: &mut WorkerHandle,
-    zone: u32,
-    page: u32,
-    order: u32,
-) -> u32
+pub extern "C" fn zonealloc_free(worker: &mut WorkerHandle, zone: u32, page: u32, order: u32) -> u32
     ensures call { IsCall (Asks (request.Free page order)) (λ q. q ≡ reply.Freed) (Unit {0}) zone result worker.old.slot.value worker.new.slot.value }
     ensures denied { IsDenied (IsNoOrder order) (HasNoZone zone) IsRefusedOrBusy result worker.old.slot.value }
     ensures lent { IsLentDenied zone (request.Free page order) (¬ IsNoOrder order) result worker.old.slot.value }
@@ -88,7 +79,7 @@ pub extern "C" fn zonealloc_free(
     let Some(order) = order_of(order) else {
         return BAD_ARGUMENT;
     };
-    match ask_free(alloc, worker, zone, PageNo::new(page), order) {
+    match ask_free(worker, zone, PageNo::new(page), order) {
         Ok(()) => DONE,
         Err(why) => why,
     }
@@ -98,7 +89,6 @@ pub extern "C" fn zonealloc_free(
 #[tactic(auto, using(crate::proofs::Answering::denied_call, crate::proofs::Answering::denied_by))]
 #[unsafe(no_mangle)]
 pub extern "C" fn zonealloc_post(
-    alloc: Global,
     worker: &mut WorkerHandle,
     zone: u32,
     page: u32,
@@ -116,7 +106,7 @@ pub extern "C" fn zonealloc_post(
         return BAD_ARGUMENT;
     };
     let call = ZoneCall::Post(PageNo::new(page), order, to);
-    match ask(alloc, worker, zone, call) {
+    match ask(worker, zone, call) {
         Ok(Given::Done) => DONE,
         Ok(_) => unreachable!(),
         Err(why) => why,
@@ -127,7 +117,6 @@ pub extern "C" fn zonealloc_post(
 #[tactic(auto, using(crate::proofs::Answering::denied_call, crate::proofs::Answering::denied_by))]
 #[unsafe(no_mangle)]
 pub extern "C" fn zonealloc_collect(
-    alloc: Global,
     worker: &mut WorkerHandle,
     zone: u32,
     page: &mut u32,
@@ -136,7 +125,7 @@ pub extern "C" fn zonealloc_collect(
     ensures call { IsCall (Asks request.Collect) (IsBlockAt page.new order.new) ((page.new ≡ page.old) × (order.new ≡ order.old)) zone result worker.old.slot.value worker.new.slot.value }
     ensures denied { IsDenied ⊥ (HasNoZone zone) IsRefusedOrBusy result worker.old.slot.value }
 {
-    match ask(alloc, worker, zone, ZoneCall::Collect) {
+    match ask(worker, zone, ZoneCall::Collect) {
         Ok(Given::Block(block)) => {
             *page = block.page.number();
             *order = u32::from(block.order.number());
@@ -150,16 +139,11 @@ pub extern "C" fn zonealloc_collect(
 /// Isolates a pageblock, by its number in the zone.
 #[tactic(auto, using(crate::proofs::Answering::denied_call, crate::proofs::Answering::denied_by))]
 #[unsafe(no_mangle)]
-pub extern "C" fn zonealloc_isolate(
-    alloc: Global,
-    worker: &mut WorkerHandle,
-    zone: u32,
-    pageblock: u32,
-) -> u32
+pub extern "C" fn zonealloc_isolate(worker: &mut WorkerHandle, zone: u32, pageblock: u32) -> u32
     ensures call { IsCall (Asks (request.Isolate pageblock)) (λ q. q ≡ reply.Isolated) (Unit {0}) zone result worker.old.slot.value worker.new.slot.value }
     ensures denied { IsDenied ⊥ (HasNoZone zone) IsRefusedOrBusy result worker.old.slot.value }
 {
-    match ask(alloc, worker, zone, ZoneCall::Isolate(pageblock)) {
+    match ask(worker, zone, ZoneCall::Isolate(pageblock)) {
         Ok(Given::Done) => DONE,
         Ok(_) => unreachable!(),
         Err(why) => why,
@@ -170,7 +154,6 @@ pub extern "C" fn zonealloc_isolate(
 #[tactic(auto, using(crate::proofs::Answering::denied_call, crate::proofs::Answering::denied_by))]
 #[unsafe(no_mangle)]
 pub extern "C" fn zonealloc_release(
-    alloc: Global,
     worker: &mut WorkerHandle,
     zone: u32,
     pageblock: u32,
@@ -182,7 +165,7 @@ pub extern "C" fn zonealloc_release(
     let Some(kind) = kind_of(kind) else {
         return BAD_ARGUMENT;
     };
-    match ask(alloc, worker, zone, ZoneCall::Release(pageblock, kind)) {
+    match ask(worker, zone, ZoneCall::Release(pageblock, kind)) {
         Ok(Given::Done) => DONE,
         Ok(_) => unreachable!(),
         Err(why) => why,

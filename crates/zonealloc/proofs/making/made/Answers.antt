@@ -1,4 +1,4 @@
-use Rattle.std.proofs.Common.{subst, Box, Global}
+use Rattle.std.proofs.Common.{subst}
 use Rattle.std.specs.Prelude.{IfOk}
 use Rattle.zp_gate.specs.GatedWorkers.{AllDown, IsNewWorker}
 use Rattle.zonealloc.proofs.making.made.Goals as goal

@@ -1,4 +1,4 @@
-use Rattle.std.proofs.Common.{ℕ, ◌≡◌, ◌<◌, ◌+◌, ◌-◌, ◌∷◌, List, [], length, slice_index_or, arith}
+use Rattle.std.proofs.Common.{ℕ, ◌<◌, ◌+◌, ◌-◌, ◌∷◌, List, [], length, slice_index_or, arith}
 use Rattle.zonealloc.proofs.making.zonealloc_make.Goals as goal
 
 one_of : {A : Type 0} (xs : List A) (n : ℕ) → n < length xs → A
