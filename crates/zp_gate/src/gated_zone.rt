@@ -21,9 +21,9 @@ use crate::call::{Given, ZoneCall};
 use crate::question::{Answer, Question, ZoneTold};
 use std::alloc::Global;
 use std::marker::Model;
+use zp_info::{TextBuffer, push_counts};
 use zp_model::{Mark, MigrateType, Order, PageNo, Refused};
 use zp_share::{Share, Totals, gather};
-use zp_text::{TextBuffer, push_counts};
 use zp_zone::Zone;
 
 /// A zone, in a row of one, and the shares of it that workers left when they ended, for which there is room.

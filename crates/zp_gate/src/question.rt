@@ -1,6 +1,6 @@
 //! What a zone is asked to tell of itself, and what it answers.
+use zp_info::{INFO_LINE, TextBuffer};
 use zp_model::{Counts, Level, PageNo};
-use zp_text::{INFO_LINE, TextBuffer};
 use zp_zone::{Pageblock, ZonePage};
 
 /// How many free blocks of each order and free pages a zone has, its level, and its posted pages, all at one moment.

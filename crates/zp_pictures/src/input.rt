@@ -8,7 +8,7 @@ use crate::fault::PictureFault;
 use crate::output::write_text;
 use std::alloc::Global;
 use std::io::Write;
-use zp_text::{DIGITS, TextBuffer};
+use zp_info::{DIGITS, TextBuffer};
 use zp_trace::{Trace, TraceFault, parse_trace};
 
 /// The most bytes of the line that tells of a bad line: `bad line N`, and a line feed.

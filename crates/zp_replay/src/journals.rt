@@ -11,10 +11,11 @@ ghost use Rattle.zp_replay.specs.Judging.{JudgedJournal, IsJudged, ending, judge
 use crate::ending::ReplayFault;
 use std::alloc::Global;
 use std::marker::Model;
+use zp_info::TextBuffer;
 use zp_journal::{Journal, JournalCheck, replay_journal};
 use zp_model::{Name, Refused, TRACE_ZONES};
 use zp_text::{
-    TextBuffer, VERDICT_LINE, Verdict, WriteFault, Writer, make_room, push_verdict, write_gathered,
+    VERDICT_LINE, Verdict, WriteFault, Writer, make_room, push_verdict, write_gathered,
     write_journal,
 };
 use zp_trace::{Header, ZoneLine};

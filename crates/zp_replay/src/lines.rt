@@ -5,10 +5,10 @@ ghost use Rattle.zp_model.specs.Zone.{pages_of};
 ghost use Rattle.zp_replay.specs.Replies.{reply_line, reply_words};
 ghost use Rattle.zp_replay.specs.Output.{level_word, counted, total_line, bad_line};
 
+use zp_info::{DIGITS, TextBuffer};
 use zp_model::{LONGEST_NAME, Level, Worker};
 use zp_office::CommandReply;
 use zp_share::Totals;
-use zp_text::{DIGITS, TextBuffer};
 use zp_zone::Zone;
 
 /// The most bytes of a line.

@@ -13,12 +13,11 @@ ghost use Rattle.zp_replay.specs.Output.{replies_text, reply_at, report, total_l
 ghost use Rattle.zp_replay.specs.Replies.{info_lines, info_of, reply_text};
 
 use crate::lines::{LINE, push_reply_line, push_total_of};
+use zp_info::{INFO_LINE, TextBuffer, push_counts};
 use zp_model::{Counts, MAX_WORKERS, TRACE_ZONES, Worker};
 use zp_office::{CommandReply, Office};
 use zp_share::{PlainZones, Share, Totals};
-use zp_text::{
-    GATHERED, INFO_LINE, TextBuffer, WriteFault, Writer, make_room, push_counts, write_gathered,
-};
+use zp_text::{GATHERED, WriteFault, Writer, make_room, write_gathered};
 use zp_trace::CommandLine;
 use zp_zone::Zone;
 

@@ -3,7 +3,7 @@ ghost use Rattle.std.specs.Prelude.{◌≡◌, ◌<◌, ◌≤◌, ◌+◌, ◌�
 ghost use Rattle.zp_streams.specs.Streams.{IsWritten, IsBegun};
 ghost use Rattle.zp_text.specs.Gathering.{IsGathered, IsLineStart, IsStopped};
 
-use crate::text_buffer::TextBuffer;
+use zp_info::TextBuffer;
 use zp_streams::{WriteFault, Writer, write_pieces};
 
 /// The most bytes that are held back: some hundred lines, so that a device is asked seldom and little is in hand when it fails.

@@ -5,7 +5,7 @@ ghost use Rattle.zp_text.specs.JournalText.{journal_text};
 
 use crate::gathering::{GATHERED, make_room, write_gathered};
 use crate::line::{ENTRY_LINE, push_entry};
-use crate::text_buffer::TextBuffer;
+use zp_info::TextBuffer;
 use zp_journal::Journal;
 use zp_model::LONGEST_NAME;
 use zp_streams::{WriteFault, Writer};

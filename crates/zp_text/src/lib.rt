@@ -5,12 +5,10 @@ mod gathering;
 mod info;
 mod journal;
 mod line;
-mod text_buffer;
 mod verdict;
 
 pub use gathering::{GATHERED, make_room, write_gathered};
-pub use info::{INFO_LINE, push_counts, write_counts, write_info};
+pub use info::{write_counts, write_info};
 pub use journal::write_journal;
-pub use text_buffer::{DIGITS, TextBuffer};
 pub use verdict::{VERDICT_LINE, Verdict, push_verdict};
 pub use zp_streams::{Failures, ReadFault, Reader, Sink, Source, WriteFault, Writer, write_all};

@@ -6,7 +6,7 @@ ghost use Rattle.zp_model.specs.Entries.{reply_of, request_of};
 ghost use Rattle.zp_trace.specs.Spelling.{kind_word, mark_word, space};
 ghost use Rattle.zp_text.specs.JournalText.{entry_line, is_low, reply_words, request_words, spaced};
 
-use crate::text_buffer::{DIGITS, TextBuffer};
+use zp_info::{DIGITS, TextBuffer};
 use zp_model::{Answered, Asked, Entry, LONGEST_LIST, LONGEST_NAME, Mark, MigrateType, PageNo};
 
 /// The most bytes of a line: with the longest name, number and worker, and with as many pages in the request and in the reply as an

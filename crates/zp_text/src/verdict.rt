@@ -3,7 +3,7 @@ ghost use Rattle.std.specs.Prelude.{◌≡◌, ◌≤◌, ◌+◌, ◌++◌, len
 ghost use Rattle.zp_text.specs.JournalText.{verdict_line};
 
 use crate::line::{push_spaced_number, push_word};
-use crate::text_buffer::TextBuffer;
+use zp_info::TextBuffer;
 use zp_model::LONGEST_NAME;
 
 /// The most bytes of a line.

@@ -11,8 +11,8 @@ mod requests;
 use std::alloc::Global;
 use std::process::Abort;
 use std::test::*;
+use zp_info::{INFO_LINE, TextBuffer, push_counts};
 use zp_model::{Counts, Largest, Level, Mark, MigrateType, Order, PageblockType, Refused};
-use zp_text::{INFO_LINE, TextBuffer, push_counts};
 use zp_zone::{Seat, Zone, ZoneConfig};
 
 /// What a zone is made with, but its largest order.

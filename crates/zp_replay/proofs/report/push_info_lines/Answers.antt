@@ -3,7 +3,7 @@ use Rattle.std.specs.List.{flat_map, zip}
 use Rattle.std.proofs.lemmas.List.{take_all, length-map}
 use Rattle.std.proofs.lemmas.Slice.Zip.{length-zip}
 use Rattle.zp_share.specs.Shares.{named_zone}
-use Rattle.zp_text.proofs.InfoLines.{info_line-same}
+use Rattle.zp_info.proofs.InfoLines.{info_line-same}
 use Rattle.zp_text.proofs.Appended.{appended_item}
 use Rattle.zp_replay.proofs.Infos.{line_of, no_counts, pair_place, pair_there}
 use Rattle.zp_replay.proofs.report.push_info_lines.Goals as goal

@@ -3,7 +3,7 @@ use Rattle.std.specs.List.{flat_map}
 use Rattle.std.proofs.lemmas.List.{length-map, take_all}
 use Rattle.std.proofs.lemmas.Result.{on_err_weaker, on_ok_weaker}
 use Rattle.zp_share.specs.Shares.{named_zone}
-use Rattle.zp_text.proofs.InfoLines.{info_line-same}
+use Rattle.zp_info.proofs.InfoLines.{info_line-same}
 use Rattle.zp_streams.proofs.Written.{begun-same, on_err, written-same}
 use Rattle.zp_text.proofs.Gathered.{begun_items, gathered-same, gathered_begun, gathered_item, gathered_written, none_gathered}
 use Rattle.zp_replay.specs.Replies.{info_of}

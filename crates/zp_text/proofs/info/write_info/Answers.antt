@@ -1,6 +1,6 @@
 use Rattle.std.proofs.Common.{subst}
 use Rattle.std.specs.Result.{OnOk, OnErr}
-use Rattle.zp_text.proofs.InfoLines.{info_line-same}
+use Rattle.zp_info.proofs.InfoLines.{info_line-same}
 use Rattle.zp_streams.specs.Streams.{IsWritten, IsBegun}
 use Rattle.zp_text.proofs.info.write_info.Goals as goal
 

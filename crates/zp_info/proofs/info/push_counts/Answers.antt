@@ -3,7 +3,7 @@ use Rattle.std.specs.List.{flat_map}
 use Rattle.std.proofs.lemmas.Grind.{flat_map-append}
 use Rattle.std.proofs.lemmas.List.{take_all, take_more, append-nil}
 use Rattle.zp_model.specs.Info.{number_field}
-use Rattle.zp_text.proofs.info.push_counts.Goals as goal
+use Rattle.zp_info.proofs.info.push_counts.Goals as goal
 
 one_field : (n : ℕ) → flat_map number_field (n ∷ []) ≡ number_field n
 one_field n = append-nil (number_field n)

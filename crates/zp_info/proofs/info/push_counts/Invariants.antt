@@ -1,7 +1,7 @@
 use Rattle.std.proofs.Common.{◌≡◌, ◌≤◌, ◌+◌, ◌*◌, ◌++◌, length, take}
 use Rattle.std.specs.List.{flat_map}
 use Rattle.zp_model.specs.Info.{number_field}
-use Rattle.zp_text.proofs.info.push_counts.Given as goal
+use Rattle.zp_info.proofs.info.push_counts.Given as goal
 
 abbrev pub invariant-numbers : goal.invariant-numbers
 invariant-numbers g l = record {

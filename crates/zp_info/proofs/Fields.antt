@@ -5,7 +5,7 @@ use Rattle.std.proofs.lemmas.Bool.{cases_lt}
 use Rattle.std.proofs.lemmas.List.{length-replicate, take-append-drop, take-append-le, take-replicate}
 use Rattle.std.specs.Fmt.{decimal}
 use Rattle.zp_model.specs.Info.{number_field}
-use Rattle.zp_text.proofs.Decimal.{digits-7, digits-8, digits-9, digits-10}
+use Rattle.zp_info.proofs.Decimal.{digits-7, digits-8, digits-9, digits-10}
 
 -- digits that were written over the end of spaces, all but the last of which they may take
 pub field_is : (front spaces rest d after : List ℕ) (start at n : ℕ) → length front ≡ start → spaces ≡ replicate 7 32 → start ≤ at → at + length d ≡ start + 6 → n ≡ start + 7 →

@@ -1,6 +1,6 @@
 use Rattle.std.proofs.Common.{sym, arith}
-use Rattle.zp_text.proofs.Decimal.{digits-1, digits-2, digits-3, digits-4, digits-5, digits-6, digits-7, digits-8, digits-9, digits-10}
-use Rattle.zp_text.proofs.text_buffer.digits_of.Goals as goal
+use Rattle.zp_info.proofs.Decimal.{digits-1, digits-2, digits-3, digits-4, digits-5, digits-6, digits-7, digits-8, digits-9, digits-10}
+use Rattle.zp_info.proofs.text_buffer.digits_of.Goals as goal
 
 pub returns-then-number-lt10-clause-digits : goal.returns-then-number-lt10-clause-digits
 returns-then-number-lt10-clause-digits c = sym (digits-1 c.args.number c.if-number-lt10.true)

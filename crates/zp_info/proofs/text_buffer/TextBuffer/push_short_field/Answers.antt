@@ -4,8 +4,8 @@ use Rattle.std.proofs.lemmas.Fmt.{length-decimal-le}
 use Rattle.std.proofs.lemmas.List.{length-take-le}
 use borrow.Rule.Slice.PartMut.{same_len_mid}
 use Rattle.zp_model.specs.Info.{number_field}
-use Rattle.zp_text.proofs.Fields.{field_is}
-use Rattle.zp_text.proofs.text_buffer.TextBuffer.push_short_field.Goals as goal
+use Rattle.zp_info.proofs.Fields.{field_is}
+use Rattle.zp_info.proofs.text_buffer.TextBuffer.push_short_field.Goals as goal
 
 pub write_digits-requires : goal.write_digits-requires
 write_digits-requires g c =

@@ -1,7 +1,7 @@
 use Rattle.std.proofs.Common.{◌++◌, ◌∷◌, [], ap, sym, ◌∙◌, append_assoc, arith}
 use Rattle.std.specs.Fmt.{decimal}
-use Rattle.zp_text.proofs.Fields.{long_field}
-use Rattle.zp_text.proofs.text_buffer.TextBuffer.push_field.Goals as goal
+use Rattle.zp_info.proofs.Fields.{long_field}
+use Rattle.zp_info.proofs.text_buffer.TextBuffer.push_field.Goals as goal
 
 pub returns-else-number-lt-LONG-clause-bytes : goal.returns-else-number-lt-LONG-clause-bytes
 returns-else-number-lt-LONG-clause-bytes g c =

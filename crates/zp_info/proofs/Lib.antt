@@ -1,0 +1,3 @@
+pub mod InfoLines
+pub mod Decimal
+pub mod Fields
