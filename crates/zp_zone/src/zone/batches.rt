@@ -19,6 +19,8 @@ use zp_model::{MAX_BATCH, Mark, MigrateType, PageNo, Refused};
 impl Zone {
     /// Up to `count` pages for this type, each held to this mark, in the order taken. Refused 10 or 11 where none is got; a
     /// refill that is stopped after a page or more answers the pages that it got.
+    // (within its caller the pages of its answer are moved once more)
+    #[inline(never)]
     pub fn refill(
         &mut self,
         seat: &mut Seat,
