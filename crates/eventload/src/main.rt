@@ -1,5 +1,5 @@
 //! `eventload ROUNDS SEED`: page events of a kernel as text, 100,000 a round, drawn by the seed, read and carried out over a zone of 65,536
-//! pages by four workers. It prints `events`, the rounds and a digest of all that was told.
+//! pages by four workers. It prints `events`, the rounds and a digest of all reports.
 #![tactic(auto)]
 
 mod event_text;
@@ -48,7 +48,7 @@ fn options(alloc: Global) -> anyhow::Result<EventOptions> {
     })
 }
 
-/// What is told of a text, read off a stream with a ledger of its failures.
+/// The report on a text, read off a stream with a ledger of its failures.
 fn told<L: Ledger>(
     alloc: Global,
     text: &[u8],
@@ -64,12 +64,12 @@ fn told<L: Ledger>(
     Ok(told)
 }
 
-/// What is told of a text.
+/// The report on a text.
 fn told_of(alloc: Global, text: &[u8], options: &EventOptions) -> anyhow::Result<Vec<u8>> {
     told::<Brand>(alloc, text, options, Blank::new(1))
 }
 
-/// So many texts, each read and carried out: a digest of what was told.
+/// Reads and carries out so many texts, and returns a digest of their reports.
 fn carry_out(alloc: Global, rounds: u32, seed: u64) -> anyhow::Result<[u8; 16]> {
     let options = options(alloc)?;
     let mut digest = Md5::new();

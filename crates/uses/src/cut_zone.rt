@@ -31,8 +31,8 @@ pub struct CutRun {
     pub zone: Zone,
     /// All journals in order, the last one too, each with its place.
     pub pieces: Vec<Piece>,
-    /// The zone that the pieces lead to: where they adjoin, a new zone that is asked the same answers the same, and its free blocks are as
-    /// many as those of the zone.
+    /// The zone that the pieces lead to. Where they adjoin, a new zone returns the same results for the same requests, and has as many free
+    /// blocks as the zone.
     pub replayed: Option<Zone>,
 }
 
@@ -56,13 +56,13 @@ fn cut_where_nearly_full<J: Naming, R: Wait>(
     }
 }
 
-/// A worker takes a page and gives it back: two sections.
+/// A worker allocates a page and frees it: two sections.
 fn round<J: Naming, R: Wait>(worker: &mut WorkerAt<'_, J, R, CutJournal>) -> Result<(), Refused> {
     let lent = worker.take(Order::zero())?;
     worker.give(&lent)
 }
 
-/// One worker takes a page and gives it back, so many times, and looks after each round whether the journal is to be cut. Whether all of
+/// One worker allocates a page and frees it, so many times, and looks after each round whether the journal is to be cut. Whether all of
 /// it was done.
 fn rounds<J: Naming, R: Wait>(
     rt: &R,
@@ -113,7 +113,7 @@ fn with_counts(zone: Option<Zone>, counts: Counts) -> Option<Zone>
     }
 }
 
-/// What is told of the zone and its pieces. None where the config makes no zone, or there is no memory for the replay.
+/// Reports on the zone and its pieces. None where the config makes no zone, or there is no memory for the replay.
 fn outcome(
     alloc: Global,
     config: ZoneConfig<'_>,
@@ -146,7 +146,8 @@ fn with_last(mut pieces: Vec<Piece>, last: Piece) -> Option<Vec<Piece>>
     }
 }
 
-/// What is told of the zone, out of its lock, and of the pieces before its last. None where it was found at another's place, or as `outcome`.
+/// Reports on the zone, taken out of its lock, and on the pieces before its last. None where it was found at another's place, or as
+/// `outcome`.
 fn closed<J: Naming>(
     alloc: Global,
     config: ZoneConfig<'_>,

@@ -14,7 +14,7 @@ pub struct EndlessRun {
     pub free_pages: u32,
 }
 
-/// One worker takes a page and gives it back, so many times: how many sections it made.
+/// One worker allocates a page and frees it, so many times: how many sections it made.
 fn rounds<J: Naming, R: Wait>(
     rt: &R,
     worker: ZoneWorker<J>,

@@ -1,4 +1,4 @@
-//! A page of a zone that threads share, taken and given back by one worker over a view of its own: with no desk and no script, whatever
+//! One worker allocates and frees a page of a zone that threads share, over a view of its own: with no desk and no script, whatever
 //! the zone keeps.
 ghost use Rattle.std.specs.Prelude.{◌≡◌, ◌<◌, length};
 ghost use Rattle.zp_share.specs.Shares.{IsShareOf};
@@ -8,7 +8,7 @@ use zp_model::{Mark, MigrateType, Order, Refused};
 use zp_share::{Share, alloc, free};
 use zp_shared::{Earlier, Keeps, LockedZones, Naming};
 
-/// Takes a page of the zone at this place, or of one below it, and gives it back; each takes the zone's lock once, where the worker's
+/// Takes a page of the zone at this place, or of one below it, and frees it; each takes the zone's lock once, where the worker's
 /// list has no page. The worker can go on in the same way.
 pub fn touch_a_page<J: Naming, E: Earlier, R: Wait, K: Keeps>(
     zones: &mut LockedZones<'_, J, E, R, K>,

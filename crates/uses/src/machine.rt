@@ -150,7 +150,7 @@ struct AtWork<'a, J: Naming, R> {
 }
 
 impl<J: Naming, R: Wait> AtWork<'_, J, R> {
-    /// Takes a block out of the highest zone, or of one below it where that has none above its mark, and gives it back. Answers whether both
+    /// Takes a block out of the highest zone, or of one below it where that has none above its mark, and frees it. Returns whether both
     /// were done.
     fn round(&mut self, order: Order) -> bool {
         let share = &mut self.share;

@@ -10,7 +10,7 @@ use zp_model::Refused;
 use zp_zone::{Zone, ZoneConfig};
 
 /// The zone of this config and so many workers that the pieces lead to: each begins where the one before it ended, and all their entries, put
-/// together, are the zone's own. None where it is not so. Refused 1 to 6 as the zone's making is.
+/// together, are the zone's own. Else None. Refused 1 to 6, as creating the zone is.
 pub fn replayed_zone(
     alloc: Global,
     config: ZoneConfig<'_>,

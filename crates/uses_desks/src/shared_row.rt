@@ -27,11 +27,11 @@ pub struct SharedRun {
     pub free_pages: u32,
     /// How many requests were made of the zone.
     pub requests: u32,
-    /// Whether a new zone that is asked the same, in the same order, answers the same.
+    /// Whether a new zone returns the same results for the same requests, in the same order.
     pub is_legal: bool,
 }
 
-/// What each worker does: a page is taken and given back.
+/// What each worker does: it allocates a page and frees it.
 fn script(alloc: Global) -> Result<Vec<Command>, Refused>
     ensures { IfOk result (λ s. s.items ≡ Command.Alloc 0 0 Movable 0 Low ∷ Command.Free 0 ∷ []) }
 {
@@ -123,7 +123,7 @@ fn last_of(closed: ClosedZones) -> Option<(Zone, Journal)> {
     }
 }
 
-/// What is told of the zone that the workers shared. None where there is no memory to replay its journal.
+/// Reports on the zone that the workers shared. None where there is no memory to replay its journal.
 fn outcome(
     alloc: Global,
     config: ZoneConfig<'_>,

@@ -13,7 +13,7 @@ pub struct Memory {
     pub level: Level,
 }
 
-/// Writes the zone's info line, and answers what it says in short.
+/// Writes the zone's info line, and returns what it says in short.
 pub fn show<W: Writer>(zone: &Zone, writer: &mut W) -> Result<Memory, WriteFault> {
     write_info(zone, writer)?;
     let counts = zone.counts();

@@ -39,7 +39,7 @@ fn is_whole(zone: &Zone, pageblock: u32) -> bool {
     }
 }
 
-/// The holder has a block of the pageblock, and the other worker keeps some of its pages. It is isolated, they give back what they have,
+/// The holder has a block of the pageblock, and the other worker keeps some of its pages. It is isolated, both free what they have,
 /// and it is released for Unmovable requests.
 fn empty(zone: &mut Zone, holder: &mut Seat, other: &mut Seat, pageblock: u32) -> Option<Emptying>
     requires holder { IsSeatOf zone.old holder.old }

@@ -4,7 +4,7 @@ use std::alloc::Global;
 use zp_model::{Largest, Mark, MigrateType, Order, Refused};
 use zp_zone::{Zone, ZoneConfig};
 
-/// Makes a zone, takes one page of it, and gives the page back. Answers how many pages are free then.
+/// Makes a zone, allocates one page of it, and frees the page. Returns how many pages are free then.
 pub fn one_page(alloc: Global) -> Result<u32, Refused> {
     let config = ZoneConfig {
         name: "Normal",

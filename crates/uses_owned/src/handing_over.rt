@@ -1,4 +1,4 @@
-//! A block that one worker takes and another gives back.
+//! A block that one worker allocates and another frees.
 ghost use Rattle.std.specs.Prelude.{IfSome};
 ghost use Rattle.zp_zone.specs.Seats.{IsSeatOf};
 
@@ -15,13 +15,13 @@ pub fn send(zone: &mut Zone, giver: &mut Seat, receiver: &mut Seat, order: Order
 {
     let movable = MigrateType::Movable;
     let page = zone.alloc(giver, order, movable, Mark::Low).ok()?;
-    // Only the zone tells that the receiver is one of its workers.
+    // Only the zone shows that the receiver is one of its workers.
     zone.check(receiver);
     zone.post(giver, page, order, receiver.worker());
     Some(page)
 }
 
-/// The receiver collects a block that was posted to it and gives it back: which block it was.
+/// The receiver collects a block that was posted to it and frees it: which block it was.
 pub fn receive(zone: &mut Zone, receiver: &mut Seat) -> Option<Block>
     requires { IsSeatOf zone.old receiver.old }
     ensures { IsSeatOf zone.new receiver.new }

@@ -51,7 +51,7 @@ impl HugePool {
             .ok()
     }
 
-    /// Gives a block back. Answers false, and does nothing, where no block that was taken here begins at the page.
+    /// Frees a block. Returns false, and does nothing, where no block that was taken here begins at the page.
     pub fn put(&mut self, page: PageNo) -> bool
         ensures { result ≡ has self.old.seat page HUGE }
     {

@@ -35,7 +35,7 @@ impl PagePool {
             .ok()
     }
 
-    /// Gives a page back. Answers false, and does nothing, where the page is not one that was taken here.
+    /// Frees a page. Returns false, and does nothing, where the page is not one that was taken here.
     pub fn put(&mut self, page: PageNo) -> bool
         ensures { result ≡ has self.old.seat page 0 }
     {

@@ -1,11 +1,11 @@
-//! Two pages at a time, given back in the order in which they came.
+//! Two pages at a time, freed in the order in which they came.
 
 ghost use Rattle.zp_zone.specs.Seats.{IsSeatOf};
 
 use zp_model::{Mark, MigrateType, Order, Refused};
 use zp_zone::{Seat, Zone};
 
-/// Takes two pages, and gives both back. Where only one is to be had, it is given back too.
+/// Allocates two pages, and frees both. Where only one is to be had, it is freed too.
 pub fn take_two(zone: &mut Zone, seat: &mut Seat) -> Result<(), Refused>
     requires { IsSeatOf zone.old seat.old }
     ensures { IsSeatOf zone.new seat.new }

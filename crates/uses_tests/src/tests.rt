@@ -1,4 +1,4 @@
-//! The callers, run. What they are answered is told in numbers, by a small function for each, and compared here.
+//! The callers, run. A small function for each turns its results into numbers, which are compared here.
 ghost use Rattle.std.specs.Prelude.{ℕ, None};
 ghost use Rattle.zp_zone.specs.Seats.{IsSeatOf};
 
@@ -119,7 +119,7 @@ impl Hand {
     }
 }
 
-/// Whether a run is whole, and the next one a page, which is given back; and how many pages are free before that and after.
+/// Whether a run is whole, and the next one a page, which is freed; and how many pages are free before that and after.
 fn taken_runs(zone: &mut Zone, seat: &mut Seat) -> Option<(bool, bool, u32, u32)>
     requires { IsSeatOf zone.old seat.old }
     ensures { IsSeatOf zone.new seat.new }
@@ -214,7 +214,7 @@ const MEMORY: Memory = Memory {
 const LINE: &str =
     "Node 0, zone      DMA      0      0      0      0      0      0      0      0      0      0      1 \n";
 
-/// Whether this is told of the zone.
+/// Whether the zone shows this line, and the figures of `MEMORY`.
 fn is_shown(zone: &Zone, line: &str) -> bool {
     let mut writer = Kept {
         bytes: ArrayVec::new(),

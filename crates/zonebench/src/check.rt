@@ -1,4 +1,4 @@
-//! The checksums of the workloads: what another allocator with the same rules answers too.
+//! The checksums of the workloads, which another allocator with the same rules returns too.
 
 use crate::workload::{SIZES, Workload};
 use crate::{entries, worst};
@@ -6,14 +6,14 @@ use std::alloc::Global;
 use zp_loads::{BlockSource, Cached, Load, PastLists, Seated, Unmade};
 use zp_model::Order;
 
-/// The calls that were made, and the checksum of their answers and of those before them.
+/// The calls that were made, and the checksum of their results and of those before them.
 #[derive(Clone, Copy, Drop)]
 pub struct Sum {
     pub calls: u64,
     pub checksum: u64,
 }
 
-/// A workload in a zone of so many pages. What is lent at its end is not given back: of two numbers of calls the difference in
+/// A workload in a zone of so many pages. What is lent at its end is not freed: of two numbers of calls the difference in
 /// instructions is that of the calls alone.
 pub fn sum_of<S: BlockSource>(
     alloc: Global,
@@ -66,8 +66,8 @@ fn print_pairs(rt: &impl Print, alloc: Global, name: &str, order: u8) -> anyhow:
     Ok(())
 }
 
-/// Prints what is checked of wide zones: all pages of one taken one by one and given back at random, and what is told of the pages at
-/// the end of the narrow ones, and of the last page.
+/// Prints the checks of wide zones: all pages of one are allocated one by one and freed at random, and a zone of
+/// 2^24 pages reports the right entries of the last page of the largest narrow zone, of the page after it, and of its last page.
 fn print_wide(rt: &impl Print, alloc: Global) -> anyhow::Result<()> {
     print_sum::<Seated<10>>(rt, alloc, "burst", &Workload::Burst, 1 << 20, 1)?;
     entries::follow(alloc)?;
@@ -75,7 +75,7 @@ fn print_wide(rt: &impl Print, alloc: Global) -> anyhow::Result<()> {
     Ok(())
 }
 
-/// Prints all checksums: the workload, the pages of the zone, the number of calls or rounds, and the checksum of the answers.
+/// Prints all checksums: the workload, the pages of the zone, the number of calls or rounds, and the checksum of the results.
 pub fn print_all(rt: &impl Print, alloc: Global) -> anyhow::Result<()> {
     let hot = Workload::Pairs(Order::zero());
     print_pairs(rt, alloc, "pairs 0", 0)?;

@@ -130,7 +130,7 @@ fn locked_sum<R: Clock + Threads + Wait + Sync>(
 }
 
 /// Makes about so many calls of the workload of this name in a zone of so many pages, and prints how many they were, and the
-/// checksum of the answers.
+/// checksum of the results.
 pub fn print_count<R: Print + Clock + Threads + Wait + Sync>(
     rt: &R,
     alloc: Global,

@@ -1,5 +1,5 @@
-//! What a zone of 2^24 pages tells of the last page of the largest narrow zone, of the page after it, and of its own last page, as blocks
-//! come and go there. The values that it has to tell were worked out from `docs/rules.md`.
+//! What a zone of 2^24 pages reports of the last page of the largest narrow zone, of the page after it, and of its own last page, as blocks
+//! come and go there. The values that it has to report were worked out from `docs/rules.md`.
 
 use std::alloc::Global;
 use zp_loads::{BlockSource, Seated, Unmade, expect};
@@ -78,12 +78,12 @@ fn take_between(zone: &mut Whole, low: u32, high: u32) -> Result<(), Unmade> {
     Ok(())
 }
 
-/// Gives back a page that was taken.
+/// Frees a page that was taken.
 fn give(zone: &mut Whole, page: u32) {
     zone.give(PageNo::new(page), Order::zero());
 }
 
-/// This has to be told of the watched pages.
+/// The zone must report these entries of the watched pages.
 fn tells(zone: &Whole, told: [ZonePage; 3]) -> Result<(), Unmade> {
     for (page, told) in WATCHED.iter().zip(told) {
         expect(zone.entry(PageNo::new(*page)) == Some(told))?;
@@ -152,7 +152,7 @@ fn go_out(zone: &mut Whole) -> Result<(), Unmade> {
     tells(zone, [out(), out(), out()])
 }
 
-/// They are given back, each alone at first, as its buddy is out; then the buddies of two of them.
+/// The watched pages are freed, each alone at first, as its buddy is out; then the buddies of two of them.
 fn come_back(zone: &mut Whole) -> Result<(), Unmade> {
     give(zone, LAST);
     give(zone, FIRST_WIDE);
@@ -174,7 +174,7 @@ fn come_back(zone: &mut Whole) -> Result<(), Unmade> {
     )
 }
 
-/// Follows the watched pages out and back: another answer than the rules' is an error.
+/// Follows the watched pages as they are allocated and freed: a result other than the rules' is an error.
 pub fn follow(alloc: Global) -> Result<(), Unmade> {
     let mut zone = Whole::new(alloc, MAX_PAGES)?;
     go_out(&mut zone)?;

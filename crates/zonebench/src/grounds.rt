@@ -57,7 +57,7 @@ impl Ground {
         }
     }
 
-    /// Whether a request leaves another ground, also when its block is given back: a claim takes the list's end with it.
+    /// Whether a request leaves another ground, also when its block is freed: a claim takes the list's end with it.
     pub fn is_laid_anew(&self) -> bool {
         matches!(self, Ground::LongList)
     }

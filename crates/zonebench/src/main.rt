@@ -2,12 +2,12 @@
 //! worker with lists of its own, which threads run over a shared zone too.
 //!
 //! With no word it prints how long a call of each takes, and a section on a zone behind its lock by what the zone keeps, and what is
-//! published on a board and read off it. With `check` it prints the checksums of the pages answered, which do not depend on the
+//! published on a board and read off it. With `check` it prints the checksums of the pages returned, which do not depend on the
 //! machine, and starts no thread. With `worst` it prints how long the dearest requests that are known take. With `sizes` it prints how
-//! long a call of each workload takes in zones of up to 2^24 pages, and with `makings` how long the making of such zones takes. With
+//! long a call of each workload takes in zones of up to 2^24 pages, and with `makings` how long creating such zones takes. With
 //! `count` it makes so many calls of one workload, so that a tool can count their instructions.
 //!
-//! A line of a table is printed when all its times are known. Where that takes long, standard error tells on a terminal how far the table
+//! A line of a table is printed when all its times are known. Where that takes long, standard error shows on a terminal how far the table
 //! is, between the measurements.
 #![tactic(auto)]
 

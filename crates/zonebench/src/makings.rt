@@ -1,4 +1,4 @@
-//! How long the making of a zone takes, and of a worker's share of it.
+//! How long it takes to create a zone, and a worker's share of it.
 
 use crate::clock::timed;
 use crate::steps::{Steps, begun};
@@ -16,13 +16,13 @@ const SIZES: [u32; 3] = [1 << 16, 1 << 20, 1 << 24];
 /// The largest orders of the zones.
 const LARGEST: [u8; 6] = [10, 9, 6, 5, 4, 1];
 
-/// The makings of which the least time is printed.
+/// How many samples there are, of which the least time is printed.
 const SAMPLES: u32 = 5;
 
 /// The times that are taken: of zones, and of a share.
 const MEASUREMENTS: usize = SIZES.len() * (LARGEST.len() + 1);
 
-/// What is told of a table that takes long.
+/// What a terminal shows of a table that takes long.
 const TASK: Task<'static> = Task {
     name: "zonebench makings",
     unit: "measurements",
@@ -38,7 +38,7 @@ enum Made {
 }
 
 impl Made {
-    /// The nanoseconds of a making, for a zone of so many pages.
+    /// The nanoseconds of one creation, for a zone of so many pages.
     fn nanos(self, rt: &impl Clock, alloc: Global, pages: u32) -> anyhow::Result<u128> {
         match self {
             Made::Zone(largest) => zone_nanos(rt, alloc, pages, largest),
@@ -83,7 +83,7 @@ fn share_nanos(rt: &impl Clock, alloc: Global, pages: u32) -> anyhow::Result<u12
     }
 }
 
-/// Prints a line of the table: the time of a making at each size.
+/// Prints a line of the table: the time of a creation at each size.
 fn print_times(
     rt: &(impl Print + Clock),
     alloc: Global,
@@ -107,7 +107,7 @@ fn print_line(rt: &impl Print, name: &str, nanos: &[u128]) -> anyhow::Result<()>
     Ok(())
 }
 
-/// Prints the table: milliseconds of a making, by the pages of the zone.
+/// Prints the table: milliseconds of a creation, by the pages of the zone.
 pub fn print_all(
     rt: &(impl Print + Eprint + Clock),
     alloc: Global,

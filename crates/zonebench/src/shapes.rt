@@ -13,7 +13,7 @@ pub trait Shape: Drop {
     /// Brings the zone back to where the request is dear.
     fn restore(&mut self) -> Result<(), Unmade>;
 
-    /// The checksum of all pages answered, those of the preparation too.
+    /// The checksum of all pages returned, those of the preparation too.
     fn checksum(&self) -> u64;
 }
 
@@ -33,7 +33,7 @@ impl Shape for Nothing {
     }
 }
 
-/// A block that is asked for on a ground, for the one type and the other in turn, and given back each time.
+/// A block that is allocated on a ground, for the one type and the other in turn, and freed each time.
 #[derive(Clone, Copy, Drop)]
 pub struct Wish {
     pub ground: Ground,
@@ -132,7 +132,7 @@ impl Shape for Taking {
     }
 }
 
-/// A page that joins ten times as it is given back.
+/// A page that joins ten times when it is freed.
 #[derive(Drop)]
 pub struct Giving {
     bench: Load<Seated<10>>,
@@ -262,7 +262,7 @@ fn list_first_pages(bench: &mut Load<PastLists>) {
     list_pages_from(&mut bench.source);
 }
 
-/// Gives back the lent pageblocks, the last one first, and puts the first page of each on the worker's list: the lowest free one.
+/// Frees the lent pageblocks, the last one first, and puts the first page of each on the worker's list: the lowest free one.
 fn list_pages_from(source: &mut PastLists) {
     for after in 1..=PAGEBLOCKS {
         let head = PageNo::new((PAGEBLOCKS - after) * PAGEBLOCK_PAGES);

@@ -31,7 +31,7 @@ const CACHED: [&str; 5] = ["pairs-0", "runs", "churn", "press", "burst"];
 /// The times that are taken.
 const MEASUREMENTS: usize = SIZES.len() * (SEATED.len() + CACHED.len());
 
-/// What is told of a table that takes long.
+/// What a terminal shows of a table that takes long.
 const TASK: Task<'static> = Task {
     name: "zonebench sizes",
     unit: "measurements",

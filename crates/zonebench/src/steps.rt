@@ -3,7 +3,7 @@
 use std::rt::Clock;
 use zp_progress::{Progress, ProgressMeter, Task};
 
-/// How many of a table's measurements are made. Whoever looks on is told after each one, and never while one is made.
+/// How many of a table's measurements are made. A terminal shows it after each one, and never while one is made.
 #[derive(Drop)]
 pub struct Steps<P: Progress + Drop> {
     progress: P,
@@ -48,7 +48,7 @@ impl<P: Progress + Drop> Steps<P> {
         Ok(line)
     }
 
-    /// What was told goes away, since a line of the table is about to be printed.
+    /// Clears what was shown, since a line of the table is about to be printed.
     pub fn clear(&mut self) {
         self.progress.clear();
     }

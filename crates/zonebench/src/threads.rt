@@ -18,7 +18,7 @@ use zp_share::ListConfig;
 use zp_shared::{Keeps, Naming, OneZone, OpenedZone, WorkerAt, ZoneCrew, ZoneWorker};
 use zp_zone::Seat;
 
-/// What a worker takes and gives back, again and again.
+/// What a worker allocates and frees, again and again.
 #[derive(Clone, Copy, PartialEq, Eq, Debug, Drop)]
 pub enum Pairs {
     /// A page, by its lists, which are the longest ones.
@@ -58,7 +58,7 @@ pub struct PairsStint {
     each: u32,
 }
 
-/// Takes a Movable block and gives it back; its page counts into the checksum.
+/// Allocates a Movable block and frees it; its page counts into the checksum.
 fn pair<J: Naming, R: Wait, K: Keeps>(
     worker: &mut WorkerAt<'_, J, R, K>,
     order: Order,
@@ -73,7 +73,7 @@ fn pair<J: Naming, R: Wait, K: Keeps>(
     }
 }
 
-/// A worker makes its pairs: how many sections they were, and the checksum of the pages answered.
+/// A worker makes its pairs. Returns how many sections they were, and the checksum of the pages.
 fn work<J: Naming, R: Wait, K: Keeps>(
     rt: &R,
     worker: ZoneWorker<J>,

@@ -17,7 +17,7 @@ pub struct Spread {
     pub high: u64,
 }
 
-/// Puts the times in rising order, and tells their spread.
+/// Puts the times in rising order, and returns their spread.
 fn spread_of(times: &mut [u64]) -> Spread
     requires { 0 < length times.old }
     ensures same { IsPermutation times.old times.new }

@@ -67,7 +67,7 @@ const LINES: usize = SEATED_PAIRS.len()
 /// two of readings.
 const MEASUREMENTS: usize = SIZES.len() * LINES + 2 * KEPT.len() + 8;
 
-/// What is told of a table that takes long.
+/// What a terminal shows of a table that takes long.
 const TASK: Task<'static> = Task {
     name: "zonebench",
     unit: "measurements",

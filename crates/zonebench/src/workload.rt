@@ -16,7 +16,7 @@ const WARMING: u32 = 40_000;
 /// The blocks of a run.
 const RUN: u32 = 64;
 
-/// The most pages that are given back and taken at a time, under press.
+/// The most pages that are freed and allocated at a time, under press.
 const MOST_EXCHANGED: usize = 64;
 
 /// The orders of a churn have probabilities that fall by halves; the last one takes what is left.
@@ -25,19 +25,19 @@ const CHURNED: u64 = 1 << 10;
 /// What is asked of a zone.
 #[derive(Clone, Copy, Drop)]
 pub enum Workload {
-    /// A block of this order is taken and given back, again and again.
+    /// A block of this order is allocated and freed, again and again.
     Pairs(Order),
-    /// 64 single pages are taken, and given back in the order in which they came.
+    /// 64 single pages are allocated, and freed in the order in which they came.
     Runs,
     /// Blocks of all orders come and go at random, half of the pages lent.
     Churn,
     /// Single pages come and go at random, nine tenths of them lent.
     Press,
-    /// All pages are taken one by one, and given back at random.
+    /// All pages are allocated one by one, and freed at random.
     Burst,
-    /// An Unmovable page is taken and given back, where a third of the pages is free, each alone.
+    /// An Unmovable page is allocated and freed, where a third of the pages is free, each alone.
     Scattered,
-    /// A block of the largest order is taken and given back for two types in turn: each claims the one pageblock.
+    /// A block of the largest order is allocated and freed for two types in turn: each claims the one pageblock.
     Claims,
 }
 
@@ -84,7 +84,7 @@ impl Workload {
         Ok(())
     }
 
-    /// The calls that count. Answers how many calls of the zone they were, a test and a giving back being one.
+    /// The calls that count. Returns how many calls of the zone they were; a test and the free after it count as one.
     pub fn run<S: BlockSource>(&self, bench: &mut Load<S>, ops: u32) -> Result<u64, Unmade> {
         match self {
             Workload::Pairs(order) => pairs(bench, *order, ops),
@@ -136,7 +136,7 @@ fn warm<S: BlockSource>(bench: &mut Load<S>) -> Result<(), Unmade> {
     Ok(())
 }
 
-/// A block of a drawn order is taken where fewer than half of the pages are lent; else a drawn one is given back.
+/// Allocates a block of a drawn order where fewer than half of the pages are lent; else frees a drawn one.
 fn churn_once<S: BlockSource>(bench: &mut Load<S>) -> Result<(), Unmade> {
     let drawn = bench.random.draw();
     if bench.lent_pages() >= bench.pages() / 2 {
@@ -181,7 +181,7 @@ fn press<S: BlockSource>(bench: &mut Load<S>, ops: u32) -> Result<u64, Unmade> {
     Ok(calls)
 }
 
-/// Gives back so many drawn pages, and takes as many. Answers how many calls these were.
+/// Frees so many drawn pages, and takes as many. Returns how many calls these were.
 fn exchange<S: BlockSource>(bench: &mut Load<S>, pages: usize) -> Result<u64, Unmade>
     requires { pages ≤ 64 }
 {

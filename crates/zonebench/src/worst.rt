@@ -18,7 +18,7 @@ const CALLS: u32 = 10_000;
 /// The calls of a request whose ground is laid anew before each one.
 const CALLS_ANEW: u32 = 1000;
 
-/// The calls whose answers are summed.
+/// The calls whose results are summed.
 const CALLS_SUMMED: u32 = 10;
 
 /// The pages of zones in which the list that a claim walks is longer, and the calls: laying the ground takes all pages.
@@ -36,10 +36,10 @@ const ISOLATING: [(&str, Ground); 2] = [
     ("the same of 512 single pages", Ground::HalfPageblock),
 ];
 
-/// The requests: the clock alone, wishes, long lists, what is given back, refilled and drained, and what is isolated.
+/// The requests: the clock alone, wishes, long lists, what is freed, refilled and drained, and what is isolated.
 const REQUESTS: usize = 4 + WISHES + LONG_LISTS.len() + ISOLATING.len();
 
-/// What is told of a table that takes long.
+/// What a terminal shows of a table that takes long.
 const TASK: Task<'static> = Task {
     name: "zonebench worst",
     unit: "requests",
@@ -165,7 +165,7 @@ pub fn print_all(
     print_times(rt, alloc, &mut steps, DRAINING, Draining::new(alloc), CALLS)
 }
 
-/// Prints the checksum of the answers to a few calls, where there is memory for the request's zone.
+/// Prints the checksum of the results of a few calls, where there is memory for the request's zone.
 fn print_sum<S: Shape>(rt: &impl Print, name: &str, made: Result<S, Unmade>) -> anyhow::Result<()> {
     match made {
         Ok(mut shape) => print_sum_of(rt, name, &mut shape),
@@ -173,7 +173,7 @@ fn print_sum<S: Shape>(rt: &impl Print, name: &str, made: Result<S, Unmade>) -> 
     }
 }
 
-/// Prints the checksum of the answers to a few calls.
+/// Prints the checksum of the results of a few calls.
 fn print_sum_of(rt: &impl Print, name: &str, shape: &mut impl Shape) -> anyhow::Result<()> {
     for _ in 0..CALLS_SUMMED {
         shape.ask();
@@ -186,7 +186,7 @@ fn print_sum_of(rt: &impl Print, name: &str, shape: &mut impl Shape) -> anyhow::
     Ok(())
 }
 
-/// Prints the checksums of all requests: the request, the pages of the zone, the calls, and the checksum of the answers.
+/// Prints the checksums of all requests: the request, the pages of the zone, the calls, and the checksum of the results.
 pub fn print_sums(rt: &impl Print, alloc: Global) -> anyhow::Result<()> {
     for (name, wish) in wishes() {
         print_sum(rt, name, Taking::new(alloc, PAGES, wish))?;

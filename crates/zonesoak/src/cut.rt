@@ -17,7 +17,7 @@ use zp_share::ListConfig;
 use zp_shared::{CutJournal, Naming, OpenedZone, ZoneCrew};
 use zp_zone::{Seat, Zone};
 
-/// How many pages each worker takes and gives back: two sections each. There is a cut after 180 to 190 sections.
+/// How many pages each worker allocates and frees: two sections each. There is a cut after 180 to 190 sections.
 const ROUNDS: u32 = 5000;
 
 /// The fewest cuts that are wanted.

@@ -49,7 +49,7 @@ fn run<R: Threads + Wait + Sync>(rt: &R, alloc: Global) -> Result<EndlessRun, Un
     }
 }
 
-/// Says how many sections were made. At the end each worker may have a page that it could not give back.
+/// Prints how many sections were made. At the end each worker may have a page that it could not free.
 pub fn print<R: Print + Threads + Wait + Sync>(
     rt: &R,
     alloc: Global,

@@ -1,8 +1,8 @@
 //! `zonesoak`: a zone that threads share is asked millions of times, by workers at the same time, with a reader of its board beside them.
 //! Then the pages are counted.
 //!
-//! It shows what no clause says: that zones which go on without end do so under load, on a machine. What it prints is the same on every one;
-//! the workers' requests meet in another order each time. On a terminal standard error tells how far it is.
+//! It tests what is not proved: zones which go on without end do so under load, on a machine. What it prints is the same on every one;
+//! the workers' requests meet in another order each time. On a terminal standard error shows how far it is.
 #![tactic(auto)]
 
 mod cut;
@@ -20,7 +20,7 @@ use zp_progress::{Progress, ProgressMeter, Task, is_watched};
 /// How many workers each zone has, where it is not said.
 const WORKERS: u32 = 4;
 
-/// What is told on a terminal where it takes long: how many zones were asked all that is asked of them.
+/// What a terminal shows where it takes long: how many zones have got all their requests.
 const TASK: Task<'static> = Task {
     name: "zonesoak",
     unit: "parts",

@@ -29,7 +29,7 @@ fn order_of(word: u32) -> Order {
     Order::new(number as u8).unwrap_or(Order::zero())
 }
 
-/// The block of a slot is given back, or one is taken where it has none: one section.
+/// Frees the block of a slot, or allocates one where it has none: one section.
 fn ask<J: Naming, R: Wait, K: Keeps>(
     worker: &mut WorkerAt<'_, J, R, K>,
     slot: &mut Option<Lent>,

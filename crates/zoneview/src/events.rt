@@ -15,16 +15,16 @@ use zp_capture::{CaptureFault, EventOptions, Form, Summary, print_events};
 use zp_progress::{ProgressMeter, Task};
 use zp_streams::{Failures, Source};
 
-/// The status of a run that tells nothing, or not all.
+/// The status of a run that reports nothing, or not all.
 const NOTHING_TOLD: u8 = 1;
 
-/// What is told of events that take long: how many are carried out.
+/// What a terminal shows of events that take long: how many are carried out.
 const TASK: Task<'static> = Task {
     name: "zoneview events",
     unit: "page events",
 };
 
-/// Reads the text of a capture on standard input, and tells what came of its events. What is not to be trusted is told on standard error.
+/// Reads the text of a capture on standard input, and reports on its events. What is not to be trusted is reported on standard error.
 pub fn run(
     rt: &(impl Print + Eprint + Input + Clock + AllocGlobal),
     words: &ArgMatches<'_>,
@@ -76,7 +76,7 @@ fn carry_out<L: Ledger>(
     print_events(rt.alloc(), reader, options, writer, meter)
 }
 
-/// Tells what of a capture is not to be trusted, and answers the status.
+/// Reports what of a capture is not to be trusted, and returns the status.
 fn warn(rt: &impl Eprint, summary: &Summary) -> anyhow::Result<u8> {
     let lines = &summary.lines;
     if lines.named > 0 {

@@ -37,7 +37,7 @@ fn main(rt: HostRuntime) -> ExitCode {
     }
 }
 
-/// Does what the words ask for, and answers the program's status.
+/// Does what the words ask for, and returns the program's status.
 fn run(
     rt: &(impl Print + Eprint + Input + Env + Clock + AllocGlobal),
     terminals: Terminals,

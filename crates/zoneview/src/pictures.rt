@@ -34,7 +34,7 @@ impl Picture {
         }
     }
 
-    /// What is told of a picture that takes long: how many requests it has carried out.
+    /// What a terminal shows of a picture that takes long: how many requests it has carried out.
     fn task(self) -> Task<'static> {
         Task {
             name: match self {
@@ -90,7 +90,7 @@ pub fn run(
     }
 }
 
-/// Writes the picture when all of it is there: on a terminal the line that tells how far it is would stand in its midst.
+/// Writes the picture when all of it is there: on a terminal the line that shows how far it is would stand in its midst.
 fn print_whole(
     rt: &(impl Print + AllocGlobal),
     picture: Picture,

@@ -1,4 +1,21 @@
-//! The free area of a zone.
+//! The free area of a zone: one set of free blocks, kept in several forms, so that each question has its answer at hand.
+//!
+//! - `lists`: for each page its state and its neighbours on a list; a list for each order and pageblock type, with its length; and further
+//!   lists of pages that are not free. The state of a head says whether a block is free, so no list is searched for it.
+//! - `kinds` and `free_in`: for each pageblock its type, and how many of its pages are free.
+//! - `tree`: the status tree of the blocks outside isolated pageblocks, for `lowest` and `largest_in`.
+//! - `noted`: the type and largest order of each scattered pageblock, where half of the pages are free but no block has half of them; and
+//!   a set of up to 64 pageblocks that have changed since they were looked at. By both a claim knows its order before it walks a list.
+//!
+//! The invariant says that all of these are of one set of blocks, those noted as free. Which blocks they are is the concern of `zp_buddy`.
+//!
+//! `split_off` takes the head off its list, writes the tree once, puts each high half in front of its list, lowers `free_in` once, and
+//! marks the pageblock as changed. `join_up` raises `free_in`, takes each free buddy off its list, writes the tree when the block has
+//! grown, puts its head in front of its list, and marks the pageblock. Most blocks are taken whole or have no free buddy, and go a way
+//! without a loop.
+//!
+//! Cost: each split or join is one list operation of a constant number of steps, at most as many as the largest order. `retype` steps over
+//! the pages of one pageblock. Where 64 pageblocks are marked, a change that marks one more looks at another one first.
 ghost use Rattle.std.specs.Prelude.{ℕ, ◌≡◌, ◌<◌, ◌≤◌, ◌+◌, ◌^◌, ◌*◌, ◌/◌, ◌↔◌, false, length, slice_index_or, IfOk, Some, IfSome, IsTrue};
 ghost use Rattle.zp_model.specs.declared.constants.TheConstants.{MAX_PAGES};
 ghost use Rattle.zp_model.specs.declared.pageblock_type.PageblockType.TheVariants.{Movable};
@@ -44,7 +61,7 @@ pub struct FreeArea {
     noted: Noted,
 }
 
-/// Written out, as it is one call then wherever a free area ends: a derived one is all its parts, in each function again.
+/// Written out, so that it is one call wherever a free area is dropped: a derived one is all its parts, in each function again.
 impl Drop for FreeArea {
     fn drop(self) {
         let FreeArea {
@@ -375,7 +392,7 @@ impl FreeArea {
     }
 
     /// The largest order of a block in a pageblock of another migrate type that has the free pages that a claim needs. A block of half of a
-    /// pageblock or more gives it these pages; whether there are smaller ones only, what is noted of the pageblocks tells, when those that
+    /// pageblock or more gives it these pages. The notes of the pageblocks show whether there are smaller ones only, when those that
     /// have changed are noted anew.
     pub fn largest_claimable(&mut self, kind: MigrateType) -> Option<Order>
         ensures answer { IsLargestClaimable self.old.largest self.old kind result }

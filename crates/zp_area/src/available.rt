@@ -23,7 +23,7 @@ use zp_links::Lists;
 use zp_model::{Largest, Order, PageAt, PageblockType, State};
 use zp_tree::{GROUP_PAGES, OrderTree};
 
-/// Tells the tree of a block that comes to a pageblock of this type.
+/// Adds to the tree a block in a pageblock of this type, unless that is isolated.
 #[inline(always)]
 pub fn tell_added(tree: &mut OrderTree, kind: PageblockType, at: PageAt, order: Order)
     requires block { is_isolate kind ≡ false → IsBlock LARGEST_ORDER (length tree.old) at order }
@@ -35,7 +35,7 @@ pub fn tell_added(tree: &mut OrderTree, kind: PageblockType, at: PageAt, order: 
     }
 }
 
-/// Tells the tree of a block of order `from` that comes to a pageblock of this type and joins with its buddies up to order `to`.
+/// Adds to the tree a block of order `from` in a pageblock of this type, joined with its buddies up to order `to`, unless that is isolated.
 #[inline(always)]
 pub fn tell_joined(tree: &mut OrderTree, kind: PageblockType, at: PageAt, from: Order, to: Order)
     requires block { is_isolate kind ≡ false → IsBlock LARGEST_ORDER (length tree.old) (head at to) to }
@@ -50,7 +50,7 @@ pub fn tell_joined(tree: &mut OrderTree, kind: PageblockType, at: PageAt, from: 
     }
 }
 
-/// Counts the pages of a block that comes to a pageblock of this type, where that is isolated.
+/// Counts the pages of a block that is added in a pageblock of this type, where that is isolated.
 #[inline(always)]
 pub fn count_isolated(isolated: &mut u32, kind: PageblockType, order: Order)
     requires { isolated.old + 2 ^ order < 2 ^ 32 }
@@ -61,7 +61,7 @@ pub fn count_isolated(isolated: &mut u32, kind: PageblockType, order: Order)
     }
 }
 
-/// Takes the free block that starts at a page, if one does, out of the tree where its pageblock is isolated, and else into it. Answers how
+/// Takes the free block that starts at a page, if one does, out of the tree where its pageblock is isolated, and else into it. Returns how
 /// many pages it has, or 1 where none starts.
 fn tell_block(lists: &Lists, tree: &mut OrderTree, at: PageAt, isolates: bool) -> u32
     requires page { at < length lists.now.states }
@@ -82,7 +82,7 @@ fn tell_block(lists: &Lists, tree: &mut OrderTree, at: PageAt, isolates: bool) -
     1
 }
 
-/// Tells the tree of each block of a pageblock that is isolated from now on, or is no more.
+/// Takes each block of a pageblock that is isolated from now on out of the tree, or puts it back where the pageblock is released.
 fn tell_all(
     lists: &Lists,
     kinds: &Vec<PageblockType>,
@@ -108,8 +108,8 @@ fn tell_all(
     }
 }
 
-/// Tells the tree of the blocks of a pageblock that is isolated from now on, or is no more. Where the pageblock is a group of the tree, its
-/// blocks leave the tree all at once.
+/// Takes the blocks of a pageblock that is isolated from now on out of the tree, or puts them back where it is released. Where the
+/// pageblock is a group of the tree, its blocks leave the tree all at once.
 #[cold]
 #[inline(never)]
 fn tell_pageblock(
@@ -133,7 +133,7 @@ fn tell_pageblock(
     }
 }
 
-/// Tells the tree and the number of isolated pages of a pageblock that is about to get this type.
+/// Changes the tree and the number of isolated pages for a pageblock that is about to get this type.
 pub fn tell_type(blocks: &mut KeptBlocks, isolated: &mut u32, pageblock: usize, kind: PageblockType)
     requires one { IsOneSet blocks.old.largest (set_of blocks.old) }
     requires told { blocks.old.tree ≡ available_blocks blocks.old.largest blocks.old.kinds.items (blocks_of blocks.old.lists.states) }
@@ -177,7 +177,7 @@ fn larger_at(lists: &Lists, at: PageAt, found: Option<Order>) -> Option<Order>
     }
 }
 
-/// The largest order of a block in a pageblock, as its pages tell.
+/// The largest order of a block in a pageblock, found by a look at its pages.
 pub fn largest_seen(lists: &Lists, largest: Largest, pageblock: usize) -> Option<Order>
     requires blocks { IsBlockSet largest (blocks_of lists.now.states) }
     requires inside { pageblock * pageblock_pages largest < length lists.now.states }

@@ -53,8 +53,8 @@ fn note(claims: &mut ClaimTable, blocks: &KeptBlocks, pageblock: usize)
     claims.note(pageblock, claim);
 }
 
-/// Marks a pageblock that has changed. Where too many are marked then, another one is looked at; but where nothing is noted of this one,
-/// and it has too few free pages for a claim, what is noted of it is right as it is, and none is.
+/// Marks a pageblock that has changed. Where too many are marked then, another one is looked at. But where nothing is noted of this one,
+/// and it has too few free pages for a claim, that is right: it is not marked, and none is looked at.
 // (out of line: most changes are of a pageblock that is marked)
 #[cold]
 #[inline(never)]

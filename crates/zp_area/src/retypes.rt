@@ -14,7 +14,7 @@ use crate::free_lists::list_of;
 use zp_links::Lists;
 use zp_model::{Largest, PageAt, PageblockType, State};
 
-/// Moves the free block that starts at a page, if one does, to the front of the list of another type. Answers how many pages
+/// Moves the free block that starts at a page, if one does, to the front of the list of another type. Returns how many pages
 /// it has, or 1 where none starts.
 fn move_block(lists: &mut Lists, at: PageAt, from: PageblockType, to: PageblockType) -> u32
     requires page { at < length lists.old.states }

@@ -189,7 +189,7 @@ impl<const W: usize> WordPublisher<W> {
         WordReading { place, words }
     }
 
-    /// The same with no answer: no word of an entry is fetched.
+    /// The same without a result: no word of an entry is fetched.
     #[inline(always)]
     pub fn show_board(&mut self, board: &WordBoard<W>, reader: &mut WordReader<W>)
         requires tie { self.old.tie ≡ board.now.tie }

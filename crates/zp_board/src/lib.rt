@@ -1,6 +1,6 @@
 //! A board: one publisher puts up entries of a fixed number of words, and readers look at the last one, with no lock.
 //!
-//! What is put up stays as it is. A reader that looks again sees all that it saw before, and more where more was published.
+//! A published entry never changes. A reader that looks again sees all that it saw before, and more where more was published.
 #![tactic(auto)]
 
 mod board;

@@ -11,7 +11,7 @@ pub struct BoardView {
     pub stores: bool,
     /// The entries that are published.
     pub entries: LinkedList<LinkedList<u64>>,
-    /// The next one, as far as it is written.
+    /// The words of the next one that are written so far.
     pub next: LinkedList<u64>,
     pub reads: bool,
     /// The entries that were seen.

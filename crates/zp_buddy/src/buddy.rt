@@ -103,7 +103,7 @@ impl Buddy {
         is_block(&self.area, at, order) && is_clear_run(&self.area, at, order)
     }
 
-    /// Gives back a block, joined with its free buddies.
+    /// Frees a block, joined with its free buddies.
     pub fn give(&mut self, at: PageAt, order: Order)
         requires { IsClear self.old at order }
         ensures { self.new ≡ given self.old at order }
@@ -282,7 +282,7 @@ impl Buddy {
     pub fn counts(&self) -> Counts
         ensures { result ≡ counts_of self.now.area.largest self.now.area.free }
     {
-        // (filled where they are answered: a copy of what was just stored waits for it)
+        // (filled where they are returned: a copy of what was just stored waits for it)
         let mut counts = Counts {
             by_order: [0; ORDERS],
             free: self.free,

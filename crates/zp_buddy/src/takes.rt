@@ -1,6 +1,20 @@
-//! Taking the block that a request gets.
+//! Takes the block that a request gets. In Linux: `steal_suitable_fallback`, then `expand`.
 //!
-//! In Linux: `steal_suitable_fallback`, then `expand`.
+//! Nothing is kept here: the free area has the blocks, and `choice.rt` says which one a request gets. `take` does at most four steps:
+//!
+//! 1. `own_block`: the front of the first list of the request's own type that is not empty, from the request's order upwards.
+//! 2. Where there is none, `claimed_block`: the largest block of another type whose pageblock has half of its pages free, where it is large
+//!    enough for the request and for its type. The request claims that pageblock: `FreeArea::retype` gives it the request's type and moves
+//!    its free blocks to the lists of that type.
+//! 3. Where nothing can be claimed, `borrowed_block`: the smallest block of another type that serves. Its pageblock keeps its type.
+//! 4. `FreeArea::split_off`: the block leaves its list, its high halves come to theirs, and `take` returns the head of the low run.
+//!
+//! Most requests need steps 1 and 4 alone, so steps 2 and 3 stand out of line (`take_foreign`) and take no registers from them. The list
+//! on which the block was found says its pageblock's type. `split_off` gets that type, so it does not read it again.
+//!
+//! Cost, where m is the zone's largest order: step 1 looks at m + 1 fronts at most, and step 4 splits m times at most. To learn its order a
+//! claim looks at four fronts, and then at 64 pageblocks and 22 counts at most. It then walks the lists of that order alone, to the first
+//! block whose pageblock has pages enough. At orders m and m - 1 that is the front; below them many blocks can stand before it.
 ghost use Rattle.std.specs.Prelude.{◌≡◌, length, None, Some};
 ghost use Rattle.zp_model.specs.Choose.{own};
 ghost use Rattle.zp_model.specs.Frames.{with_area};
@@ -13,7 +27,7 @@ use crate::split::take_block;
 use zp_area::FreeArea;
 use zp_model::{MigrateType, Order, PageAt};
 
-/// Takes the low run of order `order` of the chosen block, and answers its head. A pageblock that is claimed gets the request's type first.
+/// Takes the low run of order `order` of the chosen block, and returns its head. A pageblock that is claimed gets the request's type first.
 fn take_chosen(area: &mut FreeArea, chosen: Choice, order: Order, kind: MigrateType) -> PageAt
     requires chosen { IsFreeBlock area.old order chosen.block }
     requires sound { IsSound area.old.largest area.old.rows.states area.old.kinds area.old.rows.lists }

@@ -1,4 +1,4 @@
-//! The text that tells a zone's figures.
+//! The text that reports a zone's figures.
 ghost use Rattle.std.specs.Prelude.{◌≡◌, ◌++◌, ◌<◌, ◌≤◌, ◌^◌, List, ℕ, length, OnOk, IfOk, IfSome, string_bytes};
 ghost use Rattle.zp_buddyinfo.specs.Report.{fragmentation_text, above, parts_of, eighths, plain_bar, bar, figures_line, order_line, order_lines, largest_text, head_line, column_heads, zone_text, report, right_aligned, thousandths};
 ghost use Rattle.std.specs.Fmt.{decimal};

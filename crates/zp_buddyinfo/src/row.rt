@@ -10,7 +10,7 @@ use crate::words::is_text;
 use arrayvec::ArrayVec;
 use zp_numbers::{parse_u32, parse_u64};
 
-/// A zone, as a line of buddyinfo tells it.
+/// A zone, as a line of buddyinfo gives it.
 #[derive(Drop)]
 pub struct BuddyinfoRow<'a> {
     pub node: u32,
@@ -67,7 +67,7 @@ fn blocks_of(words: &[&[u8]]) -> Option<FreeBlocks>
     FreeBlocks::new(by_order)
 }
 
-/// The row that such words tell.
+/// The row that such words give.
 pub fn row_of<'a>(words: &[&'a [u8]]) -> Option<BuddyinfoRow<'a>>
     ensures some { IfSome result (λ r. IsRow r.node r.zone.now r.blocks × (spelled words.now ≡ row_words r.node r.zone.now r.blocks)) }
     ensures none { IfNone result ((node : ℕ) (zone blocks : List ℕ) → IsRow node zone blocks → spelled words.now ≡ row_words node zone blocks → ⊥) }

@@ -5,7 +5,7 @@
 pub struct Style {
     /// The length of a bar, in columns.
     pub cells: u16,
-    /// Bars of `#` and dots, in place of blocks of Unicode.
+    /// Bars of `#` and dots, instead of blocks of Unicode.
     pub ascii: bool,
     /// Bars in colours.
     pub colour: bool,

@@ -26,7 +26,7 @@ impl From<AllocError> for TableFault {
     }
 }
 
-/// The rows of a text: of each line with words the row that it tells. A line without words is passed over.
+/// The rows of a text: of each line with words the row that it gives. A line without words is passed over.
 pub fn read_table(alloc: Global, text: &[u8]) -> Result<Vec<BuddyinfoRow<'_>>, TableFault>
     ensures rows { IfOk result (λ rows. AreRowsOf text.now rows.items) }
     ensures bad { (n : ℕ) → result ≡ Err (fault.BadLine n) → IsBadLine text.now n }

@@ -60,21 +60,21 @@ impl Capture {
         }
     }
 
-    /// The zones that were told whole.
+    /// The zones that the text describes whole.
     pub fn zones(&self) -> &[MemoryZone]
         ensures { result.now ≡ self.now.zones.zones }
     {
         self.zones.zones()
     }
 
-    /// How many CPUs have lists of pages of a zone; 0 where it is not told.
+    /// How many CPUs have lists of pages of a zone; 0 where the capture does not say.
     pub fn cpus(&self) -> u32
         ensures { result ≡ self.now.cpus }
     {
         self.cpus
     }
 
-    /// The lines of the kernel's own `/proc/buddyinfo` when the events were over, where it is told.
+    /// The lines of the kernel's own `/proc/buddyinfo` when the events were over, where the capture has them.
     pub fn afterwards(&self) -> &[u8] {
         &self.afterwards
     }
@@ -93,7 +93,7 @@ impl Capture {
         self.note_told(line)
     }
 
-    /// A line more that may tell of the machine.
+    /// A line more that may be about the machine.
     fn note_told(&mut self, line: &[u8]) -> Result<(), AllocError>
         ensures told { OnOk result (IsToldWithin false self.old line.now self.new) }
     {

@@ -20,7 +20,7 @@ use zp_events::{Action, PageEvent};
 use zp_kernel::{Kernel, Onlooker};
 use zp_progress::Progress;
 
-/// How many events go from one time that is told how far the work is to the next.
+/// How many events there are from one report of the progress to the next.
 const STEP: u64 = 1_024;
 
 /// What is noted of zones that are opened.

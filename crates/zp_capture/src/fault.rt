@@ -1,4 +1,4 @@
-//! Why nothing is told of a capture.
+//! Why there is no report on a capture.
 
 use crate::planning::PlanFault;
 use std::alloc::AllocError;
@@ -27,7 +27,7 @@ pub enum CaptureFault {
     Io(io::Error),
 }
 
-/// The rule that a refusal of the zones' making names.
+/// The rule that a refusal to create the zones names.
 fn write_rule<W: fmt::Write>(refused: Refused, f: &mut Formatter<W>) -> fmt::Result {
     match refused {
         Refused::BadName => f.write_str("a zone's name is not 1 to 8 ASCII letters or digits"),
@@ -94,7 +94,7 @@ impl From<PlanFault> for CaptureFault {
     }
 }
 
-/// What a text that was not read to its end is told as; a fault of the zones' opening goes before that of the call which met it.
+/// The fault of a text that was not read to its end; a fault of the zones' opening goes before that of the call which met it.
 pub fn fault_of(fault: TextFault, opening: Option<CaptureFault>) -> CaptureFault {
     match fault {
         TextFault::Broken(number) => CaptureFault::Broken(number),

@@ -1,4 +1,4 @@
-//! A capture of what a kernel did with its pages: what it says of the machine's zones, and what is told of its events when they were carried
+//! A capture of what a kernel did with its pages: what it says of the machine's zones, and the report on its events, carried
 //! out over zones of ours.
 #![tactic(auto)]
 

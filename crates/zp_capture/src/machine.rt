@@ -14,7 +14,7 @@ use zp_kernel::{Kernel, Limits, Setting};
 use zp_model::MAX_WORKERS;
 use zp_share::PlainZones;
 
-/// How many workers there are, where so many CPUs are named, or so many are told (0: it is not told): one for each CPU, up to the most that a
+/// How many workers there are, where so many CPUs are named, or so many are reported (0: none is): one for each CPU, up to the most that a
 /// zone has, which CPUs then share.
 pub fn workers_of(named: Option<u32>, told: u32) -> u32
     ensures workers { result ≡ workers_of named told }

@@ -1,4 +1,4 @@
-//! The making of the zones that are planned, and of the shares of their workers.
+//! Creates the zones that are planned, and the shares of their workers.
 ghost use Rattle.std.specs.Prelude.{◌≡◌, ◌≤◌, length, map, IfErr, IfOk};
 ghost use Rattle.std.specs.List.{range_with_len};
 ghost use Rattle.zp_model.specs.declared.constants.TheConstants.{MAX_ZONES};

@@ -27,7 +27,7 @@ pub struct EventOptions {
     /// How many CPUs have a worker of their own; as many as the machine has, where it is not said.
     pub cpus: Option<u32>,
     pub at_broken: AtBroken,
-    /// The bytes of a page, by which free memory is told.
+    /// The bytes of a page, by which free memory is reported.
     pub page: u64,
     pub form: Form,
 }

@@ -1,4 +1,4 @@
-//! Zones of ours in the place of a machine's.
+//! Zones of ours that stand for a machine's.
 ghost use Rattle.std.specs.Prelude.{◌≡◌, IfSome, IfNone};
 ghost use Rattle.zp_capture.specs.Plans.{CannotBe, HasPlace, in_place};
 
@@ -18,7 +18,7 @@ pub struct ZonePlan {
     pub min: u32,
 }
 
-/// The plan of a zone in the place of this one; none where it would be larger than a zone can be, or lie higher.
+/// The plan of a zone that stands for this one; none where it would be larger than a zone can be, or lie higher.
 pub fn plan_of(zone: &MemoryZone) -> Option<ZonePlan>
     ensures some { IfSome result (λ p. (p ≡ in_place zone.now) × HasPlace zone.now) }
     ensures none { IfNone result (CannotBe zone.now) }

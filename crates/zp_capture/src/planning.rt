@@ -12,11 +12,11 @@ use zp_model::{MAX_ZONES, Name};
 /// Why no zones are planned.
 #[derive(Clone, Copy, PartialEq, Eq, Debug, Drop)]
 pub enum PlanFault {
-    /// None are named, and none are told before the first event.
+    /// None are named, and none are reported before the first event.
     NoZones,
     /// There are more than a row has.
     TooManyZones,
-    /// In the place of the machine's zone of this name no zone can be.
+    /// No zone of ours can stand for the machine's zone of this name.
     CannotBe(Name),
     /// The named zone of this name begins before the one that is named before it ends.
     Overlap(Name),
@@ -59,7 +59,7 @@ impl Display for PlanFault {
     }
 }
 
-/// A zone of ours in the place of each of the machine's, in their order.
+/// A zone of ours for each of the machine's, in their order.
 fn in_places(alloc: Global, zones: &[MemoryZone]) -> Result<Vec<ZonePlan>, PlanFault>
     ensures plans { IfOk result (λ plans. AreInPlace zones.now plans.items) }
     ensures why { IfErr result (λ e. IsPlanFault [] zones.now e) }
@@ -76,7 +76,7 @@ fn in_places(alloc: Global, zones: &[MemoryZone]) -> Result<Vec<ZonePlan>, PlanF
     Ok(plans)
 }
 
-/// The zones that are named, or else one in the place of each that the machine tells.
+/// The zones that are named, or else one for each that the machine reports.
 fn zones_of(
     alloc: Global,
     named: &[ZonePlan],
@@ -120,7 +120,7 @@ fn first_fallen(plans: &[ZonePlan]) -> Option<Name>
     None
 }
 
-/// The zones that are planned: those that are named, or else one in the place of each that the machine tells.
+/// The zones that are planned: those that are named, or else one for each that the machine reports.
 pub fn plans_of(
     alloc: Global,
     named: &[ZonePlan],

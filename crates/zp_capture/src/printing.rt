@@ -1,4 +1,4 @@
-//! A capture, carried out and told.
+//! Carries out a capture and writes the report on it.
 ghost use Rattle.std.specs.Prelude.{◌≤◌, length, IfOk};
 ghost use Rattle.zp_capture.specs.Summaries.{IsSummaryOfAll};
 
@@ -29,7 +29,7 @@ use zp_view::page_row;
 use zp_zone::Zone;
 
 /// Carries out the events of a text, and writes what is asked for; nothing, where it has no event. The zones are those that are named, or else
-/// those that the text tells before its first event.
+/// those that the text reports before its first event.
 pub fn print_events<R: Reader + Drop, W: Write + Drop, P: Progress + Drop>(
     alloc: Global,
     reader: R,
@@ -128,7 +128,7 @@ fn write_panels<W: Write>(writer: &mut W, plans: &[ZonePlan], samples: &Samples)
     Ok(())
 }
 
-/// Tells what came of the events, and how the zones are at the end.
+/// Reports what came of the events, and how the zones are at the end.
 fn tell<W: Write>(
     ended: &Ended<'_>,
     kernel: Kernel,
@@ -209,7 +209,7 @@ fn write_zone_way<W: Write>(
     Ok(())
 }
 
-/// Writes the free blocks of the zones beside those that the kernel had when the events were over, where the text tells them.
+/// Writes the free blocks of the zones beside those that the kernel had when the events were over, where the text reports them.
 fn write_kernel<W: Write>(
     ended: &Ended<'_>,
     writer: &mut W,

@@ -6,7 +6,7 @@ use std::io::Write;
 use zp_kernel::{EventCounts, LineCounts};
 use zp_model::TYPES;
 
-/// What is told of a run.
+/// The report on a run.
 #[derive(Clone, Copy, Drop)]
 pub struct CaptureReport<'a> {
     pub plans: &'a [ZonePlan],

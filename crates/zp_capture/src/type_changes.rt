@@ -1,4 +1,4 @@
-//! Claims and borrows, as far as blocks that are handed out tell of them.
+//! Claims and borrows, as far as blocks that are handed out show them.
 //!
 //! In Linux: `steal_suitable_fallback`, and its event `mm_page_alloc_extfrag`.
 

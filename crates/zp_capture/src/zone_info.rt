@@ -1,4 +1,4 @@
-//! The zones of a machine, as `/proc/zoneinfo` tells them.
+//! The zones of a machine, as `/proc/zoneinfo` reports them.
 ghost use Rattle.std.specs.Prelude.{◌≡◌, [], None, OnErr, OnOk};
 ghost use Rattle.zp_capture.specs.MachineLines.{IsBegun, IsToldOf, IsZoneTold};
 
@@ -20,7 +20,7 @@ pub struct MemoryZone {
     pub min: u64,
 }
 
-/// The zones told so far, and what is told of the next.
+/// The zones described so far, and what is known of the next.
 #[derive(Drop)]
 pub struct ZoneInfo {
     zones: Vec<MemoryZone>,
@@ -46,14 +46,14 @@ impl ZoneInfo {
         }
     }
 
-    /// The zones that were told whole, in the order of the lines. Of one that has no pages Linux tells no first frame, and here it is none.
+    /// The zones that are described whole, in the order of the lines. Linux gives no first frame of one without pages; here it is none.
     pub fn zones(&self) -> &[MemoryZone]
         ensures { result.now ≡ self.now.zones }
     {
         &self.zones
     }
 
-    /// One line more. A zone begins with its heading and ends with its first frame; lines that tell something else are passed over.
+    /// One line more. A zone begins with its heading and ends with its first frame; lines that say something else are passed over.
     pub fn note(&mut self, line: &[u8]) -> Result<(), AllocError>
         ensures noted { OnOk result (IsZoneTold self.old line.now self.new) }
         ensures left { OnErr result (self.new ≡ self.old) }
@@ -75,7 +75,7 @@ impl ZoneInfo {
     }
 }
 
-/// A zone of which nothing is told but its node and its name. None where the name is not 1 to 8 letters or digits.
+/// A zone of which only its node and its name are known. None where the name is not 1 to 8 letters or digits.
 fn begun(node: u32, name: &[u8]) -> Option<MemoryZone>
     ensures { IsBegun node name.now result }
 {
@@ -88,7 +88,7 @@ fn begun(node: u32, name: &[u8]) -> Option<MemoryZone>
     })
 }
 
-/// The zone with what one of its lines tells.
+/// The zone with what one of its lines says.
 fn told(zone: MemoryZone, line: &[u8]) -> MemoryZone
     ensures { IsToldOf zone line.now result }
 {

@@ -1,5 +1,5 @@
-//! An index of the pageblocks that may be claimed: what is noted of each pageblock, and how many are noted with each type and order. The
-//! largest order that is noted beside a type is told by these numbers, however many pageblocks there are.
+//! An index of the pageblocks that may be claimed: what is noted of each pageblock, and how many are noted with each type and order.
+//! These numbers give the largest order that is noted beside a type, however many pageblocks there are.
 //!
 //! What a note stands for is the caller's. Contracts see what is noted of each pageblock.
 //!

@@ -59,7 +59,7 @@ impl StaleSet {
         self.waiting.is_full()
     }
 
-    /// Puts a pageblock that is not in the set into it. Where the set is full another one is taken out, and answered.
+    /// Puts a pageblock that is not in the set into it. Where the set is full, it takes another one out and returns that.
     pub fn mark(&mut self, pageblock: usize) -> Option<usize>
         requires { pageblock < length self.old.marks }
         ensures marks { self.new.marks ≡ slice_set (cleared self.old.marks result) pageblock true }

@@ -272,7 +272,7 @@ impl Publisher {
         }
     }
 
-    /// The same with no answer: no counts are unpacked.
+    /// The same without a result: no counts are unpacked.
     #[inline(always)]
     pub fn show_board(&mut self, board: &Board, reader: &mut BoardReader)
         requires tie { self.old.tie ≡ board.now.tie }

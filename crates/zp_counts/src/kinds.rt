@@ -5,8 +5,8 @@ use crate::words::PAIR_WORDS;
 use zp_board::{WordBoard, WordPublisher, WordReader};
 use zp_ring::{Ring, RingPublisher, RingReader};
 
-/// How many slots a board that turns has. A reader that is passed by so many counts but one, in each of three tries of one read, is
-/// answered what it read last.
+/// How many slots a board that turns has. A reader that is passed by so many counts but one, in each of three tries of one read,
+/// returns what it read last.
 pub const SLOTS: usize = 16;
 
 /// A board with words for each of its counts, or one that turns, of packed words or of words for any counts, with the number of counts

@@ -165,7 +165,7 @@ fn publish_pages<R: Abort>(
     publisher
 }
 
-/// A reader that slept is answered the newest counts, however many came meanwhile.
+/// A reader that slept reads the newest counts, however many came meanwhile.
 fn expect_newest_counts<R: Abort>(rt: &R, board: &Board, mut publisher: Publisher)
     requires { publisher.tie ≡ board.now.tie }
 {

@@ -1,4 +1,4 @@
-//! The making of a crew: zones of some configs, and the shares of their workers.
+//! Creates a crew: zones of some configs, and the shares of their workers.
 ghost use Rattle.std.specs.Prelude.{◌≡◌, ◌≤◌, List, [], All, drop, length, map, slice_index_or, IfErr, IfOk, OnOk};
 ghost use Rattle.std.specs.List.{range_with_len};
 ghost use Rattle.zp_model.specs.declared.constants.TheConstants.{MAX_ZONES};

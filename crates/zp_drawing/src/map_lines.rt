@@ -20,10 +20,10 @@ const MARGIN: usize = 9;
 pub struct MapStyle {
     /// How many characters a line may have.
     pub width: usize,
-    /// Letters and digits in place of half blocks and shades.
+    /// Letters and digits instead of half blocks and shades.
     pub ascii: bool,
     pub colour: bool,
-    /// The order of the block of which it is told what stands in the way: the zone's largest, where none is named.
+    /// The order of the block for which the map says what stands in the way: the zone's largest, where none is named.
     pub order: Option<Order>,
 }
 

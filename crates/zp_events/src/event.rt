@@ -36,7 +36,7 @@ pub enum Action {
     Alloc(FrameBlock, PageRequest),
     /// `mm_page_alloc` with no page: a request for such a block, of which only the order says anything, was refused.
     Refuse(FrameBlock, PageRequest),
-    /// `mm_page_free`: the block was given back.
+    /// `mm_page_free`: the block was freed.
     Free(FrameBlock),
     /// `mm_page_alloc_extfrag`: a request was served out of the free pages of another type. Its fields are not read.
     Fallback,

@@ -31,7 +31,7 @@ fn is_no_page(page: &[u8]) -> bool
         | is_text(page, b"0000000000000000")
 }
 
-/// Whether the first fields name no page, the block that they tell, and what stands behind them.
+/// Whether the first fields name no page, the block that they give, and what stands behind them.
 fn place_of(text: &[u8]) -> Option<(bool, FrameBlock, &[u8])>
     ensures some { IfSome result (λ x. IsPlace (words_of text.now) x.0 x.1 (words_of x.2.now)) }
     ensures none { IfNone result ((no_page : Bool) (block : FrameBlock) (more : List (List ℕ)) → IsPlace (words_of text.now) no_page block more → ⊥) }

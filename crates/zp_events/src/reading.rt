@@ -59,7 +59,7 @@ impl<R: Reader + Drop> Lines<R> {
 }
 
 impl<R: Reader> Lines<R> {
-    /// Whether there is a next line, which `line` then tells and `pass` passes.
+    /// Whether there is a next line, which `line` then returns and `pass` passes.
     pub fn peek(&mut self) -> Result<bool, LineFault>
         ensures read { IsReadOn (spot self.old.window (R.remaining self.old.reader) self.old.passed) (spot self.new.window (R.remaining self.new.reader) self.new.passed) }
         ensures found { IfOk result (λ more. MatchBool more (IsAhead (spot self.new.window (R.remaining self.new.reader) self.new.passed) self.new.ahead) (IsOver (spot self.new.window (R.remaining self.new.reader) self.new.passed))) }

@@ -11,7 +11,7 @@ use crate::reading::{LineFault, Lines};
 use std::io;
 use zp_streams::Reader;
 
-/// Who is told what the lines of a text say.
+/// Receives what the lines of a text say.
 pub trait LineSink {
     // What an event makes of it.
     ghost carries: { Self → PageEvent → Self → Type 0 };
@@ -43,7 +43,7 @@ pub trait LineSink {
 pub enum AtBroken {
     /// The reading ends before it.
     End,
-    /// The sink is told of it, and the reading goes on behind it.
+    /// The sink receives the broken line, and the reading goes on behind it.
     KeepGoing,
 }
 
@@ -69,7 +69,7 @@ enum Untaken {
     Sink(io::Error),
 }
 
-/// What a sink answered, as of its line.
+/// What a sink returned, as of its line.
 fn told(answer: io::Result<()>) -> Result<(), Untaken>
     ensures { IsToldBy answer result }
 {
@@ -79,7 +79,7 @@ fn told(answer: io::Result<()>) -> Result<(), Untaken>
     }
 }
 
-/// Tells a sink what a line says.
+/// Passes to a sink what a line says.
 fn take_line<S: LineSink>(sink: &mut S, line: &[u8], at_broken: AtBroken) -> Result<(), Untaken>
     ensures taken { OnOk result (IsTaken S.carries S.passes S.drops at_broken sink.old line.now sink.new) }
     ensures untaken { IfErr result (λ e. IsUntaken S.carries S.passes S.drops at_broken S.fails sink.old line.now e sink.new) }
@@ -94,7 +94,7 @@ fn take_line<S: LineSink>(sink: &mut S, line: &[u8], at_broken: AtBroken) -> Res
     }
 }
 
-/// Tells a sink what the next line says, and passes it: whether there may be more behind it.
+/// Passes to a sink what the next line says, and then the line: whether there may be more behind it.
 fn take_next<R: Reader, S: LineSink>(
     lines: &mut Lines<R>,
     sink: &mut S,
@@ -122,8 +122,8 @@ fn take_next<R: Reader, S: LineSink>(
     Ok(more)
 }
 
-/// Tells a sink what the lines that are left say, one after another, from the one that `peek` found on: how many they are. A line at which it
-/// stops is not passed.
+/// Passes to a sink what the lines that are left say, one after another, from the one that `peek` found on. Returns how many they are. A
+/// line at which it stops is not passed.
 pub fn read_lines<R: Reader, S: LineSink>(
     lines: &mut Lines<R>,
     sink: &mut S,

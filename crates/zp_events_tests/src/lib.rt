@@ -1,4 +1,4 @@
-//! Tests of reading lines of page events: what no clause says of them. They stand over the library, so that it is proved once.
+//! Tests of reading lines of page events: what is not proved of them. They stand over the library, so that it is proved once.
 #![tactic(auto)]
 
 #[cfg(test)]

@@ -37,7 +37,7 @@ impl<'a, L: Ledger> Reader for Pieces<'a, L> {
     }
 }
 
-/// Counts what it is told, and fails once it was told so much.
+/// Counts what it receives, and fails once it has received so much.
 #[derive(Drop)]
 struct Counter {
     events: u64,
@@ -47,7 +47,7 @@ struct Counter {
 }
 
 impl Counter {
-    /// What it answers once it has counted.
+    /// What it returns once it has counted.
     fn answer(&self) -> io::Result<()> {
         let told = self
             .events
@@ -88,7 +88,7 @@ impl LineSink for Counter {
 /// How a text is read: bytes of a piece, the call that fails, what is done at a broken line, and what the sink bears.
 type Reading = (usize, u64, AtBroken, u64);
 
-/// How the reading ends, as a word and a number, and how many events, other lines and broken ones were told.
+/// How the reading ends, as a word and a number, and how many events, other lines and broken ones were reported.
 type Ended = (&'static str, u64, u64, u64, u64);
 
 /// The end as a word and a number.

@@ -6,7 +6,7 @@ use zp_events::{
 };
 
 /// A line, and of what it is the CPU, the block's frame and order, and the type; the kind is 0 for a request that was served, 1 for one
-/// that was refused, 2 for a block that was given back.
+/// that was refused, 2 for a block that was freed.
 type Told = (&'static str, u8, u32, u64, u32, u32, ZoneLimit);
 
 const EVENTS: [Told; 21] = [

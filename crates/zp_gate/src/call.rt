@@ -1,7 +1,7 @@
-//! What a worker asks of a zone, and what it is given, in a few bytes: a `Request` and a `Reply` have room for a list of pages.
+//! What a worker asks of a zone, and what it gets, in a few bytes: a `Request` and a `Reply` have room for a list of pages.
 use zp_model::{Block, MigrateType, Order, PageNo, Worker};
 
-/// A request that names no list of pages, but those that are made most: for a block, and of a block back.
+/// A request that names no list of pages, except the two that are made most: to allocate a block, and to free one.
 #[derive(Clone, Copy, Drop)]
 pub enum ZoneCall {
     AllocLow(Order),
@@ -12,7 +12,7 @@ pub enum ZoneCall {
     Release(u32, MigrateType),
 }
 
-/// What is given for it, where it is not refused.
+/// The result, where it is not refused.
 #[derive(Clone, Copy, Drop)]
 pub enum Given {
     Block(Block),

@@ -1,8 +1,8 @@
-//! Why a worker has no answer of the zone, or which refusal.
+//! Why a worker has no result from the zone, or which refusal.
 use crate::try_lock::Busy;
 use zp_model::Refused;
 
-/// Why a worker got no answer of the zone, or which refusal it got.
+/// Why a worker got no result from the zone, or which refusal it got.
 #[derive(Clone, Copy, Drop)]
 pub enum CallError {
     /// The worker has no zone at this place.

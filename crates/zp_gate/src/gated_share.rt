@@ -71,7 +71,7 @@ impl GatedShare {
         Ok(GatedShare { lock, share })
     }
 
-    /// A block of this order for this type, held to this mark, which is then lent. Refused 10, 11 or 30.
+    /// Allocates a block of this order for this type, held to this mark, which is then lent. Refused 10, 11 or 30.
     #[inline(always)]
     pub(crate) fn alloc(
         &mut self,
@@ -92,7 +92,7 @@ impl GatedShare {
         }
     }
 
-    /// Gives back a lent block. Whether it is lent is tested before anybody enters. Refused 20 or 30.
+    /// Frees a lent block. Whether it is lent is tested before anybody enters. Refused 20 or 30.
     #[inline(always)]
     pub(crate) fn free(&mut self, page: PageNo, order: Order) -> Result<(), CallError>
         ensures ok { OnOk result (IsGranted (request.Free page order) reply.Freed self.old self.new) }
@@ -177,7 +177,7 @@ impl GatedShare {
         }
     }
 
-    /// Gives back so many pages from the back of the worker's list of this type. Refused 30.
+    /// Frees so many pages from the back of the worker's list of this type. Refused 30.
     pub(crate) fn drain(&mut self, kind: MigrateType, count: usize) -> Result<(), CallError>
         ensures ok { OnOk result (HasTurned (IsDrained self.old.key kind count) self.old self.new) }
         ensures few { (result ≡ Err TooFew) ↔ HasTooFew kind count self.old.share }
@@ -194,7 +194,7 @@ impl GatedShare {
         }
     }
 
-    /// What the zone tells.
+    /// What the zone reports.
     #[inline(always)]
     pub(crate) fn tell(&mut self, question: Question) -> Result<Answer, Busy>
         ensures same { self.new ≡ self.old }

@@ -1,4 +1,4 @@
-//! A worker of a row. The calls that ask a zone answer `CallError::Busy` at once where somebody is with it.
+//! A worker of a row. The calls that ask a zone return `CallError::Busy` at once where somebody is with it.
 ghost use Rattle.std.specs.Prelude.{◌≡◌, ◌<◌, ◌≤◌, ◌↔◌, length, IfOk, IfErr, IfSome, IfNone, IsTrue, OnOk, [], false, true, Err};
 ghost use Rattle.zp_model.specs.declared.request.Request.TheVariants as request;
 ghost use Rattle.zp_model.specs.declared.request.Reply.TheVariants as reply;
@@ -41,7 +41,7 @@ impl Model for GatedWorker {
 }
 
 impl GatedWorker {
-    /// A block of this order for this type, held to this mark, which is then lent. Refused 10, 11 or 30.
+    /// Allocates a block of this order for this type, held to this mark, which is then lent. Refused 10, 11 or 30.
     #[inline(always)]
     pub fn alloc(
         &mut self,
@@ -63,7 +63,7 @@ impl GatedWorker {
         share.alloc(order, kind, mark)
     }
 
-    /// Gives back a lent block. Refused 20 or 30.
+    /// Frees a lent block. Refused 20 or 30.
     #[inline(always)]
     pub fn free(&mut self, zone: usize, page: PageNo, order: Order) -> Result<(), CallError>
         ensures ok { OnOk result (IsGrantedAt zone (request.Free page order) reply.Freed self.old self.new) }
@@ -109,7 +109,7 @@ impl GatedWorker {
         share.refill(kind, mark)
     }
 
-    /// Gives back so many pages from the back of the worker's list of this type. Refused 30.
+    /// Frees so many pages from the back of the worker's list of this type. Refused 30.
     pub fn drain(&mut self, zone: usize, kind: MigrateType, count: usize) -> Result<(), CallError>
         ensures ok { OnOk result (IsAt zone (IsDrained (gated_at self.old zone).key kind count) self.old self.new) }
         ensures zone { (result ≡ Err NoZone) ↔ ¬ HasZone zone self.old }
@@ -123,7 +123,7 @@ impl GatedWorker {
         share.drain(kind, count)
     }
 
-    /// Gives back all pages of the worker's list of this type; where it has none, no zone is asked. Refused 30.
+    /// Frees all pages of the worker's list of this type; where it has none, no zone is asked. Refused 30.
     fn drain_list(&mut self, zone: usize, kind: MigrateType) -> Result<(), CallError>
         requires { HasZone zone self.old }
         ensures ok { OnOk result (IsListDrained zone kind self.old self.new) }
@@ -137,7 +137,7 @@ impl GatedWorker {
         self.drain(zone, kind, pages)
     }
 
-    /// Gives back all pages of the worker's lists of this zone, a list at a time: where one is denied, the lists before it are empty, and
+    /// Frees all pages of the worker's lists of this zone, a list at a time: where one is denied, the lists before it are empty, and
     /// the rest is as it was.
     pub fn drain_all(&mut self, zone: usize) -> Result<(), CallError>
         ensures ok { OnOk result (AreDrained zone self.old self.new) }
@@ -214,7 +214,7 @@ impl GatedWorker {
         self.shares[zone].has_pageblock(pageblock)
     }
 
-    /// What a zone tells.
+    /// What a zone reports.
     #[inline(always)]
     pub fn tell(&mut self, zone: usize, question: Question) -> Result<Answer, Busy>
         requires { HasZone zone self.old }

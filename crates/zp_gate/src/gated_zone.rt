@@ -108,7 +108,7 @@ impl GatedZone {
         asked(&mut self.zones[0], share, call)
     }
 
-    /// Gives back so many pages from the back of the share's list of this type.
+    /// Frees so many pages from the back of the share's list of this type.
     #[inline(always)]
     pub(crate) fn drain(
         &mut self,
@@ -125,7 +125,7 @@ impl GatedZone {
         share.drain(&mut self.zones[0], 0, kind, count)
     }
 
-    /// Fills the share's empty list of this type, by the section of a refill whose pages are not answered.
+    /// Fills the share's empty list of this type, by the section of a refill whose pages are not returned.
     #[inline(always)]
     pub(crate) fn fill(
         &mut self,
@@ -142,7 +142,7 @@ impl GatedZone {
         share.fill(&mut self.zones[0], 0, kind, mark)
     }
 
-    /// What the zone tells to a share of it.
+    /// What the zone reports to a share of it.
     #[inline(always)]
     pub(crate) fn tell(&mut self, share: &mut Share, question: Question) -> Answer
         requires share { IsOneShare (key_of self.old.zone) share.old }
@@ -233,7 +233,7 @@ fn asked(zone: &mut Zone, share: &mut Share, call: ZoneCall) -> Result<Given, Re
     }
 }
 
-/// What is given where nothing is.
+/// The result where there is nothing to return.
 #[inline(always)]
 fn done(answer: Result<(), Refused>) -> Result<Given, Refused>
     ensures ok { OnOk answer (result ≡ Ok Done) }
@@ -245,7 +245,7 @@ fn done(answer: Result<(), Refused>) -> Result<Given, Refused>
     }
 }
 
-/// What a zone tells.
+/// What a zone reports.
 #[inline(always)]
 fn told(zone: &Zone, question: Question) -> Answer
     ensures { Tells question result zone.now }

@@ -1,4 +1,4 @@
-//! A row of zones, each behind a lock that one caller at a time may hold; whoever comes meanwhile is told so. Nobody waits here, so
+//! A row of zones, each behind a lock that one caller at a time may hold; whoever comes meanwhile gets an error. Nobody waits here, so
 //! that a static library may have it, and the caller's lock is checked: a lock that was forgotten makes calls fail, and breaks nothing.
 #![tactic(auto)]
 

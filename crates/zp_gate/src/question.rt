@@ -1,4 +1,4 @@
-//! What a zone is asked to tell of itself, and what it answers.
+//! What a zone is asked to report of itself, and what it returns.
 use zp_info::{INFO_LINE, TextBuffer};
 use zp_model::{Counts, Level, PageNo};
 use zp_zone::{Pageblock, ZonePage};
@@ -23,7 +23,7 @@ pub enum Question {
     Pageblock(u32),
 }
 
-/// What it tells: of a page or a pageblock that it does not have, nothing.
+/// What it reports: of a page or a pageblock that it does not have, nothing.
 #[derive(Drop)]
 pub enum Answer {
     Zone(ZoneTold),

@@ -95,7 +95,7 @@ pub struct Gathered {
     pub visit: Visit,
 }
 
-/// Why it is not told where the pages of a zone are.
+/// Why there is no report on where the pages of a zone are.
 #[derive(Drop)]
 pub enum GatherError {
     /// Somebody is with the zone.
@@ -233,7 +233,7 @@ impl TryLock {
         Ok(answer)
     }
 
-    /// Gives back so many pages from the back of the share's list of this type.
+    /// Frees so many pages from the back of the share's list of this type.
     #[inline(always)]
     pub(crate) fn drain(
         &self,
@@ -255,7 +255,7 @@ impl TryLock {
         Ok(answer)
     }
 
-    /// Fills the share's empty list of this type, by the section of a refill whose pages are not answered.
+    /// Fills the share's empty list of this type, by the section of a refill whose pages are not returned.
     #[inline(always)]
     pub(crate) fn fill(
         &self,
@@ -277,7 +277,7 @@ impl TryLock {
         Ok(filled)
     }
 
-    /// What the zone tells to a share of it.
+    /// What the zone reports to a share of it.
     #[inline(always)]
     pub(crate) fn tell(&self, share: &mut Share, question: Question) -> Result<Answer, Busy>
         requires share { IsOneShare self.now.table.shared.key share.old }

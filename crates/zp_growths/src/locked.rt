@@ -159,7 +159,7 @@ impl<J: Naming, K: Keeps> Locked<J, K> {
         Ok(())
     }
 
-    /// A page is taken under the lock and given back, and the board is read before it, between the two and after them.
+    /// Allocates a page under the lock and frees it, and reads the board before it, between the two and after them.
     fn round<R: Wait>(&mut self, rt: &R) -> Result<(), Unmade> {
         let Locked {
             shared,

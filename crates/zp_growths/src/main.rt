@@ -1,9 +1,10 @@
 //! `zp_growths WORD [CALLS]`: makes the thing that the word names once, then so many rounds of calls on it, and prints `made` and ends with
-//! 0. Where there is no memory for it, it prints so, by which answer, and ends with 1; at any other answer, also of a call, with 2. With no
+//! 0. Where there is no memory for it, it prints so, by which result, and ends with 1; at any other result, also of a call, with 2. With no
 //! word it prints the words, each with `calls` behind it where there are calls on what it makes.
 //!
-//! But for its words nothing else takes memory, so a run in which the growths of memory are refused one after another shows what each making answers to that,
-//! and whether it leaves something; and two runs with few and with many calls, whether a call takes any (`tests/growths`).
+//! But for its words nothing else takes memory, so a run in which the growths of memory are refused one after another shows what each
+//! creation returns then, and whether it leaves something; and two runs with few and with many calls, whether a call takes any
+//! (`tests/growths`).
 #![tactic(auto)]
 
 mod crews;

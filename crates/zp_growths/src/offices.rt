@@ -18,7 +18,7 @@ use zp_share::Share;
 use zp_trace::{Trace, TraceFault, parse_trace};
 use zp_zone::Zone;
 
-/// A zone of two workers, the same as `config` has, who take and give back blocks.
+/// A zone of two workers, the same as `config` has, who allocate and free blocks.
 const TRACE: &str = "zone DMA 0 4096 0\nworkers 2\nlists 4 6\n\
     0 alloc a 0 M DMA low\n1 alloc a 3 U DMA low\n0 free a\n1 free a\n0 drain\n1 info\n";
 

@@ -15,8 +15,8 @@ use arrayvec::ArrayVec;
 use zp_model::{Answered, Asked, Block, MAX_BATCH, Order, PageNo, Refused};
 use zp_zone::{Seat, Zone};
 
-/// The zone's reply, where the seat's worker may ask for this and the reply's list is that of the pages; else nothing, and the zone is as
-/// it was where its worker may not ask. It is told how many workers the zone has.
+/// The zone's reply, where the seat's worker may ask for this and the reply's list is that of the pages. Else nothing; the zone does not
+/// change where its worker may not ask. `workers` is how many the zone has.
 pub(crate) fn ask(
     zone: &mut Zone,
     seat: &mut Seat,
@@ -104,7 +104,7 @@ fn release_answer(got: Result<(), Refused>) -> Option<Answered>
     }
 }
 
-/// What a refill answered, where it got these pages.
+/// The reply of a refill, where it got these pages.
 fn pages_answer(
     got: Result<ArrayVec<PageNo, MAX_BATCH>, Refused>,
     pages: &[PageNo],

@@ -2,7 +2,7 @@
 
 use zp_model::Entry;
 
-/// What a zone that threads share keeps of the requests made of it. How many requests the zone's board has room for is told beside it,
+/// What a zone that threads share keeps of the requests made of it. The caller says for how many requests the zone's board has room,
 /// as no zone makes more.
 pub trait Keeps: Drop {
     ghost use Rattle.std.specs.Prelude.{ℕ, ◌≡◌, ◌≤◌, ◌<◌, ◌++◌, ◌∷◌, [], leb, length};
@@ -18,7 +18,7 @@ pub trait Keeps: Drop {
     // It is what is kept of this zone.
     ghost keeps: { ZoneState → Self → Type 0 };
 
-    /// Whether there is no room for an entry more. It is told whether the board has none.
+    /// Whether there is no room for one more entry, where the caller says whether the board has none.
     fn is_full(&self, board_is_full: bool) -> bool
         ensures full { (n : ℕ) (z : ZoneState) → keeps z self.now → board_is_full ≡ leb n (length z.entries) → result ≡ leb (capacity self.now n) (length z.entries) }
         ensures within { (n : ℕ) → bounds n (capacity self.now n) → capacity self.now n ≤ n };

@@ -1,4 +1,4 @@
-//! The journal of a zone: all that was asked of it since its opening, with the replies; and the replay that tells whether a zone
+//! The journal of a zone: all that was asked of it since its opening, with the replies; and the replay that shows whether a zone
 //! could have made it, and what its counts were. A zone can go on by a further journal. And what a zone that threads share keeps of the
 //! requests made of it, a choice of the zone's type: all of them in a journal with room for a number of them, none, or journals that are
 //! handed over one after another.

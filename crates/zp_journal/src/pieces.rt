@@ -50,7 +50,7 @@ fn go_on(zone: &mut Zone, seats: &mut [Seat], piece: &Piece) -> bool
 }
 
 /// The zone of this config and so many workers that the pieces lead to, one after another: asked for all their entries, in order. None where
-/// one of these is not what the zone would have made. Refused 1 to 6 as the zone's making is.
+/// one of these is not what the zone would have made. Refused 1 to 6, as creating the zone is.
 pub fn replay_pieces(
     alloc: Global,
     config: ZoneConfig<'_>,

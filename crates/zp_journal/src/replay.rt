@@ -17,12 +17,12 @@ use zp_zone::{Seat, Zone, ZoneConfig};
 pub enum JournalCheck {
     /// Each entry is what the zone would have made: the zone that they lead to.
     Legal(Zone),
-    /// The number of the first entry whose request cannot be made, or is answered otherwise.
+    /// The number of the first entry whose request cannot be made, or gets another reply.
     Differs(u32),
 }
 
 /// A zone of this config of which nothing was asked, with the seats of all its workers, as `replay_further` wants them. Refused 1 to 6
-/// as the zone's making is.
+/// as creating the zone is.
 pub fn replay_opening(
     alloc: Global,
     config: ZoneConfig<'_>,
@@ -37,7 +37,7 @@ pub fn replay_opening(
     Ok((zone, seats))
 }
 
-/// As `replay_opening`, but a wide zone. Refused 1 to 6 as the making of a wide zone is.
+/// As `replay_opening`, but a wide zone. Refused 1 to 6, as creating a wide zone is.
 pub fn replay_wide_opening(
     alloc: Global,
     config: ZoneConfig<'_>,
@@ -53,7 +53,7 @@ pub fn replay_wide_opening(
 }
 
 /// A zone goes on as a journal says: it is asked for what the entries say, one after another, from where it is. None where each of
-/// them is what the zone would have made. Else the number of the first whose request cannot be made, or is answered otherwise,
+/// them is what the zone would have made. Else the number of the first whose request cannot be made, or gets another reply,
 /// counted from 1: the zone was asked for those before it, and for that one where its worker may ask for it.
 pub fn replay_further(zone: &mut Zone, seats: &mut [Seat], journal: &Journal) -> Option<u32>
     requires seats { AreSeatsOf zone.old seats.old }
@@ -63,7 +63,7 @@ pub fn replay_further(zone: &mut Zone, seats: &mut [Seat], journal: &Journal) ->
     repeat_first(zone, seats, journal, journal.len())
 }
 
-/// Whether a zone of this config and so many workers could have made the journal. Refused 1 to 6 as the zone's making is.
+/// Whether a zone of this config and so many workers could have made the journal. Refused 1 to 6, as creating the zone is.
 pub fn replay_journal(
     alloc: Global,
     config: ZoneConfig<'_>,
@@ -91,7 +91,7 @@ pub fn replay_journal_from(mut zone: Zone, mut seats: Vec<Seat>, journal: &Journ
 }
 
 /// The counts of a zone of this config and so many workers after the first `place` entries of the journal: none where it has not so
-/// many, or where one of them is not legal. Refused 1 to 6 as the zone's making is.
+/// many, or where one of them is not legal. Refused 1 to 6, as creating the zone is.
 pub fn counts_after(
     alloc: Global,
     config: ZoneConfig<'_>,

@@ -14,7 +14,7 @@ use std::io;
 use zp_events::{AtBroken, LineSink, Lines, PageEvent, TextFault, read_lines};
 use zp_streams::Reader;
 
-/// Who opens the zones at the first event of a text, by what the lines before it tell, and looks on while events are carried out.
+/// Opens the zones at the first event of a text, by what the lines before it say, and looks on while events are carried out.
 pub trait Onlooker {
     // What a line makes of it that is none of a page event.
     ghost hears: { Self → List ℕ → Self → Type 0 };

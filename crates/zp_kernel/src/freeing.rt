@@ -80,7 +80,7 @@ fn free_inside(state: &mut KernelState, by: Worker, block: &FrameBlock)
     }
 }
 
-/// The kernel freed this block, and the worker gives back what stands for it.
+/// The kernel freed this block, and the worker frees what stands for it.
 pub fn free_block(state: &mut KernelState, by: Worker, block: &FrameBlock)
     requires worker { by < length state.old.crew.shares }
     ensures after { state.new ≡ freed by block.now state.old }

@@ -11,7 +11,7 @@ use crate::kernel_zones::KernelZones;
 use zp_model::{Block, Refused, Worker};
 use zp_share::Lent;
 
-/// The block of the zone at this place, as it is lent.
+/// The block of the zone at this place, as a lent one.
 fn lent_of(zone: usize, block: &Block) -> Lent
     ensures { result ≡ lent_of zone block.now }
 {
@@ -22,7 +22,7 @@ fn lent_of(zone: usize, block: &Block) -> Lent
     }
 }
 
-/// Another worker's block comes to this one, which gives it back.
+/// Another worker's block comes to this one, which frees it.
 fn pass_back(crew: &mut KernelZones, from: Worker, lent: &Lent, to: Worker) -> Result<(), Refused>
     requires { to < length crew.old.shares }
     ensures done { IsCrewDone (passed_back from lent.now to crew.old) result crew.new }
@@ -33,7 +33,7 @@ fn pass_back(crew: &mut KernelZones, from: Worker, lent: &Lent, to: Worker) -> R
     crew.free(to, &lent_of(lent.zone, &block))
 }
 
-/// The worker gives back a block, its own or another's.
+/// The worker frees a block, its own or another's.
 fn back_by(crew: &mut KernelZones, by: Worker, held: &Held) -> Result<(), Refused>
     requires { by < length crew.old.shares }
     ensures done { IsCrewDone (back_by by held.now crew.old) result crew.new }
@@ -62,7 +62,7 @@ fn note_refusal(counts: &mut EventCounts, outcome: Result<(), Refused>)
     }
 }
 
-/// The worker gives back a block that no frame holds any more.
+/// The worker frees a block that no frame holds any more.
 pub fn give_back(state: &mut KernelState, by: Worker, held: &Held)
     requires { by < length state.old.crew.shares }
     ensures after { state.new ≡ given_back by held.now state.old }
@@ -84,7 +84,7 @@ pub fn give_up(state: &mut KernelState, by: Worker, frame: u64, held: &Held)
     give_back(state, by, held);
 }
 
-/// So many pages are in use when 2^order of them no longer are.
+/// The pages in use, without 2^order of them.
 fn without(in_use: u32, order: u32) -> u32
     ensures { result ≡ in_use - 2 ^ order }
 {

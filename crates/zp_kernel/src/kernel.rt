@@ -21,7 +21,7 @@ use zp_events::{Action, PageEvent};
 use zp_share::{PlainZones, Share};
 use zp_zone::Zone;
 
-/// Our zones in the place of a kernel's, with what its page events have made of them.
+/// Our zones, which stand for a kernel's, with what its page events have made of them.
 #[derive(Drop)]
 pub struct Kernel {
     setting: Setting,

@@ -9,7 +9,7 @@ use zp_model::{Block, Mark, MigrateType, Order, Refused, Worker};
 use zp_share::{Lent, PlainZones, Share, Zones, alloc, free};
 use zp_zone::Zone;
 
-/// Zones of ours in the place of a kernel's, and the share of each of their workers, in order.
+/// Zones of ours that stand for a kernel's, and the share of each of their workers, in order.
 #[derive(Drop)]
 pub struct KernelZones {
     zones: PlainZones,
@@ -89,7 +89,7 @@ impl KernelZones {
         alloc(share, &mut self.zones, order, kind, zone, Mark::Min)
     }
 
-    /// The worker gives back a block of its own.
+    /// The worker frees a block of its own.
     pub fn free(&mut self, worker: Worker, lent: &Lent) -> Result<(), Refused>
         ensures done { IsCrewDone (freed_by worker lent.now self.old) result self.new }
         ensures same { IsSameCrew self.old self.new }

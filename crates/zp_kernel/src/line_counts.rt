@@ -30,7 +30,7 @@ pub struct LineCounts {
     pub unkept: u64,
 }
 
-/// What a line that is none of a page event tells of such events.
+/// What a line that is none of a page event reports of such events.
 #[derive(Clone, Copy, PartialEq, Eq, Debug, Drop)]
 pub struct Remark {
     /// It holds an event's name.
@@ -61,7 +61,7 @@ fn unkept_of(line: &[u8]) -> u64
     }
 }
 
-/// What a line that is none of a page event tells of such events.
+/// What a line that is none of a page event reports of such events.
 pub fn remark_of(line: &[u8]) -> Remark
     ensures { IsRemark line.now result }
 {
@@ -115,7 +115,7 @@ impl LineCounts {
         }
     }
 
-    /// One line more, none of an event, of which this is to be told.
+    /// One line more, none of an event, of which this is to be reported.
     pub fn note_other(&mut self, remark: Remark)
         ensures { self.new ≡ with_other remark self.old }
     {

@@ -17,7 +17,7 @@ pub fn replies_tell_their_part()
     ensures { RepliesTellTheirPart }
 {}
 
-/// A worker's part tells which blocks are out in its name.
+/// A worker's part says which blocks are out in its name.
 pub fn parts_tell_what_is_out()
     ensures { PartsTellWhatIsOut }
 {}

@@ -1,4 +1,4 @@
-//! Laws on journals, and on taking and giving back. Each function does nothing: its contract is the law.
+//! Laws on journals, and on allocating and freeing. Each function does nothing: its contract is the law.
 ghost use Rattle.zp_laws.specs.Journals.{JournalsReplay, LegalHistoriesAreJournals, HistoriesBegin, HistoriesGoOn};
 ghost use Rattle.zp_laws.specs.TakenBack.{GivingBackRestores, ReleasingRestores};
 
@@ -22,7 +22,7 @@ pub fn histories_go_on()
     ensures { HistoriesGoOn }
 {}
 
-/// A block that is taken and given back leaves the free pages as they were, and the types where none was claimed.
+/// A block that is allocated and freed leaves the free pages as they were, and the types where none was claimed.
 pub fn giving_back_restores()
     ensures { GivingBackRestores }
 {}

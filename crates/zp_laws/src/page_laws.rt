@@ -1,7 +1,7 @@
 //! Laws on the pages that a step moves. Each function does nothing: its contract is the law.
 ghost use Rattle.zp_laws.specs.FreePages.{StepsMovePages, RefusalsChangeNothing, StepsKeepTheZone, PagesAddUp};
 
-/// A step changes the free pages by exactly those that it hands out or that are given back.
+/// A step changes the free pages by exactly those that it allocates or frees.
 pub fn steps_move_pages()
     ensures { StepsMovePages }
 {}

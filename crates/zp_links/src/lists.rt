@@ -41,7 +41,7 @@ impl Lists {
         ensures lists { IfOk result (λ l. l ≡ record { lists = replicate count []; states = states_of table }) }
         ensures loose { IfOk result (λ l. (p : ℕ) → IsLoose l.lists p) }
     {
-        // the table is no longer than a zone can be, which the lists rely on
+        // the table has at most as many pages as a zone can have, which the lists rely on
         let _pages = table.len();
         let nowhere = Link::none();
         let empty = Ends {
@@ -268,7 +268,7 @@ impl Lists {
         self.table.forward(at).page()
     }
 
-    /// The word of the page's entry, in the layout that is told of so many pages: what is noted of it, and its neighbours in
+    /// The word of the page's entry, in the layout of `PageTable::word` for so many pages: what is noted of it, and its neighbours in
     /// its list.
     pub fn word(&self, at: PageAt) -> u64
         requires { at < length self.now.states }

@@ -1,4 +1,4 @@
-//! The words that are told of entries, worked by hand from the layouts: the narrow one up to 65,536 pages, else the one in memory.
+//! The words of entries, worked by hand from the layouts: the narrow one up to 65,536 pages, else the one in memory.
 
 use std::process::Abort;
 use std::test::*;

@@ -110,7 +110,7 @@ impl PastLists {
         self.0.share.cached_len(0, kind)
     }
 
-    /// Gives back all pages of the list of this type, in one section: how many they were.
+    /// Frees all pages of the list of this type, in one section: how many they were.
     pub fn drain(&mut self, kind: MigrateType) -> usize {
         let share = &mut self.0.share;
         let count = share.cached_len(0, kind);

@@ -13,7 +13,7 @@ pub struct LentBlock {
     order: Order,
 }
 
-/// A source with nothing lent at first, the numbers drawn so far, and the checksum of the pages answered.
+/// A source with nothing lent at first, the numbers drawn so far, and the checksum of the pages returned.
 #[derive(Drop)]
 pub struct Load<S> {
     pub source: S,
@@ -44,7 +44,7 @@ impl<S: BlockSource> Load<S> {
         self.checksum.value()
     }
 
-    /// Counts a number of pages answered into the checksum.
+    /// Adds a number of returned pages to the checksum.
     pub fn count(&mut self, pages: usize) {
         self.checksum.add(pages as u64);
     }
@@ -76,19 +76,19 @@ impl<S: BlockSource> Load<S> {
         }
     }
 
-    /// Gives a block back, where it is lent.
+    /// Frees a block, where it is lent.
     pub fn give(&mut self, lent: LentBlock) {
         self.source.give(lent.page, lent.order);
     }
 
-    /// Takes a block and gives it back.
+    /// Allocates a block and frees it.
     pub fn pair(&mut self, order: Order, kind: MigrateType) {
         if let Some(page) = self.taken(order, kind) {
             self.source.give(page, order);
         }
     }
 
-    /// Takes a block, and keeps it as the last one. Answers whether there was one.
+    /// Takes a block, and keeps it as the last one. Returns whether there was one.
     #[inline(always)]
     pub fn lend(&mut self, order: Order, kind: MigrateType) -> Result<bool, Unmade> {
         let Some(page) = self.taken(order, kind) else {
@@ -111,7 +111,7 @@ impl<S: BlockSource> Load<S> {
         Ok(())
     }
 
-    /// Gives back the block at a place; the last one comes to its place.
+    /// Frees the block at a place; the last one moves to its place.
     pub fn give_at(&mut self, place: usize) {
         if place < self.lent.len() {
             let lent = self.lent.swap_remove(place);
@@ -122,7 +122,7 @@ impl<S: BlockSource> Load<S> {
         }
     }
 
-    /// Gives back one of the lent blocks, the one that a drawn number tells.
+    /// Frees one of the lent blocks, the one that a drawn number picks.
     pub fn give_drawn(&mut self, drawn: u64) {
         if !self.lent.is_empty() {
             let place = below(drawn, self.lent.len());
@@ -130,7 +130,7 @@ impl<S: BlockSource> Load<S> {
         }
     }
 
-    /// Gives back each block whose first page is picked.
+    /// Frees each block whose first page is picked.
     pub fn give_picked<F: Fn(u32) -> bool>(&mut self, is_picked: F)
         requires { F.IsAlwaysCallable is_picked }
     {
@@ -147,7 +147,7 @@ impl<S: BlockSource> Load<S> {
         }
     }
 
-    /// Gives back all, in the order in which they came.
+    /// Frees all, in the order in which they came.
     pub fn give_in_order(&mut self) {
         for place in 0..self.lent.len() {
             if place < self.lent.len() {
@@ -159,7 +159,7 @@ impl<S: BlockSource> Load<S> {
         self.lent_pages = 0;
     }
 
-    /// Gives back all, the last one first.
+    /// Frees all, the last one first.
     pub fn give_all(&mut self) {
         for _ in 0..self.lent.len() {
             if let Some(lent) = self.lent.pop() {

@@ -1,5 +1,5 @@
-//! Numbers that a seed determines, and a checksum of answers. Both are fixed by the expected output: another allocator in another
-//! language draws the same numbers and sums the same answers.
+//! Numbers that a seed determines, and a checksum of results. Both are fixed by the expected output: another allocator in another
+//! language draws the same numbers and sums the same results.
 ghost use Rattle.std.specs.Prelude.{◌<◌, ◌≤◌};
 
 use zp_model::PageNo;
@@ -57,7 +57,7 @@ impl Checksum {
         self.value = value;
     }
 
-    /// Adds the answer to a request for a block: its first page and 1, or 0 where there is none.
+    /// Adds the result of a request for a block: its first page and 1, or 0 where there is none.
     pub fn add_page(&mut self, answer: &Option<PageNo>) {
         match answer {
             Some(page) => self.add(u64::from(page.number()) + 1),

@@ -20,14 +20,14 @@ pub struct Seated<const LARGEST: u8> {
 }
 
 impl<const LARGEST: u8> Seated<LARGEST> {
-    /// Isolates the first pageblock, and releases it for Movable requests. Answers whether both were done.
+    /// Isolates the first pageblock, and releases it for Movable requests. Returns whether both were done.
     pub fn isolate_and_release(&mut self) -> bool {
         let isolated = self.zone.isolate(&mut self.seat, 0);
         let released = self.zone.release(&mut self.seat, 0, MigrateType::Movable);
         isolated.is_ok() && released.is_ok()
     }
 
-    /// What the zone tells of a page.
+    /// What the zone reports of a page.
     pub fn entry(&self, page: PageNo) -> Option<ZonePage>
         ensures when { IsSome result ↔ IsPageOf self.now.zone.plain page }
         ensures described { IfSome result (λ e. IsToldOf self.now.zone.plain page e.state e.back e.forward) }

@@ -7,7 +7,7 @@ use std::alloc::Global;
 use zp_model::{Largest, MigrateType, Order, PageNo};
 use zp_zone::ZoneConfig;
 
-/// A zone from page 0 on, with nothing lent at first, and the way on which its blocks are taken and given back.
+/// A zone from page 0 on, with nothing lent at first, and the way in which its blocks are allocated and freed.
 pub trait BlockSource: Drop {
     /// Over a zone of so many pages, marks 0.
     fn new(alloc: Global, pages: u32) -> Result<Self, Unmade>;
@@ -15,7 +15,7 @@ pub trait BlockSource: Drop {
     /// A block of this order for this type, held to no mark: its first page.
     fn take(&mut self, order: Order, kind: MigrateType) -> Option<PageNo>;
 
-    /// Gives a block back, where it is lent.
+    /// Frees a block, where it is lent.
     fn give(&mut self, page: PageNo, order: Order);
 }
 

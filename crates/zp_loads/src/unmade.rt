@@ -50,7 +50,7 @@ impl From<Refused> for Unmade {
     }
 }
 
-/// Whether calls answered what they have to.
+/// Whether calls returned what they have to.
 pub fn expect(is_right: bool) -> Result<(), Unmade> {
     if is_right { Ok(()) } else { Err(Unmade::Other) }
 }

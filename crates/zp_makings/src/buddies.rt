@@ -56,7 +56,7 @@ fn rounds(buddy: &mut Buddy, rounds: u32) -> Result<(), Unmade> {
     Ok(())
 }
 
-/// A page is taken and given back, and then the lowest one.
+/// Allocates and frees a page, and then the lowest one.
 fn take_and_give(buddy: &mut Buddy) -> Result<(), Unmade> {
     let order = Order::zero();
     for kind in [MigrateType::Movable, MigrateType::Unmovable] {

@@ -30,7 +30,7 @@ impl<Z: Zones + Drop> RowHand<Z> {
         Ok(())
     }
 
-    /// Five pages are taken; three of them go to the list, which is then full and gives back a batch, and the last one comes from it again.
+    /// Five pages are allocated; three of them go to the list, which is then full and frees a batch, and the last one comes from it again.
     /// Then all go back.
     fn round(&mut self) -> Result<(), Unmade> {
         self.take(&[FRONT, FRONT + 1, FRONT + 2, FRONT + 3, FRONT + 4])?;

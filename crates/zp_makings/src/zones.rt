@@ -59,7 +59,7 @@ impl Crew {
         Ok(())
     }
 
-    /// Each of the nine requests, and what the zone tells. All pages are free after it, as before.
+    /// Each of the nine requests, and what the zone reports. All pages are free after it, as before.
     fn round(&mut self) -> Result<(), Unmade> {
         let Crew {
             zone,
@@ -75,7 +75,7 @@ impl Crew {
     }
 }
 
-/// The lowest block of the largest order is taken and given back.
+/// Allocates and frees the lowest block of the largest order.
 fn lowest(zone: &mut Zone, seat: &mut Seat) -> Result<(), Unmade>
     requires { IsSeatOf zone.old seat.old }
     ensures zone { zone.new.tie ≡ zone.old.tie }
@@ -107,7 +107,7 @@ fn passed(zone: &mut Zone, giver: &mut Seat, receiver: &mut Seat) -> Result<(), 
 {
     let order = Order::zero();
     let page = zone.alloc(giver, order, MigrateType::Movable, Mark::Low)?;
-    // Only the zone tells that the receiver is one of its workers.
+    // Only the zone shows that the receiver is one of its workers.
     zone.check(receiver);
     zone.post(giver, page, order, receiver.worker());
     let block = zone.collect(receiver)?;
@@ -115,7 +115,7 @@ fn passed(zone: &mut Zone, giver: &mut Seat, receiver: &mut Seat) -> Result<(), 
     expect(page.number() == FRONT && block.page == page)
 }
 
-/// Four pages are taken at a time, and given back so.
+/// Allocates four pages at a time, and frees them so.
 fn refilled(zone: &mut Zone, seat: &mut Seat) -> Result<(), Unmade>
     requires { IsSeatOf zone.old seat.old }
     ensures zone { zone.new.tie ≡ zone.old.tie }
@@ -136,7 +136,7 @@ fn free_in_front(zone: &Zone) -> u32 {
     }
 }
 
-/// Whether the zone tells of its front page.
+/// Whether the zone reports its front page.
 fn has_front(zone: &Zone) -> bool {
     match zone.entry(PageNo::new(FRONT)) {
         Some(_) => true,
@@ -144,7 +144,7 @@ fn has_front(zone: &Zone) -> bool {
     }
 }
 
-/// Whether all that the zone tells is of a zone whose pages are all free.
+/// Whether all that the zone reports is of a zone whose pages are all free.
 fn is_whole(zone: &Zone) -> bool {
     let counts = zone.counts();
     counts.free == PAGES

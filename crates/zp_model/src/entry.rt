@@ -1,4 +1,4 @@
-//! Entries of a journal: what a worker asked of a zone, and what it was answered.
+//! Entries of a journal: what a worker asked of a zone, and the reply.
 ghost use Rattle.std.specs.Prelude.{◌≡◌, ◌≤◌, ◌↔◌, length, IsSome, IfSome, IsTrue, false};
 ghost use Rattle.zp_model.specs.declared.constants.TheConstants.{LONGEST_LIST};
 ghost use Rattle.zp_model.specs.Entries.{HasOneList, answered_of, asked_of, entry_of_parts, has_pages, pages_of};
@@ -67,7 +67,7 @@ impl Entry {
         }
     }
 
-    /// The entry of a worker's request that was answered so. None where both have a list of pages, which no zone answers.
+    /// The entry of a worker's request with this reply. None where both have a list of pages, which no zone returns.
     pub fn new(worker: Worker, request: &Request, reply: &Reply) -> Option<Entry>
         ensures when { IsSome result ↔ HasOneList request.now reply.now }
         ensures entry { IfSome result (λ e. e ≡ record { worker = worker; request = request.now; reply = reply.now }) }
@@ -80,7 +80,7 @@ impl Entry {
         Some(entry)
     }
 
-    /// Becomes the entry of a worker's request that was answered so.
+    /// Becomes the entry of a worker's request with this reply.
     // (in line, with what it calls: where a caller knows which request it is, no list is made for it)
     #[inline(always)]
     pub fn set(&mut self, worker: Worker, request: &Request, reply: &Reply)
@@ -111,7 +111,7 @@ impl Entry {
         self.worker
     }
 
-    /// What was asked and what was answered, where they lie, without a copy of the list of either: it comes beside them, and is the pages of
+    /// The request and the reply, where they lie, without a copy of the list of either: it comes beside them, and is the pages of
     /// a drain, or of a refill; else it says nothing.
     #[inline(always)]
     pub fn parts(&self) -> (Asked, Answered, &[PageNo])
@@ -138,7 +138,7 @@ impl Entry {
         }
     }
 
-    /// What was answered.
+    /// The reply.
     pub fn reply(&self) -> Reply
         ensures { result ≡ self.now.reply }
     {

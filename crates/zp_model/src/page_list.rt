@@ -6,7 +6,7 @@ use crate::page::PageNo;
 use arrayvec::ArrayVec;
 use std::marker::Model;
 
-/// Absolute pages, at most `LONGEST_LIST`, in order, in place: making one takes no memory.
+/// Absolute pages, at most `LONGEST_LIST`, in order, in place: creating one takes no memory.
 #[derive(PartialEq, Eq, Debug, Drop)]
 pub struct PageList {
     pages: ArrayVec<PageNo, LONGEST_LIST>,
@@ -51,7 +51,7 @@ impl PageList {
         PageList { pages: list }
     }
 
-    /// These pages, in the place of those that it had.
+    /// Holds these pages instead of those that it had.
     pub fn set(&mut self, pages: &[PageNo])
         requires { length pages.now ≤ LONGEST_LIST }
         ensures { self.new ≡ pages.now }

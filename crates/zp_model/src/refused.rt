@@ -15,7 +15,7 @@ pub enum Refused {
     BadMark,
     /// 5: the workers are not 1 to 32.
     BadWorkers,
-    /// 6: there is no memory for the making.
+    /// 6: there is no memory for the creation.
     Memory,
     /// 10: the request would take the free pages outside isolated pageblocks to its mark or below.
     BelowMark,

@@ -10,7 +10,7 @@ pub enum Request {
     Alloc(Order, MigrateType, Mark),
     /// The lowest block of this order.
     AllocLow(Order),
-    /// Gives back the block at this page, of this order.
+    /// Frees the block at this page, of this order.
     Free(PageNo, Order),
     /// Hands the block at this page, of this order, to a worker.
     Post(PageNo, Order, Worker),
@@ -18,7 +18,7 @@ pub enum Request {
     Collect,
     /// At most so many pages for this type, held to this mark.
     Refill(MigrateType, Mark, u8),
-    /// Gives back these pages; the type is only noted.
+    /// Frees these pages; the type is only noted.
     Drain(MigrateType, PageList),
     /// Isolates the pageblock of this number: its free pages are chosen by nobody until it is released.
     Isolate(u32),
@@ -26,7 +26,7 @@ pub enum Request {
     Release(u32, MigrateType),
 }
 
-/// What a zone answers. Pages are absolute.
+/// A zone's reply. Pages are absolute.
 #[derive(PartialEq, Eq, Debug, Drop)]
 pub enum Reply {
     Page(PageNo),

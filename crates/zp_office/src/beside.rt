@@ -9,7 +9,7 @@ use std::thread;
 use std::thread::{Promise, Threads};
 
 // Work for a thread. Nothing is known of what a thread writes through a `&mut` that its closure holds. So the closure holds a
-// value of a type parameter, and answers it back.
+// value of a type parameter, and returns it.
 trait Task {
     type Output;
 
@@ -41,7 +41,7 @@ impl<'a, F: FnMut() -> A, A> Task for LentCall<'a, F> {
     }
 }
 
-// The thread of a task answers its output, or the task as it was.
+// The thread of a task returns its output, or the task as it was.
 #[derive(Drop)]
 struct RanOrLeft<S>(Snapshot<S>);
 
@@ -73,7 +73,7 @@ fn both_or_neither<
             ensures { IfOk result (λ r. S.run_gives s r.0 × T.run_gives t r.1) × IfErr result (λ r. (r.0 ≡ s) × (r.1 ≡ t)) }
         {
             let promise = RanOrLeft(Snapshot::of(&s));
-            // A refused thread gives back this closure and not the task in it. Called once more, now with the flag set, it answers the
+            // A refused thread returns this closure and not the task in it. Called once more, with the flag set, it returns the
             // task.
             let job = move || -> Result<A, S>
                 requires { S.can_run s }

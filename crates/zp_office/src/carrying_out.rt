@@ -14,7 +14,7 @@ use crate::reply::CommandReply;
 use zp_model::{Block, Refused, Worker};
 use zp_share::{Lent, Share, Zones, alloc, drain_all, free};
 
-/// Carries out one command. A block that is lent goes to the command's slot, and stays there when it is given back.
+/// Carries out one command. A block that is lent goes to the command's slot, and stays there when it is freed.
 pub fn carry_out<Z: Zones>(
     share: &mut Share,
     slots: &mut [Option<Lent>],
@@ -86,7 +86,7 @@ pub fn carry_out<Z: Zones>(
     }
 }
 
-/// The block of the zone at this place, as it is lent.
+/// The block of the zone at this place, as a lent one.
 fn lent_of(zone: usize, block: &Block) -> Lent
     ensures { result ≡ lent_of zone block.now }
 {
@@ -97,7 +97,7 @@ fn lent_of(zone: usize, block: &Block) -> Lent
     }
 }
 
-/// Gives back the block that a slot keeps.
+/// Frees the block that a slot keeps.
 fn free_kept<Z: Zones>(share: &mut Share, zones: &mut Z, kept: Option<Lent>) -> CommandReply
     requires fits { IsShareOf (Z.keys zones.old) share.old }
     requires kept { IsInRow (length share.old.zones) kept }

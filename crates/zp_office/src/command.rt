@@ -20,7 +20,7 @@ pub enum Command {
         order: Order,
         zone: usize,
     },
-    /// The block that the slot keeps, given back.
+    /// The block that the slot keeps, freed.
     Free {
         slot: usize,
     },
@@ -34,7 +34,7 @@ pub enum Command {
         slot: usize,
         zone: usize,
     },
-    /// All pages of the worker's lists, given back.
+    /// All pages of the worker's lists, freed.
     Drain,
     /// The pageblock of this number of this zone, isolated.
     Isolate {

@@ -6,7 +6,7 @@ use arrayvec::ArrayVec;
 use std::marker::Model;
 use zp_model::{Counts, TRACE_ZONES};
 
-/// The counts of up to `TRACE_ZONES` zones, in place: making one takes no memory.
+/// The counts of up to `TRACE_ZONES` zones, in place: creating one takes no memory.
 #[derive(PartialEq, Eq, Debug, Drop)]
 pub struct CountsRow {
     counts: ArrayVec<Counts, TRACE_ZONES>,

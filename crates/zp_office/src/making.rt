@@ -1,4 +1,4 @@
-//! The making of desks: a worker's share, with the script of its commands.
+//! Creates desks: a worker's share, with the script of its commands.
 ghost use Rattle.std.specs.Prelude.{◌≡◌, [], All, map, IfOk, IfErr};
 ghost use Rattle.zp_trace.specs.Grammar.{IsBeginning, lines_of};
 ghost use Rattle.zp_zone.specs.Seats.{ZoneState};

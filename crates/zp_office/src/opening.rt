@@ -1,4 +1,4 @@
-//! The making of a crew: the zones that a header declares, and the shares of their workers.
+//! Creates a crew: the zones that a header declares, and the shares of their workers.
 ghost use Rattle.std.specs.Prelude.{◌≡◌, ◌≤◌, [], All, length, map, IfOk, IfErr};
 ghost use Rattle.zp_model.specs.declared.constants.TheConstants.{TRACE_ZONES};
 ghost use Rattle.zp_trace.specs.Grammar.{IsHeader};

@@ -3,7 +3,7 @@
 use crate::counts_row::CountsRow;
 use zp_model::{Block, PageNo, Refused};
 
-/// What a worker's command is answered.
+/// The reply to a worker's command.
 #[derive(PartialEq, Eq, Debug, Drop)]
 pub enum CommandReply {
     /// The first page of the block that an alloc or a low was lent.
@@ -12,7 +12,7 @@ pub enum CommandReply {
     Block(Block),
     Freed,
     Posted,
-    /// How many pages were given back.
+    /// How many pages were freed.
     Drained(u32),
     Isolated,
     Released,

@@ -1,4 +1,4 @@
-//! The making of a script.
+//! Creates a script.
 ghost use Rattle.std.specs.Prelude.{◌≡◌, ◌==◌, ◌≤◌, All, IfOk, count_by, length};
 ghost use Rattle.zp_trace.specs.declared.bounds.TheConstants.{MOST_LINES};
 ghost use Rattle.zp_trace.specs.Grammar.{IsBeginning, lines_of};

@@ -1,4 +1,4 @@
-//! Workers at their desks, over zones that threads share: what no clause says of them, and how it is asked of traces.
+//! Workers at their desks, over zones that threads share: what is not proved of them, and how traces test it.
 #![tactic(auto)]
 
 #[cfg(test)]

@@ -94,8 +94,8 @@ fn write_charts<W: Write, P: Progress>(
     Ok(())
 }
 
-/// Writes the charts of a trace's first lines, or of all, as SVG: for each zone its free pages by order. It tells how many requests it has
-/// carried out, which are all of them for each zone. Of a text that is no trace nothing is written.
+/// Writes the charts of a trace's first lines, or of all, as SVG: for each zone its free pages by order. It reports how many requests it
+/// has carried out, which are all of them for each zone. Of a text that is no trace nothing is written.
 pub fn print_chart<W: Write, P: Progress>(
     alloc: Global,
     text: &[u8],

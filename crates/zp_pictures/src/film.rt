@@ -118,8 +118,8 @@ fn write_film<W: Write, P: Progress>(
     Ok(())
 }
 
-/// Writes the film of a trace's first lines, or of all, as SVG, and tells after how many requests it is. Of a text that is no trace nothing
-/// is written.
+/// Writes the film of a trace's first lines, or of all, as SVG, and reports after how many requests it is. Of a text that is no trace
+/// nothing is written.
 pub fn print_film<W: Write, P: Progress>(
     alloc: Global,
     text: &[u8],

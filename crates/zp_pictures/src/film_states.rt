@@ -67,7 +67,7 @@ fn copy_of(alloc: Global, strips: &[Strip]) -> Result<Vec<Strip>, AllocError> {
     Ok(copy)
 }
 
-/// Writes the rows of a film of so many states, of which the first is that before the first request. After each request it is told how
+/// Writes the rows of a film of so many states, of which the first is that before the first request. After each request it reports how
 /// many there were.
 pub fn draw_rows<W: Write, P: Progress>(
     alloc: Global,

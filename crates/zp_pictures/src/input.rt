@@ -11,7 +11,7 @@ use std::io::Write;
 use zp_info::{DIGITS, TextBuffer};
 use zp_trace::{Trace, TraceFault, parse_trace};
 
-/// The most bytes of the line that tells of a bad line: `bad line N`, and a line feed.
+/// The most bytes of the line that reports a bad line: `bad line N`, and a line feed.
 const BAD_LINE: usize = 10 + DIGITS;
 
 /// What was drawn.
@@ -42,7 +42,7 @@ pub fn read_trace(alloc: Global, text: &[u8]) -> Result<TraceReading, PictureFau
     }
 }
 
-/// The line that tells of a bad line, as a replay does.
+/// The line that reports a bad line, as a replay does.
 fn bad_line(number: u32) -> TextBuffer<BAD_LINE>
     ensures { result ≡ bad_line number }
 {
@@ -53,7 +53,7 @@ fn bad_line(number: u32) -> TextBuffer<BAD_LINE>
     text
 }
 
-/// Tells of a bad line. Write.
+/// Reports a bad line. Write.
 pub fn write_bad_line<W: Write>(writer: &mut W, number: u32) -> Result<Shown, PictureFault>
     ensures shown { IfOk result (λ shown. shown ≡ Shown.BadLine number) }
     ensures ok { OnOk result (IsWritten (W.contents writer.old) (W.contents writer.new) (bad_line number)) }

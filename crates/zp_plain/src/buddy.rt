@@ -110,7 +110,7 @@ impl PlainBuddy {
         is_clear(largest, self.area.marks(), &self.sides, at, order)
     }
 
-    /// Gives back a block.
+    /// Frees a block.
     pub fn give(&mut self, at: PageAt, order: Order)
         requires { IsClear self.old at order }
         ensures { self.new ≡ given self.old at order }

@@ -1,4 +1,4 @@
-//! How far long work is, told on a line of standard error that is written over again and again: where somebody looks on, and not in the
+//! How far long work is, shown on a line of standard error that is written over again and again: where somebody looks on, and not in the
 //! first two seconds.
 #![tactic(auto)]
 

@@ -16,7 +16,7 @@ pub struct Task<'a> {
     pub unit: &'a str,
 }
 
-/// Tells on standard error how far a task is.
+/// Shows on standard error how far a task is.
 pub struct ProgressMeter<'a, R: Eprint + Clock> {
     rt: &'a R,
     task: Task<'a>,
@@ -42,7 +42,7 @@ pub fn is_watched(rt: &(impl Env + AllocGlobal), is_terminal: bool) -> bool
 }
 
 impl<'a, R: Eprint + Clock> ProgressMeter<'a, R> {
-    /// For a task that begins now. Where nobody looks on, and where there is no clock, it tells nothing.
+    /// For a task that begins now. Where nobody looks on, and where there is no clock, it shows nothing.
     pub fn new(rt: &'a R, task: Task<'a>, is_watched: bool) -> ProgressMeter<'a, R>
         ensures silent { is_watched ≡ false → result.began ≡ None }
         ensures fresh { result.stands ≡ false }
@@ -60,7 +60,7 @@ impl<'a, R: Eprint + Clock> ProgressMeter<'a, R> {
         }
     }
 
-    /// Tells how far the task is, where a line is due.
+    /// Shows how far the task is, where a line is due.
     fn tell(&mut self, done: u64, of: Option<u64>)
         ensures silent { self.old.began ≡ None → self.new ≡ self.old }
     {

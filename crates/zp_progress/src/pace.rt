@@ -4,7 +4,7 @@ ghost use Rattle.zp_progress.specs.Due.{IsDue};
 
 use std::time::Duration;
 
-/// Work that takes no longer than this tells nothing.
+/// Work that takes at most this long reports nothing.
 const FIRST_NANOS: u128 = 2_000_000_000;
 
 /// From one line to the next.

@@ -1,6 +1,6 @@
-//! Who is told how far the work is.
+//! Who receives how far the work is.
 
-/// Who is told how far work is, by whoever does it.
+/// Receives how far work is, from whoever does it.
 pub trait Progress {
     /// So much of so much is done.
     fn at(&mut self, done: usize, of: usize);
@@ -8,7 +8,7 @@ pub trait Progress {
     /// So much is done, of work whose end is not known.
     fn past(&mut self, done: u64);
 
-    /// What was told goes away, since a result is about to be written.
+    /// Clears what was shown, since a result is about to be written.
     fn clear(&mut self);
 }
 

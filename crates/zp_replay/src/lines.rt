@@ -17,7 +17,7 @@ pub const LINE: usize = 160;
 /// The most bytes of what a worker gets, or that it was done.
 const WORDS: usize = 2 * DIGITS + 15;
 
-/// Appends what a worker is answered: `W: page P`, `W: block P order K`, `W: freed`, `W: posted`, `W: drained N`, `W: isolated`,
+/// Appends the reply to a worker: `W: page P`, `W: block P order K`, `W: freed`, `W: posted`, `W: drained N`, `W: isolated`,
 /// `W: released` or `W: refused C`.
 pub fn push_reply_line<const CAP: usize>(
     text: &mut TextBuffer<CAP>,

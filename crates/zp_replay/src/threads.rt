@@ -196,7 +196,7 @@ pub fn replay_threads<T: Threads + Wait + Sync, R: Reader, W: Writer, G: Gate + 
     ensures unmade { result ≡ Err ReplayFault.Memory → IsUnanswered (R.remaining reader.old) (R.remaining reader.new) (W.contents writer.old) (W.contents writer.new) }
     ensures begun { result ≡ Err ReplayFault.Write → IsReportCut journal (R.remaining reader.old) (R.remaining reader.new) (W.contents writer.old) (W.contents writer.new) }
 
-    // A device has failed where its fault is answered, and nowhere else.
+    // A device has failed where its fault is returned, and nowhere else.
     ensures read { result ≡ Err ReplayFault.Read → R.failures reader.old < R.failures reader.new }
     ensures read_only { result ≢ Err ReplayFault.Read → R.failures reader.new ≡ R.failures reader.old }
     ensures write { result ≡ Err ReplayFault.Write → W.failures writer.old < W.failures writer.new }

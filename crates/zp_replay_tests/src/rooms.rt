@@ -1,4 +1,4 @@
-//! A writer in memory with room for a number of bytes, which tells how long the pieces were that it was asked to take.
+//! A writer in memory with room for a number of bytes, which shows how long the pieces were that it was asked to take.
 ghost use Rattle.std.specs.Prelude.{◌≡◌, ◌≤◌, ◌+◌, ◌<◌, [], Some, length, IfOk, OnOk, OnErr};
 ghost use Rattle.std.specs.Io.KnownBytes.{Keeps};
 ghost use Rattle.zp_streams.specs.Streams.{Takes};

@@ -250,7 +250,7 @@ impl<'a, C: Clock> Gate for InTurn<'a, C> {
     }
 }
 
-/// Two workers with an info each: the one has its answer before the other begins.
+/// Two workers with an info each: the one has its reply before the other begins.
 fn expect_in_turn<R: Abort + AllocGlobal + Clock + Sync + Threads + Wait>(
     rt: &R,
     early: u8,

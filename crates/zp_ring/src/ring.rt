@@ -1,4 +1,22 @@
 //! The board, the publisher that writes it, and its readers.
+//!
+//! A row of words holds the place, which is the number of the newest entry, and S slots of W words. Entry n lies in slot n mod S, so the
+//! newest entry takes the room of the oldest, and the board is never full before numbers of 64 bits end. With S = 16 and the place 18:
+//!
+//!     slot      0    1    2    3    4   ..   15
+//!     entry    16   17   18    3    4   ..   15
+//!                         |    |
+//!                    newest    the publisher writes entry 19 here, and then stores the place 19
+//!
+//! `publish` stores the W words of the next entry, and then the place. `read` takes no lock:
+//!
+//! 1. It looks at the place, p, and fetches the words of slot p mod S.
+//! 2. It looks again, at q. While it fetched, the publisher wrote entry q + 1 at most. The next entry in the same slot is p + S.
+//! 3. Where q - p is at most S - 2, the words are therefore entry p's. Else it tries again from q, three times in all, and then returns
+//!    what it read last.
+//!
+//! No tag stands in the words, and a reader writes nothing. So it never waits, and the publisher knows nothing of it. A publish costs W + 1
+//! stores, a read W + 2 loads, and each further try W + 1 more. With the publisher at hand `read_board` gives the newest entry.
 ghost use Rattle.std.specs.Prelude.{◌≡◌, ◌+◌, ◌-◌, ◌*◌, ◌<◌, ◌≤◌, ◌^◌, ◌↔◌, ◌⊎◌, ℕ, [], ◌∷◌, ◌++◌, true, length, IfOk, IsTrue};
 ghost use mathlib.Core.List.{IsPrefix};
 ghost use Rattle.zp_board.specs.Boards.{entry_at, last_of};
@@ -232,7 +250,7 @@ impl<const W: usize, const S: usize> RingPublisher<W, S> {
         reader.last
     }
 
-    /// The same with no answer: the reader remembers it.
+    /// The same without a result: the reader remembers it.
     #[inline(always)]
     pub fn show_board(&mut self, board: &Ring<W, S>, reader: &mut RingReader<W, S>)
         requires tie { self.old.tie ≡ board.now.tie }
@@ -256,7 +274,7 @@ impl<const W: usize, const S: usize> RingReader<W, S> {
     /// The last entry of those that are then seen, which begin with all that was seen before. Takes no lock and never waits.
     ///
     /// The words are looked for between two looks at the place. Where so many entries were published between the two that the words may be
-    /// another entry's, it tries again, and after some tries it answers what it read last.
+    /// another entry's, it tries again, and after some tries it returns what it read last.
     pub fn read(&mut self, board: &Ring<W, S>) -> RingReading<W>
         requires { self.old.tie ≡ board.now.tie }
         ensures tie { self.new.tie ≡ self.old.tie }

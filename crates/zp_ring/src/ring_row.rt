@@ -9,7 +9,7 @@ pub struct RingView {
     pub stores: bool,
     /// The entries that are published.
     pub entries: LinkedList<LinkedList<u64>>,
-    /// The next one, as far as it is written.
+    /// The words of the next one that are written so far.
     pub next: LinkedList<u64>,
     pub reads: bool,
     /// The entries up to the last look at the place.

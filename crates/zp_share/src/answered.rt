@@ -1,4 +1,4 @@
-//! What a section answers, and a typed call out of the reply to its request.
+//! What a section returns, and what a typed call returns of the reply to its request.
 ghost use Rattle.std.specs.Prelude.{◌≡◌};
 ghost use Rattle.zp_share.specs.Shares.{is_section};
 
@@ -15,7 +15,7 @@ pub fn is_section(reply: &Reply) -> bool
     )
 }
 
-/// The value, where the reply is of the kind that answers the request; or the refusal. No other reply comes.
+/// The value, where the reply is of the request's kind; or the refusal. No other reply comes.
 #[macro_export]
 macro_rules! answered {
     ($reply:expr, $kind:pat => $value:expr) => {

@@ -24,7 +24,7 @@ pub struct Lent {
     pub order: Order,
 }
 
-/// A block of this order for this type, held to this mark, out of the zone at this place or the nearest below it that gives one;
+/// Allocates a block of this order for this type, held to this mark, out of the zone at this place or the nearest below it that has one;
 /// the block is then lent. Single pages come from the worker's list, which is refilled where it is empty; what lies on the list
 /// is held to no mark. Refused as the last zone tried refuses it; a refusal 30 ends the walk, and leaves what the zones before it made.
 pub fn alloc<Z: Zones>(
@@ -90,8 +90,8 @@ fn alloc_in<Z: Zones>(
     share.take_cached(zone, kind).ok_or(Refused::NoBlock)
 }
 
-/// Gives back the block of this order at this page of the zone at this place. A single page goes to the front of the list of its
-/// type; a list that has `high_len` pages gives back a batch, before and after. Refused 20 where the block is not lent with
+/// Frees the block of this order at this page of the zone at this place. A single page goes to the front of the list of its
+/// type; a list that has `high_len` pages frees a batch, before and after. Refused 20 where the block is not lent with
 /// this order, and 30; then the share is as it was.
 pub fn free<Z: Zones>(
     share: &mut Share,
@@ -125,12 +125,12 @@ pub fn free<Z: Zones>(
     let len = share.cached_len(zone, kind);
     drain_full(share, zones, zone, kind, len)?;
     let len = share.put_lent(zone, page, kind);
-    // the page is given back whatever becomes of this drain
+    // the page is freed whatever becomes of this drain
     let _ = drain_full(share, zones, zone, kind, len);
     Ok(())
 }
 
-/// Gives back a batch of a list, which has so many pages, where they are `high_len`, so that it has room for a page. Refused 30.
+/// Frees a batch of a list, which has so many pages, where they are `high_len`, so that it has room for a page. Refused 30.
 #[inline(always)]
 fn drain_full<Z: Zones>(
     share: &mut Share,
@@ -166,7 +166,7 @@ fn drain_full<Z: Zones>(
     zones.drain(share, zone, kind, usize::from(lists.batch()))
 }
 
-/// Gives back all pages of the worker's lists, zone by zone, each list in one section: how many they were. Refused 30; then the
+/// Frees all pages of the worker's lists, zone by zone, each list in one section: how many they were. Refused 30; then the
 /// lists before that one are empty, and that one and the rest as they were.
 pub fn drain_all<Z: Zones>(share: &mut Share, zones: &mut Z) -> Result<usize, Refused>
     requires fits { IsShareOf (Z.keys zones.old) share.old }
@@ -190,7 +190,7 @@ pub fn drain_all<Z: Zones>(share: &mut Share, zones: &mut Z) -> Result<usize, Re
     Ok(drained)
 }
 
-/// Gives back the lists of the zone at this place: how many pages were given back, with those before.
+/// Drains the lists of the zone at this place. Returns how many pages were freed, with those before.
 fn drain_zone<Z: Zones>(
     share: &mut Share,
     zones: &mut Z,
@@ -218,7 +218,7 @@ fn drain_zone<Z: Zones>(
     drain_list(share, zones, zone, MigrateType::Movable, reclaimable)
 }
 
-/// Gives back one list, where it is not empty: how many pages were given back, with those before.
+/// Drains one list, where it is not empty. Returns how many pages were freed, with those before.
 fn drain_list<Z: Zones>(
     share: &mut Share,
     zones: &mut Z,

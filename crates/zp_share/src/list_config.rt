@@ -6,7 +6,7 @@ ghost use Rattle.zp_model.specs.Bounds.{AreLists};
 
 use zp_model::{LONGEST_LIST, MAX_BATCH};
 
-/// How many pages a refill asks for and a drain gives back, and how many pages a list holds at most. Batch 0 means no lists.
+/// How many pages a refill asks for and a drain frees, and how many pages a list holds at most. Batch 0 means no lists.
 #[derive(Clone, Copy, Drop)]
 pub struct ListConfig {
     batch: u8,
@@ -42,7 +42,7 @@ impl ListConfig {
         }
     }
 
-    /// How many pages a refill asks for, and a drain gives back.
+    /// How many pages a refill asks for, and a drain frees.
     pub fn batch(&self) -> u8
         ensures same { result ≡ self.now.batch }
         ensures within { result ≤ MAX_BATCH }

@@ -9,7 +9,7 @@ use crate::page_use::PageUse;
 use std::marker::Model;
 use zp_model::{LARGEST_ORDER, MigrateType, Order};
 
-/// How many types the low bits have room for. It is a power of two, so that what stands above them is told by a shift.
+/// How many types the low bits have room for. It is a power of two, so that a shift gives what stands above them.
 pub const TYPE_ROOM: u8 = 4;
 
 /// What stands above the type of a cached page. Above that of a lent block stands one more than its order, and 0 is no

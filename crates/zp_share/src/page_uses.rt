@@ -101,7 +101,7 @@ impl PageUses {
         self.uses[page.number() as usize - self.base] = packed;
     }
 
-    /// What a request for a block of this order for this type, answered so, makes of the pages.
+    /// What a request for a block of this order for this type, with this reply, makes of the pages.
     #[inline(always)]
     pub fn note_alloc(
         &mut self,
@@ -120,7 +120,7 @@ impl PageUses {
         }
     }
 
-    /// What a request, answered so, makes of the pages.
+    /// What a request, with this reply, makes of the pages.
     #[inline(always)]
     pub fn note(&mut self, request: &Request, reply: &Reply)
         requires { HasPlaces request.now reply.now self.old }

@@ -13,7 +13,7 @@ use std::marker::Model;
 use zp_model::{Counts, MAX_ZONES, Mark, MigrateType, Refused, Reply, Request};
 use zp_zone::Zone;
 
-/// A row of zones for one thread, the lowest first. It tells what its zones are.
+/// A row of zones for one thread, the lowest first. It shows what its zones are.
 #[derive(Drop)]
 pub struct PlainZones {
     zones: Vec<Zone>,

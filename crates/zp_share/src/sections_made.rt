@@ -57,7 +57,7 @@ impl SectionsMade {
         Some(&self.last)
     }
 
-    /// One section more, in which a worker's request was answered so.
+    /// One section more, in which a worker's request got this reply.
     #[inline(always)]
     pub fn add(&mut self, worker: Worker, request: &Request, reply: &Reply)
         requires room { self.old.made < LAST_SECTION }

@@ -151,7 +151,7 @@ impl Share {
         self.zones[zone].lends_for(request)
     }
 
-    /// The answer to a request for which no section can be made: 20 where the block that it names is not lent, else 30.
+    /// The reply to a request for which no section can be made: 20 where the block that it names is not lent, else 30.
     pub fn refuse(&self, zone: usize, request: &Request) -> Reply
         requires { zone < length self.now.zones }
         ensures { result ≡ refused_full request.now (plain_share (share_at self.now zone)) }
@@ -163,7 +163,7 @@ impl Share {
         }
     }
 
-    /// The pages at the back of the list of this type, the last one first, as a drain gives them back.
+    /// The pages at the back of the list of this type, the last one first, as a drain frees them.
     pub fn back(&self, zone: usize, kind: MigrateType, count: usize) -> PageList
         requires zone { zone < length self.now.zones }
         requires within { count ≤ length (cached_of (share_at self.now zone) kind) }

@@ -19,23 +19,23 @@ use zp_model::{
 };
 
 /// A row of zones. A section makes one request to the zone at a place of the row, and the same change in the share: one section
-/// more, of this request and this reply, or a refusal 20 or 30 with nothing changed. Where the row tells what its zones are, they and
-/// the answer are exactly those of one step of that zone. Each of the nine typed calls is the section of its request, and
-/// `fill` is that of a refill. What each of them leaves of the row's readings the row says (`reads`): after a section the readings of its zone
+/// more, of this request and this reply, or a refusal 20 or 30 with nothing changed. Where the row shows what its zones are, they and
+/// the reply are exactly those of one step of that zone. Each of the nine typed calls is the section of its request, and
+/// `fill` is that of a refill. The row says what each of them leaves of its readings (`reads`): after a section the readings of its zone
 /// cover it.
 pub trait Zones {
     // What ties each zone to its seats, its name, and how many workers it has; this never changes.
     ghost keys: { Self → List ZoneKey };
-    // The zones, where the row tells them.
+    // The zones, where the row shows them.
     ghost told: { Self → Option (List NamedZone) };
-    // The counts that a reading of each zone answers: the zone's own, where the row tells its zones; where it does not, those that were
+    // The counts that a reading of each zone returns: the zone's own, where the row shows its zones; where it does not, those that were
     // seen last.
     ghost shown: { Self → ℕ → Counts };
-    // What a request to the zone of a place, answered so, leaves of the row's readings, with the share as it is then.
+    // What a request to the zone of a place, with this reply, leaves of the row's readings, with the share as it is then.
     ghost reads: { Self → Self → ℕ → Reply → ShareState → Type 0 };
     // What a reading of the counts of the zone of a place leaves of the row's readings.
     ghost counted: { Self → Self → ℕ → Type 0 };
-    // The row's readings of the zone of a place cover so many of the worker's sections with it. How, the row says.
+    // The row's readings of the zone of a place cover so many of the worker's sections with it. The row says how.
     ghost covers: { Self → ℕ → ℕ → Type 0 };
     // There is no room for a section more with the zone of a place, as far as the row and this share can know.
     ghost ended: { Self → ℕ → ShareState → Type 0 };
@@ -48,7 +48,7 @@ pub trait Zones {
         ensures asked { IsAskedAt zone request.now result (keys self.old) (keys self.new) (told self.old) (told self.new) share.old share.new }
         ensures read { reads self.old self.new zone result share.new };
 
-    /// How many free blocks of each order the zone has, and how many free pages, as a reading of it answers.
+    /// How many free blocks of each order the zone has, and how many free pages, as a reading of it returns.
     fn counts(&mut self, zone: usize) -> Counts
         requires { zone < length (keys self.old) }
         ensures keys { keys self.new ≡ keys self.old }
@@ -57,7 +57,7 @@ pub trait Zones {
         ensures read { counted self.old self.new zone }
         ensures told { (rows : List NamedZone) → told self.old ≡ Some rows → (told self.new ≡ Some rows) × (result ≡ counts_at rows zone) };
 
-    /// A block of this order for this type, held to this mark, which is then lent: its first page. Refused 10, 11 or 30.
+    /// Allocates a block of this order for this type, held to this mark, which is then lent: its first page. Refused 10, 11 or 30.
     // (out of line, and so are a refill and a drain: what is done for each page of a list is small without them)
     #[inline(never)]
     fn alloc_block(
@@ -77,7 +77,7 @@ pub trait Zones {
         answered!(self.section(share, zone, &request), Reply::Page(page) => page)
     }
 
-    /// The lowest block of this order, which is then lent. Refused 11 or 30.
+    /// Allocates the lowest block of this order, which is then lent. Refused 11 or 30.
     fn alloc_low(&mut self, share: &mut Share, zone: usize, order: Order) -> Result<Block, Refused>
         requires fits { IsShareOf (keys self.old) share.old }
         requires zone { zone < length share.old.zones }
@@ -88,7 +88,7 @@ pub trait Zones {
         answered!(self.section(share, zone, &request), Reply::Block(block) => block)
     }
 
-    /// Gives back a lent block. Refused 20 where it is not lent with this order, and 30.
+    /// Frees a lent block. Refused 20 where it is not lent with this order, and 30.
     fn free_block(
         &mut self,
         share: &mut Share,
@@ -154,7 +154,7 @@ pub trait Zones {
         answered!(self.section(share, zone, &request), Reply::Pages(pages) => pages)
     }
 
-    /// Fills an empty list as `refill` does, and answers no pages, for who takes them off the list. Refused 10, 11 or 30.
+    /// Fills an empty list as `refill` does, and returns no pages, for who takes them off the list. Refused 10, 11 or 30.
     #[inline(never)]
     fn fill(
         &mut self,
@@ -176,7 +176,7 @@ pub trait Zones {
         }
     }
 
-    /// Gives back `count` pages from the back of the list of this type, the last one first. Refused 30.
+    /// Frees `count` pages from the back of the list of this type, the last one first. Refused 30.
     #[inline(never)]
     fn drain(
         &mut self,

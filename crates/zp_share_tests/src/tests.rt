@@ -1,4 +1,4 @@
-//! Workers' lists: what no clause says of them.
+//! Workers' lists: what is not proved of them.
 
 mod lists;
 mod sequences;

@@ -42,7 +42,7 @@ pub struct Guarded<J: Naming, K: Keeps = WholeJournal> {
     of: PhantomData<J>,
 }
 
-/// Written out, as it is one call then wherever such a zone ends.
+/// Written out, so that it is one call wherever such a zone is dropped.
 impl<J: Naming, K: Keeps> Drop for Guarded<J, K> {
     fn drop(self) {
         let Guarded {
@@ -108,7 +108,7 @@ impl<J: Naming, K: Keeps> Guarded<J, K> {
         self.zone.counts()
     }
 
-    /// What the zone tells of its pageblock of this number, where it has one.
+    /// What the zone reports of its pageblock of this number, where it has one.
     pub fn pageblock(&self, pageblock: u32) -> Option<Pageblock>
         ensures when { IsSome result ↔ (pageblock < pageblocks_of self.now.zone.plain.area.largest (pages_of self.now.zone.plain)) }
         ensures told { IfSome result (IsPageblockOf self.now.zone.plain pageblock) }
@@ -135,7 +135,7 @@ impl<J: Naming, K: Keeps> Guarded<J, K> {
         self.publisher.read_board(board, reader)
     }
 
-    /// The same with no answer: no counts are unpacked.
+    /// The same without a result: no counts are unpacked.
     #[inline(always)]
     pub fn show_board(&mut self, board: &Board, reader: &mut BoardReader)
         requires board { board.now ≡ board_at J.boards self.old.place }

@@ -20,7 +20,7 @@ use zp_share::{Share, Zones};
 /// A row of zones as one worker turns to them, with a reader of each zone's board: each request takes the lock of its zone, once, and
 /// counts are read with no lock. Each section that is not refused 20 ends with its reader shown the zone's board, while the lock is held: so no
 /// reading after it is older than it. Where the zone of another place lies under a lock, the request is refused 30, nothing is asked, and
-/// the view has strayed. It does not tell what its zones are. Contracts see its readers, which have seen all that `E` names, and whether it
+/// the view has strayed. It does not show what its zones are. Contracts see its readers, which have seen all that `E` names, and whether it
 /// has strayed.
 #[derive(Drop)]
 pub struct LockedZones<'a, J: Naming, E: Earlier, R, K: Keeps = WholeJournal> {

@@ -28,7 +28,7 @@ pub struct OneZone<J: Naming, K: Keeps = WholeJournal> {
 }
 
 impl<J: Naming, K: Keeps> OneZone<J, K> {
-    /// The row of one, as `share_zones` answers it.
+    /// The row of one, as `share_zones` returns it.
     #[tactic(auto, using(crate::proofs::Places::row_of_one))]
     pub fn new(zones: Vec<SharedZone<J, K>>) -> OneZone<J, K>
         requires row { IsRowOf J.zones zones.items }

@@ -21,7 +21,7 @@ pub struct OpenedZone<K: Keeps = WholeJournal> {
     publisher: Publisher,
 }
 
-/// Written out, as it is one call then wherever an opened zone ends.
+/// Written out, so that it is one call wherever an opened zone is dropped.
 impl<K: Keeps> Drop for OpenedZone<K> {
     fn drop(self) {
         let OpenedZone {

@@ -163,8 +163,8 @@ impl<'a, J: Naming, R, K: Keeps> WorkerAt<'a, J, R, K> {
 }
 
 impl<'a, J: Naming, R: Wait, K: Keeps> WorkerAt<'a, J, R, K> {
-    /// A block of this order for this type, held to this mark: it is then lent. One section, or none where the worker's list has a page.
-    /// Refused 10 where the mark forbids it, 11 where there is none, 30 where no section can be made.
+    /// Allocates a block of this order for this type, held to this mark: it is then lent. One section, or none where the worker's list has
+    /// a page. Refused 10 where the mark forbids it, 11 where there is none, 30 where no section can be made.
     pub fn alloc(&mut self, order: Order, kind: MigrateType, mark: Mark) -> Result<Lent, Refused>
         ensures same { IsSameShare self.old.share self.new.share }
         ensures lent { IfOk result (λ l. IsTrue (is_lent (share_at self.new.share l.zone) l.page l.order)) }
@@ -197,7 +197,7 @@ impl<'a, J: Naming, R: Wait, K: Keeps> WorkerAt<'a, J, R, K> {
         self.alloc(order, MigrateType::Movable, Mark::Low)
     }
 
-    /// Gives a block back. A single page goes to the worker's list of its type, where it has lists. Refused 20 where no such block is
+    /// Frees a block. A single page goes to the worker's list of its type, where it has lists. Refused 20 where no such block is
     /// lent to it, and 30; then the share is as it was.
     pub fn give(&mut self, lent: &Lent) -> Result<(), Refused>
         ensures same { IsSameShare self.old.share self.new.share }
@@ -214,8 +214,8 @@ impl<'a, J: Naming, R: Wait, K: Keeps> WorkerAt<'a, J, R, K> {
         free(share, view, 0, lent.page, lent.order)
     }
 
-    /// Gives back all pages of the worker's lists, each list in one section: how many they were. Refused 30; then the lists before that one are empty, and that one
-    /// and the rest as they were.
+    /// Frees all pages of the worker's lists, each list in one section: how many they were. Refused 30; then the lists before that one are
+    /// empty, and that one and the rest as they were.
     pub fn drain(&mut self) -> Result<usize, Refused>
         ensures same { IsSameShare self.old.share self.new.share }
         ensures empty { OnOk result (HasEmptyLists self.new.share) }

@@ -1,4 +1,4 @@
-//! Zones that threads share: what no clause says of them, with no desk.
+//! Zones that threads share: what is not proved of them, with no desk.
 #![tactic(auto)]
 
 #[cfg(test)]

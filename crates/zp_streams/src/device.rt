@@ -1,5 +1,5 @@
-//! Readers and writers over the streams of std. What a stream tells of its bytes, as one in memory does and a terminal does not,
-//! the device tells; how often it failed, contracts know.
+//! Readers and writers over the streams of std. A device shows the bytes that its stream shows, as one in memory does and a terminal
+//! does not; contracts know how often it failed.
 ghost use Rattle.std.specs.Prelude.{◌≡◌, ◌+◌, IfOk, OnOk, OnErr};
 ghost use Rattle.std.specs.Io.KnownBytes.{Keeps};
 ghost use Rattle.zp_streams.specs.Streams.{Fills};

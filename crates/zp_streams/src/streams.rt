@@ -13,7 +13,7 @@ pub struct ReadFault;
 
 /// Takes bytes, piece by piece.
 pub trait Writer {
-    // All that it has taken, where it tells that.
+    // All that it has taken, where it shows that.
     ghost contents: { Self → Option (List ℕ) };
     // How many of its calls have failed; no code sees this number.
     ghost failures: { Self → ℕ };
@@ -27,7 +27,7 @@ pub trait Writer {
 
 /// Gives bytes, piece by piece.
 pub trait Reader {
-    // All that it has left, where it tells that.
+    // All that it has left, where it shows that.
     ghost remaining: { Self → Option (List ℕ) };
     // How many of its calls have failed; no code sees this number.
     ghost failures: { Self → ℕ };

@@ -1,7 +1,7 @@
 //! The layouts of a page's word: where each field begins, and how many bits it has.
 //!
 //! In memory an entry lies in the wide layout, whatever the table's length: the back link is masked by a number of 32 bits
-//! and not shifted, and the forward link is read by one shift. The narrow layout is the one that is told of a table whose
+//! and not shifted, and the forward link is read by one shift. `PageTable::word` returns the narrow layout for a table whose
 //! pages it has numbers for.
 
 use zp_model::{MAX_PAGES, NARROW_PAGES};

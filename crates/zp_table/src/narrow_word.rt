@@ -8,7 +8,7 @@ use crate::layout::{NARROW_BACK_AT, NARROW_FORWARD_AT, NARROW_LINK_BITS};
 use crate::packed_state::packed_state;
 use zp_model::NARROW_PAGES;
 
-/// The word of an entry, as it is told of a table whose pages the narrow layout can number.
+/// The word of an entry in the narrow layout, for a table whose pages it can number.
 pub fn narrow_word(entry: PageEntry) -> u64
     ensures { result ≡ packed narrow entry }
 {

@@ -97,7 +97,7 @@ impl PageTable {
     }
 
     /// The word of a page's entry: in the narrow layout, where that has numbers for all pages of the table, and else as it
-    /// lies in memory. A link to a page that the layout has no number for is told as none.
+    /// lies in memory. A link to a page that the layout has no number for becomes none.
     pub fn word(&self, at: PageAt) -> u64
         requires { at < length self.now }
         ensures { result ≡ packed (told_layout (length self.now)) (entry_at self.now at) }

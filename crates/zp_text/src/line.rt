@@ -16,7 +16,7 @@ pub const ENTRY_LINE: usize = 1600;
 /// The most bytes of a number and of the space before it.
 const NUMBER: usize = DIGITS + 1;
 
-/// The most bytes of what an entry asks, or of what it is answered: a few short words, and all pages of a list.
+/// The most bytes of an entry's request, or of its reply: a few short words, and all pages of a list.
 const WORDS: usize = LONGEST_LIST * NUMBER + 48;
 
 /// Appends an entry's line, with its number.
@@ -47,7 +47,7 @@ fn is_low(asked: &Asked) -> bool
     matches!(asked, Asked::AllocLow(_))
 }
 
-/// Appends what was asked, with these pages where a list of pages was given back.
+/// Appends the request, with these pages where a list of pages was freed.
 fn push_request<const CAP: usize>(line: &mut TextBuffer<CAP>, asked: &Asked, given: &[PageNo])
     requires list { length given.now ≤ LONGEST_LIST }
     requires room { length line.old + WORDS ≤ CAP }
@@ -100,7 +100,7 @@ fn push_request<const CAP: usize>(line: &mut TextBuffer<CAP>, asked: &Asked, giv
     }
 }
 
-/// Appends what was answered, to a request for the lowest block or to another one, with these pages where a list
+/// Appends the reply to a request for the lowest block or to another one, with these pages where a list
 /// of pages was got.
 fn push_answer<const CAP: usize>(
     line: &mut TextBuffer<CAP>,
@@ -137,7 +137,7 @@ fn push_answer<const CAP: usize>(
     }
 }
 
-/// Appends the one page that was answered.
+/// Appends the one page of a reply.
 fn push_page<const CAP: usize>(line: &mut TextBuffer<CAP>, page: PageNo)
     requires { length line.old + 5 + NUMBER ≤ CAP }
     ensures bytes { line.new ≡ line.old ++ spaced (codes "page" ∷ decimal page ∷ []) }

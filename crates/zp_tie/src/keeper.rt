@@ -52,7 +52,7 @@ impl<X, Y, P: Parted<X, Y>> Keeper<X, Y, P> {
         Ok(Keeper { row, pin })
     }
 
-    /// Sets the whole, before any token is dealt. `about` is what the act is told.
+    /// Sets the whole, before any token is dealt. The act gets `about`.
     pub fn begin<T, C: Act<X, T>>(&mut self, about: &T)
         requires { self.old.dealt ≡ 0 }
         ensures { self.new ≡ record self.old { whole = C.to 0 about.now self.old.whole } }

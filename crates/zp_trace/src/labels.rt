@@ -13,7 +13,7 @@ use std::collections::BTreeSet;
 use std::marker::Model;
 use zp_model::{MAX_WORKERS, Name, Worker};
 
-/// Commands in order, with an index of the labels that they bind: it tells of each label whether it is bound, and no command is
+/// Commands in order, with an index of the labels that they bind: it says of each label whether it is bound, and no command is
 /// looked at again.
 #[derive(Drop)]
 pub struct LabelledCommands {
@@ -60,7 +60,7 @@ impl LabelledCommands {
         self.commands.len()
     }
 
-    /// Whether one of them binds this label of this worker, if it is answered a block.
+    /// Whether one of them binds this label of this worker, if it gets a block.
     fn is_bound(&self, worker: Worker, label: Name) -> bool
         ensures { IsTrue result ↔ Any (Binds worker label) self.now }
     {

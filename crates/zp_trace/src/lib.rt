@@ -1,7 +1,7 @@
 //! Traces: what they hold, the grammar of their text, and the parser.
 //!
 //! A trace is one text. Its grammar says what the text of each line is and which lines may stand after which; the parser
-//! answers the trace that a text writes, or the number of the text's bad line.
+//! returns the trace that a text writes, or the number of the text's bad line.
 #![tactic(auto)]
 
 mod bounds;

@@ -49,7 +49,7 @@ pub enum Call {
         order: Order,
         zone: Name,
     },
-    /// The block that this label of the worker is bound to, given back.
+    /// The block that this label of the worker is bound to, freed.
     Free {
         label: Name,
     },
@@ -63,7 +63,7 @@ pub enum Call {
         label: Name,
         zone: Name,
     },
-    /// All pages of the worker's lists, given back.
+    /// All pages of the worker's lists, freed.
     Drain,
     /// The pageblock of this number of the zone of this name, isolated.
     Isolate {
@@ -86,7 +86,7 @@ pub struct CommandLine {
 }
 
 impl Call {
-    /// The label that the call binds to the block that it is answered.
+    /// The label that the call binds to the block that it gets.
     pub fn bound_label(&self) -> Option<Name>
         ensures { result ≡ bound_label self.now }
     {

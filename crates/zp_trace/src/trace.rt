@@ -111,7 +111,7 @@ impl Commands {
 pub struct Header {
     pub zones: ZoneLines,
     pub workers: u32,
-    /// How many pages a worker's list gets or gives back at a time; 0 where workers have no lists.
+    /// How many pages a worker's list gets or frees at a time; 0 where workers have no lists.
     pub batch: u32,
     /// How many pages a worker's list may have.
     pub high: u32,

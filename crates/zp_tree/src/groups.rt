@@ -1,4 +1,4 @@
-//! What the words of one group tell of its blocks.
+//! What the words of one group say of its blocks.
 ghost use Rattle.std.specs.Prelude.{◌≡◌, ◌<◌, ◌≤◌, ◌^◌, ◌+◌, ◌*◌, ◌/◌, ℕ, length, IfSome, IsTrue};
 ghost use Rattle.zp_model.specs.declared.constants.TheConstants.{LARGEST_ORDER};
 ghost use Rattle.zp_tree.specs.declared.constants.TheConstants.{PLACES, WORD_LEVELS, GROUP_PAGES, MOST_GROUPS};
@@ -76,7 +76,7 @@ fn first_low(
     None
 }
 
-/// The first block of this order or more of those from order 5 on of a group. Where its rank tells that there are none, no word is read.
+/// The first block of this order or more of those from order 5 on of a group. Where its rank says that there are none, no word is read.
 fn first_high(
     high: &Metered<Word>,
     group: usize,

@@ -1,4 +1,4 @@
-//! Trials of the buddy allocator beside the plain one, which runs the definitions: the same requests of both, with every answer
+//! Trials of the buddy allocator beside the plain one, which runs the definitions: the same requests of both, with every result
 //! compared. It has tests alone.
 #![tactic(auto)]
 

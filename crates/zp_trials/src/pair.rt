@@ -79,7 +79,7 @@ impl Pair {
         head
     }
 
-    /// Gives a block back to both, where it may come back.
+    /// Frees a block to both, where it may come back.
     pub fn give(&mut self, rt: &impl Abort, at: PageAt, order: Order) -> bool {
         let clear = self.buddy.is_clear(at, order);
         let plain_clear = self.plain.is_clear(at, order);

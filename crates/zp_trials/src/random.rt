@@ -1,4 +1,4 @@
-//! The same random requests of both allocators, and the same answers.
+//! The same random requests of both allocators, and the same results.
 
 use crate::pair::{Pair, new_pair};
 use rand_core::Rng;

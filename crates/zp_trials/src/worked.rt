@@ -1,4 +1,4 @@
-//! Requests whose answers follow by hand from the rules: both allocators give these, and agree after each.
+//! Requests whose results follow by hand from the rules: both allocators return these, and agree after each.
 
 use crate::pair::{Pair, new_pair, order_of, page_of};
 use std::alloc::{AllocError, AllocGlobal};
@@ -12,7 +12,7 @@ const RECLAIMABLE: MigrateType = MigrateType::Reclaimable;
 
 const MOVABLE: MigrateType = MigrateType::Movable;
 
-/// What is asked for, and what it is answered.
+/// A request, and its result.
 #[derive(Clone, Copy, Drop)]
 enum Step {
     /// A block of this order for a type: its first page.
@@ -27,7 +27,7 @@ enum Step {
     Retype(usize, PageblockType),
 }
 
-/// Makes a step of both, and compares the answer.
+/// Makes a step of both, and compares the result.
 fn make_step(rt: &impl Abort, pair: &mut Pair, step: Step) {
     match step {
         Step::Take(order, kind, expected) => {

@@ -1,7 +1,7 @@
 //! What the pages of a zone are: the block that has a page, the counts of free blocks and pageblocks by type, and what stands in the way of a
 //! block.
 //!
-//! In Linux: `/proc/pagetypeinfo`, and what `page_owner` tells.
+//! In Linux: `/proc/pagetypeinfo`, and what `page_owner` reports.
 #![tactic(auto)]
 
 mod blocks;

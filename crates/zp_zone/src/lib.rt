@@ -1,4 +1,4 @@
-//! One zone: its making, its requests, and its counts. Every `Zone` is a lawful plain zone.
+//! One zone: its creation, its requests, and its counts. Every `Zone` is a lawful plain zone.
 #![tactic(auto)]
 
 mod books;

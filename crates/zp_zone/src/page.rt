@@ -1,4 +1,4 @@
-//! What a zone tells of a page.
+//! What a zone reports of a page.
 //!
 //! In Linux: what `dump_page` shows of a `struct page`.
 

@@ -1,4 +1,4 @@
-//! What a zone tells of a pageblock.
+//! What a zone reports of a pageblock.
 
 use zp_model::{Order, PageblockType};
 

@@ -57,7 +57,7 @@ impl Seat {
 
     /// A request of the worker is entered: the books and what is the worker's change in one step, by what the request makes of the
     /// zone, and what is other workers' stays. Seat and books agree before it and after it. The caller picks the request, by what it
-    /// is about. Answers the worker.
+    /// is about. Returns the worker.
     pub(crate) fn enter<Q: Asks, T>(
         &mut self,
         keeper: &mut Keeper<Books, Part, Parts>,

@@ -1,4 +1,4 @@
-//! A zone without its seats: its making, and what it tells.
+//! A zone without its seats: its creation, and what it reports.
 ghost use Rattle.std.specs.Prelude.{◌≡◌, ◌<◌, ◌≤◌, ◌+◌, ℕ, false, length, IfOk, IfErr, IfSome, IfNone, IsSome, OnOk, OnErr, IsTrue, ◌↔◌, ◌-◌};
 ghost use Rattle.std.specs.Option.{option_map};
 ghost use Rattle.zp_model.specs.Block.{size};
@@ -127,7 +127,7 @@ impl UntiedZone {
         self.buddy.pages()
     }
 
-    /// What the zone tells of an absolute page, where the page is one of its own. In each zone all of it describes the plain
+    /// What the zone reports of an absolute page, where the page is one of its own. In each zone all of it describes the plain
     /// zone.
     pub fn entry(&self, page: PageNo) -> Option<ZonePage>
         ensures when { IsSome result ↔ IsPageOf self.now.plain page }
@@ -142,7 +142,7 @@ impl UntiedZone {
         })
     }
 
-    /// What the zone tells of a pageblock, where it has one of this number.
+    /// What the zone reports of a pageblock, where it has one of this number.
     pub fn pageblock(&self, pageblock: u32) -> Option<Pageblock>
         ensures when { IsSome result ↔ (pageblock < pageblocks_of self.now.plain.area.largest (pages_of self.now.plain)) }
         ensures told { IfSome result (IsPageblockOf self.now.plain pageblock) }

@@ -1,4 +1,4 @@
-//! A zone and its seats: its making, and what it tells.
+//! A zone and its seats: its creation, and what it reports.
 //!
 //! In Linux: `struct zone`.
 ghost use Rattle.std.specs.Prelude.{◌≡◌, ◌<◌, ◌≤◌, ◌+◌, ◌-◌, ℕ, All, [], length, IfOk, IfErr, IfSome, IsSome, OnOk, ◌↔◌};
@@ -31,14 +31,14 @@ use std::marker::Model;
 use zp_model::{Counts, LONGEST_NAME, Largest, Level, MAX_PAGES, Order, PageNo, Refused};
 use zp_tie::Keeper;
 
-/// A zone: pages that workers take and give back, each by its seat. Contracts see its name, the plain zone, which is always
+/// A zone: pages that workers allocate and free, each by its seat. Contracts see its name, the plain zone, which is always
 /// lawful, the entries of all requests made so far, and what ties its seats to it.
 pub struct Zone {
     untied: UntiedZone,
     keeper: Keeper<Books, Part, Parts>,
 }
 
-/// Written out, as it is one call then wherever a zone ends.
+/// Written out, so that it is one call wherever a zone is dropped.
 impl Drop for Zone {
     fn drop(self) {
         let Zone {
@@ -164,7 +164,7 @@ impl Zone {
         self.untied.pages()
     }
 
-    /// What the zone tells of an absolute page, where the page is one of its own. In each zone all of it describes the plain
+    /// What the zone reports of an absolute page, where the page is one of its own. In each zone all of it describes the plain
     /// zone.
     pub fn entry(&self, page: PageNo) -> Option<ZonePage>
         ensures when { IsSome result ↔ IsPageOf self.now.plain page }
@@ -173,7 +173,7 @@ impl Zone {
         self.untied.entry(page)
     }
 
-    /// What the zone tells of its pageblock of this number, from 0 on, where it has one: in a zone whose largest order is m, pageblock n has
+    /// The pageblock of this number, from 0 on, where the zone has one: in a zone whose largest order is m, pageblock n has
     /// the 2^m pages from its base plus n times 2^m on. No list is looked at, and no page but those of an isolated pageblock, for the
     /// largest free block in it.
     pub fn pageblock(&self, pageblock: u32) -> Option<Pageblock>

@@ -1,4 +1,4 @@
-//! Tests of zones: what no clause says of them. They stand over the library, so that it is proved once.
+//! Tests of zones: what is not proved of them. They stand over the library, so that it is proved once.
 #![tactic(auto)]
 
 #[cfg(test)]

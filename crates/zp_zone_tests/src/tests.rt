@@ -24,8 +24,8 @@ struct Making<'a> {
     min: u32,
 }
 
-/// Name, base, pages, least mark and workers of a making, and the number that it is refused with, or 0 where the zone is made: of a narrow
-/// zone, and of a wide one.
+/// Name, base, pages, least mark and workers of a zone to create, and the number of the refusal, or 0 where the zone is created: of a
+/// narrow zone, and of a wide one.
 type Made = (&'static str, u32, u32, u32, u32, u8, u8);
 
 const MAKINGS: [Made; 16] = [
@@ -47,7 +47,7 @@ const MAKINGS: [Made; 16] = [
     ("Normal", 0, 16_777_217, 0, 1, 3, 3),
 ];
 
-/// What such a making is asked with.
+/// What such a zone is created from.
 fn config_of(made: &Made) -> (ZoneConfig<'static>, u32) {
     let (name, base, pages, min, workers, ..) = *made;
     let config = ZoneConfig {

@@ -1,4 +1,4 @@
-//! A trace with what its workers are answered and what is left of its zones, and the comparison.
+//! A trace with the replies to its workers and what is left of its zones, and the comparison.
 
 use super::plan::Plan;
 use super::rows::{Ran, run_trace};
@@ -12,7 +12,7 @@ use zp_journal::Journal;
 use zp_office::{CommandReply, Desk};
 use zp_zone::Zone;
 
-/// What a worker is told: the page of a block, with its order where it was collected; the number of a refusal; the free pages of the
+/// What a worker gets: the page of a block, with its order where it was collected; the number of a refusal; the free pages of the
 /// first and the last zone of the row.
 #[derive(Clone, Copy, PartialEq, Eq, Drop)]
 pub(super) enum Told {
@@ -81,7 +81,7 @@ fn expect_case<R: Abort + Clock + Sync + Threads + Wait>(rt: &R, alloc: Global, 
     assert!(rt; has_come(&ran, case), "{}", case.shows);
 }
 
-/// Whether the workers were answered so, and left their zones so.
+/// Whether the workers got these replies, and left their zones so.
 fn has_come(ran: &Ran, case: &Case<'_>) -> bool {
     are_answered(ran.desks.as_slice(), case.replies)
         && match &ran.closed {

@@ -1,4 +1,4 @@
-//! What a worker's commands are answered where the journals of their zones are full.
+//! What a worker's commands return where the journals of their zones are full.
 
 use super::case::Told::*;
 use super::case::{Case, FULL, NOT_LENT, expect_cases};

@@ -1,4 +1,4 @@
-//! What is called round each command of a worker, which no clause says.
+//! What is called round each command of a worker, which is not proved.
 
 use super::rows::opened_trace;
 use std::cell::Cell;

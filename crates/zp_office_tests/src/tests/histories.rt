@@ -11,7 +11,7 @@ use zp_journal::{Journal, JournalCheck, replay_journal};
 use zp_model::Largest;
 use zp_zone::ZoneConfig;
 
-/// What a replay comes to: how many pages are free at the end, the number of the entry that differs, or that of the refusal.
+/// The result of a replay: how many pages are free at the end, the number of the entry that differs, or that of the refusal.
 #[derive(Clone, Copy, PartialEq, Eq, Drop)]
 enum Found {
     Legal(u32),
@@ -53,7 +53,7 @@ fn journal_of<R: Clock + Sync + Threads + Wait>(
 const TEXT: &str =
     "zone DMA 0 4096 0\nworkers 2\nlists 0 0\n1 alloc a 0 M DMA any\n1 alloc b 0 M DMA low\n";
 
-/// Worker 1 takes two single pages, from the highest block down, the second held to the low mark. Another zone would have answered
+/// Worker 1 allocates two single pages, from the highest block down, the second held to the low mark. Another zone would have replied
 /// otherwise: with a least mark of 4096 pages the low mark is 5120, another base moves all pages, of 2048 pages the highest block is 1024,
 /// with a largest order of 9 it is 3584 and with one of 1 it is 4094, and a zone of one worker has no worker 1.
 const CASES: [(Making, u32, Found); 8] = [

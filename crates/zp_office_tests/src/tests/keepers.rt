@@ -21,7 +21,7 @@ use zp_shared::{
 };
 use zp_zone::Zone;
 
-/// Each worker takes a page and gives it back: two sections.
+/// Each worker allocates a page and frees it: two sections.
 const PAGES: &str = "zone DMA 0 4096 0\nworkers 2\nlists 0 0\n\
     0 alloc a 0 M DMA low\n0 free a\n1 alloc a 0 M DMA low\n1 free a\n";
 

@@ -1,4 +1,4 @@
-//! Two calls at the same time, each in a thread of its own, or neither of them. Of that no clause says when.
+//! Two calls at the same time, each in a thread of its own, or neither of them. Which of the two happens when is not proved.
 
 use std::test::*;
 use zp_office::{join_or_neither, join_or_neither_on};

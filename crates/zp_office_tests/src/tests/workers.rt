@@ -22,7 +22,7 @@ use zp_shared::{
 };
 use zp_zone::Zone;
 
-/// Each of so many workers takes a page of one zone, reads its counts, and gives the page back.
+/// Each of so many workers allocates a page of one zone, reads its counts, and frees the page.
 fn trace_of(alloc: Global, workers: u8) -> Result<String, AllocError> {
     let mut text = format!(in alloc; "zone DMA 0 4096 0\nworkers {workers}\nlists 0 0\n")?;
     for worker in 0..workers {

@@ -32,7 +32,7 @@ impl Share {
         self.zones[place].section(zone, request)
     }
 
-    /// A block of this order for this type, held to this mark, which is then lent: its first page. Refused 10, 11 or 30.
+    /// Allocates a block of this order for this type, held to this mark, which is then lent: its first page. Refused 10, 11 or 30.
     pub fn alloc_block(
         &mut self,
         zone: &mut Zone,
@@ -49,7 +49,7 @@ impl Share {
         self.zones[place].alloc_block(zone, order, kind, mark)
     }
 
-    /// The lowest block of this order, which is then lent. Refused 11 or 30.
+    /// Allocates the lowest block of this order, which is then lent. Refused 11 or 30.
     pub fn alloc_low(
         &mut self,
         zone: &mut Zone,
@@ -65,7 +65,7 @@ impl Share {
         answered!(self.section(zone, place, &request), Reply::Block(block) => block)
     }
 
-    /// Gives back a lent block. Refused 20 where it is not lent with this order, and 30.
+    /// Frees a lent block. Refused 20 where it is not lent with this order, and 30.
     pub fn free_block(
         &mut self,
         zone: &mut Zone,
@@ -131,7 +131,7 @@ impl Share {
         answered!(self.section(zone, place, &request), Reply::Pages(pages) => pages)
     }
 
-    /// Fills an empty list as `refill` does, and answers no pages. Refused 10 or 11 where none is got, and 30.
+    /// Fills an empty list as `refill` does, and returns no pages. Refused 10 or 11 where none is got, and 30.
     pub fn fill(
         &mut self,
         zone: &mut Zone,
@@ -150,7 +150,7 @@ impl Share {
         self.zones[place].fill(zone, kind, mark, batch)
     }
 
-    /// Gives back `count` pages from the back of the list of this type, the last one first. Refused 30.
+    /// Frees `count` pages from the back of the list of this type, the last one first. Refused 30.
     pub fn drain(
         &mut self,
         zone: &mut Zone,

@@ -60,7 +60,7 @@ impl ZoneShare {
         reply
     }
 
-    /// A block of this order for this type, held to this mark, which is then lent: its first page. Refused 10, 11 or 30.
+    /// Allocates a block of this order for this type, held to this mark, which is then lent: its first page. Refused 10, 11 or 30.
     #[inline(always)]
     pub fn alloc_block(
         &mut self,

@@ -1,4 +1,4 @@
-//! Worked sequences. What a zone answers is of its rules: free pages are taken from the last pageblock of a new zone, and a page
+//! Worked sequences. What a zone returns follows from its rules: free pages are taken from the last pageblock of a new zone, and a page
 //! split off leaves the higher halves.
 
 use super::sequences::*;
@@ -14,7 +14,7 @@ const MOVABLE: MigrateType = MigrateType::Movable;
 const NOT_LENT: Replied = Replied::Refused(Refused::NotLent);
 
 const SEQUENCES: [Sequence<'static>; 13] = [
-    // The first page of an empty list brings three others with it; a page given back comes again, and cannot be given back twice.
+    // The first page of an empty list brings three others with it; a page that is freed comes again, and cannot be freed twice.
     Sequence {
         shows: "pages come from the list and go there",
         zone: (4096, 0),
@@ -29,7 +29,7 @@ const SEQUENCES: [Sequence<'static>; 13] = [
             (Step::Look, Replied::Left(4092, [0, 0, 4], 1)),
         ],
     },
-    // The third page put back makes the list full, which gives back four from its back.
+    // The third page put back makes the list full, which frees four from its back.
     Sequence {
         shows: "a full list gives back a batch",
         zone: (4096, 0),
@@ -68,7 +68,7 @@ const SEQUENCES: [Sequence<'static>; 13] = [
             (Step::Look, Replied::Left(2, [0, 0, 0], 3)),
         ],
     },
-    // The mark leaves one page: it is answered, and the list is empty after it.
+    // The mark leaves one page: it is returned, and the list is empty after it.
     Sequence {
         shows: "a refill that gets one page leaves an empty list",
         zone: (8, 3),
@@ -101,7 +101,7 @@ const SEQUENCES: [Sequence<'static>; 13] = [
             (Step::Look, Replied::Left(0, [0, 0, 0], 2)),
         ],
     },
-    // A list that was filled by hand gives back a batch before the free, and is full again after it.
+    // A list that was filled by hand frees a batch before the free, and is full again after it.
     Sequence {
         shows: "a list full before and after gives back twice",
         zone: (4096, 0),
@@ -126,7 +126,7 @@ const SEQUENCES: [Sequence<'static>; 13] = [
             (Step::Look, Replied::Left(4093, [0, 0, 0], 7)),
         ],
     },
-    // A list of 63 pages stays; one of 64 gives back 31.
+    // A list of 63 pages stays; one of 64 frees 31.
     Sequence {
         shows: "the longest list gives back the largest batch",
         zone: (4096, 0),
@@ -143,7 +143,7 @@ const SEQUENCES: [Sequence<'static>; 13] = [
             (Step::Look, Replied::Left(4066, [0, 0, 0], 5)),
         ],
     },
-    // The least list: a second page fills it, and the one that was put there first is given back.
+    // The least list: a second page fills it, and the one that was put there first is freed.
     Sequence {
         shows: "the shortest list keeps one page",
         zone: (4096, 0),
@@ -193,7 +193,7 @@ const SEQUENCES: [Sequence<'static>; 13] = [
             (Step::Look, Replied::Left(16, [0, 0, 0], 2)),
         ],
     },
-    // The lowest block is lent, and given back with its order alone. A refused request is a section too.
+    // The lowest block is lent, and freed with its order alone. A refused request is a section too.
     Sequence {
         shows: "the lowest block is lent",
         zone: (8, 1),

@@ -1,4 +1,4 @@
-//! What a worker does with a zone and with its own lists, step by step, and what it is answered. Sequences are data: one function
+//! What a worker does with a zone and with its own lists, step by step, and what it gets. Sequences are data: one function
 //! carries them all out.
 ghost use Rattle.std.specs.Prelude.{◌≡◌, length, map};
 ghost use Rattle.zp_share.specs.Shares.{IsShareOf, key_of};
@@ -27,7 +27,7 @@ pub(super) enum Step {
     Look,
 }
 
-/// What is answered, in numbers.
+/// A result, in numbers.
 #[derive(Clone, Copy, PartialEq, Eq, Drop)]
 pub(super) enum Replied {
     Page(u32),
@@ -39,7 +39,7 @@ pub(super) enum Replied {
     Left(u32, [usize; 3], u64),
 }
 
-/// A step and its answer.
+/// A step and its result.
 pub(super) type Told = (Step, Replied);
 
 /// What is asked of a new zone of so many pages with such a least mark, and of its worker's lists of such a batch and such a room.
@@ -157,7 +157,7 @@ fn left(hand: &Hand) -> Replied {
     }
 }
 
-/// The answer to a step, where there is such an order.
+/// The result of a step, where there is such an order.
 fn carry_out(hand: &mut Hand, step: Step) -> Option<Replied> {
     let said = match step {
         Step::Alloc(order, kind, mark) => allocated(hand, Order::new(order)?, kind, mark),
@@ -173,7 +173,7 @@ fn carry_out(hand: &mut Hand, step: Step) -> Option<Replied> {
     Some(said)
 }
 
-/// A new zone and its worker's lists answer each step so.
+/// A new zone and its worker's lists return this for each step.
 pub(super) fn expect(rt: &(impl Abort + AllocGlobal), sequence: &Sequence<'_>) -> Result<(), Fail> {
     let Sequence {
         shows,

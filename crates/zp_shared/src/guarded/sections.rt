@@ -54,7 +54,7 @@ impl<J: Naming, K: Keeps> Guarded<J, K> {
         reply
     }
 
-    /// A block of this order for this type, held to this mark, which is then lent: its first page. Refused 10, 11 or 30.
+    /// Allocates a block of this order for this type, held to this mark, which is then lent: its first page. Refused 10, 11 or 30.
     pub fn alloc_block(
         &mut self,
         board: &Board,
@@ -72,7 +72,7 @@ impl<J: Naming, K: Keeps> Guarded<J, K> {
         answered!(self.section(board, share, &request), Reply::Page(page) => page)
     }
 
-    /// The lowest block of this order, which is then lent. Refused 11 or 30.
+    /// Allocates the lowest block of this order, which is then lent. Refused 11 or 30.
     pub fn alloc_low(
         &mut self,
         board: &Board,
@@ -88,7 +88,7 @@ impl<J: Naming, K: Keeps> Guarded<J, K> {
         answered!(self.section(board, share, &request), Reply::Block(block) => block)
     }
 
-    /// Gives back a lent block. Refused 20 where it is not lent with this order, and 30.
+    /// Frees a lent block. Refused 20 where it is not lent with this order, and 30.
     pub fn free_block(
         &mut self,
         board: &Board,
@@ -154,7 +154,7 @@ impl<J: Naming, K: Keeps> Guarded<J, K> {
         answered!(self.section(board, share, &request), Reply::Pages(pages) => pages)
     }
 
-    /// Gives back `count` pages from the back of the list of this type, the last one first. Refused 30.
+    /// Frees `count` pages from the back of the list of this type, the last one first. Refused 30.
     pub fn drain(
         &mut self,
         board: &Board,

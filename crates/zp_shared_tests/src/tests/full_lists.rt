@@ -27,7 +27,7 @@ enum Call {
     Drain,
 }
 
-/// What it is told: the page of a block, how many pages were drained, the number of a refusal.
+/// What a call returns: the page of a block, how many pages were drained, the number of a refusal.
 #[derive(Clone, Copy, PartialEq, Eq, Drop)]
 enum Told {
     Page(u32),
@@ -44,7 +44,7 @@ const FULL: Told = Refused(30);
 
 const NOT_LENT: Told = Refused(20);
 
-/// The calls, what each is answered, and then the pages of the worker's list, the front first, and those that are lent.
+/// The calls, what each returns, and then the pages of the worker's list, the front first, and those that are lent.
 const CALLS: [(Call, Told, &[u32], &[u32]); 14] = [
     (Take(0), Page(3072), &[3073, 3074, 3075], &[3072]),
     (Take(0), Page(3073), &[3074, 3075], &[3072, 3073]),
@@ -113,7 +113,7 @@ const CALLS: [(Call, Told, &[u32], &[u32]); 14] = [
 ];
 
 impl<'a, J: Naming, R: Wait> OnlyWorker<'a, J, R> {
-    /// What it is answered.
+    /// What the call returns.
     fn call(&mut self, call: Call) -> Told {
         match call {
             Take(order) => self.take_block(order),

@@ -84,7 +84,7 @@ pub(super) fn counts_at(alloc: Global, journal: &Journal, place: u64) -> Option<
     counts_after(alloc, config(), 1, journal, place).ok()?
 }
 
-/// What its worker is answered: how many pages it has got, the number of the refusal that ended that, whether the zone strayed, and what
+/// What its worker gets: how many pages it has got, the number of the refusal that ended that, whether the zone strayed, and what
 /// its view reads then.
 #[derive(Clone, Copy, PartialEq, Eq, Debug, Drop)]
 pub(super) struct Taken {
@@ -94,7 +94,7 @@ pub(super) struct Taken {
     pub(super) last: Reading,
 }
 
-/// What the worker was answered, what the other read meanwhile, and the zone's journal.
+/// What the worker got, what the other read meanwhile, and the zone's journal.
 #[derive(Drop)]
 pub(super) struct Ran {
     pub(super) taken: Taken,
@@ -251,7 +251,7 @@ impl<'a, J: Naming, R: Wait> OnlyWorker<'a, J, R> {
         )
     }
 
-    /// Takes single pages until it is refused: what it is answered, and its readers.
+    /// Takes single pages until it is refused: what it got, and its readers.
     fn take_pages(self) -> (Taken, Vec<BoardReader>)
         ensures { AreReadersOf J.zones J.boards result.1.items }
     {

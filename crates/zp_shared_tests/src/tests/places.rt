@@ -1,4 +1,4 @@
-//! Readings with their places, and the counts that the zone's journal tells of as many entries.
+//! Readings with their places, and the counts that the zone's journal gives for as many entries.
 ghost use Rattle.std.specs.Prelude.{◌≡◌, ◌∷◌, [], length};
 ghost use Rattle.zp_share.specs.Shares.{IsShareOf};
 ghost use Rattle.zp_shared.specs.Rows.{board_at, opened_board, opened_key};
@@ -101,7 +101,7 @@ fn read_once<R: Wait>(rt: &R, alloc: Global) -> Option<Read> {
     read_and_take::<Brand, R>(rt, opened, share)
 }
 
-/// What the journal tells of its places, from 0 on.
+/// What the journal says of its places, from 0 on.
 const TOLD: [Option<Counts>; 3] = [Some(WHOLE), Some(ONE_TAKEN), None];
 
 #[test]

@@ -36,7 +36,7 @@ fn are_in_order(readings: &[Reading]) -> bool {
     true
 }
 
-/// The journal tells the same counts at a place as the zone had there, and none past its end.
+/// The journal gives the same counts at a place as the zone had there, and none past its end.
 fn tells_each_place(alloc: Global, journal: &Journal) -> bool {
     for place in 0..101 {
         if counts_at(alloc, journal, u64::from(place)) != Some(counts_without(place)) {

@@ -1,4 +1,4 @@
-//! Pages that are taken and given back several at a time, without seats. Each call is one step of the plain zone.
+//! Pages that are allocated and freed several at a time, without seats. Each call is one step of the plain zone.
 //!
 //! In Linux: `rmqueue_bulk` and `free_pcppages_bulk`.
 ghost use Rattle.std.specs.Prelude.{◌≡◌, ◌<◌, ◌≤◌, All, IfOk, IsTrue, length};
@@ -14,7 +14,7 @@ use zp_model::{MAX_BATCH, Mark, MigrateType, Order, PageNo, Refused, Worker};
 
 impl UntiedZone {
     /// Up to `count` pages for this type, each held to this mark, in the order taken. Refused 10 or 11 where none is got; a
-    /// refill that is stopped after a page or more answers the pages that it got.
+    /// refill that is stopped after a page or more returns the pages that it got.
     pub fn refill(
         &mut self,
         worker: Worker,
@@ -48,7 +48,7 @@ impl UntiedZone {
         Ok(pages)
     }
 
-    /// Gives back these pages, each a block of order 0, in the slice's order. Their type is only noted. It is never refused.
+    /// Frees these pages, each a block of order 0, in the slice's order. Their type is only noted. It is never refused.
     pub fn drain(&mut self, worker: Worker, kind: MigrateType, pages: &[PageNo])
         requires worker { worker < workers_of self.old.plain }
         requires out { AreOut self.old.plain worker pages.now }

@@ -72,7 +72,7 @@ impl UntiedZone {
         })
     }
 
-    /// Gives back the block at this page, of this order.
+    /// Frees the block at this page, of this order.
     pub fn free(&mut self, worker: Worker, page: PageNo, order: Order)
         requires worker { worker < workers_of self.old.plain }
         requires out { IsTrue (is_out self.old.plain worker page order) }

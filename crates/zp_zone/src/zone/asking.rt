@@ -58,7 +58,7 @@ impl Zone {
     }
 }
 
-/// The answer to a request for a block of a given order, as a reply.
+/// The result of a request for a block of a given order, as a reply.
 #[inline(always)]
 pub fn page_reply(got: Result<PageNo, Refused>) -> Reply
     ensures { result ≡ page_reply got }

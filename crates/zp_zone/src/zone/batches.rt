@@ -1,4 +1,4 @@
-//! Pages that are taken and given back several at a time, by a seat. Each call is one step of the plain zone and one entry.
+//! Pages that are allocated and freed several at a time, by a seat. Each call is one step of the plain zone and one entry.
 //!
 //! In Linux: `rmqueue_bulk` and `free_pcppages_bulk`.
 ghost use Rattle.std.specs.Prelude.{◌≡◌, ◌<◌, ◌≤◌, All, IfOk, IsTrue, length};
@@ -18,8 +18,8 @@ use zp_model::{MAX_BATCH, Mark, MigrateType, PageNo, Refused};
 
 impl Zone {
     /// Up to `count` pages for this type, each held to this mark, in the order taken. Refused 10 or 11 where none is got; a
-    /// refill that is stopped after a page or more answers the pages that it got.
-    // (within its caller the pages of its answer are moved once more)
+    /// refill that is stopped after a page or more returns the pages that it got.
+    // (inside its caller the pages of its answer are moved once more)
     #[inline(never)]
     pub fn refill(
         &mut self,
@@ -52,7 +52,7 @@ impl Zone {
         self.untied.refill(worker, kind, mark, count)
     }
 
-    /// Gives back these pages of the seat, each a block of order 0, in the slice's order. Their type is only noted. It is never
+    /// Frees these pages of the seat, each a block of order 0, in the slice's order. Their type is only noted. It is never
     /// refused.
     pub fn drain(&mut self, seat: &mut Seat, kind: MigrateType, pages: &[PageNo])
         requires seat { IsSeatOf self.old seat.old }

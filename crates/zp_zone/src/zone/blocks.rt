@@ -14,7 +14,7 @@ use std::marker::Brand;
 use zp_model::{Block, Mark, MigrateType, Order, PageNo, Refused, Worker};
 
 impl Zone {
-    /// A block of this order for this type, held to this mark: its first page. Refused 10 or 11.
+    /// Allocates a block of this order for this type, held to this mark: its first page. Refused 10 or 11.
     pub fn alloc(
         &mut self,
         seat: &mut Seat,
@@ -41,7 +41,7 @@ impl Zone {
         self.untied.alloc(worker, order, kind, mark)
     }
 
-    /// The lowest block of this order, of whatever type. The type noted for it is its pageblock's. Refused 11.
+    /// Allocates the lowest block of this order, of whatever type. The type noted for it is its pageblock's. Refused 11.
     pub fn alloc_low(&mut self, seat: &mut Seat, order: Order) -> Result<Block, Refused>
         requires seat { IsSeatOf self.old seat.old }
         ensures reply { block_reply result ≡ (step self.old.plain seat.old.worker (request.AllocLow order)).reply }
@@ -63,8 +63,8 @@ impl Zone {
         self.untied.alloc_low(worker, order)
     }
 
-    /// Gives back the seat's block at this page, of this order. It is never refused. After a
-    /// `check`, `held_by` tells whether it may be called.
+    /// Frees the seat's block at this page, of this order. It is never refused. After a
+    /// `check`, `held_by` returns whether it may be called.
     pub fn free(&mut self, seat: &mut Seat, page: PageNo, order: Order)
         requires seat { IsSeatOf self.old seat.old }
         requires has { IsTrue (has seat.old page order) }
@@ -85,7 +85,7 @@ impl Zone {
     }
 
     /// Posts the seat's block at this page, of this order, to a worker: it goes to the end of the worker's list. It is never
-    /// refused. After a `check`, `held_by` tells whether it may be called.
+    /// refused. After a `check`, `held_by` returns whether it may be called.
     pub fn post(&mut self, seat: &mut Seat, page: PageNo, order: Order, to: Worker)
         requires seat { IsSeatOf self.old seat.old }
         requires has { IsTrue (has seat.old page order) }
@@ -106,7 +106,7 @@ impl Zone {
         self.untied.post(worker, page, order, to);
     }
 
-    /// The block in front of those posted to the seat's worker, which gets it. Refused 12 where there is none.
+    /// Hands the block in front of those posted to the seat's worker to it. Refused 12 where there is none.
     pub fn collect(&mut self, seat: &mut Seat) -> Result<Block, Refused>
         requires seat { IsSeatOf self.old seat.old }
         ensures reply { block_reply result ≡ (step self.old.plain seat.old.worker request.Collect).reply }

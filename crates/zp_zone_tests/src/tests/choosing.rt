@@ -1,4 +1,4 @@
-//! Which block is taken, and what is joined: worked histories whose answers follow by hand from the rules of choosing and of the
+//! Which block is taken, and what is joined: worked histories whose results follow by hand from the rules of choosing and of the
 //! lists' order.
 
 use super::histories::*;
@@ -125,7 +125,7 @@ const CHOSEN: [Chosen; 9] = [
     ),
 ];
 
-/// A zone of so many pages, of which so many are free at the end, answers as the journal says.
+/// A zone of so many pages, of which so many are free at the end, replies as the journal says.
 fn expect_journal(rt: &(impl Abort + AllocGlobal), pages: u32, free: u32, journal: &Journal) {
     let making = Making {
         name: "DMA",
@@ -181,7 +181,7 @@ fn halve_lowest(rt: &impl Abort, journal: &mut Journal, order: u8) {
     }
 }
 
-/// A page of this type is taken from the halved pageblock, and then an Unmovable one, which tells whether the first one claimed it.
+/// A page of this type is taken from the halved pageblock, and then an Unmovable one, which shows whether the first one claimed it.
 fn ask_for_claim(
     rt: &impl Abort,
     journal: &mut Journal,

@@ -1,4 +1,4 @@
-//! Worked histories: what is asked of a new zone, what it has to answer, and what it tells at the end. They are data: one function
+//! Worked histories: what is asked of a new zone, what it has to reply, and what it reports at the end. They are data: one function
 //! replays them all, as a journal.
 
 use super::*;
@@ -23,7 +23,7 @@ pub(super) enum Ask<'a> {
     Release(u32, MigrateType),
 }
 
-/// What is answered, in numbers.
+/// A reply, in numbers.
 #[derive(Clone, Copy, Drop)]
 pub(super) enum Said<'a> {
     Page(u32),
@@ -52,7 +52,7 @@ pub(super) enum Noted {
 /// A page, what is noted of it, and the pages before and after it on its list.
 pub(super) type Told = (u32, Noted, Option<u32>, Option<u32>);
 
-/// What is asked of a zone of two workers, and what it tells then: its free pages, those in posted blocks, and some pages.
+/// What is asked of a zone of two workers, and what it reports then: its free pages, those in posted blocks, and some pages.
 #[derive(Clone, Copy, Drop)]
 pub(super) struct History<'a> {
     /// What it shows.
@@ -156,7 +156,7 @@ fn noted_as(state: State) -> Noted {
     }
 }
 
-/// What a zone tells of a page, where the page is its own.
+/// What a zone reports of a page, where the page is its own.
 fn told_of(zone: &Zone, page: u32) -> Option<Told> {
     let entry = zone.entry(PageNo::new(page))?;
     let back = entry.back.map(PageNo::number);
@@ -164,7 +164,7 @@ fn told_of(zone: &Zone, page: u32) -> Option<Told> {
     Some((page, noted_as(entry.state), back, forward))
 }
 
-/// Whether a zone tells what it has to tell, but of its pages.
+/// Whether a zone reports what it has to, but of its pages.
 fn is_told(zone: &Zone, history: &History<'_>) -> bool {
     zone.name() == history.config.name
         && zone.pages() == history.config.pages
@@ -172,7 +172,7 @@ fn is_told(zone: &Zone, history: &History<'_>) -> bool {
         && zone.posted_pages() == history.posted
 }
 
-/// Compares what a zone tells with what it has to tell.
+/// Compares what a zone reports with what it has to report.
 pub(super) fn compare(rt: &impl Abort, zone: &Zone, history: &History<'_>) {
     assert!(rt; is_told(zone, history), "{}", history.shows);
     for page in history.pages {
@@ -180,7 +180,7 @@ pub(super) fn compare(rt: &impl Abort, zone: &Zone, history: &History<'_>) {
     }
 }
 
-/// A new zone with this largest order answers as the journal says: what it has become. None where it does not.
+/// A new zone with this largest order replies as the journal says: what it has become. None where it does not.
 pub(super) fn replayed(
     rt: &(impl Abort + AllocGlobal),
     making: &Making<'_>,
@@ -204,7 +204,7 @@ pub(super) fn replayed(
     }
 }
 
-/// A new zone answers all of the history as it says, and tells then what it says.
+/// A new zone replies to all of the history as it says, and reports then what it says.
 pub(super) fn expect(
     rt: &(impl Abort + AllocGlobal),
     history: &History<'_>,

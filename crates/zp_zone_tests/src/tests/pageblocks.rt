@@ -1,4 +1,4 @@
-//! What a zone tells of its pageblocks after worked histories: its level, how many pages are free, and each pageblock.
+//! What a zone reports of its pageblocks after worked histories: its level, how many pages are free, and each pageblock.
 
 use super::histories::*;
 use super::*;
@@ -8,7 +8,7 @@ const MOVABLE: MigrateType = MigrateType::Movable;
 /// A pageblock's type, how many of its pages are free, and the order of the largest free block in it.
 type Told = (PageblockType, u32, Option<u8>);
 
-/// What is asked of a zone of pageblocks of this order, and what it tells then of its level, its free pages, and some numbers of pageblocks.
+/// What is asked of a zone of pageblocks of this order, and what it reports then: its level, its free pages, and some pageblocks by number.
 #[derive(Clone, Copy, Drop)]
 struct Case {
     config: Making<'static>,
@@ -114,7 +114,7 @@ const CASES: [Case; 5] = [
     },
 ];
 
-/// What the zone tells of a pageblock, where it has one of this number.
+/// What the zone reports of a pageblock, where it has one of this number.
 fn told_in(zone: &Zone, pageblock: u32) -> Option<Told> {
     let told = zone.pageblock(pageblock)?;
     Some((told.kind, told.free, told.largest.map(Order::number)))

@@ -10,7 +10,7 @@ use zp_journal::{replay_further, replay_opening};
 
 const MOVABLE: MigrateType = MigrateType::Movable;
 
-/// What two workers ask of a zone of four pageblocks: blocks are taken, handed on, collected and given back, and pages got in a batch.
+/// What two workers ask of a zone of four pageblocks: blocks are allocated, handed on, collected and freed, and pages got in a batch.
 const ASKED: &[Asked<'static>] = &[
     (0, Ask::Alloc(3, MOVABLE, Mark::Any), Said::Page(3072)),
     (0, Ask::Post(3072, 3, 1), Said::Posted),
@@ -30,7 +30,7 @@ const ASKED_THEN: &[Asked<'static>] = &[
     (1, Ask::Free(3080, 0), Said::Freed),
 ];
 
-/// What the zone tells after `ASKED`: blocks of 1,024, 8 and 1 pages are not free.
+/// What the zone reports after `ASKED`: blocks of 1,024, 8 and 1 pages are not free.
 const TOLD: History<'static> = History {
     shows: "pieces lead where the whole does",
     config: Making {
@@ -103,7 +103,8 @@ fn go_on_in_two(
     go_on(rt, zone, seats, after, first)
 }
 
-/// Cut here, the history leads to the zone that the whole leads to; it answers then as it does, when a piece of no entry has come between.
+/// Cut here, the history leads to the zone that the whole leads to; it replies then as that does, when a piece of no entry has come
+/// between.
 fn go_on_cut(
     rt: &(impl Abort + AllocGlobal),
     zone: &mut Zone,
@@ -154,7 +155,7 @@ fn pieces_lead_where_the_whole_does(rt: HostRuntime) -> Result<(), Fail> {
     expect_cuts(&rt, &TOLD, ASKED_THEN)
 }
 
-/// A journal with no entry leaves a new zone as it is.
+/// A journal with no entry leaves a new zone unchanged.
 #[test]
 fn no_entry_changes_nothing(rt: HostRuntime) -> Result<(), Fail> {
     let (mut zone, mut seats) = opening(&rt)?;
@@ -166,7 +167,7 @@ fn no_entry_changes_nothing(rt: HostRuntime) -> Result<(), Fail> {
 /// A piece, the number of its first entry that is not legal, and how many pages are free where that was tried.
 type Illegal = (&'static [Asked<'static>], u32, u32);
 
-/// What is not legal after `ASKED`. A request that cannot be made leaves the zone as it was; one that is answered otherwise was made.
+/// What is not legal after `ASKED`. A request that cannot be made leaves the zone as it was; one that gets another reply was made.
 const ILLEGAL: &[Illegal] = &[
     (&[(0, Ask::Free(3080, 0), Said::Freed)], 1, 3063),
     (&[(2, Ask::Collect, Said::Freed)], 1, 3063),

@@ -169,7 +169,7 @@ const HISTORIES: [History<'static>; 12] = [
         posted: 0,
         pages: &[(3072, Noted::Out(0, MOVABLE, 0), None, None)],
     },
-    // 31 pages are the most that a refill answers: here all that there are, the smallest blocks first.
+    // 31 pages are the most that a refill returns: here all that there are, the smallest blocks first.
     History {
         shows: "a refill may take all pages",
         config: Making {
@@ -225,7 +225,7 @@ const HISTORIES: [History<'static>; 12] = [
         posted: 0,
         pages: &[],
     },
-    // Where the mark lets one page go, a refill of four answers one.
+    // Where the mark lets one page go, a refill of four returns one.
     History {
         shows: "a refill may answer one page",
         config: Making {
@@ -256,7 +256,7 @@ const HISTORIES: [History<'static>; 12] = [
         posted: 0,
         pages: &[],
     },
-    // The page that is given back last is in front. The type that a drain names changes nothing.
+    // The page that is freed last is in front. The type that a drain names changes nothing.
     History {
         shows: "pages are given back in their order",
         config: Making {
