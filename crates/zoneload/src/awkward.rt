@@ -2,10 +2,10 @@
 
 use crate::digest::Digest;
 use crate::errors::Broken;
-use crate::making::{MOST_LINES, Reach, TraceMaker, TracePlan};
+use crate::making::{MOST_LINES, Plan, Reach, TraceMaker};
 use crate::memory::{DigestWriter, TextReader};
 use crate::replays::replayed;
-use crate::text::ListLengths;
+use crate::text::Lists;
 use std::alloc::Global;
 use zp_replay::{Ending, replay_serial};
 
@@ -16,12 +16,12 @@ const LABELS: usize = 2046;
 const FEW_LINES: usize = 300;
 
 /// A worker alone.
-fn alone() -> TracePlan {
-    TracePlan {
+fn alone() -> Plan {
+    Plan {
         zones: 1,
         min: 0,
         workers: 1,
-        lists: ListLengths::None,
+        lists: Lists::None,
         lines: MOST_LINES,
         labels: 4096,
         reach: Reach::All,
@@ -29,12 +29,12 @@ fn alone() -> TracePlan {
 }
 
 /// Four workers over four zones.
-fn together() -> TracePlan {
-    TracePlan {
+fn together() -> Plan {
+    Plan {
         zones: 4,
         min: 512,
         workers: 4,
-        lists: ListLengths::Longest,
+        lists: Lists::Longest,
         lines: MOST_LINES,
         labels: 4096,
         reach: Reach::All,
@@ -42,12 +42,12 @@ fn together() -> TracePlan {
 }
 
 /// All workers that there may be, with few commands.
-fn crowd() -> TracePlan {
-    TracePlan {
+fn crowd() -> Plan {
+    Plan {
         zones: 4,
         min: 512,
         workers: 32,
-        lists: ListLengths::Longest,
+        lists: Lists::Longest,
         lines: FEW_LINES,
         labels: 4096,
         reach: Reach::All,
@@ -83,11 +83,11 @@ fn draw_infos(alloc: Global, maker: &mut TraceMaker) -> Result<(), Broken> {
 
 /// The last line is bad: which line it is.
 fn draw_bad(alloc: Global, maker: &mut TraceMaker) -> Result<(), Broken> {
-    let plan = TracePlan {
+    let plan = Plan {
         zones: 4,
         min: 512,
         workers: 4,
-        lists: ListLengths::Longest,
+        lists: Lists::Longest,
         lines: MOST_LINES - 1,
         labels: 4096,
         reach: Reach::All,

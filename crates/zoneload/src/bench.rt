@@ -4,7 +4,7 @@ ghost use Rattle.std.specs.Prelude.{◌<◌};
 
 use crate::digest::Digest;
 use crate::errors::Broken;
-use crate::sources::LoadSource;
+use crate::sources::BlockSource;
 use rand_core::Rng;
 use rand_pcg::Pcg32;
 use std::alloc::Global;
@@ -16,7 +16,7 @@ const CHURNED: u32 = 1 << 10;
 
 /// A source, the blocks that it has lent, and the digest of all pages answered.
 #[derive(Drop)]
-pub struct SourceLoad<S> {
+pub struct Load<S> {
     source: S,
     lent: Vec<Lent>,
     lent_pages: u64,
@@ -24,11 +24,11 @@ pub struct SourceLoad<S> {
     digest: Digest,
 }
 
-impl<S: LoadSource> SourceLoad<S> {
-    pub fn new(alloc: Global, seed: u64, round: u32) -> Result<SourceLoad<S>, Broken> {
+impl<S: BlockSource> Load<S> {
+    pub fn new(alloc: Global, seed: u64, round: u32) -> Result<Load<S>, Broken> {
         let source = S::new(alloc)?;
         let lent = Vec::with_capacity(alloc, source.pages() as usize)?;
-        Ok(SourceLoad {
+        Ok(Load {
             source,
             lent,
             lent_pages: 0,

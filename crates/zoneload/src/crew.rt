@@ -35,7 +35,7 @@ struct Member<J: Naming> {
 
 /// What a worker leaves.
 #[derive(Clone, Copy, PartialEq, Eq, Debug, Drop)]
-pub struct WatchedStint {
+pub struct Stint {
     /// How many sections it made.
     pub sections: u64,
     /// How many pages it has still.
@@ -46,7 +46,7 @@ pub struct WatchedStint {
 
 /// The zone as a row of one, with its workers.
 #[derive(Drop)]
-pub struct RowCrew<J: Naming, K: Keeps> {
+pub struct Crew<J: Naming, K: Keeps> {
     row: RowOfOne<J, K>,
     members: Vec<Member<J>>,
 }
@@ -55,7 +55,7 @@ pub struct RowCrew<J: Naming, K: Keeps> {
 #[derive(Drop)]
 pub struct Left<K: Keeps> {
     pub closed: Closed<K>,
-    pub stints: Vec<WatchedStint>,
+    pub stints: Vec<Stint>,
 }
 
 /// The opened zone as a row of one.
@@ -127,7 +127,7 @@ pub fn crew_of<J: Naming, K: Keeps>(
     mut opened: OpenedZone<K>,
     seats: Vec<Seat>,
     seed: u64,
-) -> Result<RowCrew<J, K>, Broken>
+) -> Result<Crew<J, K>, Broken>
     requires named { J.zones ≡ opened_key opened ∷ [] }
     requires boards { J.boards ≡ opened_board opened ∷ [] }
     requires fits { All (IsSeatOf opened.zone) seats.items }
@@ -135,7 +135,7 @@ pub fn crew_of<J: Naming, K: Keeps>(
 {
     let members = members_of(alloc, &mut opened, seats, seed)?;
     match row_of(alloc, opened) {
-        Ok(row) => Ok(RowCrew { row, members }),
+        Ok(row) => Ok(Crew { row, members }),
         Err(e) => Err(e),
     }
 }
@@ -200,7 +200,7 @@ fn work<J: Naming, R: Wait, K: Keeps>(
     member: Member<J>,
     row: &RowOfOne<J, K>,
     requests: u32,
-) -> WatchedStint {
+) -> Stint {
     let Member {
         worker,
         reader,
@@ -218,7 +218,7 @@ fn work<J: Naming, R: Wait, K: Keeps>(
             seen = read(&mut reader, seen);
         }
     }
-    WatchedStint {
+    Stint {
         sections: worker.sections(),
         lent_pages: pages_of(&slots),
         bad_readings: seen.bad,
@@ -228,10 +228,10 @@ fn work<J: Naming, R: Wait, K: Keeps>(
 /// All workers make so many requests each, at the same time, and the zone is closed.
 pub fn work_all<J: Naming + Send + Sync, K: Keeps + Send + Sync, R: Threads + Wait + Sync>(
     rt: &R,
-    crew: RowCrew<J, K>,
+    crew: Crew<J, K>,
     requests: u32,
 ) -> Result<Left<K>, Broken> {
-    let RowCrew { row, members } = crew;
+    let Crew { row, members } = crew;
     let done = map_vec(rt, members, &|member| work(rt, member, &row, requests));
     let Ok(stints) = done else {
         return Err(Broken::Memory);

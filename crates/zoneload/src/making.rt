@@ -3,7 +3,7 @@
 ghost use Rattle.std.specs.Prelude.{◌<◌};
 
 use crate::errors::Broken;
-use crate::text::{ListLengths, Text, ZONES};
+use crate::text::{Lists, Text, ZONES};
 use rand_core::Rng;
 use rand_pcg::Pcg32;
 use std::alloc::Global;
@@ -22,12 +22,12 @@ pub enum Reach {
 
 /// What a trace is like.
 #[derive(Clone, Copy, PartialEq, Eq, Debug, Drop)]
-pub struct TracePlan {
+pub struct Plan {
     pub zones: usize,
     /// The least mark of each zone, in pages.
     pub min: u32,
     pub workers: u32,
-    pub lists: ListLengths,
+    pub lists: Lists,
     pub lines: usize,
     /// How many labels a worker has: where it has bound them all, it binds the first again.
     pub labels: u32,
@@ -114,7 +114,7 @@ impl TraceMaker {
     }
 
     /// A trace of this plan.
-    pub fn draw(&mut self, alloc: Global, plan: &TracePlan) -> Result<(), Broken> {
+    pub fn draw(&mut self, alloc: Global, plan: &Plan) -> Result<(), Broken> {
         self.begin(alloc, plan)?;
         for _ in 0..plan.lines {
             if self.text.lines() >= plan.lines {
@@ -126,7 +126,7 @@ impl TraceMaker {
     }
 
     /// The header, and workers with nothing bound.
-    pub fn begin(&mut self, alloc: Global, plan: &TracePlan) -> Result<(), Broken> {
+    pub fn begin(&mut self, alloc: Global, plan: &Plan) -> Result<(), Broken> {
         self.text.clear();
         self.text
             .header(plan.zones, plan.min, plan.workers, plan.lists)?;
@@ -145,7 +145,7 @@ impl TraceMaker {
     }
 
     /// One line of a drawn worker.
-    fn command(&mut self, plan: &TracePlan) -> Result<(), Broken> {
+    fn command(&mut self, plan: &Plan) -> Result<(), Broken> {
         let worker = below(&mut self.random, plan.workers);
         match self.random.next_u32() % 100 {
             0..=48 => self.alloc(plan, worker),
@@ -160,7 +160,7 @@ impl TraceMaker {
     }
 
     /// The zone that a worker asks.
-    fn zone(&mut self, plan: &TracePlan, worker: u32) -> usize {
+    fn zone(&mut self, plan: &Plan, worker: u32) -> usize {
         match plan.reach {
             Reach::All => self.random.next_u32() as usize % plan.zones,
             Reach::Own => worker as usize,
@@ -174,7 +174,7 @@ impl TraceMaker {
     }
 
     /// A label that the worker binds: the next one.
-    fn bind(&mut self, plan: &TracePlan, worker: u32) -> Result<(), Broken> {
+    fn bind(&mut self, plan: &Plan, worker: u32) -> Result<(), Broken> {
         if let Some(hand) = self.hands.get_mut(worker as usize) {
             let label = hand.bound % plan.labels;
             hand.bound = hand.bound.wrapping_add(1);
@@ -198,7 +198,7 @@ impl TraceMaker {
     }
 
     /// A block of a drawn order, of a drawn type, at a drawn mark.
-    pub fn alloc(&mut self, plan: &TracePlan, worker: u32) -> Result<(), Broken> {
+    pub fn alloc(&mut self, plan: &Plan, worker: u32) -> Result<(), Broken> {
         let zone = self.zone(plan, worker);
         let order = order_of(&mut self.random);
         self.start(worker, "alloc")?;
@@ -210,7 +210,7 @@ impl TraceMaker {
         self.text.end()
     }
 
-    fn low(&mut self, plan: &TracePlan, worker: u32) -> Result<(), Broken> {
+    fn low(&mut self, plan: &Plan, worker: u32) -> Result<(), Broken> {
         let zone = self.zone(plan, worker);
         let order = order_of(&mut self.random);
         self.start(worker, "low")?;
@@ -221,7 +221,7 @@ impl TraceMaker {
     }
 
     /// A block comes back; where the worker has none, it takes one.
-    pub fn free(&mut self, plan: &TracePlan, worker: u32) -> Result<(), Broken> {
+    pub fn free(&mut self, plan: &Plan, worker: u32) -> Result<(), Broken> {
         let Some(label) = self.unbind(worker) else {
             return self.alloc(plan, worker);
         };
@@ -230,7 +230,7 @@ impl TraceMaker {
         self.text.end()
     }
 
-    fn post(&mut self, plan: &TracePlan, worker: u32) -> Result<(), Broken> {
+    fn post(&mut self, plan: &Plan, worker: u32) -> Result<(), Broken> {
         if plan.reach == Reach::Own {
             return self.free(plan, worker);
         }
@@ -244,7 +244,7 @@ impl TraceMaker {
         self.text.end()
     }
 
-    fn collect(&mut self, plan: &TracePlan, worker: u32) -> Result<(), Broken> {
+    fn collect(&mut self, plan: &Plan, worker: u32) -> Result<(), Broken> {
         if plan.reach == Reach::Own {
             return self.alloc(plan, worker);
         }
@@ -261,7 +261,7 @@ impl TraceMaker {
     }
 
     /// The counts of each zone.
-    pub fn info(&mut self, plan: &TracePlan, worker: u32) -> Result<(), Broken> {
+    pub fn info(&mut self, plan: &Plan, worker: u32) -> Result<(), Broken> {
         if plan.reach == Reach::Own {
             return self.drain(worker);
         }
@@ -270,7 +270,7 @@ impl TraceMaker {
     }
 
     /// A pageblock is isolated, or the one that is comes back. Where workers have a zone each, each of them has its own.
-    fn isolate_or_release(&mut self, plan: &TracePlan, worker: u32) -> Result<(), Broken> {
+    fn isolate_or_release(&mut self, plan: &Plan, worker: u32) -> Result<(), Broken> {
         let place = self.zone(plan, worker);
         let drawn = self.random.next_u32() % 64;
         match self.isolated {

@@ -2,9 +2,9 @@
 
 use crate::digest::Digest;
 use crate::errors::Broken;
-use crate::making::{MOST_LINES, Reach, TraceMaker, TracePlan};
+use crate::making::{MOST_LINES, Plan, Reach, TraceMaker};
 use crate::memory::{DigestWriter, TextReader};
-use crate::text::ListLengths;
+use crate::text::Lists;
 use std::alloc::Global;
 use std::sync::Wait;
 use std::thread::Threads;
@@ -18,8 +18,8 @@ const LABEL_A_LINE: u32 = 4096;
 const FEW_LABELS: u32 = 256;
 
 /// The plan of a trace of a round: 1, 4 or 32 workers, with lists and without, over one to four zones.
-fn plan_of(round: u32) -> TracePlan {
-    TracePlan {
+fn plan_of(round: u32) -> Plan {
+    Plan {
         zones: 1 + (round % 4) as usize,
         min: 512,
         workers: match round % 3 {
@@ -28,9 +28,9 @@ fn plan_of(round: u32) -> TracePlan {
             _ => 32,
         },
         lists: if round % 2 == 0 {
-            ListLengths::Longest
+            Lists::Longest
         } else {
-            ListLengths::None
+            Lists::None
         },
         lines: MOST_LINES,
         labels: if round % 5 == 4 {
@@ -64,17 +64,17 @@ pub fn serial(rt: &impl AllocGlobal, rounds: u32, seed: u64) -> anyhow::Result<D
 }
 
 /// The plan of a trace of a round, in threads: a worker alone, four workers with a zone each, or 32 workers with all zones in common.
-fn threaded_plan_of(round: u32) -> TracePlan {
+fn threaded_plan_of(round: u32) -> Plan {
     let (zones, workers, reach) = match round % 3 {
         0 => (4, 4, Reach::Own),
         1 => (2, 1, Reach::All),
         _ => (4, 32, Reach::All),
     };
-    TracePlan {
+    Plan {
         zones,
         min: 0,
         workers,
-        lists: ListLengths::Longest,
+        lists: Lists::Longest,
         lines: MOST_LINES,
         labels: LABEL_A_LINE,
         reach,

@@ -1,9 +1,9 @@
 //! Memory whose free pages lie alone, between Unmovable ones.
 
-use crate::bench::SourceLoad;
+use crate::bench::Load;
 use crate::digest::Digest;
 use crate::errors::Broken;
-use crate::sources::{LoadSource, RowSource, SeatedSource};
+use crate::sources::{BlockSource, Row, Seated};
 use std::alloc::Global;
 use zp_model::{MigrateType, Order};
 
@@ -17,7 +17,7 @@ const CALLS: u32 = 60_000;
 const SCATTERED: u32 = 64;
 
 /// All pages are taken one by one, Movable ones with an Unmovable one now and then, and a third comes back.
-fn scatter<S: LoadSource>(load: &mut SourceLoad<S>) -> Result<(), Broken> {
+fn scatter<S: BlockSource>(load: &mut Load<S>) -> Result<(), Broken> {
     for _ in 0..load.pages() {
         let kind = if load.below(SCATTERED) == 0 {
             MigrateType::Unmovable
@@ -42,7 +42,7 @@ fn kind_of(drawn: u32) -> MigrateType {
 }
 
 /// One of the calls that such memory makes dear.
-fn call<S: LoadSource>(load: &mut SourceLoad<S>) -> Result<(), Broken> {
+fn call<S: BlockSource>(load: &mut Load<S>) -> Result<(), Broken> {
     let kind = kind_of(load.below(5));
     match load.below(100) {
         0..=39 => {
@@ -65,8 +65,8 @@ fn call<S: LoadSource>(load: &mut SourceLoad<S>) -> Result<(), Broken> {
 }
 
 /// Mixed calls over scattered pages.
-fn served<S: LoadSource>(alloc: Global, seed: u64, round: u32) -> Result<u64, Broken> {
-    let mut load = SourceLoad::<S>::new(alloc, seed, round)?;
+fn served<S: BlockSource>(alloc: Global, seed: u64, round: u32) -> Result<u64, Broken> {
+    let mut load = Load::<S>::new(alloc, seed, round)?;
     scatter(&mut load)?;
     for _ in 0..CALLS {
         call(&mut load)?;
@@ -78,8 +78,8 @@ fn served<S: LoadSource>(alloc: Global, seed: u64, round: u32) -> Result<u64, Br
 pub fn serve(alloc: Global, rounds: u32, seed: u64) -> anyhow::Result<Digest> {
     let mut digest = Digest::new();
     for round in 0..rounds {
-        digest.add(served::<SeatedSource>(alloc, seed, round)?);
-        digest.add(served::<RowSource>(alloc, seed, round)?);
+        digest.add(served::<Seated>(alloc, seed, round)?);
+        digest.add(served::<Row>(alloc, seed, round)?);
     }
     Ok(digest)
 }

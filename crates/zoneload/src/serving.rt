@@ -1,9 +1,9 @@
 //! Pages for one thread.
 
-use crate::bench::SourceLoad;
+use crate::bench::Load;
 use crate::digest::Digest;
 use crate::errors::Broken;
-use crate::sources::{LoadSource, RowSource, SeatedSource};
+use crate::sources::{BlockSource, Row, Seated};
 use std::alloc::Global;
 use zp_model::MigrateType;
 
@@ -14,8 +14,8 @@ const CHURNS: u32 = 400_000;
 const PRESSES: u32 = 4000;
 
 /// Blocks of all orders with half of the pages lent, single pages with nine tenths lent, and all pages taken, and given back at random.
-fn served<S: LoadSource>(alloc: Global, seed: u64, round: u32) -> Result<u64, Broken> {
-    let mut load = SourceLoad::<S>::new(alloc, seed, round)?;
+fn served<S: BlockSource>(alloc: Global, seed: u64, round: u32) -> Result<u64, Broken> {
+    let mut load = Load::<S>::new(alloc, seed, round)?;
     let pages = load.pages();
     load.churn(CHURNS, pages / 2)?;
     load.give_down_to(0);
@@ -29,8 +29,8 @@ fn served<S: LoadSource>(alloc: Global, seed: u64, round: u32) -> Result<u64, Br
 pub fn serve(alloc: Global, rounds: u32, seed: u64) -> anyhow::Result<Digest> {
     let mut digest = Digest::new();
     for round in 0..rounds {
-        digest.add(served::<SeatedSource>(alloc, seed, round)?);
-        digest.add(served::<RowSource>(alloc, seed, round)?);
+        digest.add(served::<Seated>(alloc, seed, round)?);
+        digest.add(served::<Row>(alloc, seed, round)?);
     }
     Ok(digest)
 }

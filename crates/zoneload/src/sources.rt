@@ -5,7 +5,7 @@ ghost use Rattle.zp_share.specs.Shares.{IsShareOf, key_of};
 ghost use Rattle.zp_zone.specs.Seats.{Agrees, IsSeatOf};
 
 use crate::errors::Broken;
-use crate::text::{ListLengths, PAGES, Text};
+use crate::text::{Lists, PAGES, Text};
 use std::alloc::Global;
 use zp_model::{Largest, Mark, MigrateType, Order};
 use zp_office::opened;
@@ -14,7 +14,7 @@ use zp_share::{Lent, PlainZones, Share, Zones, alloc, drain_all, free};
 use zp_zone::{Seat, Zone, ZoneConfig};
 
 /// Blocks of zones of `PAGES` pages, with nothing lent at first.
-pub trait LoadSource: Drop {
+pub trait BlockSource: Drop {
     fn new(alloc: Global) -> Result<Self, Broken>;
 
     /// How many pages all zones have.
@@ -52,21 +52,21 @@ pub fn config() -> ZoneConfig<'static> {
 
 /// One zone, by its one seat.
 #[derive(Drop)]
-pub struct SeatedSource {
+pub struct Seated {
     zone: Zone,
     seat: Seat,
     ghost fits: { IsSeatOf zone seat },
     ghost agrees: { Agrees zone seat },
 }
 
-impl LoadSource for SeatedSource {
-    fn new(alloc: Global) -> Result<SeatedSource, Broken> {
+impl BlockSource for Seated {
+    fn new(alloc: Global) -> Result<Seated, Broken> {
         let (mut zone, mut seats) = Zone::new(alloc, config(), 1)?;
         let Some(mut seat) = seats.pop() else {
             return Err(Broken::Memory);
         };
         zone.check(&mut seat);
-        Ok(SeatedSource { zone, seat })
+        Ok(Seated { zone, seat })
     }
 
     fn pages(&self) -> u64 {
@@ -122,7 +122,7 @@ const ZONES: usize = 4;
 
 /// A row of zones with marks, by its one worker's lists: the highest zone is asked, and the others where it does not give.
 #[derive(Drop)]
-pub struct RowSource {
+pub struct Row {
     zones: PlainZones,
     share: Share,
     ghost fits: { IsShareOf (map key_of zones) share },
@@ -135,20 +135,20 @@ const ASKED: usize = ZONES - 1;
 /// How many pages each zone keeps back.
 const MIN: u32 = 512;
 
-impl LoadSource for RowSource {
-    fn new(alloc: Global) -> Result<RowSource, Broken> {
+impl BlockSource for Row {
+    fn new(alloc: Global) -> Result<Row, Broken> {
         let mut text = Text::new(alloc)?;
-        text.header(ZONES, MIN, 1, ListLengths::Longest)?;
+        text.header(ZONES, MIN, 1, Lists::Longest)?;
         let trace = parse_trace(alloc, text.as_bytes())?;
-        let mut crew = opened(alloc, &trace.header)?;
-        let Some(share) = crew.shares.pop() else {
+        let (zones, mut shares) = opened(alloc, &trace.header)?;
+        let Some(share) = shares.pop() else {
             return Err(Broken::Memory);
         };
         if share.zones() != ZONES {
             return Err(Broken::Trace);
         }
-        Ok(RowSource {
-            zones: PlainZones::new(crew.zones),
+        Ok(Row {
+            zones: PlainZones::new(zones),
             share,
         })
     }
@@ -158,12 +158,12 @@ impl LoadSource for RowSource {
     }
 
     fn take(&mut self, order: Order, kind: MigrateType) -> Option<Lent> {
-        let RowSource { zones, share, .. } = self;
+        let Row { zones, share, .. } = self;
         alloc(share, zones, order, kind, ASKED, Mark::Low).ok()
     }
 
     fn take_low(&mut self, order: Order) -> Option<Lent> {
-        let RowSource { zones, share, .. } = self;
+        let Row { zones, share, .. } = self;
         match zones.alloc_low(share, ASKED, order) {
             Ok(block) => Some(Lent {
                 zone: ASKED,
@@ -175,21 +175,21 @@ impl LoadSource for RowSource {
     }
 
     fn give(&mut self, lent: &Lent) {
-        let RowSource { zones, share, .. } = self;
+        let Row { zones, share, .. } = self;
         if lent.zone < ZONES {
             let _ = free(share, zones, lent.zone, lent.page, lent.order);
         }
     }
 
     fn isolate_and_release(&mut self, pageblock: u32, kind: MigrateType) -> bool {
-        let RowSource { zones, share, .. } = self;
+        let Row { zones, share, .. } = self;
         let isolated = zones.isolate(share, ASKED, pageblock);
         let released = zones.release(share, ASKED, pageblock, kind);
         isolated.is_ok() && released.is_ok()
     }
 
     fn drain(&mut self) -> usize {
-        let RowSource { zones, share, .. } = self;
+        let Row { zones, share, .. } = self;
         drain_all(share, zones).unwrap_or(0)
     }
 

@@ -13,7 +13,7 @@ pub const PAGES: u32 = 65_536;
 
 /// What workers' lists are: a batch, and the most pages of a list.
 #[derive(Clone, Copy, PartialEq, Eq, Debug, Drop)]
-pub enum ListLengths {
+pub enum Lists {
     None,
     Longest,
 }
@@ -90,7 +90,7 @@ impl Text {
         zones: usize,
         min: u32,
         workers: u32,
-        lists: ListLengths,
+        lists: Lists,
     ) -> Result<(), Broken> {
         for (place, name) in ZONES.iter().enumerate() {
             if place < zones {
@@ -102,8 +102,8 @@ impl Text {
         self.end()?;
         self.word("lists")?;
         self.word(match lists {
-            ListLengths::None => "0 0",
-            ListLengths::Longest => "31 64",
+            Lists::None => "0 0",
+            Lists::Longest => "31 64",
         })?;
         self.end()
     }
