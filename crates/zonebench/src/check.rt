@@ -3,7 +3,7 @@
 use crate::workload::{SIZES, Workload};
 use crate::{entries, worst};
 use std::alloc::Global;
-use zp_loads::{BlockSource, Cached, Load, PastLists, Seated, Unmade};
+use zp_loads::{Cached, DrawnLoad, LoadSource, PastLists, SeatSource, Unmade};
 use zp_model::Order;
 
 /// The calls that were made, and the checksum of their results and of those before them.
@@ -15,13 +15,13 @@ pub struct Sum {
 
 /// A workload in a zone of so many pages. What is lent at its end is not freed: of two numbers of calls the difference in
 /// instructions is that of the calls alone.
-pub fn sum_of<S: BlockSource>(
+pub fn sum_of<S: LoadSource>(
     alloc: Global,
     workload: &Workload,
     pages: u32,
     ops: u32,
 ) -> Result<Sum, Unmade> {
-    let mut bench = Load::<S>::new(alloc, pages)?;
+    let mut bench = DrawnLoad::<S>::new(alloc, pages)?;
     workload.prepare(&mut bench)?;
     let calls = workload.run(&mut bench, ops)?;
     Ok(Sum {
@@ -31,7 +31,7 @@ pub fn sum_of<S: BlockSource>(
 }
 
 /// Prints the checksums of a workload, a line for each size of a zone.
-fn print_sums<S: BlockSource>(
+fn print_sums<S: LoadSource>(
     rt: &impl Print,
     alloc: Global,
     name: &str,
@@ -45,7 +45,7 @@ fn print_sums<S: BlockSource>(
 }
 
 /// Prints the checksum of a workload in a zone of so many pages.
-fn print_sum<S: BlockSource>(
+fn print_sum<S: LoadSource>(
     rt: &impl Print,
     alloc: Global,
     name: &str,
@@ -61,7 +61,7 @@ fn print_sum<S: BlockSource>(
 /// Prints the checksums of pairs of an order.
 fn print_pairs(rt: &impl Print, alloc: Global, name: &str, order: u8) -> anyhow::Result<()> {
     if let Some(order) = Order::new(order) {
-        print_sums::<Seated<10>>(rt, alloc, name, &Workload::Pairs(order), 1000)?;
+        print_sums::<SeatSource<10>>(rt, alloc, name, &Workload::Pairs(order), 1000)?;
     }
     Ok(())
 }
@@ -69,7 +69,7 @@ fn print_pairs(rt: &impl Print, alloc: Global, name: &str, order: u8) -> anyhow:
 /// Prints the checks of wide zones: all pages of one are allocated one by one and freed at random, and a zone of
 /// 2^24 pages reports the right entries of the last page of the largest narrow zone, of the page after it, and of its last page.
 fn print_wide(rt: &impl Print, alloc: Global) -> anyhow::Result<()> {
-    print_sum::<Seated<10>>(rt, alloc, "burst", &Workload::Burst, 1 << 20, 1)?;
+    print_sum::<SeatSource<10>>(rt, alloc, "burst", &Workload::Burst, 1 << 20, 1)?;
     entries::follow(alloc)?;
     println!(rt; "entries of wide pages: as they should be")?;
     Ok(())
@@ -80,10 +80,10 @@ pub fn print_all(rt: &impl Print, alloc: Global) -> anyhow::Result<()> {
     let hot = Workload::Pairs(Order::zero());
     print_pairs(rt, alloc, "pairs 0", 0)?;
     print_pairs(rt, alloc, "pairs 4", 4)?;
-    print_sums::<Seated<10>>(rt, alloc, "runs", &Workload::Runs, 12_800)?;
-    print_sums::<Seated<10>>(rt, alloc, "churn", &Workload::Churn, 100_000)?;
-    print_sums::<Seated<10>>(rt, alloc, "press", &Workload::Press, 100_000)?;
-    print_sums::<Seated<10>>(rt, alloc, "burst", &Workload::Burst, 2)?;
+    print_sums::<SeatSource<10>>(rt, alloc, "runs", &Workload::Runs, 12_800)?;
+    print_sums::<SeatSource<10>>(rt, alloc, "churn", &Workload::Churn, 100_000)?;
+    print_sums::<SeatSource<10>>(rt, alloc, "press", &Workload::Press, 100_000)?;
+    print_sums::<SeatSource<10>>(rt, alloc, "burst", &Workload::Burst, 2)?;
     print_sums::<Cached>(rt, alloc, "cached pairs 0", &hot, 1000)?;
     print_pairs(rt, alloc, "pairs 9", 9)?;
     print_pairs(rt, alloc, "pairs 10", 10)?;
@@ -93,8 +93,8 @@ pub fn print_all(rt: &impl Print, alloc: Global) -> anyhow::Result<()> {
     print_sums::<Cached>(rt, alloc, "cached burst", &Workload::Burst, 2)?;
     print_sums::<PastLists>(rt, alloc, "past lists churn", &Workload::Churn, 100_000)?;
     worst::print_sums(rt, alloc)?;
-    print_sums::<Seated<9>>(rt, alloc, "largest 9 pairs 0", &hot, 1000)?;
-    print_sums::<Seated<4>>(rt, alloc, "largest 4 pairs 0", &hot, 1000)?;
-    print_sums::<Seated<1>>(rt, alloc, "largest 1 pairs 0", &hot, 1000)?;
+    print_sums::<SeatSource<9>>(rt, alloc, "largest 9 pairs 0", &hot, 1000)?;
+    print_sums::<SeatSource<4>>(rt, alloc, "largest 4 pairs 0", &hot, 1000)?;
+    print_sums::<SeatSource<1>>(rt, alloc, "largest 1 pairs 0", &hot, 1000)?;
     print_wide(rt, alloc)
 }

@@ -10,7 +10,7 @@ use std::alloc::Global;
 use std::rt::Clock;
 use std::sync::Wait;
 use std::thread::Threads;
-use zp_loads::{Cached, PastLists, Seated, Unmade};
+use zp_loads::{Cached, PastLists, SeatSource, Unmade};
 use zp_model::MAX_PAGES;
 
 /// How instructions are counted, where the processor's own counters are not to be had.
@@ -59,12 +59,12 @@ impl Way {
     {
         let ops = workload.ops(pages, calls);
         match self {
-            Way::Seated => sum_of::<Seated<10>>(alloc, workload, pages, ops),
+            Way::Seated => sum_of::<SeatSource<10>>(alloc, workload, pages, ops),
             Way::Cached => sum_of::<Cached>(alloc, workload, pages, ops),
             Way::PastLists => sum_of::<PastLists>(alloc, workload, pages, ops),
-            Way::Largest9 => sum_of::<Seated<9>>(alloc, workload, pages, ops),
-            Way::Largest4 => sum_of::<Seated<4>>(alloc, workload, pages, ops),
-            Way::Largest1 => sum_of::<Seated<1>>(alloc, workload, pages, ops),
+            Way::Largest9 => sum_of::<SeatSource<9>>(alloc, workload, pages, ops),
+            Way::Largest4 => sum_of::<SeatSource<4>>(alloc, workload, pages, ops),
+            Way::Largest1 => sum_of::<SeatSource<1>>(alloc, workload, pages, ops),
         }
     }
 }

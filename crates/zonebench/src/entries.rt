@@ -2,7 +2,7 @@
 //! come and go there. The values that it has to report were worked out from `docs/rules.md`.
 
 use std::alloc::Global;
-use zp_loads::{BlockSource, Seated, Unmade, expect};
+use zp_loads::{LoadSource, SeatSource, Unmade, expect};
 use zp_model::{MAX_PAGES, MigrateType, NARROW_PAGES, Order, PageNo, State, Worker};
 use zp_zone::ZonePage;
 
@@ -50,7 +50,7 @@ const RESTS: [(u8, u32); 10] = [
 ];
 
 /// The zone in one hand.
-type Whole = Seated<10>;
+type Whole = SeatSource<10>;
 
 /// Takes a block, which has to begin at this page.
 fn take(zone: &mut Whole, order: Order, page: u32) -> Result<(), Unmade> {

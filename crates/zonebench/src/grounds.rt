@@ -1,6 +1,6 @@
 //! What is free in a zone, and of which type, before a request that is dear.
 
-use zp_loads::{BlockSource, Load, Unmade};
+use zp_loads::{DrawnLoad, LoadSource, Unmade};
 use zp_model::{LARGEST_BLOCK_PAGES, MigrateType, Order};
 
 /// The pages of the zone, but where a request names them.
@@ -30,7 +30,7 @@ pub enum Ground {
 
 impl Ground {
     /// Brings a zone there.
-    pub fn prepare<S: BlockSource>(&self, bench: &mut Load<S>) -> Result<(), Unmade> {
+    pub fn prepare<S: LoadSource>(&self, bench: &mut DrawnLoad<S>) -> Result<(), Unmade> {
         match self {
             Ground::Whole => settle(bench, MigrateType::Movable),
             Ground::OnePageblock => {
@@ -64,20 +64,23 @@ impl Ground {
 }
 
 /// Lends all pageblocks, which get this type: each is of it, or is claimed.
-fn lend_pageblocks<S: BlockSource>(bench: &mut Load<S>, kind: MigrateType) -> Result<(), Unmade> {
+fn lend_pageblocks<S: LoadSource>(
+    bench: &mut DrawnLoad<S>,
+    kind: MigrateType,
+) -> Result<(), Unmade> {
     bench.give_all();
     bench.lend_all(Order::largest(), kind)
 }
 
 /// All pages are free, and all pageblocks of this type.
-fn settle<S: BlockSource>(bench: &mut Load<S>, kind: MigrateType) -> Result<(), Unmade> {
+fn settle<S: LoadSource>(bench: &mut DrawnLoad<S>, kind: MigrateType) -> Result<(), Unmade> {
     lend_pageblocks(bench, kind)?;
     bench.give_all();
     Ok(())
 }
 
 /// All pages are lent one by one, and all pageblocks of this type.
-fn lend_pages<S: BlockSource>(bench: &mut Load<S>, kind: MigrateType) -> Result<(), Unmade> {
+fn lend_pages<S: LoadSource>(bench: &mut DrawnLoad<S>, kind: MigrateType) -> Result<(), Unmade> {
     settle(bench, kind)?;
     bench.lend_all(Order::zero(), kind)
 }

@@ -2,7 +2,7 @@
 
 use crate::grounds::{Ground, PAGEBLOCK_PAGES, PAGEBLOCKS, PAGES};
 use std::alloc::Global;
-use zp_loads::{BlockSource, LentBlock, Load, PastLists, Seated, Unmade};
+use zp_loads::{DrawnLoad, LentBlock, LoadSource, PastLists, SeatSource, Unmade};
 use zp_model::{MigrateType, Order, PageNo};
 
 /// A request that is dear.
@@ -91,7 +91,7 @@ pub fn list_end() -> Wish {
 /// A wish, asked of a zone.
 #[derive(Drop)]
 pub struct Taking {
-    bench: Load<Seated<10>>,
+    bench: DrawnLoad<SeatSource<10>>,
     wish: Wish,
     lent: Option<LentBlock>,
 }
@@ -99,7 +99,7 @@ pub struct Taking {
 impl Taking {
     /// In a zone of so many pages.
     pub fn new(alloc: Global, pages: u32, wish: Wish) -> Result<Taking, Unmade> {
-        let mut bench = Load::new(alloc, pages)?;
+        let mut bench = DrawnLoad::new(alloc, pages)?;
         wish.ground.prepare(&mut bench)?;
         Ok(Taking {
             bench,
@@ -135,13 +135,13 @@ impl Shape for Taking {
 /// A page that joins ten times when it is freed.
 #[derive(Drop)]
 pub struct Giving {
-    bench: Load<Seated<10>>,
+    bench: DrawnLoad<SeatSource<10>>,
     lent: Option<LentBlock>,
 }
 
 impl Giving {
     pub fn new(alloc: Global) -> Result<Giving, Unmade> {
-        let mut bench = Load::new(alloc, PAGES)?;
+        let mut bench = DrawnLoad::new(alloc, PAGES)?;
         let lent = bench.take(Order::zero(), MigrateType::Movable);
         Ok(Giving { bench, lent })
     }
@@ -167,12 +167,12 @@ impl Shape for Giving {
 /// The first pageblock, isolated and released.
 #[derive(Drop)]
 pub struct Isolating {
-    bench: Load<Seated<10>>,
+    bench: DrawnLoad<SeatSource<10>>,
 }
 
 impl Isolating {
     pub fn new(alloc: Global, ground: Ground) -> Result<Isolating, Unmade> {
-        let mut bench = Load::new(alloc, PAGES)?;
+        let mut bench = DrawnLoad::new(alloc, PAGES)?;
         ground.prepare(&mut bench)?;
         Ok(Isolating { bench })
     }
@@ -196,12 +196,12 @@ impl Shape for Isolating {
 /// A refill each of whose pages is borrowed after a claim that fails beside 64 pageblocks.
 #[derive(Drop)]
 pub struct Refilling {
-    bench: Load<PastLists>,
+    bench: DrawnLoad<PastLists>,
 }
 
 impl Refilling {
     pub fn new(alloc: Global) -> Result<Refilling, Unmade> {
-        let mut bench = Load::new(alloc, PAGES)?;
+        let mut bench = DrawnLoad::new(alloc, PAGES)?;
         Ground::Halves(MigrateType::Unmovable).prepare(&mut bench)?;
         Ok(Refilling { bench })
     }
@@ -226,12 +226,12 @@ impl Shape for Refilling {
 /// A drain each of whose pages joins ten times: one page of each pageblock.
 #[derive(Drop)]
 pub struct Draining {
-    bench: Load<PastLists>,
+    bench: DrawnLoad<PastLists>,
 }
 
 impl Draining {
     pub fn new(alloc: Global) -> Result<Draining, Unmade> {
-        let mut bench = Load::new(alloc, PAGES)?;
+        let mut bench = DrawnLoad::new(alloc, PAGES)?;
         list_first_pages(&mut bench);
         Ok(Draining { bench })
     }
@@ -254,7 +254,7 @@ impl Shape for Draining {
 }
 
 /// Puts the first page of each pageblock on the worker's list, where all pages are free.
-fn list_first_pages(bench: &mut Load<PastLists>) {
+fn list_first_pages(bench: &mut DrawnLoad<PastLists>) {
     for _ in 0..PAGEBLOCKS {
         // the blocks come back below
         let _ = bench.take(Order::largest(), MigrateType::Movable);

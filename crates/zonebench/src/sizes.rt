@@ -5,7 +5,7 @@ use crate::timing::{CALLS, print_line, tenths_a_call};
 use crate::workload::Workload;
 use std::alloc::Global;
 use std::rt::Clock;
-use zp_loads::{BlockSource, Cached, Seated};
+use zp_loads::{Cached, LoadSource, SeatSource};
 use zp_progress::{Progress, Task};
 
 /// The sizes of the zones, in pages.
@@ -47,7 +47,7 @@ fn with_ops(workload: &Workload) -> [(u32, u32); SIZES.len()] {
 }
 
 /// Prints a line of the table: the time of a workload at each size.
-fn print_times<S: BlockSource>(
+fn print_times<S: LoadSource>(
     rt: &(impl Print + Clock),
     alloc: Global,
     steps: &mut Steps<impl Progress + Drop>,
@@ -61,7 +61,7 @@ fn print_times<S: BlockSource>(
 }
 
 /// Prints the lines of the workloads of these names.
-fn print_lines<S: BlockSource>(
+fn print_lines<S: LoadSource>(
     rt: &(impl Print + Clock),
     alloc: Global,
     steps: &mut Steps<impl Progress + Drop>,
@@ -86,7 +86,7 @@ pub fn print_all(
         "{:<40}{:>12}{:>12}{:>12}{:>12}{:>12}",
         "nanoseconds a call", "65536 pages", "262144", "1048576", "4194304", "16777216"
     )?;
-    print_lines::<Seated<10>>(rt, alloc, &mut steps, &SEATED)?;
+    print_lines::<SeatSource<10>>(rt, alloc, &mut steps, &SEATED)?;
     steps.clear();
     println!(rt; "with lists of workers")?;
     print_lines::<Cached>(rt, alloc, &mut steps, &CACHED)

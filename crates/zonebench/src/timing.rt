@@ -15,7 +15,7 @@ use std::rt::Clock;
 use std::sync::Wait;
 use std::thread::Threads;
 use std::time::Duration;
-use zp_loads::{BlockSource, Cached, Load, PastLists, Seated, Unmade};
+use zp_loads::{Cached, DrawnLoad, LoadSource, PastLists, SeatSource, Unmade};
 use zp_model::Order;
 use zp_progress::{Progress, Task};
 
@@ -74,22 +74,22 @@ const TASK: Task<'static> = Task {
 };
 
 /// Tenths of a nanosecond that a call of a workload takes in a zone of so many pages.
-pub fn tenths_a_call<S: BlockSource>(
+pub fn tenths_a_call<S: LoadSource>(
     rt: &impl Clock,
     alloc: Global,
     workload: &Workload,
     pages: u32,
     ops: u32,
 ) -> anyhow::Result<u128> {
-    let mut bench = Load::<S>::new(alloc, pages)?;
+    let mut bench = DrawnLoad::<S>::new(alloc, pages)?;
     workload.prepare(&mut bench)?;
     tenths_of_run(rt, &mut bench, workload, ops)
 }
 
 /// Tenths of a nanosecond that a call of a workload takes where the zone is prepared for it.
-fn tenths_of_run<S: BlockSource>(
+fn tenths_of_run<S: LoadSource>(
     rt: &impl Clock,
-    bench: &mut Load<S>,
+    bench: &mut DrawnLoad<S>,
     workload: &Workload,
     ops: u32,
 ) -> anyhow::Result<u128> {
@@ -136,7 +136,7 @@ fn with_sizes(ops: [u32; 3]) -> [(u32, u32); 3] {
 }
 
 /// Prints a line of the table: the time of a workload at each size.
-fn print_times<S: BlockSource>(
+fn print_times<S: LoadSource>(
     rt: &(impl Print + Clock),
     alloc: Global,
     steps: &mut Steps<impl Progress + Drop>,
@@ -378,7 +378,7 @@ pub fn print_all<R: Print + Eprint + Clock + Threads + Wait + Sync>(
 }
 
 /// Prints lines of the table: the time of pairs of these orders.
-fn print_pairs<S: BlockSource>(
+fn print_pairs<S: LoadSource>(
     rt: &(impl Print + Clock),
     alloc: Global,
     steps: &mut Steps<impl Progress + Drop>,
@@ -400,7 +400,7 @@ fn print_pairs<S: BlockSource>(
 }
 
 /// Prints lines of the table: the times of what keeps more than one block lent.
-fn print_mixed<S: BlockSource>(
+fn print_mixed<S: LoadSource>(
     rt: &(impl Print + Clock),
     alloc: Global,
     steps: &mut Steps<impl Progress + Drop>,
@@ -421,9 +421,9 @@ fn print_table(
         "{:<40}{:>12}{:>12}{:>12}",
         "nanoseconds a call", "1024 pages", "4096", "65536"
     )?;
-    print_pairs::<Seated<10>>(rt, alloc, steps, &SEATED_PAIRS)?;
-    print_mixed::<Seated<10>>(rt, alloc, steps)?;
-    print_times::<Seated<10>>(
+    print_pairs::<SeatSource<10>>(rt, alloc, steps, &SEATED_PAIRS)?;
+    print_mixed::<SeatSource<10>>(rt, alloc, steps)?;
+    print_times::<SeatSource<10>>(
         rt,
         alloc,
         steps,
@@ -431,7 +431,7 @@ fn print_table(
         &Workload::Scattered,
         [100_000, 20_000, 1000],
     )?;
-    print_times::<Seated<10>>(
+    print_times::<SeatSource<10>>(
         rt,
         alloc,
         steps,
@@ -450,11 +450,11 @@ fn print_largest_lines(
     steps: &mut Steps<impl Progress + Drop>,
 ) -> anyhow::Result<()> {
     print_heading(rt, steps, "largest order 9")?;
-    print_pairs::<Seated<9>>(rt, alloc, steps, &SMALL_PAIRS)?;
-    print_mixed::<Seated<9>>(rt, alloc, steps)?;
+    print_pairs::<SeatSource<9>>(rt, alloc, steps, &SMALL_PAIRS)?;
+    print_mixed::<SeatSource<9>>(rt, alloc, steps)?;
     print_heading(rt, steps, "largest order 4")?;
-    print_pairs::<Seated<4>>(rt, alloc, steps, &SMALL_PAIRS)?;
-    print_mixed::<Seated<4>>(rt, alloc, steps)
+    print_pairs::<SeatSource<4>>(rt, alloc, steps, &SMALL_PAIRS)?;
+    print_mixed::<SeatSource<4>>(rt, alloc, steps)
 }
 
 /// Prints the table's lines of a worker's share.

@@ -3,7 +3,7 @@
 ghost use Rattle.std.specs.Prelude.{◌≡◌, ◌≤◌};
 ghost use Rattle.zonebench.specs.Calls.{ops};
 
-use zp_loads::{BlockSource, Load, Unmade, below};
+use zp_loads::{DrawnLoad, LoadSource, Unmade, below};
 use zp_model::{MigrateType, NARROW_PAGES, Order};
 
 /// The sizes of the zones, in pages.
@@ -73,7 +73,7 @@ impl Workload {
     }
 
     /// What comes before the calls that count.
-    pub fn prepare<S: BlockSource>(&self, bench: &mut Load<S>) -> Result<(), Unmade> {
+    pub fn prepare<S: LoadSource>(&self, bench: &mut DrawnLoad<S>) -> Result<(), Unmade> {
         match self {
             Workload::Churn => warm(bench)?,
             Workload::Press => press_down(bench)?,
@@ -85,7 +85,7 @@ impl Workload {
     }
 
     /// The calls that count. Returns how many calls of the zone they were; a test and the free after it count as one.
-    pub fn run<S: BlockSource>(&self, bench: &mut Load<S>, ops: u32) -> Result<u64, Unmade> {
+    pub fn run<S: LoadSource>(&self, bench: &mut DrawnLoad<S>, ops: u32) -> Result<u64, Unmade> {
         match self {
             Workload::Pairs(order) => pairs(bench, *order, ops),
             Workload::Runs => runs(bench, ops),
@@ -98,14 +98,14 @@ impl Workload {
     }
 }
 
-fn pairs<S: BlockSource>(bench: &mut Load<S>, order: Order, ops: u32) -> Result<u64, Unmade> {
+fn pairs<S: LoadSource>(bench: &mut DrawnLoad<S>, order: Order, ops: u32) -> Result<u64, Unmade> {
     for _ in 0..ops {
         bench.pair(order, MigrateType::Movable);
     }
     Ok(2 * u64::from(ops))
 }
 
-fn runs<S: BlockSource>(bench: &mut Load<S>, ops: u32) -> Result<u64, Unmade> {
+fn runs<S: LoadSource>(bench: &mut DrawnLoad<S>, ops: u32) -> Result<u64, Unmade> {
     for _ in 0..ops / (2 * RUN) {
         run(bench)?;
     }
@@ -113,7 +113,7 @@ fn runs<S: BlockSource>(bench: &mut Load<S>, ops: u32) -> Result<u64, Unmade> {
 }
 
 /// One run.
-fn run<S: BlockSource>(bench: &mut Load<S>) -> Result<(), Unmade> {
+fn run<S: LoadSource>(bench: &mut DrawnLoad<S>) -> Result<(), Unmade> {
     for _ in 0..RUN {
         bench.lend(Order::zero(), MigrateType::Movable)?;
     }
@@ -121,7 +121,7 @@ fn run<S: BlockSource>(bench: &mut Load<S>) -> Result<(), Unmade> {
     Ok(())
 }
 
-fn churn<S: BlockSource>(bench: &mut Load<S>, ops: u32) -> Result<u64, Unmade> {
+fn churn<S: LoadSource>(bench: &mut DrawnLoad<S>, ops: u32) -> Result<u64, Unmade> {
     for _ in 0..ops {
         churn_once(bench)?;
     }
@@ -129,7 +129,7 @@ fn churn<S: BlockSource>(bench: &mut Load<S>, ops: u32) -> Result<u64, Unmade> {
 }
 
 /// The calls of a churn before the ones that count.
-fn warm<S: BlockSource>(bench: &mut Load<S>) -> Result<(), Unmade> {
+fn warm<S: LoadSource>(bench: &mut DrawnLoad<S>) -> Result<(), Unmade> {
     for _ in 0..(bench.pages() / u64::from(NARROW_PAGES)).max(1) {
         churn(bench, WARMING)?;
     }
@@ -137,7 +137,7 @@ fn warm<S: BlockSource>(bench: &mut Load<S>) -> Result<(), Unmade> {
 }
 
 /// Allocates a block of a drawn order where fewer than half of the pages are lent; else frees a drawn one.
-fn churn_once<S: BlockSource>(bench: &mut Load<S>) -> Result<(), Unmade> {
+fn churn_once<S: LoadSource>(bench: &mut DrawnLoad<S>) -> Result<(), Unmade> {
     let drawn = bench.random.draw();
     if bench.lent_pages() >= bench.pages() / 2 {
         bench.give_drawn(drawn);
@@ -151,12 +151,12 @@ fn churn_once<S: BlockSource>(bench: &mut Load<S>) -> Result<(), Unmade> {
 }
 
 /// Takes all pages one by one.
-fn fill<S: BlockSource>(bench: &mut Load<S>) -> Result<(), Unmade> {
+fn fill<S: LoadSource>(bench: &mut DrawnLoad<S>) -> Result<(), Unmade> {
     bench.lend_all(Order::zero(), MigrateType::Movable)
 }
 
 /// Leaves nine tenths of the pages lent.
-fn press_down<S: BlockSource>(bench: &mut Load<S>) -> Result<(), Unmade> {
+fn press_down<S: LoadSource>(bench: &mut DrawnLoad<S>) -> Result<(), Unmade> {
     fill(bench)?;
     let kept = bench.pages() / 10 * 9;
     for _ in 0..bench.pages() {
@@ -169,7 +169,7 @@ fn press_down<S: BlockSource>(bench: &mut Load<S>) -> Result<(), Unmade> {
     Ok(())
 }
 
-fn press<S: BlockSource>(bench: &mut Load<S>, ops: u32) -> Result<u64, Unmade> {
+fn press<S: LoadSource>(bench: &mut DrawnLoad<S>, ops: u32) -> Result<u64, Unmade> {
     let mut calls: u64 = 0;
     for _ in 0..ops {
         if calls >= u64::from(ops) {
@@ -182,7 +182,7 @@ fn press<S: BlockSource>(bench: &mut Load<S>, ops: u32) -> Result<u64, Unmade> {
 }
 
 /// Frees so many drawn pages, and takes as many. Returns how many calls these were.
-fn exchange<S: BlockSource>(bench: &mut Load<S>, pages: usize) -> Result<u64, Unmade>
+fn exchange<S: LoadSource>(bench: &mut DrawnLoad<S>, pages: usize) -> Result<u64, Unmade>
     requires { pages ≤ 64 }
 {
     for _ in 0..pages {
@@ -196,7 +196,7 @@ fn exchange<S: BlockSource>(bench: &mut Load<S>, pages: usize) -> Result<u64, Un
 }
 
 /// Takes all pages, and gives them back at random.
-fn burst<S: BlockSource>(bench: &mut Load<S>) -> Result<(), Unmade> {
+fn burst<S: LoadSource>(bench: &mut DrawnLoad<S>) -> Result<(), Unmade> {
     fill(bench)?;
     for _ in 0..bench.pages() {
         let drawn = bench.random.draw();
@@ -205,7 +205,7 @@ fn burst<S: BlockSource>(bench: &mut Load<S>) -> Result<(), Unmade> {
     Ok(())
 }
 
-fn bursts<S: BlockSource>(bench: &mut Load<S>, ops: u32) -> Result<u64, Unmade> {
+fn bursts<S: LoadSource>(bench: &mut DrawnLoad<S>, ops: u32) -> Result<u64, Unmade> {
     for _ in 0..ops {
         burst(bench)?;
     }
@@ -213,20 +213,20 @@ fn bursts<S: BlockSource>(bench: &mut Load<S>, ops: u32) -> Result<u64, Unmade> 
 }
 
 /// Leaves a third of the pages free, each alone.
-fn scatter<S: BlockSource>(bench: &mut Load<S>) -> Result<(), Unmade> {
+fn scatter<S: LoadSource>(bench: &mut DrawnLoad<S>) -> Result<(), Unmade> {
     fill(bench)?;
     bench.give_picked(|page| page % 3 == 0);
     Ok(())
 }
 
-fn scattered<S: BlockSource>(bench: &mut Load<S>, ops: u32) -> Result<u64, Unmade> {
+fn scattered<S: LoadSource>(bench: &mut DrawnLoad<S>, ops: u32) -> Result<u64, Unmade> {
     for _ in 0..ops {
         bench.pair(Order::zero(), MigrateType::Unmovable);
     }
     Ok(2 * u64::from(ops))
 }
 
-fn claims<S: BlockSource>(bench: &mut Load<S>, ops: u32) -> Result<u64, Unmade> {
+fn claims<S: LoadSource>(bench: &mut DrawnLoad<S>, ops: u32) -> Result<u64, Unmade> {
     for _ in 0..ops {
         bench.pair(Order::largest(), MigrateType::Unmovable);
         bench.pair(Order::largest(), MigrateType::Movable);

@@ -3,7 +3,7 @@
 ghost use Rattle.std.specs.Prelude.{◌≡◌, length, map};
 ghost use Rattle.zp_share.specs.Shares.{IsShareOf, key_of};
 
-use crate::source::{BlockSource, config};
+use crate::source::{LoadSource, config};
 use crate::unmade::Unmade;
 use std::alloc::Global;
 use zp_model::{Mark, MigrateType, Order, PageNo};
@@ -48,7 +48,7 @@ impl Hand {
 #[derive(Drop)]
 pub struct Cached(Hand);
 
-impl BlockSource for Cached {
+impl LoadSource for Cached {
     fn new(alloc: Global, pages: u32) -> Result<Cached, Unmade> {
         Ok(Cached(Hand::new(alloc, pages)?))
     }
@@ -71,7 +71,7 @@ impl BlockSource for Cached {
 #[derive(Drop)]
 pub struct PastLists(Hand);
 
-impl BlockSource for PastLists {
+impl LoadSource for PastLists {
     fn new(alloc: Global, pages: u32) -> Result<PastLists, Unmade> {
         Ok(PastLists(Hand::new(alloc, pages)?))
     }

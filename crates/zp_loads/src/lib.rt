@@ -10,8 +10,8 @@ mod source;
 mod unmade;
 
 pub use cached::{Cached, PastLists, longest_lists};
-pub use load::{LentBlock, Load};
+pub use load::{DrawnLoad, LentBlock};
 pub use random::{Checksum, Random, below};
-pub use seated::Seated;
-pub use source::{BlockSource, config, config_of};
+pub use seated::SeatSource;
+pub use source::{LoadSource, config, config_of};
 pub use unmade::{Unmade, expect};

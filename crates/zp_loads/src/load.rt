@@ -1,7 +1,7 @@
 //! A zone under load, as a user would keep it: its blocks that were lent.
 
 use crate::random::{Checksum, Random, below};
-use crate::source::BlockSource;
+use crate::source::LoadSource;
 use crate::unmade::Unmade;
 use std::alloc::Global;
 use zp_model::{MigrateType, Order, PageNo};
@@ -15,7 +15,7 @@ pub struct LentBlock {
 
 /// A source with nothing lent at first, the numbers drawn so far, and the checksum of the pages returned.
 #[derive(Drop)]
-pub struct Load<S> {
+pub struct DrawnLoad<S> {
     pub source: S,
     /// The pages of the zone.
     pages: u32,
@@ -26,11 +26,11 @@ pub struct Load<S> {
     checksum: Checksum,
 }
 
-impl<S: BlockSource> Load<S> {
+impl<S: LoadSource> DrawnLoad<S> {
     /// Over a zone of so many pages, with room for as many lent blocks.
-    pub fn new(alloc: Global, pages: u32) -> Result<Load<S>, Unmade> {
+    pub fn new(alloc: Global, pages: u32) -> Result<DrawnLoad<S>, Unmade> {
         let lent = Vec::with_capacity(alloc, pages as usize)?;
-        Ok(Load {
+        Ok(DrawnLoad {
             source: S::new(alloc, pages)?,
             pages,
             lent,

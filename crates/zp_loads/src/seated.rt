@@ -4,7 +4,7 @@ ghost use Rattle.std.specs.Prelude.{◌↔◌, IfSome, IsSome};
 ghost use Rattle.zp_zone.specs.NamedZone.{IsPageOf, IsToldOf};
 ghost use Rattle.zp_zone.specs.Seats.{IsSeatOf, Agrees};
 
-use crate::source::{BlockSource, config_of};
+use crate::source::{LoadSource, config_of};
 use crate::unmade::Unmade;
 use std::alloc::Global;
 use zp_model::{Largest, Mark, MigrateType, Order, PageNo};
@@ -12,14 +12,14 @@ use zp_zone::{Seat, Zone, ZonePage};
 
 /// A zone's requests, by its seat. The zone is of this largest order: at 9 its largest blocks are of 2 MiB, where pages have 4 KiB.
 #[derive(Drop)]
-pub struct Seated<const LARGEST: u8> {
+pub struct SeatSource<const LARGEST: u8> {
     zone: Zone,
     seat: Seat,
     ghost fits: { IsSeatOf zone seat },
     ghost agrees: { Agrees zone seat },
 }
 
-impl<const LARGEST: u8> Seated<LARGEST> {
+impl<const LARGEST: u8> SeatSource<LARGEST> {
     /// Isolates the first pageblock, and releases it for Movable requests. Returns whether both were done.
     pub fn isolate_and_release(&mut self) -> bool {
         let isolated = self.zone.isolate(&mut self.seat, 0);
@@ -36,15 +36,15 @@ impl<const LARGEST: u8> Seated<LARGEST> {
     }
 }
 
-impl<const LARGEST: u8> BlockSource for Seated<LARGEST> {
-    fn new(alloc: Global, pages: u32) -> Result<Seated<LARGEST>, Unmade> {
+impl<const LARGEST: u8> LoadSource for SeatSource<LARGEST> {
+    fn new(alloc: Global, pages: u32) -> Result<SeatSource<LARGEST>, Unmade> {
         let largest = Largest::new(LARGEST).ok_or(Unmade::Other)?;
         let (mut zone, mut seats) = Zone::wide(alloc, config_of(pages, largest), 1)?;
         let Some(mut seat) = seats.pop() else {
             return Err(Unmade::Other);
         };
         zone.check(&mut seat);
-        Ok(Seated { zone, seat })
+        Ok(SeatSource { zone, seat })
     }
 
     fn take(&mut self, order: Order, kind: MigrateType) -> Option<PageNo> {

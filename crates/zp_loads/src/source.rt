@@ -8,7 +8,7 @@ use zp_model::{Largest, MigrateType, Order, PageNo};
 use zp_zone::ZoneConfig;
 
 /// A zone from page 0 on, with nothing lent at first, and the way in which its blocks are allocated and freed.
-pub trait BlockSource: Drop {
+pub trait LoadSource: Drop {
     /// Over a zone of so many pages, marks 0.
     fn new(alloc: Global, pages: u32) -> Result<Self, Unmade>;
 
