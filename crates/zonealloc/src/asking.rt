@@ -1,5 +1,5 @@
-//! The one road from a worker's handle to a zone: the worker is taken out of the handle, makes the request, and goes back. What is asked
-//! most, a block and a block back, has a function of its own.
+//! The one road from a worker's handle to a zone: the handle lends the worker, which makes the request. The two most frequent ones,
+//! allocating and freeing a block, have functions of their own.
 ghost use Rattle.std.specs.Prelude.{IfErr, IfOk, OnOk};
 ghost use Rattle.zp_model.specs.declared.request.Request.TheVariants as request;
 ghost use Rattle.zp_model.specs.declared.request.Reply.TheVariants as reply;
@@ -34,7 +34,7 @@ pub fn ask_alloc(
     }
 }
 
-/// A block back from the worker in a handle; else the number of why it was not taken.
+/// Frees a block of the worker in a handle; else the number of why it was not freed.
 #[inline(always)]
 pub fn ask_free(worker: &mut WorkerHandle, zone: u32, page: PageNo, order: Order) -> Result<(), u32>
     ensures granted { OnOk result (IsOfBoth (IsGrantedAt zone (request.Free page order) reply.Freed) worker.old.slot.value worker.new.slot.value) }

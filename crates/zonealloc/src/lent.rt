@@ -7,6 +7,7 @@ use crate::worker_slot::WorkerSlot;
 use zp_gate::GatedWorker;
 
 impl WorkerSlot {
+    /// The worker, lent where it lies: the slot keeps it, as it was last written.
     pub fn held(&mut self) -> &mut GatedWorker
         requires { IsSome self.old.value }
         ensures* writes_back { sem 𝓛 (LendsWorker self.entry result) }

@@ -146,7 +146,7 @@ pub extern "C" fn zonealloc_refill(
     }
 }
 
-/// Gives back so many pages from the back of the worker's list of this type.
+/// Frees so many pages from the back of the worker's list of this type.
 #[unsafe(no_mangle)]
 pub extern "C" fn zonealloc_drain(
     worker: &mut WorkerHandle,
@@ -170,8 +170,8 @@ pub extern "C" fn zonealloc_drain(
     }
 }
 
-/// Gives back all pages of the worker's lists of this zone, a list at a time. Where it does not answer 0 the lists before the one that was
-/// refused are empty, and the rest is as it was.
+/// Frees all pages of the worker's lists of this zone, a list at a time. Where it does not return 0 the lists before the one that was
+/// refused are empty, and the rest is unchanged.
 #[unsafe(no_mangle)]
 pub extern "C" fn zonealloc_drain_all(worker: &mut WorkerHandle, zone: u32) -> u32
     ensures call { IsDrainAllCall zone result worker.old.slot.value worker.new.slot.value }

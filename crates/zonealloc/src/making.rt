@@ -1,4 +1,4 @@
-//! The making of a row: what is wrong comes by the first number that the header names.
+//! Creating a row: of several faults the first number that the header names is returned.
 ghost use Rattle.std.specs.Prelude.{ℕ, ◌≡◌, ◌≤◌, ◌<◌, ◌⊎◌, ◌↔◌, All, IfErr, IfOk, IfSome, IsSome, OnOk, Some, true, false, length, map, slice_index_or};
 ghost use Rattle.zp_model.specs.Bounds.{AreLists};
 ghost use Rattle.zp_gate.specs.GatedRows.{key_for, untied, wanted_by};

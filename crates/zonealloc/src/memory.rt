@@ -35,7 +35,7 @@ pub const LIST_BYTES: u64 = 12;
 /// What each worker takes for a zone, beside a byte for each of its pages.
 pub const WORKER_BYTES: u64 = 1264;
 
-/// How many bytes a making takes at most, with so many workers. (Of what is taken no clause can say anything: the bound is tested.)
+/// How many bytes creating a row takes at most, with so many workers. (Not proved: the bound is tested.)
 #[unsafe(no_mangle)]
 pub extern "C" fn zonealloc_bytes(zones: &[ZoneSpec], workers: u32, bytes: &mut u64) -> u32
     ensures { IsBytesCall zones.now workers result bytes.old bytes.new }

@@ -1,4 +1,4 @@
-//! What C is told of a zone.
+//! What C reads of a zone, by numbers.
 ghost use Rattle.std.specs.Prelude.{◌≡◌};
 ghost use Rattle.zp_model.specs.MigrateType.{type_number};
 ghost use Rattle.zonealloc.specs.Readings.{counts_told, page_told, pageblock_told};

@@ -21,7 +21,7 @@ pub struct ZoneSpec {
     name: [u8; LONGEST_NAME],
 }
 
-/// The config of a zone; else the number of what is wrong. The rest the making of the zone tests.
+/// The config of a zone; else the number of what is wrong. Creating the zone tests the rest.
 pub fn config_of(spec: &ZoneSpec) -> Result<ZoneConfig<'_>, u32>
     ensures ok { IfOk result (λ config. (workers : ℕ) → (key_for workers config ≡ spec_key workers spec.now) × (wanted_by workers config ≡ wanted_zone workers spec.now)) }
     ensures good { OnOk result (IsConfig spec.now) }
