@@ -68,7 +68,7 @@ pub extern "C" fn zonealloc_alloc_low(
     }
 }
 
-/// Gives back a lent block.
+/// Frees a lent block.
 #[tactic(auto, using(crate::proofs::Answering::denied_call, crate::proofs::Answering::denied_by))]
 #[unsafe(no_mangle)]
 pub extern "C" fn zonealloc_free(worker: &mut WorkerHandle, zone: u32, page: u32, order: u32) -> u32
