@@ -1,6 +1,6 @@
 -- What one call makes of what stands behind a lock: it is the zone of the same key still.
-use Rattle.std.proofs.Common.{◌≡◌, ◌⊎◌, ◌<◌, List, [], ◌∷◌, ◌++◌, length, All, slice_index_or, set, refl, sym, ap, ◌∙◌, subst, inl, inr, arith}
-use Rattle.std.specs.Prelude.{Option, Some, None, Result, Ok, Err}
+use Rattle.std.proofs.Common.{◌≡◌, List, [], ◌∷◌, length, All, sym, ap, ◌∙◌, subst, inl, inr}
+use Rattle.std.specs.Prelude.{Option, Some, None}
 use Rattle.std.proofs.lemmas.List.{length-set}
 use Rattle.std.proofs.lemmas.List.Elements.{All-append}
 use Rattle.zp_model.specs.declared.refused.Refused.{Refused}
@@ -10,11 +10,11 @@ use Rattle.zp_model.specs.Step.{step as stepping}
 use Rattle.zp_laws.proofs.Sameness.{step-same}
 use Rattle.zp_zone.specs.Seats.{ZoneState}
 use Rattle.zp_share.specs.PlainShares.{refusal_of}
-use Rattle.zp_share.specs.Sections.{ComesOf, IsAsked, IsRefilled}
+use Rattle.zp_share.specs.Sections.{ComesOf, IsAsked}
 use Rattle.zp_share.specs.Shares.{ShareState, ZoneKey, key_of, share_at, with_zone_share}
 use Rattle.zp_share.specs.ZoneShares.{ZoneShareState, plain_share}
 use Rattle.zp_share.proofs.Telling.{same-key}
-use Rattle.zp_gate.specs.GatedZones.{GatedState, IsBehind, IsOneCall, IsOneShare, IsSectionOf, no_zone}
+use Rattle.zp_gate.specs.GatedZones.{GatedState, IsBehind, IsOneCall, IsOneShare, IsSectionOf}
 use Rattle.zp_gate.proofs.Crews.{each}
 
 -- whatever is asked, the zone's key stays

@@ -5,7 +5,7 @@ use Rattle.zp_model.specs.declared.refused.Refused.TheVariants as refusal
 use Rattle.zp_zone.specs.Making.{IsRefusedWithin, IsWideWhy}
 use Rattle.zp_zone.specs.declared.config.TheConstants.{WIDE}
 use Rattle.zp_zone.specs.declared.config.ZoneConfig.{ZoneConfig}
-use Rattle.zp_gate.specs.GatedRows.{IsGoodConfig, IsOfFirstConfig, IsWhyNoRow, wanted_by}
+use Rattle.zp_gate.specs.GatedRows.{IsGoodConfig, IsWhyNoRow, wanted_by}
 
 module _ (n : ℕ) (configs : List ZoneConfig) (i : ℕ) (config : ZoneConfig) (before : All (IsGoodConfig n) (take i configs)) (at : (i < length configs) × ((none : ZoneConfig) → slice_index_or configs i none ≡ config)) where
   first : (e : Refused) → IsRefusedWithin WIDE (wanted_by n config) e → IsWhyNoRow n configs e

@@ -1,12 +1,11 @@
 -- A zone that stands alone in a row keeps its place when a request changes it.
-use Rattle.std.proofs.Common.{ℕ, zero, suc, ◌≡◌, ◌<◌, ◌≤◌, ◌++◌, List, [], ◌∷◌, All, length, map, slice_index_or, set, refl, sym, ap, ◌∙◌, subst, arith}
+use Rattle.std.proofs.Common.{ℕ, ◌≡◌, ◌<◌, ◌≤◌, ◌++◌, List, [], ◌∷◌, All, length, map, slice_index_or, set, refl, sym, ap, ◌∙◌, subst, arith}
 use Rattle.std.proofs.lemmas.List.{get_or_push, length-append, length-set}
 use Rattle.std.specs.Prelude.{Result, Ok, Err}
 use Rattle.zp_model.specs.Zone.{workers_of}
 use Rattle.zp_model.specs.declared.refused.Refused.{Refused}
 use Rattle.zp_model.specs.declared.request.Reply.{Reply}
 use Rattle.zp_zone.specs.Seats.{ZoneState}
-use Rattle.zp_zone.specs.NamedZone.{NamedZone}
 use Rattle.zp_model.specs.Run.{IsHistory}
 use Rattle.zp_share.specs.declared.gathering.Totals.{Totals}
 use Rattle.zp_share.specs.Commands.{zone_at}

@@ -1,6 +1,6 @@
 -- What a worker has of each zone of its row, and what its calls come to. A zone behind a lock is not seen between calls: each of them
 -- speaks of the zone as it is then, whatever it is (this profile).
-use Rattle.std.specs.Prelude.{ℕ, ◌≡◌, ◌≢◌, ◌<◌, ◌≤◌, ◌+◌, ◌-◌, ◌⊎◌, ◌++◌, Bool, false, List, [], ◌∷◌, All, length, map, slice_index_or, slice_set, take, Some, Result, Ok, Err}
+use Rattle.std.specs.Prelude.{ℕ, ◌≡◌, ◌≢◌, ◌<◌, ◌≤◌, ◌+◌, ◌-◌, ◌⊎◌, ◌++◌, false, List, [], ◌∷◌, All, length, map, slice_index_or, slice_set, take, Some, Result, Ok, Err}
 use Rattle.zp_model.specs.declared.request.Request.{Request}
 use Rattle.zp_model.specs.declared.request.Reply.{Reply}
 use Rattle.zp_model.specs.declared.refused.Refused.{Refused as Refusal}

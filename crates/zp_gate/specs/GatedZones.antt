@@ -1,5 +1,5 @@
 -- What stands behind a lock: a zone, whose posted blocks are its own, and the shares of it that workers left (this profile).
-use Rattle.std.specs.Prelude.{ℕ, ◌≡◌, ◌<◌, ◌++◌, ◌∷◌, ◌⊎◌, List, [], All, length, map}
+use Rattle.std.specs.Prelude.{ℕ, ◌≡◌, ◌++◌, ◌∷◌, ◌⊎◌, List, [], All, length, map}
 use Rattle.zp_model.specs.declared.request.Request.{Request}
 use Rattle.zp_model.specs.declared.request.Reply.{Reply}
 use Rattle.zp_model.specs.declared.migrate_type.MigrateType.{MigrateType}

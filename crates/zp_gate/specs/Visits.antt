@@ -1,8 +1,7 @@
 -- What one visit behind a lock comes to (this profile). What stands there is not seen between visits: each of them speaks of it as it is then.
-use Rattle.std.specs.Prelude.{ℕ, ◌≡◌, ◌<◌, Option, Some}
+use Rattle.std.specs.Prelude.{◌≡◌, Some}
 use Rattle.zp_model.specs.declared.request.Request.{Request}
 use Rattle.zp_model.specs.declared.request.Reply.{Reply}
-use Rattle.zp_zone.specs.Seats.{ZoneState}
 use Rattle.zp_share.specs.Gathering.{IsCrewOf}
 use Rattle.zp_share.specs.declared.gathering.Totals.{Totals}
 use Rattle.zp_share.specs.Shares.{ShareState, ZoneKey, share_at, with_zone_share}

@@ -52,8 +52,8 @@ pub fn script(alloc: Global) -> Result<(), Unmade> {
 /// The zones that it declares, and the shares of their workers.
 pub fn shares(alloc: Global) -> Result<(), Unmade> {
     let trace = read_trace(alloc)?;
-    let crew = opened(alloc, &trace.header)?;
-    expect(crew.shares.len() == 2)
+    let (_zones, shares) = opened(alloc, &trace.header)?;
+    expect(shares.len() == 2)
 }
 
 /// The desk of a share with a script of one command.

@@ -26,9 +26,9 @@ pub fn opened_desks(alloc: Global, trace: &Trace) -> Result<(Vec<Zone>, Vec<Desk
     ensures new { IfOk result (λ c. All (λ (z : ZoneState). z.entries ≡ []) c.0.items) }
     ensures why { IfErr result (λ r. r ≡ Refused.Memory) }
 {
-    let crew = opened(alloc, &trace.header)?;
-    let desks = desks_of(alloc, crew.shares, trace)?;
-    Ok((crew.zones, desks))
+    let (zones, shares) = opened(alloc, &trace.header)?;
+    let desks = desks_of(alloc, shares, trace)?;
+    Ok((zones, desks))
 }
 
 /// A desk for each share, with the script of its worker. Refused 6.

@@ -11,13 +11,27 @@ ghost use Rattle.zp_office.specs.Opening.{declared_config, opened_crew};
 use std::alloc::Global;
 use zp_crew::{Crew, open_crew};
 use zp_model::Refused;
-use zp_share::ListConfig;
+use zp_share::{ListConfig, Share};
 use zp_trace::{Header, ZoneLine};
-use zp_zone::ZoneConfig;
+use zp_zone::{Zone, ZoneConfig};
 
 /// The zones that a header declares, with all their pages free, and the shares of their workers, in order, with nothing in them.
 /// Refused 6.
-pub fn opened(alloc: Global, header: &Header) -> Result<Crew, Refused>
+pub fn opened(alloc: Global, header: &Header) -> Result<(Vec<Zone>, Vec<Share>), Refused>
+    requires { IsHeader header.now }
+    ensures zones { IfOk result (λ c. map named_zone c.0.items ≡ (opened_crew header.now).zones) }
+    ensures shares { IfOk result (λ c. map plain c.1.items ≡ (opened_crew header.now).shares) }
+    ensures few { IfOk result (λ c. length c.0.items ≤ TRACE_ZONES) }
+    ensures crew { IfOk result (λ c. AreSharesOf c.0.items c.1.items) }
+    ensures new { IfOk result (λ c. All (λ (z : ZoneState). z.entries ≡ []) c.0.items) }
+    ensures why { IfErr result (λ r. r ≡ Refused.Memory) }
+{
+    let Crew { zones, shares } = declared_crew(alloc, header)?;
+    Ok((zones, shares))
+}
+
+/// The crew that a header declares. Refused 6.
+fn declared_crew(alloc: Global, header: &Header) -> Result<Crew, Refused>
     requires { IsHeader header.now }
     ensures zones { IfOk result (λ c. map named_zone c.zones.items ≡ (opened_crew header.now).zones) }
     ensures shares { IfOk result (λ c. map plain c.shares.items ≡ (opened_crew header.now).shares) }

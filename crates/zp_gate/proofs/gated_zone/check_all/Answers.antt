@@ -1,9 +1,9 @@
 use Rattle.std.proofs.Common.{ℕ, List, ◌≡◌, ◌<◌, ◌∙◌, All, ap, arith, get_or, length, set, subst, sym}
 use Rattle.std.proofs.lemmas.List.{set-get_or}
 use Rattle.std.proofs.lemmas.List.Elements.{All-more}
-use Rattle.zp_zone.specs.Seats.{IsSeatOf, ZoneState}
+use Rattle.zp_zone.specs.Seats.{ZoneState}
 use Rattle.zp_share.specs.Gathering.{IsOneOf}
-use Rattle.zp_share.specs.Shares.{ShareState, key_of, share_at}
+use Rattle.zp_share.specs.Shares.{ShareState, key_of}
 use Rattle.zp_gate.specs.GatedZones.{IsOneShare}
 use Rattle.zp_gate.proofs.gated_zone.check_all.Goals as goal
 

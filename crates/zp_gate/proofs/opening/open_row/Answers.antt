@@ -1,4 +1,4 @@
-use Rattle.std.proofs.Common.{ℕ, List, [], ◌≡◌, ◌++◌, ◌∙◌, ap, arith, map, subst, sym}
+use Rattle.std.proofs.Common.{List, [], ◌≡◌, ◌++◌, ◌∙◌, ap, arith, map, subst, sym}
 use Rattle.std.proofs.lemmas.Grind.{common_steps}
 use Rattle.std.proofs.lemmas.List.{append-nil, nil_from_length}
 use Rattle.std.specs.Arc.{arc_value}

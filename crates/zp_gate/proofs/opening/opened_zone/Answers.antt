@@ -1,4 +1,4 @@
-use Rattle.std.proofs.Common.{List, [], ◌∷◌, ◌++◌, ◌≡◌, ◌∙◌, All, ap, sym, subst, Some}
+use Rattle.std.proofs.Common.{List, ◌∙◌, All, ap, sym, subst}
 use Rattle.std.specs.Arc.{arc_value}
 use Rattle.zp_zone.specs.Seats.{IsSeatOf, IsUnused, SeatState, ZoneState, books}
 use Rattle.zp_share.specs.Shares.{ZoneKey}

@@ -1,12 +1,10 @@
 use Rattle.std.proofs.Common.{List, ◌≡◌, ◌∙◌, ◌++◌, All, length, take, ◌∷◌, [], ap, arith, map, subst, sym}
 use Rattle.std.proofs.lemmas.List.{get_or_default, map_more, map_push}
 use Rattle.std.proofs.lemmas.List.Elements.{All-append, All-more}
-use Rattle.zp_zone.specs.declared.config.ZoneConfig.{ZoneConfig}
 use Rattle.zp_share.specs.Shares.{ZoneKey}
 use Rattle.zp_gate.specs.declared.opening.OpenedZone.{OpenedZone}
 use Rattle.zp_gate.specs.GatedRows.{IsGoodConfig, key_for, untied}
 use Rattle.zp_gate.proofs.Crews.{each}
-use Rattle.zp_gate.proofs.Handing.{same_next}
 use Rattle.zp_gate.proofs.Keys.{key_in}
 use Rattle.zp_gate.proofs.Refusals.{why_no_row}
 use Rattle.zp_gate.proofs.opening.opened_zones.Goals as goal

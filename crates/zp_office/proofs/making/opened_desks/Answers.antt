@@ -11,14 +11,14 @@ opened-requires c = header_is c.args.trace.now.header c.args.trace.now.commands 
 pub returns-clause-desks : goal.returns-clause-desks
 returns-clause-desks c =
     ap (map plain_desk) c.in_ok-desks.ensures.desks
-    ∙ desks_opened c.args.trace.now c.in_ok-crew.crew.shares.items c.in_ok-crew.ensures.shares c.in_ok-crew.ensures.crew.workers
+    ∙ desks_opened c.args.trace.now c.in_ok-zones.shares.items c.in_ok-zones.ensures.shares c.in_ok-zones.ensures.crew.workers
 
 pub returns-clause-office : goal.returns-clause-office
 returns-clause-office c =
-    subst (AreDesksOf c.in_ok-crew.crew.zones.items) (sym c.in_ok-desks.ensures.desks)
-    (desks_fit c.args.trace.now c.in_ok-crew.crew.zones.items c.in_ok-crew.crew.shares.items c.requires c.in_ok-crew.ensures.few c.in_ok-crew.ensures.zones c.in_ok-crew.ensures.shares c.in_ok-crew.ensures.crew)
+    subst (AreDesksOf c.in_ok-zones.zones.items) (sym c.in_ok-desks.ensures.desks)
+    (desks_fit c.args.trace.now c.in_ok-zones.zones.items c.in_ok-zones.shares.items c.requires c.in_ok-zones.ensures.few c.in_ok-zones.ensures.zones c.in_ok-zones.ensures.shares c.in_ok-zones.ensures.crew)
 
 pub returns-clause-unworked : goal.returns-clause-unworked
 returns-clause-unworked c =
     subst (λ (ds : List DeskState). All (λ (d : DeskState). d.replies ≡ []) ds) (sym c.in_ok-desks.ensures.desks)
-    (desks_unworked c.args.trace.now c.in_ok-crew.crew.shares.items)
+    (desks_unworked c.args.trace.now c.in_ok-zones.shares.items)

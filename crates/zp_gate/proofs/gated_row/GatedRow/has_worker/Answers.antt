@@ -2,7 +2,7 @@ use Rattle.std.proofs.Common.{ℕ, ◌≡◌, ◌<◌, ◌∙◌, List, [], ◌�
 use Rattle.std.proofs.lemmas.List.{get_or_default, get_or-map, length-map}
 use Rattle.std.specs.Arc.{arc_value}
 use Rattle.std.specs.declared.sync.Arc.{Arc}
-use Rattle.zp_share.specs.Shares.{ZoneKey, no_key}
+use Rattle.zp_share.specs.Shares.{no_key}
 use Rattle.zp_gate.specs.declared.try_lock.TryLock.{TryLock}
 use Rattle.zp_gate.specs.GatedRows.{HasNoWorker, RowState, key_at, lock_key}
 use Rattle.zp_gate.proofs.Crews.{below_next}

@@ -14,7 +14,7 @@ use Rattle.zp_crew.specs.Opening.{CanBeMade, PlainConfig, opened_zone, plain_con
 use Rattle.zp_crew.proofs.Refusing.{memory_wants}
 use Rattle.zp_office.specs.Opening.{declared_config}
 use Rattle.zp_office.proofs.DeclaredZones.{all_can}
-use Rattle.zp_office.proofs.opening.opened.Goals as goal
+use Rattle.zp_office.proofs.opening.declared_crew.Goals as goal
 
 pub open_crew-requires-clause-some : goal.open_crew-requires-clause-some
 open_crew-requires-clause-some c =
