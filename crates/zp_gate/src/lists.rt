@@ -15,7 +15,11 @@ pub fn take_page(share: &mut Share, kind: MigrateType) -> Option<PageNo>
     ensures some { IfSome result (λ page. IsTaken kind page share.old share.new) }
     ensures none { IfNone result ((share.new ≡ share.old) × (cached_of (share_at share.old 0) kind ≡ [])) }
 {
-    share.take_cached(0, kind)
+    // most pages are movable: the place of their list is known where this is compiled
+    match kind {
+        MigrateType::Movable => share.take_cached(0, MigrateType::Movable),
+        _ => share.take_cached(0, kind),
+    }
 }
 
 /// Puts a lent page at the front of the list of its type. Refused 20, and 21 where the list is full.

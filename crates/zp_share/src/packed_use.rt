@@ -64,13 +64,17 @@ impl PackedUse {
         ensures kind { result ≡ lent_kind self order }
         ensures lent { IsSome result ↔ IsTrue (is_lent_as order self) }
     {
-        // the bytes of blocks that are lent with one order stand in a row, by their types
-        let first = byte_of(order.number() + 1, MigrateType::Unmovable);
-        match self.byte.wrapping_sub(first) {
-            0 => Some(MigrateType::Unmovable),
-            1 => Some(MigrateType::Reclaimable),
-            2 => Some(MigrateType::Movable),
-            _ => None,
+        // most blocks are movable: that is the first test
+        if self.byte == byte_of(order.number() + 1, MigrateType::Movable) {
+            return Some(MigrateType::Movable);
+        }
+        if !self.is_lent(order) {
+            return None;
+        }
+        if self.byte % TYPE_ROOM == 0 {
+            Some(MigrateType::Unmovable)
+        } else {
+            Some(MigrateType::Reclaimable)
         }
     }
 }

@@ -21,11 +21,14 @@ pub struct PageUses {
 }
 
 impl Model for PageUses {
+    ghost use Rattle.std.specs.Prelude.{◌<◌, ◌^◌};
     ghost use Rattle.zp_share.specs.PageUses.{UsesState};
 
     ghost Value = { UsesState };
 
     ghost view = { λ u. record { base = u.base; uses = u.uses.items } };
+
+    ghost invariant = { λ u. u.base < 2 ^ 32 };
 }
 
 impl PageUses {
@@ -68,7 +71,8 @@ impl PageUses {
         ensures some { IfSome result (λ packed. packed ≡ use_of self.now.base self.now.uses page) }
         ensures none { IfNone result (use_of self.now.base self.now.uses page ≡ Away) }
     {
-        let place = (page.number() as usize).checked_sub(self.base)?;
+        // what wraps is past the end of every vector: one test for both ends of the zone
+        let place = (page.number() as usize).wrapping_sub(self.base);
         self.uses.get(place).copied()
     }
 

@@ -204,6 +204,7 @@ impl Share {
     }
 
     /// Takes the front of the list of this type, and lends it.
+    #[inline(always)]
     pub fn take_cached(&mut self, zone: usize, kind: MigrateType) -> Option<PageNo>
         requires { zone < length self.old.zones }
         ensures answer { result ≡ front (cached_of (share_at self.old zone) kind) }
@@ -218,6 +219,7 @@ impl Share {
 
     /// Puts a lent page at the front of the list of its type. Refused 20 where the page is not lent with order 0, and 21
     /// where the list has `high_len` pages.
+    #[inline(always)]
     pub fn put_cached(&mut self, zone: usize, page: PageNo) -> Result<(), Refused>
         requires { zone < length self.old.zones }
         ensures answer { result ≡ (putting (plain_share (share_at self.old zone)) page self.old.high_len).answer }

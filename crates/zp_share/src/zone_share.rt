@@ -139,6 +139,7 @@ impl ZoneShare {
     }
 
     /// Takes the front of the list of this type, and lends it.
+    #[inline(always)]
     pub fn take_cached(&mut self, kind: MigrateType) -> Option<PageNo>
         ensures answer { result ≡ front (cached_of self.old kind) }
         ensures after { plain_share self.new ≡ taken kind (plain_share self.old) }
@@ -154,6 +155,7 @@ impl ZoneShare {
 
     /// Puts a lent page at the front of the list of its type. Refused 20 where the page is not lent with order 0, and 21
     /// where the list has `high_len` pages.
+    #[inline(always)]
     pub fn put_cached(&mut self, page: PageNo, high_len: usize) -> Result<(), Refused>
         requires { high_len ≤ LONGEST_LIST }
         ensures answer { result ≡ (putting (plain_share self.old) page high_len).answer }
@@ -164,6 +166,14 @@ impl ZoneShare {
         let Some(kind) = self.uses.lent_kind(page, Order::zero()) else {
             return Err(Refused::NotLent);
         };
+        // most pages are movable: the place of their list is known where this is compiled
+        if let MigrateType::Movable = kind {
+            if self.cached_len(MigrateType::Movable) >= high_len {
+                return Err(Refused::ListFull);
+            }
+            self.put_lent(page, MigrateType::Movable);
+            return Ok(());
+        }
         if self.cached_len(kind) >= high_len {
             return Err(Refused::ListFull);
         }
