@@ -9,3 +9,4 @@ pub mod Taking
 pub mod Claiming
 pub mod SideLists
 pub mod ClearByLooks
+pub mod Runs
