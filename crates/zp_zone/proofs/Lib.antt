@@ -3,6 +3,8 @@ pub mod OpeningZone
 pub mod Described
 pub mod Callers
 pub mod RefillSteps
+pub mod RunSteps
+pub mod RunFrames
 pub mod DrainSteps
 pub mod PostSteps
 pub mod Tied
