@@ -10,3 +10,5 @@ pub mod Claiming
 pub mod SideLists
 pub mod ClearByLooks
 pub mod Runs
+pub mod GiveRuns
+pub mod TurnedRuns

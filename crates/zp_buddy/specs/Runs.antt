@@ -1,5 +1,5 @@
--- Pages that are taken one after another.
-use Rattle.std.specs.Prelude.{ℕ, suc, zero, ◌+◌, ◌^◌, ◌≡◌, ◌≤◌, List, [], ◌∷◌, length, slice_set, Option, None, Some}
+-- Pages that are taken, or given back, one after another.
+use Rattle.std.specs.Prelude.{ℕ, suc, zero, ◌+◌, ◌^◌, ◌≡◌, ◌≤◌, List, [], ◌∷◌, ◌++◌, length, slice_set, bit_xor, Option, None, Some}
 use Rattle.zp_model.specs.declared.migrate_type.MigrateType.{MigrateType}
 use Rattle.zp_model.specs.declared.state.State.{State}
 use Rattle.zp_model.specs.Area.{Area}
@@ -10,7 +10,7 @@ use Rattle.zp_model.specs.Frames.{with_area}
 use Rattle.zp_area.specs.Blocks.{Blocks, block_set}
 use Rattle.zp_buddy.specs.Choices.{area_in, frames_in}
 use Rattle.zp_buddy.specs.Sound.{IsSound}
-use Rattle.zp_model.specs.Take.{take_answer, take_after}
+use Rattle.zp_model.specs.Take.{give, take_answer, take_after}
 
 -- what so many requests for a page of type t are answered, one after another
 abbrev pub pages_taken : Area → MigrateType → ℕ → List (Option ℕ)
@@ -51,3 +51,13 @@ pub record IsRunTaking (a : Blocks) (t : MigrateType) (most : ℕ) (n : Blocks) 
 abbrev pub IsRunOf : Blocks → MigrateType → ℕ → Blocks → Option (ℕ × ℕ) → Type 0
 IsRunOf a t most n None = (choose (area_in a.largest a) 0 t ≡ None) × (n ≡ a)
 IsRunOf a t most n (Some r) = IsRunTaking a t most n r.0 r.1
+
+-- the area once these pages were given back, one after another
+abbrev pub gives : Area → List ℕ → Area
+gives a [] = a
+gives a (h ∷ hs) = gives (give a h 0) hs
+
+-- the pages of the block of order j around page p, in this order: p, and one half after the other. The d-th of them is p with the bits of d turned
+abbrev pub turned_pages : ℕ → ℕ → List ℕ
+turned_pages p zero = p ∷ []
+turned_pages p (suc j) = turned_pages p j ++ turned_pages (bit_xor p (2 ^ j)) j

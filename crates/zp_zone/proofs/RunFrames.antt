@@ -40,14 +40,14 @@ run_out_is (suc n) z w t h = run_out_is n (page_out z w t h) w t (h + 1)
 abbrev pub IsRunOff : List (List ℕ) → ℕ → ℕ → Type 0
 IsRunOff sides h n = (i : ℕ) → h ≤ i → i < h + n → IsOffAll sides i
 
-plain-noted_run : (n : ℕ) (f : Frames) (base min h : ℕ) (v : State) → IsRunOff f.sides h n →
+pub plain-noted_run : (n : ℕ) (f : Frames) (base min h : ℕ) (v : State) → IsRunOff f.sides h n →
     plain_of (record f { states = noted_run f.states h n v }) base min ≡ with_out_run (plain_of f base min) h n (holding_of v)
 plain-noted_run zero f base min h v off = refl
 plain-noted_run (suc n) f base min h v off =
     plain-noted_run n (record f { states = set f.states h v }) base min (h + 1) v (λ i lo hi. off i (omega arith) (omega arith))
     ∙ ap (λ (z : PlainZone). with_out_run z (h + 1) n (holding_of v)) (plain-noted f base min h v (off_apart f.sides h (off h (omega arith) (omega arith))))
 
-aside_noted_run : (n : ℕ) (sides : List (List ℕ)) (s : List State) (h : ℕ) (v : State) → IsPostedAside sides s → IsRunOff sides h n → ((w : ℕ) → is_posted_to w v ≡ false) →
+pub aside_noted_run : (n : ℕ) (sides : List (List ℕ)) (s : List State) (h : ℕ) (v : State) → IsPostedAside sides s → IsRunOff sides h n → ((w : ℕ) → is_posted_to w v ≡ false) →
     IsPostedAside sides (noted_run s h n v)
 aside_noted_run zero sides s h v x off out = x
 aside_noted_run (suc n) sides s h v x off out =

@@ -1,5 +1,5 @@
--- Pages in a row that a worker got, as so many requests for one page, one after another, would have got them.
-use Rattle.std.specs.Prelude.{ℕ, suc, zero, ◌+◌, ◌-◌, ◌≡◌, ◌<◌, true}
+-- Pages in a row that a worker got, as so many requests for one page, one after another, would have got them; and pages of a block that stand next to each other.
+use Rattle.std.specs.Prelude.{ℕ, suc, zero, ◌+◌, ◌-◌, ◌^◌, ◌≡◌, ◌<◌, true, List, bit_xor, slice_index_or}
 use Rattle.zp_model.specs.declared.migrate_type.MigrateType.{MigrateType}
 use Rattle.zp_model.specs.declared.mark.Mark.{Mark}
 use Rattle.zp_model.specs.Lawful.{IsLawful}
@@ -26,3 +26,8 @@ pub record IsRunGot (z y : PlainZone) (w : ℕ) (t : MigrateType) (m : Mark) (p 
   pub marked : (i : ℕ) → i < n → is_above z.min (pages_at_hand z - i) 0 m ≡ true
   pub after : y ≡ run_out z w t place n
   pub lawful : IsLawful z
+
+-- the pages begin with those of the block of order k around the place: the d-th of them is that place with the bits of d turned, so that they stand
+-- in an order of halves
+abbrev pub AreTurned : ℕ → List ℕ → ℕ → ℕ → Type 0
+AreTurned base pages place k = (d : ℕ) → d < 2 ^ k → slice_index_or pages d 0 ≡ base + bit_xor place d

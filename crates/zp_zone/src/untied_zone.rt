@@ -17,6 +17,7 @@ mod batches;
 mod blocks;
 mod pageblocks;
 mod parts;
+mod turned;
 
 use crate::config::{ZoneBounds, ZoneConfig, checked_name};
 use crate::page::ZonePage;

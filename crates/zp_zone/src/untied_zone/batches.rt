@@ -63,8 +63,13 @@ impl UntiedZone {
     {
         // it is noted in the request, and changes nothing
         let _ = kind;
-        'pages: for place in 0..pages.len() {
-            self.free(worker, pages[place], Order::zero());
+        // a clause of this call says that the zone is lawful
+        self.lawful();
+        let mut rest = pages;
+        'parts: while !rest.is_empty() {
+            let order = self.part_order(worker, rest);
+            self.free_part(worker, rest, order);
+            rest = &rest[order.pages() as usize..];
         }
     }
 }

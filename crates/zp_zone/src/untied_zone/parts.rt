@@ -1,19 +1,24 @@
-//! The parts of a refill: pages in a row, which are taken as one block and go out as single pages.
+//! The parts of a refill and of a drain: pages of a block, which are taken and given back as one, and are out as single pages.
 //!
 //! A refill gets its pages one after another. While the request's type has a block of its own, the pages of that block are the next ones, the
 //! lowest first: of a block of 16 pages the second take finds page 1, the third page 2, and so on, as what a split leaves is the smallest
-//! block. So one split serves for them all. Linux takes each page by a split of its own.
-ghost use Rattle.std.specs.Prelude.{ℕ, ◌≡◌, ◌<◌, ◌≤◌, ◌+◌, ◌-◌, ◌^◌, ◌++◌, length, true, false, IfErr, IfOk};
+//! block. So one split serves for them all. Pages of a block come back by one join, too, as what is free at last, and in which order the
+//! lists have it, does not depend on the order of the pages. Linux takes and frees each page by itself.
+ghost use Rattle.std.specs.Prelude.{ℕ, ◌≡◌, ◌<◌, ◌≤◌, ◌+◌, ◌-◌, ◌^◌, ◌++◌, length, take, slice_index_or, true, false, IfErr, IfOk, IsTrue};
 ghost use Rattle.std.specs.List.{range_with_len};
 ghost use Rattle.zp_model.specs.Zone.{workers_of};
 ghost use Rattle.zp_model.specs.Mark.{is_above};
-ghost use Rattle.zp_model.specs.Step.{alloc, refuse};
-ghost use Rattle.zp_zone.specs.Runs.{IsRunGot};
+ghost use Rattle.zp_model.specs.Step.{alloc, drained, refuse};
+ghost use Rattle.zp_model.specs.Run.{is_distinct};
+ghost use Rattle.zp_zone.specs.NamedZone.{AreOut};
+ghost use Rattle.zp_zone.specs.Runs.{AreTurned, IsRunGot};
 
 use super::UntiedZone;
+use super::turned::turned_order;
 use arrayvec::ArrayVec;
 use zp_model::{
-    BASE_LIMIT, MAX_BATCH, MAX_PAGES, Mark, MigrateType, Order, PageNo, Refused, State, Worker,
+    BASE_LIMIT, MAX_BATCH, MAX_PAGES, Mark, MigrateType, Order, PageAt, PageNo, Refused, State,
+    Worker,
 };
 
 impl UntiedZone {
@@ -50,6 +55,46 @@ impl UntiedZone {
         let state = State::Out(Order::zero(), kind, worker);
         self.buddy.hold_run(head, order, &state);
         Ok((PageNo::new(self.base + head.number()), order))
+    }
+
+    /// The order of the block whose pages stand first in the slice of a drain: 0 where the first page stands alone.
+    #[inline(always)]
+    pub fn part_order(&self, worker: Worker, pages: &[PageNo]) -> Order
+        requires some { 0 < length pages.now }
+        requires out { AreOut self.now.plain worker pages.now }
+        ensures within { result ≤ self.now.plain.area.largest }
+        ensures room { 2 ^ result ≤ length pages.now }
+        ensures turned { AreTurned self.now.plain.base pages.now (slice_index_or pages.now 0 0 - self.now.plain.base) result }
+    {
+        // a clause of this call says that what is noted as free is free
+        let _pages = self.buddy.pages();
+        // the worker is named for the condition alone
+        let _ = worker;
+        let first = PageAt::at(pages[0].number() - self.base);
+        turned_order(self.base, first, self.buddy.largest().order(), pages)
+    }
+
+    /// Frees the first pages of a drain, each a block of order 0: those of a block of this order come back as one.
+    #[inline(always)]
+    pub fn free_part(&mut self, worker: Worker, pages: &[PageNo], order: Order)
+        requires worker { worker < workers_of self.old.plain }
+        requires out { AreOut self.old.plain worker pages.now }
+        requires distinct { IsTrue (is_distinct pages.now) }
+        requires within { order ≤ self.old.plain.area.largest }
+        requires room { 2 ^ order ≤ length pages.now }
+        requires turned { AreTurned self.old.plain.base pages.now (slice_index_or pages.now 0 0 - self.old.plain.base) order }
+        ensures after { self.new ≡ record self.old { plain = drained self.old.plain (take (2 ^ order) pages.now) } }
+    {
+        if order.number() == 0 {
+            self.free(worker, pages[0], order);
+            return;
+        }
+        // a clause of this call says that what is noted as free is free, which the next calls rest on
+        let _pages = self.buddy.pages();
+        let first = PageAt::at(pages[0].number() - self.base);
+        let head = first.head(order);
+        self.buddy.hold_run(head, order, &State::Tail);
+        self.buddy.give(head, order);
     }
 }
 
