@@ -9,3 +9,6 @@ pub mod Taking
 pub mod Claiming
 pub mod SideLists
 pub mod ClearByLooks
+pub mod Runs
+pub mod GiveRuns
+pub mod TurnedRuns

@@ -2,3 +2,4 @@ pub mod Sound
 pub mod Opened
 pub mod Choices
 pub mod Held
+pub mod Runs

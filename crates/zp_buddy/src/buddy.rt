@@ -1,7 +1,7 @@
 //! The buddy allocator of one zone.
 //!
 //! In Linux: the `free_area` of a `struct zone`, `__rmqueue` and `__free_one_page`.
-ghost use Rattle.std.specs.Prelude.{ℕ, ◌≡◌, ◌<◌, ◌≤◌, ◌++◌, ◌∷◌, [], ◌^◌, ◌*◌, ◌↔◌, false, length, slice_get, slice_index_or, slice_set, IfOk, IfSome, IsTrue};
+ghost use Rattle.std.specs.Prelude.{ℕ, ◌≡◌, ◌<◌, ◌≤◌, ◌+◌, ◌++◌, ◌∷◌, [], ◌^◌, ◌*◌, ◌↔◌, false, length, slice_get, slice_index_or, slice_set, IfNone, IfOk, IfSome, IsTrue, None};
 ghost use Rattle.zp_model.specs.Block.{has, in_run, size};
 ghost use Rattle.zp_model.specs.Info.{counts_of};
 ghost use Rattle.zp_model.specs.Rows.{IsLoose, IsOn, after, front, list_at, rest, state_at};
@@ -11,12 +11,13 @@ ghost use Rattle.zp_model.specs.declared.pageblock_type.PageblockType.TheVariant
 ghost use Rattle.zp_model.specs.BlockSet.{largest_in, max_blocks};
 ghost use Rattle.zp_model.specs.Area.{available, list_number, free_list, kind_at, pageblock_pages, pageblocks_of, size_in};
 ghost use Rattle.zp_model.specs.Take.{retype, take_answer, take_after, take_low_answer, take_low_after};
+ghost use Rattle.zp_buddy.specs.Runs.{noted_run, pages_taken, pages_left, run_pages};
 
 use crate::clear::{is_block, is_clear_run};
 use crate::join::join;
 use crate::opening::add_all_pages;
 use crate::split::take_block;
-use crate::takes::take;
+use crate::takes::{take, take_run};
 use std::alloc::{AllocError, Global};
 use std::marker::Model;
 use zp_area::{FreeArea, LinkedPage};
@@ -75,6 +76,26 @@ impl Buddy {
         let head = take(&mut self.area, order, kind)?;
         self.free -= order.pages();
         Some(head)
+    }
+
+    /// Takes pages in a row for this type, as many as a block has, `most` of them or fewer: those that so many requests for one page, one
+    /// after another, would take. The first of them, and the order of the run.
+    // (in line: a refill calls it for each part)
+    #[inline(always)]
+    pub fn take_run(&mut self, kind: MigrateType, most: u32) -> Option<(PageAt, Order)>
+        requires { 0 < most }
+        ensures none { IfNone result ((take_answer self.old.area 0 kind ≡ None) × (self.new ≡ self.old)) }
+        ensures most { IfSome result (λ r. 2 ^ r.1 ≤ most) }
+        ensures answers { IfSome result (λ r. pages_taken self.old.area kind (2 ^ r.1) ≡ run_pages r.0 (2 ^ r.1)) }
+        ensures after { IfSome result (λ r. self.new ≡ with_area self.old (pages_left self.old.area kind (2 ^ r.1))) }
+
+        // What the calls after it can rest on.
+        ensures clear { IfSome result (λ r. IsClear self.new r.0 r.1) }
+        ensures kept { (h k : ℕ) → IsClear self.old h k → IsClear self.new h k }
+    {
+        let run = take_run(&mut self.area, kind, most)?;
+        self.free -= run.1.pages();
+        Some(run)
     }
 
     /// Takes the lowest run of this order: the low part of the block of this order or more with the least head, of whatever type,
@@ -137,6 +158,26 @@ impl Buddy {
         ensures kept { (h k : ℕ) → IsClear self.old h k → IsClear self.new h k }
     {
         self.area.hold(at, state);
+    }
+
+    /// Notes this of each page of a run, of which none is free.
+    // (in line: a run of one page is noted with no loop)
+    #[inline(always)]
+    pub fn hold_run(&mut self, at: PageAt, order: Order, state: &State)
+        requires run { at + 2 ^ order ≤ length self.old.states }
+        requires used { (i : ℕ) → at ≤ i → i < at + 2 ^ order → has self.old.area.free i ≡ false }
+        requires note { IsNote state.now }
+        ensures after { self.new ≡ record self.old { states = noted_run self.old.states at (2 ^ order) state.now } }
+    {
+        if order.number() == 0 {
+            self.hold(at, *state);
+            return;
+        }
+        // a clause of this call says how many pages there can be
+        let _pages = self.pages();
+        'pages: for it in 0..order.pages() {
+            self.hold(PageAt::at(at.number() + it), *state);
+        }
     }
 
     /// The type of a page's pageblock.

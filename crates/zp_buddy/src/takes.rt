@@ -15,14 +15,16 @@
 //! Cost, where m is the zone's largest order: step 1 looks at m + 1 fronts at most, and step 4 splits m times at most. To learn its order a
 //! claim looks at four fronts, and then at 64 pageblocks and 22 counts at most. It then walks the lists of that order alone, to the first
 //! block whose pageblock has pages enough. At orders m and m - 1 that is the front; below them many blocks can stand before it.
-ghost use Rattle.std.specs.Prelude.{◌≡◌, length, None, Some};
+ghost use Rattle.std.specs.Prelude.{◌≡◌, ◌<◌, length, None, Some};
 ghost use Rattle.zp_model.specs.Choose.{own};
 ghost use Rattle.zp_model.specs.Frames.{with_area};
 ghost use Rattle.zp_model.specs.Take.{taken};
 ghost use Rattle.zp_buddy.specs.Sound.{IsSound};
 ghost use Rattle.zp_buddy.specs.Choices.{IsFreeBlock, IsTaken, area_in, chosen_of, frames_in};
+ghost use Rattle.zp_buddy.specs.Runs.{IsRunOf};
 
 use crate::choice::{Choice, FreeBlock, foreign_choice, own_block};
+use crate::opening::fitting;
 use crate::split::take_block;
 use zp_area::FreeArea;
 use zp_model::{MigrateType, Order, PageAt};
@@ -84,4 +86,26 @@ pub fn take(area: &mut FreeArea, order: Order, kind: MigrateType) -> Option<Page
         return Some(head);
     }
     take_foreign(area, order, kind)
+}
+
+/// Takes pages in a row off the smallest block of the request's own type: as many as a block has, `most` of them or fewer. Where the type has
+/// no block, one page as `take` does. The first page, and the order of the run.
+#[inline(always)]
+pub fn take_run(area: &mut FreeArea, kind: MigrateType, most: u32) -> Option<(PageAt, Order)>
+    requires some { 0 < most }
+    requires sound { IsSound area.old.largest area.old.rows.states area.old.kinds area.old.rows.lists }
+    ensures { IsRunOf area.old kind most area.new result }
+{
+    if let Some(block) = own_block(area, Order::zero(), kind) {
+        let FreeBlock {
+            head,
+            order: found,
+            kind: own,
+        } = block;
+        let order = fitting(found, most);
+        take_block(area, head, found, own, order);
+        return Some((head, order));
+    }
+    let head = take_foreign(area, Order::zero(), kind)?;
+    Some((head, Order::zero()))
 }

@@ -1,8 +1,8 @@
 -- The pages of a drain that are left: one page less, and what it leaves in the end.
-use Rattle.std.proofs.Common.{ℕ, ◌+◌, ◌-◌, ◌≡◌, ◌≤◌, ◌<◌, ◌==◌, inl, inr, sym, ◌∙◌, ap, true, false, List, [], ◌∷◌, All, drop, get_or, length, set, Option, None}
+use Rattle.std.proofs.Common.{ℕ, ◌-◌, ◌≡◌, ◌≤◌, ◌==◌, inl, inr, sym, ◌∙◌, ap, true, false, List, [], ◌∷◌, All, set, Option, None}
 use Rattle.std.proofs.lemmas.Bool.{cases_eq, and_parts, and_right, or_parts, both_ways, not-true, eq-eqb}
 use Rattle.std.specs.Prelude.{leb, ◌&&◌}
-use Rattle.std.proofs.lemmas.List.{drop_all, drop_more, get_or-set_other}
+use Rattle.std.proofs.lemmas.List.{get_or-set_other}
 use Rattle.std.proofs.lemmas.List.Elements.{All-nil, All-cons, All-head, All-tail, All-weaker}
 use Rattle.zp_model.specs.Rows.{stands_in}
 use Rattle.zp_model.specs.Zone.{PlainZone, Holding, holding_at, is_of}
@@ -64,10 +64,3 @@ based-kept z (p ∷ ps) b w q j s e =
 
 pub drained-kept : (z : PlainZone) (w : ℕ) (ps : List ℕ) → AreOut z w ps → KeepsOutBeside ps z (drained z ps)
 drained-kept z w ps a = based-kept z ps (All-weaker (λ q. is_out z w q 0 ≡ true) (λ q. z.base ≤ q) (λ q e. (out-to z w q 0 e).0) ps a)
-
--- the pages left, from an index on
-pub left_here : (before z : PlainZone) (w : ℕ) (all : List ℕ) (i d : ℕ) → i < length all → IsLeft before z w all (drop i all) → IsLeft before z w all (get_or all i d ∷ drop (i + 1) all)
-left_here before z w all i d lt x = rw (drop_more all i d lt) at x
-
-pub none_left : (before z : PlainZone) (w : ℕ) (all : List ℕ) (i : ℕ) → length all ≤ i → IsLeft before z w all (drop i all) → z ≡ drained before all
-none_left before z w all i le x = sym (x.rest ∙ ap (λ q. drained z q) (drop_all i all le))

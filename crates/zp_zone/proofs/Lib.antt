@@ -3,7 +3,10 @@ pub mod OpeningZone
 pub mod Described
 pub mod Callers
 pub mod RefillSteps
+pub mod RunSteps
+pub mod RunFrames
 pub mod DrainSteps
+pub mod DrainParts
 pub mod PostSteps
 pub mod Tied
 pub mod NewSeats

@@ -2,14 +2,14 @@
 use Rattle.std.proofs.Common.{ℕ, suc, ◌+◌, ◌-◌, ◌≡◌, ◌≤◌, ◌<◌, ◌==◌, inl, inr, refl, sym, ◌∙◌, ap, arith, true, false, List, [], ◌∷◌, ◌++◌, All, length, not, Some, None}
 use Rattle.std.proofs.lemmas.Bool.{and_parts, and_from, or_parts, both_ways, false_from_ne_true, false≢true, eq-eqb}
 use Rattle.std.proofs.lemmas.List.{length-append}
-use Rattle.std.proofs.lemmas.List.Elements.{All-nil, All-cons, All-head, All-tail, All-push, All-weaker}
+use Rattle.std.proofs.lemmas.List.Elements.{All-nil, All-head, All-tail, All-push, All-weaker}
 use Rattle.zp_model.specs.declared.migrate_type.MigrateType.{MigrateType}
 use Rattle.zp_model.specs.declared.mark.Mark.{Mark}
 use Rattle.zp_model.specs.declared.refused.Refused.{Refused}
 use Rattle.zp_model.specs.declared.request.Reply.{Reply}
 use Rattle.zp_model.specs.Rows.{stands_in}
 use Rattle.zp_model.specs.Zone.{PlainZone}
-use Rattle.zp_model.specs.Step.{Outcome, alloc, refill, refill_end, page_of}
+use Rattle.zp_model.specs.Step.{Outcome, alloc, refill, refill_end, refuse, page_of}
 use Rattle.zp_model.specs.Run.{is_out, is_distinct}
 use Rattle.zp_model.proofs.RowLists.{end_others}
 use Rattle.zp_model.proofs.Settles.{stands_cases}
@@ -33,9 +33,9 @@ refill-stopped : (z : PlainZone) (w : ℕ) (t : MigrateType) (m : Mark) (got : L
 refill-stopped z w t m got k n r s e = rw s (ap (next (alloc z w 0 t m) w t m got n) (sym e))
 
 -- a refill that gets no page is answered as its first request
-pub none_got : (z : PlainZone) (w : ℕ) (t : MigrateType) (m : Mark) (count : ℕ) (r : Refused) → 1 ≤ count → Reply.Refused r ≡ (alloc z w 0 t m).reply →
-    refill z w t m [] count ≡ alloc z w 0 t m
-none_got z w t m count r some e = refill-stopped z w t m [] count (count - 1) r (omega arith) e
+pub none_got : (z : PlainZone) (w : ℕ) (t : MigrateType) (m : Mark) (count : ℕ) (r : Refused) → 1 ≤ count → alloc z w 0 t m ≡ refuse z r →
+    refill z w t m [] count ≡ refuse z r
+none_got z w t m count r some e = refill-stopped z w t m [] count (count - 1) r (omega arith) (ap (λ (o : Outcome). o.reply) (sym e)) ∙ e
 
 -- a page that is not out is none of those that are
 stands-to : (P : ℕ → Type 0) (p : ℕ) (xs : List ℕ) → All P xs → stands_in p xs ≡ true → P p
@@ -56,7 +56,6 @@ distinct-push p (x ∷ xs) d s =
 -- worker w got these pages of a refill of the zone `before`, which is z now
 pub record IsGot (before z : PlainZone) (w : ℕ) (t : MigrateType) (m : Mark) (count : ℕ) (pages : List ℕ) : Type 0 where
   pub rest : refill before w t m [] count ≡ refill z w t m pages (count - length pages)
-  pub some : 0 < length pages
   pub within : length pages ≤ count
   pub out : AreOut z w pages
   pub distinct : is_distinct pages ≡ true
@@ -71,16 +70,17 @@ pub record IsGiven (z y : PlainZone) (w : ℕ) (t : MigrateType) (m : Mark) (p :
   pub fresh : IsFresh z p
   pub kept : KeepsOut z y
 
-pub got_first : (z y : PlainZone) (w : ℕ) (t : MigrateType) (m : Mark) (count p : ℕ) → 1 ≤ count → IsGiven z y w t m p → IsGot z y w t m count (p ∷ [])
-got_first z y w t m count p some g = record {
-  rest = refill-more z w t m [] count (count - 1) p (omega arith) g.reply ∙ ap (λ q. refill q w t m (p ∷ []) (count - 1)) (sym g.zone);
-  some = omega arith;
-  within = omega arith;
-  out = All-cons (λ q. is_out y w q 0 ≡ true) p [] g.out (All-nil (λ q. is_out y w q 0 ≡ true));
-  distinct = refl;
-  fresh = All-cons (IsFresh z) p [] g.fresh (All-nil (IsFresh z));
-  kept = g.kept;
-}
+pub got_none : (z : PlainZone) (w : ℕ) (t : MigrateType) (m : Mark) (count : ℕ) → IsGot z z w t m count []
+got_none z w t m count =
+    let all : count ≡ count - 0 = omega arith in
+    record {
+      rest = ap (refill z w t m []) all;
+      within = omega arith;
+      out = All-nil (λ q. is_out z w q 0 ≡ true);
+      distinct = refl;
+      fresh = All-nil (IsFresh z);
+      kept = λ v q j e. e;
+    }
 
 pub got_more : (before z y : PlainZone) (w : ℕ) (t : MigrateType) (m : Mark) (count p : ℕ) (pages : List ℕ) → IsGot before z w t m count pages → length pages < count →
     IsGiven z y w t m p → IsGot before y w t m count (pages ++ p ∷ [])
@@ -91,7 +91,6 @@ got_more before z y w t m count p pages x lt g =
       rest =
           x.rest ∙ refill-more z w t m pages (count - length pages) (count - length pages - 1) p (omega arith) g.reply
           ∙ (λ i. refill (sym g.zone i) w t m (pages ++ p ∷ []) (sym left i));
-      some = omega arith;
       within = omega arith;
       out = All-push (λ q. is_out y w q 0 ≡ true) pages p (All-weaker (λ q. is_out z w q 0 ≡ true) (λ q. is_out y w q 0 ≡ true) (λ q e. g.kept w q 0 e) pages x.out) g.out;
       distinct = distinct-push p pages x.distinct (fresh-apart z w p pages x.out g.fresh);
@@ -106,17 +105,11 @@ got_all before z w t m count pages x le =
     let none : count - length pages ≡ 0 = omega arith in
     x.rest ∙ ap (λ q. refill z w t m pages q) none
 
-pub got_stopped : (before z y : PlainZone) (w : ℕ) (t : MigrateType) (m : Mark) (count : ℕ) (r : Refused) (pages : List ℕ) → IsGot before z w t m count pages → length pages < count →
-    Reply.Refused r ≡ (alloc z w 0 t m).reply → y ≡ (alloc z w 0 t m).zone → refill before w t m [] count ≡ record { reply = Reply.Pages pages; zone = y }
-got_stopped before z y w t m count r pages x lt e f =
-    x.rest ∙ refill-stopped z w t m pages (count - length pages) (count - length pages - 1) r (omega arith) e ∙ end pages (alloc z w 0 t m) x.some
-    ∙ ap (λ q. let o : Outcome = record { reply = Reply.Pages pages; zone = q } in o) (sym f)
+pub got_stopped : (before z : PlainZone) (w : ℕ) (t : MigrateType) (m : Mark) (count : ℕ) (r : Refused) (pages : List ℕ) → IsGot before z w t m count pages → 0 < length pages → length pages < count →
+    alloc z w 0 t m ≡ refuse z r → refill before w t m [] count ≡ record { reply = Reply.Pages pages; zone = z }
+got_stopped before z w t m count r pages x some lt e =
+    x.rest ∙ refill-stopped z w t m pages (count - length pages) (count - length pages - 1) r (omega arith) (ap (λ (o : Outcome). o.reply) (sym e)) ∙ ap (refill_end pages) e ∙ end pages some
   where
-    end : (got : List ℕ) (o : Outcome) → 0 < length got → refill_end got o ≡ record { reply = Reply.Pages got; zone = o.zone }
-    end [] o lt = absurd (omega arith)
-    end (p ∷ ps) o lt = refl
-
--- what the code is given, with the order zero as it has it
-pub given : (z y : PlainZone) (w k p : ℕ) (t : MigrateType) (m : Mark) → k ≡ 0 → Reply.Page p ≡ (alloc z w k t m).reply → y ≡ (alloc z w k t m).zone →
-    is_out y w p k ≡ true → IsFresh z p → KeepsOut z y → IsGiven z y w t m p
-given z y w k p t m n r s o fresh kept = record { reply = rw n at r; zone = rw n at s; out = rw n at o; fresh = fresh; kept = kept }
+    end : (got : List ℕ) → 0 < length got → refill_end got (refuse z r) ≡ record { reply = Reply.Pages got; zone = z }
+    end [] some = absurd (omega arith)
+    end (p ∷ ps) some = refl

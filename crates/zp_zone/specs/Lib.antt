@@ -3,3 +3,4 @@ pub mod Making
 pub mod Kept
 pub mod Seats
 pub mod Asking
+pub mod Runs

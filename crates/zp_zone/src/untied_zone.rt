@@ -16,6 +16,8 @@ ghost use Rattle.zp_zone.specs.Making.{wanted, AreBounds, IsGoodWithin, IsWhyWit
 mod batches;
 mod blocks;
 mod pageblocks;
+mod parts;
+mod turned;
 
 use crate::config::{ZoneBounds, ZoneConfig, checked_name};
 use crate::page::ZonePage;

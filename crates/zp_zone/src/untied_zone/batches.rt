@@ -9,6 +9,7 @@ ghost use Rattle.zp_model.specs.Zone.{workers_of};
 ghost use Rattle.zp_zone.specs.NamedZone.{KeepsOut, KeepsOutBeside, IsFresh, AreOut, pages_reply};
 
 use super::UntiedZone;
+use super::parts::push_part;
 use arrayvec::ArrayVec;
 use zp_model::{MAX_BATCH, Mark, MigrateType, Order, PageNo, Refused, Worker};
 
@@ -36,14 +37,15 @@ impl UntiedZone {
         ensures fresh { IfOk result (λ pages. All (IsFresh self.old.plain) pages.items) }
         ensures kept { KeepsOut self.old.plain self.new.plain }
     {
-        let first = self.alloc(worker, Order::zero(), kind, mark)?;
         let mut pages = ArrayVec::new();
-        pages.push(first);
-        'pages: while pages.len() < usize::from(count) {
-            let Ok(page) = self.alloc(worker, Order::zero(), kind, mark) else {
+        let first = self.alloc_part(worker, kind, mark, u32::from(count))?;
+        push_part(&mut pages, first);
+        'parts: while pages.len() < usize::from(count) {
+            let wanted = u32::from(count) - pages.len() as u32;
+            let Ok(part) = self.alloc_part(worker, kind, mark, wanted) else {
                 break;
             };
-            pages.push(page);
+            push_part(&mut pages, part);
         }
         Ok(pages)
     }
@@ -61,8 +63,13 @@ impl UntiedZone {
     {
         // it is noted in the request, and changes nothing
         let _ = kind;
-        'pages: for place in 0..pages.len() {
-            self.free(worker, pages[place], Order::zero());
+        // a clause of this call says that the zone is lawful
+        self.lawful();
+        let mut rest = pages;
+        'parts: while !rest.is_empty() {
+            let order = self.part_order(worker, rest);
+            self.free_part(worker, rest, order);
+            rest = &rest[order.pages() as usize..];
         }
     }
 }

@@ -1,59 +1,68 @@
-use Rattle.std.proofs.Common.{ℕ, List, ◌≡◌, ◌<◌, ◌≤◌, arith, ap, sym, ◌∙◌, length, [], ◌∷◌, ◌++◌}
+use Rattle.std.proofs.Common.{ℕ, List, ◌≡◌, ◌<◌, ◌≤◌, ◌+◌, ◌^◌, ◌++◌, [], arith, ap, sym, ◌∙◌, length, length-append}
+use Rattle.std.specs.List.{range_with_len}
+use Rattle.std.proofs.lemmas.List.FromFn.{length-range_with_len}
+use Rattle.std.proofs.lemmas.Nat.{pow_pos}
 use Rattle.std.proofs.lemmas.Result.{err_from_is_err_and}
-use Rattle.zp_model.specs.declared.request.Request.TheVariants as request
 use Rattle.zp_model.specs.declared.request.Reply.TheVariants as Reply
-use Rattle.zp_model.specs.Step.{Outcome, alloc, refill}
+use Rattle.zp_model.specs.Step.{Outcome, refill}
 use Rattle.zp_zone.specs.NamedZone.{NamedZone, pages_reply}
-use Rattle.zp_zone.proofs.RefillSteps.{given, got_first, got_more, got_all, got_stopped, none_got, zone_is}
-use Rattle.zp_zone.proofs.Callers.{workers_stay}
-use Rattle.zp_zone.proofs.untied_zone.UntiedZone.refill.Goals.{else-pages-test, then-pages-test+in_default}
+use Rattle.zp_zone.proofs.RefillSteps.{got_all, got_none, got_stopped, none_got, zone_is}
+use Rattle.zp_zone.proofs.RunSteps.{got_part, part_workers}
+use Rattle.zp_zone.proofs.untied_zone.UntiedZone.refill.Goals.{else-parts-test, then-parts-test+in_default}
 use Rattle.zp_zone.proofs.untied_zone.UntiedZone.refill.Goals as goal
 
 pub returns-in_err-first-clause-reply : goal.returns-in_err-first-clause-reply
 returns-in_err-first-clause-reply c =
     let p = err_from_is_err_and c.from_residual.result c.from_residual.ensures.1 in
-    let z = c.args.self.now.plain in
-    let w = c.args.worker in
-    let refused = c.in_err-first.ensures.reply ∙ ap (λ k. (alloc z w k c.args.kind c.args.mark).reply) c.zero.ensures in
-    ap pages_reply p.1 ∙ ap Reply.Refused p.2 ∙ refused ∙ ap (λ (o : Outcome). o.reply) (sym (none_got z w c.args.kind c.args.mark c.args.count _ c.requires.some refused))
+    ap pages_reply p.1 ∙ ap Reply.Refused p.2
+    ∙ ap (λ (o : Outcome). o.reply) (sym (none_got c.args.self.now.plain c.args.worker c.args.kind c.args.mark c.args.count _ c.requires.some c.in_err-first.ensures.refused))
 
-pub pages-init : goal.pages-init
-pages-init c =
+-- so many pages there are once a part is pushed
+pushed : (pages old : List ℕ) (p n : ℕ) → pages ≡ old ++ range_with_len p n → length pages ≡ length old + n
+pushed pages old p n e = ap length e ∙ length-append old (range_with_len p n) ∙ ap (λ k. length old + k) (length-range_with_len p n)
+
+pub parts-init : goal.parts-init
+parts-init c =
     let a = c.in_ok-first.ensures in
-    let g = given _ _ c.args.worker _ _ _ _ c.zero.ensures a.reply (ap (λ (n : NamedZone). n.plain) a.after) a.out a.fresh a.kept in
-    let one : c.push.new.self.items ≡ c.in_ok-first.first ∷ [] = c.push.ensures.items ∙ ap (λ (q : List ℕ). q ++ c.in_ok-first.first ∷ []) c.new-pages.ensures in
+    let len = pushed c.push_part.new.pages.items _ _ _ c.push_part.ensures in
+    let none : c.new-pages.result.items ≡ [] = c.new-pages.ensures in
     record {
-      name = ap (λ (n : NamedZone). n.name) a.after;
-      got = rw one (got_first _ _ _ _ _ _ _ c.requires.some g);
-      worker = workers_stay c.args.self.now.plain c.alloc.new.self.plain c.args.worker c.args.worker (request.Alloc c.zero.result c.args.kind c.args.mark) (ap (λ (n : NamedZone). n.plain) a.after) c.requires.worker;
+      name = a.name;
+      got = rw (c.push_part.ensures, none) (got_part _ _ _ _ _ _ _ [] _ _ (got_none c.args.self.now.plain c.args.worker c.args.kind c.args.mark c.args.count) a.got c.requires.worker (omega (arith, a.most, c.from.ensures)));
+      some = omega (arith, len, pow_pos c.in_ok-first.first.1);
+      worker = part_workers _ _ _ _ _ _ _ a.got c.requires.worker;
     }
 
-pub pages-preserved : goal.pages-preserved
-pages-preserved c =
-    let i = c.pages.invariant in
+pub parts-smaller : goal.parts-smaller
+parts-smaller c =
+    let len = pushed c.push_part-in-parts.new.pages.items _ _ _ c.push_part-in-parts.ensures in
+    omega (arith, len, pow_pos c.in-Ok.part.1, c.parts-test.true, c.len.ensures.value, c.from-in-parts.ensures)
+
+pub parts-preserved : goal.parts-preserved
+parts-preserved c =
+    let i = c.parts.invariant in
     let a = c.in-Ok.ensures in
-    let lt : length c.pages.pages.items < c.args.count = omega (arith, c.pages-test.true, c.len.ensures.value, c.from.ensures) in
-    let g = given _ _ c.args.worker _ _ _ _ c.zero-in-pages.ensures a.reply (ap (λ (n : NamedZone). n.plain) a.after) a.out a.fresh a.kept in
+    let len = pushed c.push_part-in-parts.new.pages.items _ _ _ c.push_part-in-parts.ensures in
+    let room : length c.parts.pages.items + 2 ^ c.in-Ok.part.1 ≤ c.args.count = omega (arith, a.most, c.len-in-parts.ensures.value, c.from-in-parts-2.ensures, c.parts-test.true, c.len.ensures.value, c.from-in-parts.ensures) in
     record {
-      name = ap (λ (n : NamedZone). n.name) a.after ∙ i.name;
-      got = rw c.push-in-pages.ensures.items (got_more _ _ _ _ _ _ _ _ _ i.got lt g);
-      worker = workers_stay c.pages.self.plain c.alloc-in-pages.new.self.plain c.args.worker c.args.worker (request.Alloc c.zero-in-pages.result c.args.kind c.args.mark) (ap (λ (n : NamedZone). n.plain) a.after) i.worker;
+      name = a.name ∙ i.name;
+      got = rw c.push_part-in-parts.ensures (got_part _ _ _ _ _ _ _ _ _ _ i.got a.got i.worker room);
+      some = omega (arith, len, i.some);
+      worker = part_workers _ _ _ _ _ _ _ a.got i.worker;
     }
 
 -- the refill at its end: it has all the pages, or is stopped
-done : (c : goal.Left-pages) → refill c.args.self.now.plain c.args.worker c.args.kind c.args.mark [] c.args.count ≡ record { reply = Reply.Pages c.pages.pages.items; zone = c.pages-test.self.plain }
+done : (c : goal.Left-parts) → refill c.args.self.now.plain c.args.worker c.args.kind c.args.mark [] c.args.count ≡ record { reply = Reply.Pages c.parts.pages.items; zone = c.parts-test.self.plain }
 done c =
-    let i = c.pages.invariant in
-    elim c.pages-test.branch [
-      | else-pages-test w ↦
-          let le : c.args.count ≤ length c.pages.pages.items = omega (arith, w.pages-test.false, c.len.ensures.value, c.from.ensures) in
-          got_all _ _ _ _ _ _ _ i.got le ∙ ap (λ (n : NamedZone). let o : Outcome = record { reply = Reply.Pages c.pages.pages.items; zone = n.plain } in o) (sym w.self-is)
-      | then-pages-test+in_default w ↦
-          let lt : length c.pages.pages.items < c.args.count = omega (arith, w.pages-test.true, c.len.ensures.value, c.from.ensures) in
-          let a = w.alloc-in-pages.ensures in
-          let same = ap (λ k. alloc c.pages.self.plain c.args.worker k c.args.kind c.args.mark) w.zero-in-pages.ensures in
-          let left = ap (λ (n : NamedZone). n.plain) w.self-is ∙ ap (λ (n : NamedZone). n.plain) a.after ∙ ap (λ (o : Outcome). o.zone) same in
-          got_stopped _ _ _ _ _ _ _ w.in_default.field-0 _ i.got lt (w.in_default.ensures.reply ∙ ap (λ (o : Outcome). o.reply) same) left
+    let i = c.parts.invariant in
+    let end : NamedZone → Outcome = λ n. record { reply = Reply.Pages c.parts.pages.items; zone = n.plain } in
+    elim c.parts-test.branch [
+      | else-parts-test w ↦
+          let le : c.args.count ≤ length c.parts.pages.items = omega (arith, w.parts-test.false, c.len.ensures.value, c.from-in-parts.ensures) in
+          got_all _ _ _ _ _ _ _ i.got le ∙ ap end (sym w.self-is)
+      | then-parts-test+in_default w ↦
+          let lt : length c.parts.pages.items < c.args.count = omega (arith, w.parts-test.true, c.len.ensures.value, c.from-in-parts.ensures) in
+          got_stopped _ _ _ _ _ _ w.in_default.field-0 _ i.got i.some lt w.in_default.ensures.refused ∙ ap end (sym w.in_default.ensures.same ∙ sym w.self-is)
     ]
 
 pub returns-clause-reply : goal.returns-clause-reply
@@ -61,10 +70,10 @@ returns-clause-reply c = ap (λ (o : Outcome). o.reply) (sym (done c))
 
 pub returns-clause-after : goal.returns-clause-after
 returns-clause-after c =
-    let i = c.pages.invariant in
+    let i = c.parts.invariant in
     let N : NamedZone → List ℕ = λ n. n.name in
-    let name : c.pages-test.self.name ≡ c.args.self.now.name = elim c.pages-test.branch [
-      | else-pages-test w ↦ ap N w.self-is ∙ i.name
-      | then-pages-test+in_default w ↦ ap N w.self-is ∙ ap N w.alloc-in-pages.ensures.after ∙ i.name
+    let name : c.parts-test.self.name ≡ c.args.self.now.name = elim c.parts-test.branch [
+      | else-parts-test w ↦ ap N w.self-is ∙ i.name
+      | then-parts-test+in_default w ↦ ap N w.self-is ∙ ap N w.in_default.ensures.same ∙ i.name
     ] in
-    zone_is c.args.self.now c.pages-test.self _ name (ap (λ (o : Outcome). o.zone) (sym (done c)))
+    zone_is c.args.self.now c.parts-test.self _ name (ap (λ (o : Outcome). o.zone) (sym (done c)))
