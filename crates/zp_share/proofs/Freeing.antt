@@ -1,16 +1,19 @@
 -- A block given back: to its zone, or to the front of its list.
-use Rattle.std.proofs.Common.{ℕ, inl, inr, ◌⊎◌, ◌<◌, ◌≡◌, refl, sym, ◌∙◌, ap, subst, List, length, Option, Some, Result, Ok, Err, OnOk, OnErr, IfErr, true, false, cond}
-use Rattle.std.proofs.lemmas.Bool.{lt-ltb}
+use Rattle.std.proofs.Common.{ℕ, inl, inr, ◌⊎◌, ◌<◌, ◌≡◌, ◌+◌, ◌∷◌, [], arith, refl, sym, ◌∙◌, ap, subst, List, length, Option, Some, Result, Ok, Err, OnOk, OnErr, IfErr, true, false, cond}
+use Rattle.std.proofs.lemmas.Bool.{lt-leb, lt-ltb}
 use Rattle.std.proofs.lemmas.Bool.Decides.{eqb_tells}
+use Rattle.std.proofs.lemmas.List.{get_or-set_same}
+use Rattle.zp_model.specs.MigrateType.{type_number}
 use Rattle.zp_model.specs.declared.migrate_type.MigrateType.{MigrateType}
 use Rattle.zp_model.specs.declared.refused.Refused.{Refused}
 use Rattle.zp_model.specs.declared.refused.Refused.TheVariants.{JournalFull}
 use Rattle.zp_model.specs.declared.request.Request.TheVariants.{Free}
+use Rattle.zp_model.proofs.TypeNumbers.{type_number_below}
 use Rattle.zp_zone.specs.NamedZone.{NamedZone}
 use Rattle.zp_share.specs.declared.page_use.PageUse.TheVariants.{Away, Cached}
 use Rattle.zp_share.specs.PageUses.{is_lent_as}
 use Rattle.zp_share.specs.PlainShares.{PlainZoneShare, PlainShare, Putting, used_as, list_of, lends, lent_kind, put, putting}
-use Rattle.zp_share.specs.ZoneShares.{ZoneShareState, plain_share, use_in, is_lent, cached_of}
+use Rattle.zp_share.specs.ZoneShares.{ZoneShareState, IsShare, plain_share, use_in, is_lent, cached_of}
 use Rattle.zp_share.specs.Commands.{World, Done, done, told_as, and_then, done_answer, section, is_listed, drain_full, put_page, free_listed, free_as, free_in}
 use Rattle.zp_share.specs.Shares.{ShareState, HasSameLentBut, IsDone, IsFreedBy, IsFreedIn, share_at, with_room, with_zone_share, plain, world}
 use Rattle.zp_share.proofs.OneUse.{in_by_use, use-set, use-set_other, lent_use}
@@ -107,3 +110,21 @@ put_freed R s m n u i p k batch high t r e on made page seat b h ok err why only
         (share_at u i ≡ with_room s.batch s.high_len t (share_at n i)) ⊎ (R × (share_at u i ≡ share_at n i))
     rest (Ok a) ok err why only = inl (ok ∙ ap (λ c. with_room c high t (share_at n i)) b ∙ ap (λ c. with_room s.batch c t (share_at n i)) h)
     rest (Err x) ok err why only = inr (why (ap Err only), ap (λ v. share_at v i) err)
+
+-- a list that is not full makes no room, and stays
+pub room_is : (n high : ℕ) (t : MigrateType) (x : ZoneShareState) → length (cached_of x t) < high → x ≡ with_room n high t x
+room_is n high t x lt = rw (lt-leb high (length (cached_of x t)) lt) refl
+
+pub makes_no_room : (rows : List NamedZone) (s : ShareState) (i : ℕ) (t : MigrateType) (told : Option (List NamedZone)) → told ≡ Some rows → length (cached_of (share_at s i) t) < s.high_len →
+    IsDone (drain_full (world rows s) i t) (Ok tt) told s
+makes_no_room rows s i t told e lt = rw (own-plain s i, lt-leb s.high_len (length (cached_of (share_at s i) t)) lt) (record { answer = refl; zones = e; share = refl })
+
+-- a list with room for two has room once a page was put on it
+pub still_room : (s n : ShareState) (i p : ℕ) (t : MigrateType) → IsShare (share_at s i) → plain_share (share_at n i) ≡ put p t (plain_share (share_at s i)) →
+    length (cached_of (share_at s i) t) + 1 < s.high_len → length (cached_of (share_at n i) t) < s.high_len
+still_room s n i p t whole e lt =
+    let x : PlainZoneShare = plain_share (share_at s i) in
+    let below = type_number_below t in
+    let longer : length (cached_of (share_at n i) t) ≡ length (p ∷ list_of x t) =
+    ap (λ y. length (list_of y t)) e ∙ ap length (get_or-set_same x.cached (type_number t) (p ∷ list_of x t) [] (omega (arith, below, whole.lists))) in
+    omega (arith, longer)

@@ -1,5 +1,5 @@
 -- A row of zones with the shares of all its workers.
-use Rattle.std.specs.Prelude.{ℕ, ◌≡◌, List, All, length, map}
+use Rattle.std.specs.Prelude.{◌≡◌, List, All, length, map}
 use Rattle.std.specs.List.{range_with_len}
 use Rattle.zp_model.specs.Zone.{workers_of}
 use Rattle.zp_zone.specs.NamedZone.{NamedZone}

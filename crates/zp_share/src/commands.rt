@@ -1,16 +1,16 @@
 //! A worker's commands, each made of sections with zones of a row and of moves on the worker's own lists.
 //!
 //! In Linux: `rmqueue` with `rmqueue_pcplist`, `free_unref_page`, and `drain_pages`.
-ghost use Rattle.std.specs.Prelude.{ℕ, ◌≡◌, ◌≢◌, ◌<◌, ◌≤◌, ◌+◌, ◌*◌, ◌⊎◌, List, [], length, false, Some, Ok, Err, IfOk, IfErr, OnOk, OnErr, IsTrue};
+ghost use Rattle.std.specs.Prelude.{ℕ, ◌≡◌, ◌≢◌, ◌<◌, ◌≤◌, ◌+◌, ◌*◌, ◌⊎◌, List, [], length, false, true, Some, Ok, Err, IfOk, IfErr, OnOk, OnErr, IsTrue};
 ghost use Rattle.zp_model.specs.declared.migrate_type.MigrateType.{MigrateType};
 ghost use Rattle.zp_model.specs.declared.refused.Refused.TheVariants.{NotLent, JournalFull};
 ghost use Rattle.zp_model.specs.declared.constants.TheConstants.{LONGEST_LIST, TYPES, MAX_ZONES};
 ghost use Rattle.zp_zone.specs.NamedZone.{NamedZone};
 ghost use Rattle.zp_share.specs.PlainShares.{lent_kind};
 ghost use Rattle.zp_share.specs.ZoneShares.{IsAllocRefusal, IsShare, use_in, is_lent, cached_of};
-ghost use Rattle.zp_share.specs.Commands.{alloc_in, alloc_down, free_in, drain_full, drain_list, drain_zone, drain_all};
+ghost use Rattle.zp_share.specs.Commands.{alloc_in, alloc_down, free_in, is_listed, drain_full, drain_list, drain_zone, drain_all};
 ghost use Rattle.zp_share.specs.Readings.{CoversOwn};
-ghost use Rattle.zp_share.specs.Shares.{IsShareOf, IsSameShare, IsDone, IsAskedFor, IsFreedIn, IsLentBy, AreAskedDown, AreDrained, DrainsOnce, IsDrainedTill, KeepsLent, HasSameLent, HasSameLentBut, HasEmptyLists, list_place, sections_at, share_at, with_room, world};
+ghost use Rattle.zp_share.specs.Shares.{IsShareOf, IsSameShare, IsDone, IsAskedFor, IsFreedIn, IsLentBy, AreAskedDown, AreDrained, DrainsOnce, IsDrainedTill, KeepsLent, HasSameLent, HasSameLentBut, HasEmptyLists, list_place, plain, sections_at, share_at, with_room, world};
 
 use crate::share::Share;
 use crate::zones::Zones;
@@ -123,6 +123,46 @@ pub fn free<Z: Zones>(
         return zones.free_block(share, zone, page, order);
     }
     let len = share.cached_len(zone, kind);
+    if len + 1 < share.lists().high_len() {
+        // the list is not full with the page either
+        share.put_lent(zone, page, kind);
+        return Ok(());
+    }
+    free_to_full(share, zones, zone, page, kind, len)
+}
+
+/// Frees a lent page of this type to its list, which has so many pages, and drains a batch where the list is full before or after. Out of line,
+/// so that `free` saves no registers. Refused 30; then the share is as it was.
+#[cold]
+#[inline(never)]
+fn free_to_full<Z: Zones>(
+    share: &mut Share,
+    zones: &mut Z,
+    zone: usize,
+    page: PageNo,
+    kind: MigrateType,
+    len: usize,
+) -> Result<(), Refused>
+    requires fits { IsShareOf (Z.keys zones.old) share.old }
+    requires zone { zone < length share.old.zones }
+    requires lists { is_listed (plain share.old) 0 ≡ true }
+    requires lent { lent_kind (use_in (share_at share.old zone) page) 0 ≡ Some kind }
+    requires len { len ≡ length (cached_of (share_at share.old zone) kind) }
+    requires full { len ≤ share.old.high_len }
+    requires share { IsShare (share_at share.old zone) }
+    ensures keys { Z.keys zones.new ≡ Z.keys zones.old }
+    ensures fits { IsShareOf (Z.keys zones.new) share.new }
+    ensures same { IsSameShare share.old share.new }
+    ensures gone { OnOk result ((k : ℕ) → is_lent (share_at share.new zone) page k ≡ false) }
+    ensures others { HasSameLentBut zone page share.old share.new }
+    ensures left { OnErr result (share.new ≡ share.old) }
+    ensures freed { OnOk result (IsFreedIn (Z.ended zones.new zone share.new) zone page 0 share.old share.new) }
+    ensures elsewhere { (i : ℕ) → i ≢ zone → share_at share.new i ≡ share_at share.old i }
+    ensures read { CoversOwn (Z.covers zones.old) (Z.covers zones.new) share.old share.new }
+    ensures full { result ≡ Err JournalFull → Z.ended zones.new zone share.new }
+    ensures only { IfErr result (λ e. e ≡ JournalFull) }
+    ensures told { (rows : List NamedZone) → Z.told zones.old ≡ Some rows → IsDone (free_in (world rows share.old) zone page 0) result (Z.told zones.new) share.new }
+{
     drain_full(share, zones, zone, kind, len)?;
     let len = share.put_lent(zone, page, kind);
     // the page is freed whatever becomes of this drain

@@ -1,42 +1,33 @@
-use Rattle.std.proofs.Common.{◌∙◌, sym, rules}
+use Rattle.std.proofs.Common.{◌∙◌, ◌<◌, ap, arith, length, sym, refl, Ok}
+use Rattle.zp_share.specs.ZoneShares.{cached_of}
+use Rattle.zp_share.specs.Shares.{ShareState, share_at}
 use Rattle.zp_share.proofs.Carrying.{moved_fits}
-use Rattle.zp_share.proofs.Freeing.{put_gone, put_others, put_freed, freed, lent_still}
+use Rattle.zp_share.proofs.Freeing.{put_freed, freed, lent_still, makes_no_room, room_is, still_room}
 use Rattle.zp_share.proofs.commands.free.Goals as goal
 
-pub put_lent-len-requires-clause-lent : goal.put_lent-len-requires-clause-lent
-put_lent-len-requires-clause-lent g c =
-    lent_still c.args.share.now c.drain_full.new.share c.args.zone c.args.page c.args.order c.in-Some.kind c.drain_full.ensures.kinds c.in-Some.ensures.kind (sym c.is_listed.ensures ∙ c.if-not-is_listed.false)
+pub returns-then-len-high_len-clause-fits : goal.returns-then-len-high_len-clause-fits
+returns-then-len-high_len-clause-fits g c =
+    moved_fits (g.Z.Zones.keys c.args.zones.now) c.args.share.now c.put_lent.new.self c.args.zone c.requires.fits c.put_lent.ensures.others c.put_lent.ensures.seat
 
-pub drain_full-requires-2-clause-fits : goal.drain_full-requires-2-clause-fits
-drain_full-requires-2-clause-fits g c =
-    moved_fits (g.Z.Zones.keys c.drain_full.new.zones) c.drain_full.new.share c.put_lent-len.new.self c.args.zone c.drain_full.ensures.fits c.put_lent-len.ensures.others c.put_lent-len.ensures.seat
+pub returns-then-len-high_len-clause-freed : goal.returns-then-len-high_len-clause-freed
+returns-then-len-high_len-clause-freed g c =
+    let s = c.args.share.now in
+    let n = c.put_lent.new.self in
+    let on = sym c.is_listed.ensures ∙ c.if-not-is_listed.false in
+    let some : length (cached_of (share_at s c.args.zone) c.in-Some.kind) < s.high_len = omega arith in
+    let left = still_room s n c.args.zone c.args.page c.in-Some.kind c.cached_len-len.ensures.share c.put_lent.ensures.after (omega arith) in
+    put_freed (g.Z.Zones.ended c.args.zones.now c.args.zone n) s s n n c.args.zone c.args.page c.args.order s.batch s.high_len c.in-Some.kind (Ok tt)
+    c.in-Some.ensures.kind on (room_is s.batch s.high_len c.in-Some.kind (share_at s c.args.zone) some) c.put_lent.ensures.after c.put_lent.ensures.seat refl refl
+    (room_is s.batch s.high_len c.in-Some.kind (share_at n c.args.zone) left) tt (λ e. absurd cc) tt
 
-pub returns-clause-gone : goal.returns-clause-gone
-returns-clause-gone g c =
-    c.drain_full-2.ensures.lent c.args.zone c.args.page c.args.order
-    ∙ put_gone c.drain_full.new.share c.put_lent-len.new.self c.args.zone c.args.page c.args.order c.in-Some.kind
-    (lent_still c.args.share.now c.drain_full.new.share c.args.zone c.args.page c.args.order c.in-Some.kind c.drain_full.ensures.kinds c.in-Some.ensures.kind (sym c.is_listed.ensures ∙ c.if-not-is_listed.false)) c.put_lent-len.ensures.after
-
-pub returns-clause-told : goal.returns-clause-told
-returns-clause-told g c =
+pub returns-then-len-high_len-clause-told : goal.returns-then-len-high_len-clause-told
+returns-then-len-high_len-clause-told g c =
     λ rows e.
-    freed rows c.args.share.now c.drain_full.new.share c.put_lent-len.new.self c.drain_full-2.new.share c.args.zone c.args.page c.args.order c.in-Some.kind c.in_ok-drain_full.field-0 c.drain_full-2.result _ _
-    c.in-Some.ensures.kind (sym c.is_listed.ensures ∙ c.if-not-is_listed.false) (c.in_ok-drain_full.ensures.told rows e)
-    (lent_still c.args.share.now c.drain_full.new.share c.args.zone c.args.page c.args.order c.in-Some.kind c.drain_full.ensures.kinds c.in-Some.ensures.kind (sym c.is_listed.ensures ∙ c.if-not-is_listed.false)) (search rules)
-    c.put_lent-len.ensures.others c.put_lent-len.ensures.after c.drain_full-2.ensures.told
-
-pub returns-clause-others : goal.returns-clause-others
-returns-clause-others g c =
-    λ i p k ne.
-    c.drain_full-2.ensures.lent i p k
-    ∙ put_others c.drain_full.new.share c.put_lent-len.new.self c.args.zone c.args.page c.in-Some.kind (search rules)
-    (lent_still c.args.share.now c.drain_full.new.share c.args.zone c.args.page c.args.order c.in-Some.kind c.drain_full.ensures.kinds c.in-Some.ensures.kind (sym c.is_listed.ensures ∙ c.if-not-is_listed.false))
-    c.put_lent-len.ensures.others c.put_lent-len.ensures.after i p k ne
-    ∙ c.drain_full.ensures.lent i p k
-
-pub returns-clause-freed : goal.returns-clause-freed
-returns-clause-freed g c =
-    put_freed (g.Z.Zones.ended c.drain_full-2.new.zones c.args.zone c.drain_full-2.new.share) c.args.share.now c.drain_full.new.share c.put_lent-len.new.self c.drain_full-2.new.share c.args.zone c.args.page c.args.order
-    c.put_lent-len.new.self.batch c.put_lent-len.new.self.high_len c.in-Some.kind c.drain_full-2.result
-    c.in-Some.ensures.kind (sym c.is_listed.ensures ∙ c.if-not-is_listed.false) c.in_ok-drain_full.ensures.made c.put_lent-len.ensures.after c.put_lent-len.ensures.seat
-    (search rules) (search rules) c.drain_full-2.ensures.made c.drain_full-2.ensures.left c.drain_full-2.ensures.full c.drain_full-2.ensures.only
+    let s = c.args.share.now in
+    let n = c.put_lent.new.self in
+    let on = sym c.is_listed.ensures ∙ c.if-not-is_listed.false in
+    let some : length (cached_of (share_at s c.args.zone) c.in-Some.kind) < s.high_len = omega arith in
+    let left = still_room s n c.args.zone c.args.page c.in-Some.kind c.cached_len-len.ensures.share c.put_lent.ensures.after (omega arith) in
+    freed rows s s n n c.args.zone c.args.page c.args.order c.in-Some.kind tt (Ok tt) (g.Z.Zones.told c.args.zones.now) (g.Z.Zones.told c.args.zones.now)
+    c.in-Some.ensures.kind on (makes_no_room rows s c.args.zone c.in-Some.kind _ e some) (lent_still s s c.args.zone c.args.page c.args.order c.in-Some.kind (λ q j. refl) c.in-Some.ensures.kind on) some c.put_lent.ensures.others c.put_lent.ensures.after
+    (λ rows2 e2. makes_no_room rows2 n c.args.zone c.in-Some.kind _ e2 (omega (arith, left, ap (λ (v : ShareState). v.high_len) c.put_lent.ensures.others)))
