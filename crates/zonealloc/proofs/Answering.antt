@@ -13,7 +13,7 @@ use Rattle.zp_model.specs.Refused.{refused_number}
 use Rattle.zp_gate.specs.declared.try_lock.Busy.{Busy as Seen}
 use Rattle.zp_gate.specs.declared.call_error.CallError.{CallError}
 use Rattle.zp_gate.specs.declared.call_error.CallError.TheVariants.{NoZone, Busy, NoWorker, NoLists, NotEmpty, TooFew, Refused}
-use Rattle.zp_gate.specs.GatedWorkers.{AreDrainedTill, GatedShareState, WorkerState, HasZone, IsAtShare, IsDenial, IsDeniedAt, IsOfSection, LacksBlock, LacksWorker, gated_at, no_gated_share, worker_share}
+use Rattle.zp_gate.specs.GatedWorkers.{AreDrainedTill, GatedShareState, WorkerState, HasZone, IsAtShare, IsDenial, IsDeniedAt, IsOfSection, IsSectionAt, LacksBlock, LacksWorker, gated_at, no_gated_share, worker_share}
 use Rattle.zp_gate.specs.GatedZones.{drain_request}
 use Rattle.zonealloc.specs.Numbers.{error_number}
 use Rattle.zonealloc.specs.Calls.{HasNoZone, IsAskDenied, IsCall, IsDenied, IsDrainAllCall, IsOf, IsOfBoth, IsRefusedAt, IsRefusedOrBusy}
@@ -25,40 +25,12 @@ all_stay i v w same is = is ∙ ap (λ (d : GatedShareState). record v { shares 
 -- each refusal has a number of its own below 40, and none is 0
 pub refusal_small : (e : Refusal) → (1 ≤ refused_number e) × (refused_number e < 40)
 refusal_small refusal.BadName = (omega arith, omega arith)
-refusal_small refusal.BadBase = (omega arith, omega arith)
-refusal_small refusal.BadPages = (omega arith, omega arith)
-refusal_small refusal.BadMark = (omega arith, omega arith)
-refusal_small refusal.BadWorkers = (omega arith, omega arith)
-refusal_small refusal.Memory = (omega arith, omega arith)
-refusal_small refusal.BelowMark = (omega arith, omega arith)
-refusal_small refusal.NoBlock = (omega arith, omega arith)
-refusal_small refusal.NothingPosted = (omega arith, omega arith)
-refusal_small refusal.BadPageblock = (omega arith, omega arith)
-refusal_small refusal.AlreadyIsolated = (omega arith, omega arith)
-refusal_small refusal.NotIsolated = (omega arith, omega arith)
-refusal_small refusal.NotLent = (omega arith, omega arith)
-refusal_small refusal.ListFull = (omega arith, omega arith)
-refusal_small refusal.JournalFull = (omega arith, omega arith)
-refusal_small refusal.NoThread = (omega arith, omega arith)
+refusal_small e = (omega arith, omega arith)
 
 -- 20 is the number of one refusal alone
 pub lent_number : (e : Refusal) → refused_number e ≡ 20 → e ≡ refusal.NotLent
-lent_number refusal.BadName is = absurd (omega (arith, is))
-lent_number refusal.BadBase is = absurd (omega (arith, is))
-lent_number refusal.BadPages is = absurd (omega (arith, is))
-lent_number refusal.BadMark is = absurd (omega (arith, is))
-lent_number refusal.BadWorkers is = absurd (omega (arith, is))
-lent_number refusal.Memory is = absurd (omega (arith, is))
-lent_number refusal.BelowMark is = absurd (omega (arith, is))
-lent_number refusal.NoBlock is = absurd (omega (arith, is))
-lent_number refusal.NothingPosted is = absurd (omega (arith, is))
-lent_number refusal.BadPageblock is = absurd (omega (arith, is))
-lent_number refusal.AlreadyIsolated is = absurd (omega (arith, is))
-lent_number refusal.NotIsolated is = absurd (omega (arith, is))
 lent_number refusal.NotLent is = refl
-lent_number refusal.ListFull is = absurd (omega (arith, is))
-lent_number refusal.JournalFull is = absurd (omega (arith, is))
-lent_number refusal.NoThread is = absurd (omega (arith, is))
+lent_number e is = absurd (omega (arith, is))
 
 held : Option WorkerState → WorkerState → WorkerState
 held None d = d
@@ -72,15 +44,12 @@ here P v x = subst P (sym (ap (λ b. held b v) x.1)) x.2
 pub none_is : {A : Type 0} {v : A} → Some v ≡ None → ⊥
 none_is e = cc
 
--- when the error of a section is that there is no such zone, no such worker, or that the block is not lent
-pub record When (i : ℕ) (r : Request) (e : CallError) (v : WorkerState) : Type 0 where
-  pub zone : (e ≡ NoZone) ↔ HasNoZone i v
-  pub worker : (e ≡ NoWorker) ↔ (HasZone i v × LacksWorker r (gated_at v i))
-  pub lent : (e ≡ Refused refusal.NotLent) ↔ (HasZone i v × LacksBlock r (gated_at v i))
+abbrev err : (A : Type 0) → CallError → Result A CallError
+err A e = Err e
 
 module _ (i : ℕ) (r : Request) (v w : WorkerState) where
-  abbrev Told : CallError → Type 0
-  Told e = When i r e v → (HasZone i v → IsOfSection e) → IsDeniedAt i r e v w → IsAskDenied i r (error_number e) (Some v) (Some w)
+  abbrev Told : {A : Type 0} → (A → Reply) → CallError → Type 0
+  Told {A = A} given e = IsSectionAt i r given (err A e) v w → IsAskDenied i r (error_number e) (Some v) (Some w)
 
   -- an error that is no refusal leaves all as it was
   stayed : (e : CallError) → ((why : Refusal) → e ≡ Refused why → ⊥) → IsDeniedAt i r e v w → w ≡ v
@@ -93,43 +62,34 @@ module _ (i : ℕ) (r : Request) (v w : WorkerState) where
   no_section : (e : CallError) → (e ≡ NoZone → ⊥) → (IsOfSection e → ⊥) → (HasZone i v → IsOfSection e) → IsDeniedAt i r e v w → ⊥
   no_section e zone none sec x = elim x [ inl out ↦ zone out.0 | inr at ↦ none (sec at.0) ]
 
-  told_no_zone : Told NoZone
-  told_no_zone when sec x =
+  -- there is no such zone, or it has no such worker
+  told_beyond : (e : CallError) → error_number e ≡ 40 → HasNoZone i v ⊎ (HasZone i v × LacksWorker r (gated_at v i)) → ((HasZone i v × LacksBlock r (gated_at v i)) → ⊥) → w ≡ v
+      → IsAskDenied i r (error_number e) (Some v) (Some w)
+  told_beyond e is beyond lent same =
       record {
-        handle = (λ is. absurd (omega (arith, is)), λ e. absurd (none_is e));
-        argument = (λ _. (v, refl, inl (when.zone.0 refl)), λ _. refl);
-        lent = (λ is. absurd (omega (arith, is)), λ y. absurd (let e : NoZone ≡ Refused refusal.NotLent = when.lent.1 (here (λ u. HasZone i u × LacksBlock r (gated_at u i)) v y) in cc));
-        refused = λ low. absurd (omega (arith, low));
-        unasked = λ _. ap Some (stayed NoZone (λ why e. cc) x);
-        codes = (omega arith, inr (inl refl));
+        handle = (λ n. absurd (omega (arith, is, n)), λ none. absurd (none_is none));
+        argument = (λ _. (v, refl, beyond), λ _. is);
+        lent = (λ n. absurd (omega (arith, is, n)), λ y. absurd (lent (here (λ u. HasZone i u × LacksBlock r (gated_at u i)) v y)));
+        refused = λ low. absurd (omega (arith, is, low));
+        unasked = λ _. ap Some same;
+        codes = (omega (arith, is), inr (inl is));
       }
 
-  told_busy : (b : Seen) → Told (Busy b)
-  told_busy b when sec x =
+  told_busy : {A : Type 0} (given : A → Reply) (b : Seen) → Told given (Busy b)
+  told_busy {A = A} given b x =
       record {
         handle = (λ is. absurd (omega (arith, is)), λ e. absurd (none_is e));
         argument = (
           λ is. absurd (omega (arith, is)),
           λ y. elim (here (λ u. HasNoZone i u ⊎ (HasZone i u × LacksWorker r (gated_at u i))) v y) [
-            | inl out ↦ absurd (let e : Busy b ≡ NoZone = when.zone.1 out in cc)
-            | inr out ↦ absurd (let e : Busy b ≡ NoWorker = when.worker.1 out in cc)
+            | inl out ↦ absurd (let e : err A (Busy b) ≡ err A NoZone = x.zone.1 out in cc)
+            | inr out ↦ absurd (let e : err A (Busy b) ≡ err A NoWorker = x.worker.1 out in cc)
           ],
         );
-        lent = (λ is. absurd (omega (arith, is)), λ y. absurd (let e : Busy b ≡ Refused refusal.NotLent = when.lent.1 (here (λ u. HasZone i u × LacksBlock r (gated_at u i)) v y) in cc));
+        lent = (λ is. absurd (omega (arith, is)), λ y. absurd (let e : err A (Busy b) ≡ err A (Refused refusal.NotLent) = x.lent.1 (here (λ u. HasZone i u × LacksBlock r (gated_at u i)) v y) in cc));
         refused = λ low. absurd (omega (arith, low));
-        unasked = λ _. ap Some (stayed (Busy b) (λ why e. cc) x);
+        unasked = λ _. ap Some (stayed (Busy b) (λ why e. cc) x.denied);
         codes = (omega arith, inl (inr refl));
-      }
-
-  told_no_worker : Told NoWorker
-  told_no_worker when sec x =
-      record {
-        handle = (λ is. absurd (omega (arith, is)), λ e. absurd (none_is e));
-        argument = (λ _. (v, refl, inr (when.worker.0 refl)), λ _. refl);
-        lent = (λ is. absurd (omega (arith, is)), λ y. absurd (let e : NoWorker ≡ Refused refusal.NotLent = when.lent.1 (here (λ u. HasZone i u × LacksBlock r (gated_at u i)) v y) in cc));
-        refused = λ low. absurd (omega (arith, low));
-        unasked = λ _. ap Some (stayed NoWorker (λ why e. cc) x);
-        codes = (omega arith, inr (inl refl));
       }
 
   -- a refusal but that of a block that is not lent is the zone's
@@ -155,35 +115,34 @@ module _ (i : ℕ) (r : Request) (v w : WorkerState) where
     ]
   ]
 
-  told_refused : (e : Refusal) → Told (Refused e)
-  told_refused e when sec x =
+  told_refused : {A : Type 0} (given : A → Reply) (e : Refusal) → Told given (Refused e)
+  told_refused {A = A} given e x =
       let small = refusal_small e in
       record {
         handle = (λ is. absurd (omega (arith, is, small.1)), λ e. absurd (none_is e));
         argument = (
           λ is. absurd (omega (arith, is, small.1)),
           λ y. elim (here (λ u. HasNoZone i u ⊎ (HasZone i u × LacksWorker r (gated_at u i))) v y) [
-            | inl out ↦ absurd (let f : Refused e ≡ NoZone = when.zone.1 out in cc)
-            | inr out ↦ absurd (let f : Refused e ≡ NoWorker = when.worker.1 out in cc)
+            | inl out ↦ absurd (let f : err A (Refused e) ≡ err A NoZone = x.zone.1 out in cc)
+            | inr out ↦ absurd (let f : err A (Refused e) ≡ err A NoWorker = x.worker.1 out in cc)
           ],
         );
         lent = (
-          λ is. (v, refl, when.lent.0 (ap (λ (u : Refusal). Refused u) (lent_number e is))),
-          λ y. ap error_number (when.lent.1 (here (λ u. HasZone i u × LacksBlock r (gated_at u i)) v y)),
+          λ is. (v, refl, x.lent.0 (ap (λ (u : Refusal). err A (Refused u)) (lent_number e is))),
+          λ y. let f : err A (Refused e) ≡ err A (Refused refusal.NotLent) = x.lent.1 (here (λ u. HasZone i u × LacksBlock r (gated_at u i)) v y) in
+              let g : e ≡ refusal.NotLent = cc in ap refused_number g,
         );
-        refused = λ low ne. refused_by e x ne;
-        unasked = λ why. ap Some (unrefused e x why);
+        refused = λ low ne. refused_by e x.denied ne;
+        unasked = λ why. ap Some (unrefused e x.denied why);
         codes = (small.0, inl (inl small.1));
       }
 
-  pub asked_denied : (e : CallError) → Told e
-  asked_denied NoZone when sec x = told_no_zone when sec x
-  asked_denied (Busy b) when sec x = told_busy b when sec x
-  asked_denied NoWorker when sec x = told_no_worker when sec x
-  asked_denied NoLists when sec x = absurd (no_section NoLists (λ e. cc) (λ none. none) sec x)
-  asked_denied NotEmpty when sec x = absurd (no_section NotEmpty (λ e. cc) (λ none. none) sec x)
-  asked_denied TooFew when sec x = absurd (no_section TooFew (λ e. cc) (λ none. none) sec x)
-  asked_denied (Refused e) when sec x = told_refused e when sec x
+  asked_denied : {A : Type 0} (given : A → Reply) (e : CallError) → Told given e
+  asked_denied {A = A} given NoZone x = told_beyond NoZone refl (inl (x.zone.0 refl)) (λ y. let f : err A NoZone ≡ err A (Refused refusal.NotLent) = x.lent.1 y in cc) (stayed NoZone (λ why e. cc) x.denied)
+  asked_denied given (Busy b) x = told_busy given b x
+  asked_denied {A = A} given NoWorker x = told_beyond NoWorker refl (inr (x.worker.0 refl)) (λ y. let f : err A NoWorker ≡ err A (Refused refusal.NotLent) = x.lent.1 y in cc) (stayed NoWorker (λ why e. cc) x.denied)
+  asked_denied given (Refused e) x = told_refused given e x
+  asked_denied given e x = absurd (no_section e (λ z. cc) (λ none. none) x.why x.denied)
 
   module _ (asks : Option WorkerState → Request → Type 0) (told : Reply → Type 0) (kept : Type 0) (is : asks (Some v) r) (k : kept) where
     unasked_at : (e : CallError) → 40 ≤ error_number e → ((why : Refusal) → e ≡ Refused why → ⊥) → IsDeniedAt i r e v w → IsCall asks told kept i (error_number e) (Some v) (Some w)
@@ -191,12 +150,6 @@ module _ (i : ℕ) (r : Request) (v w : WorkerState) where
         record { done = λ z. absurd (omega (arith, big, z)); refused = λ low small ne. absurd (omega (arith, big, small)); unasked = λ why. (k, ap Some (stayed e none x)) }
 
     at_denied : (e : CallError) → IsDeniedAt i r e v w → IsCall asks told kept i (error_number e) (Some v) (Some w)
-    at_denied NoZone x = unasked_at NoZone (omega arith) (λ why e. cc) x
-    at_denied (Busy b) x = unasked_at (Busy b) (omega arith) (λ why e. cc) x
-    at_denied NoWorker x = unasked_at NoWorker (omega arith) (λ why e. cc) x
-    at_denied NoLists x = unasked_at NoLists (omega arith) (λ why e. cc) x
-    at_denied NotEmpty x = unasked_at NotEmpty (omega arith) (λ why e. cc) x
-    at_denied TooFew x = unasked_at TooFew (omega arith) (λ why e. cc) x
     at_denied (Refused e) x =
         let small = refusal_small e in
         record {
@@ -204,6 +157,7 @@ module _ (i : ℕ) (r : Request) (v w : WorkerState) where
           refused = λ low less ne. let by = refused_by e x ne in (k, (r, by.0, is, by.1, by.2));
           unasked = λ why. (k, ap Some (unrefused e x why));
         }
+    at_denied e x = unasked_at e (omega arith) (λ why z. cc) x
 
 -- what a call comes to that was denied so
 pub denied_at : (asks : Option WorkerState → Request → Type 0) (told : Reply → Type 0) (kept : Type 0) (i : ℕ) (r : Request) (e : CallError) (v w : WorkerState) → asks (Some v) r → kept → IsDeniedAt i r e v w → IsCall asks told kept i (error_number e) (Some v) (Some w)
@@ -231,27 +185,11 @@ denied_by unnamed beyond i code r b a named same x =
       codes = elim x.codes.1 [ inl others ↦ inr (inr (inr others)) | inr y ↦ elim y [ inl is ↦ inr (inl is) | inr is ↦ inr (inr (inl is)) ] ];
     }
 
-abbrev err : (A : Type 0) → CallError → Result A CallError
-err A e = Err e
-
-error_in : {A : Type 0} → Result A CallError → CallError → CallError
-error_in (Ok a) d = d
-error_in (Err e) d = e
-
--- errors are those of their results
-pub when_err : {A : Type 0} (i : ℕ) (r : Request) (e : CallError) (v : WorkerState) → let is : CallError → Type 0 = λ f. err A e ≡ err A f in is NoZone ↔ HasNoZone i v → is NoWorker ↔ (HasZone i v × LacksWorker r (gated_at v i))
-    → is (Refused refusal.NotLent) ↔ (HasZone i v × LacksBlock r (gated_at v i)) → When i r e v
-unfolding error_in
-when_err {A = A} i r e v zone worker lent =
-    record {
-      zone = (λ is. zone.0 (ap (err A) is), λ out. ap (λ (x : Result A CallError). error_in x e) (zone.1 out));
-      worker = (λ is. worker.0 (ap (err A) is), λ out. ap (λ (x : Result A CallError). error_in x e) (worker.1 out));
-      lent = (λ is. lent.0 (ap (err A) is), λ out. ap (λ (x : Result A CallError). error_in x e) (lent.1 out));
-    }
-
 -- what was denied, by the handle and the number
-pub asked_by : (i : ℕ) (r : Request) (e : CallError) (code : ℕ) (b a : Option WorkerState) (v w : WorkerState) → b ≡ Some v → a ≡ Some w → code ≡ error_number e → IsAskDenied i r (error_number e) (Some v) (Some w) → IsAskDenied i r code b a
-asked_by i r e code b a v w was now is x = subst (λ n. IsAskDenied i r n b a) (sym is) (subst (λ o. IsAskDenied i r (error_number e) o a) (sym was) (subst (λ o. IsAskDenied i r (error_number e) (Some v) o) (sym now) x))
+pub ask_denied : {A : Type 0} (given : A → Reply) (i : ℕ) (r : Request) (e : CallError) (code : ℕ) (b a : Option WorkerState) (v w : WorkerState) → IsSectionAt i r given (err A e) v w → b ≡ Some v → a ≡ Some w
+    → code ≡ error_number e → IsAskDenied i r code b a
+ask_denied given i r e code b a v w x was now is =
+    subst (λ n. IsAskDenied i r n b a) (sym is) (subst (λ o. IsAskDenied i r (error_number e) o a) (sym was) (subst (λ o. IsAskDenied i r (error_number e) (Some v) o) (sym now) (asked_denied i r v w given e x)))
 
 pub called_by : (asks : Option WorkerState → Request → Type 0) (told : Reply → Type 0) (kept : Type 0) (i : ℕ) (e : CallError) (code : ℕ) (b a : Option WorkerState) (v w : WorkerState) → b ≡ Some v → a ≡ Some w → code ≡ error_number e
     → IsCall asks told kept i (error_number e) (Some v) (Some w) → IsCall asks told kept i code b a
@@ -266,10 +204,7 @@ drain_number i n k (Refused e) v w of x = elim x.1 [
   | inl not ↦ absurd (let lacks : true ≡ false = not.0.1.1 in cc)
   | inr asked ↦ inl (ap error_number asked.1 ∙ ap refused_number asked.3.0.3.0.reply)
 ]
-drain_number i n k NoZone v w of x = absurd of
-drain_number i n k NoLists v w of x = absurd of
-drain_number i n k NotEmpty v w of x = absurd of
-drain_number i n k TooFew v w of x = absurd of
+drain_number i n k e v w of x = absurd of
 
 -- and so are all drains
 till_number : (i : ℕ) (e : CallError) (v w : WorkerState) → AreDrainedTill i e v w → (error_number e ≡ 30) ⊎ (error_number e ≡ 42)
@@ -320,5 +255,4 @@ drained_denied i e v w zone till = elim (cases_lt i (length v.shares)) [
 ]
 
 pub no_zone_err : {A : Type 0} (i : ℕ) (e : CallError) (v : WorkerState) → (err A e ≡ err A NoZone) ↔ HasNoZone i v → (e ≡ NoZone) ↔ HasNoZone i v
-unfolding error_in
-no_zone_err {A} i e v zone = (λ is. zone.0 (ap (err A) is), λ out. ap (λ (x : Result A CallError). error_in x e) (zone.1 out))
+no_zone_err {A} i e v zone = (λ is. zone.0 (ap (err A) is), λ out. (let f : err A e ≡ err A NoZone = zone.1 out in cc))

@@ -21,28 +21,16 @@ put_denied i page (Refused e) v w x =
       asked = λ small. (v, w, refl, refl, (Err e, refl, (x.0, (x.1.0.1.0, x.1.1), x.2)));
       unchanged = λ no. ap Some (shares_stay i v w x.1.1 x.1.0.1.1 x.2);
     }
-put_denied i page NoZone v w x = absurd x.1.0
-put_denied i page (Busy b) v w x = absurd x.1.0
-put_denied i page NoWorker v w x = absurd x.1.0
-put_denied i page NotEmpty v w x = absurd x.1.0
-put_denied i page TooFew v w x = absurd x.1.0
+put_denied i page d v w x = absurd x.1.0
 
 -- it is a refusal's number, or 46
 pub put_number_of : (i page : ℕ) (d : CallError) (v w : WorkerState) → IsAt i (IsPutDenial page d) v w → (1 ≤ error_number d) × ((error_number d < 40) ⊎ (error_number d ≡ 46))
 put_number_of i page NoLists v w x = (omega arith, inr refl)
 put_number_of i page (Refused e) v w x = let small = refusal_small e in (small.0, inl small.1)
-put_number_of i page NoZone v w x = absurd x.1.0
-put_number_of i page (Busy b) v w x = absurd x.1.0
-put_number_of i page NoWorker v w x = absurd x.1.0
-put_number_of i page NotEmpty v w x = absurd x.1.0
-put_number_of i page TooFew v w x = absurd x.1.0
+put_number_of i page d v w x = absurd x.1.0
 
 -- and 46 where the worker has no lists
 pub put_lists : (i page : ℕ) (d : CallError) (v w : WorkerState) → IsAt i (IsPutDenial page d) v w → (error_number d ≡ 46) ↔ ((worker_share v i).batch ≡ 0)
 put_lists i page NoLists v w x = (λ _. x.1.0.0, λ _. refl)
 put_lists i page (Refused e) v w x = let small = refusal_small e in (λ is. absurd (omega (arith, is, small.1)), λ none. absurd (omega (arith, none, x.1.0.0)))
-put_lists i page NoZone v w x = absurd x.1.0
-put_lists i page (Busy b) v w x = absurd x.1.0
-put_lists i page NoWorker v w x = absurd x.1.0
-put_lists i page NotEmpty v w x = absurd x.1.0
-put_lists i page TooFew v w x = absurd x.1.0
+put_lists i page d v w x = absurd x.1.0

@@ -3,7 +3,7 @@ ghost use Rattle.std.specs.Prelude.{◌≡◌, IsSome, Some};
 ghost use Rattle.std.specs.Borrow.{sem};
 ghost use Rattle.zonealloc.specs.Lent.{LendsWorker};
 
-use crate::worker_slot::WorkerSlot;
+use crate::slots::WorkerSlot;
 use zp_gate::GatedWorker;
 
 impl WorkerSlot {

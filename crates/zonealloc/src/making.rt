@@ -9,7 +9,7 @@ ghost use Rattle.zonealloc.specs.Rows.{IsEmpty, IsMakeCall, IsMakeDenied, IsMaki
 ghost use Rattle.zonealloc.specs.Zones.{AreApart, IsConfig, IsNoConfig, IsOfFirst, spec_key, wanted_zone};
 
 use crate::answers::{BAD_ARGUMENT, BAD_HANDLE, DONE, refused};
-use crate::handles::{HeldRow, HeldWorker, RowHandle, WorkerHandle, put_row, put_worker};
+use crate::handles::{HeldRow, RowHandle, WorkerHandle, put_row, put_worker};
 use crate::zone_spec::{ZoneSpec, are_apart, config_of};
 use std::alloc::Global;
 use zp_gate::{GatedRow, GatedWorker, open_row};
@@ -148,6 +148,6 @@ fn put_all(workers: &mut [WorkerHandle], crew: Vec<Box<GatedWorker>>)
         let Some(worker) = crew.pop() else {
             unreachable!()
         };
-        put_worker(&mut workers[place], HeldWorker { worker });
+        put_worker(&mut workers[place], worker);
     }
 }

@@ -19,7 +19,7 @@ pub struct ZoneCounts {
 
 /// What is noted of a page: the state's number, its order, its type and its worker.
 #[repr(C)]
-#[derive(Drop)]
+#[derive(Default, Drop)]
 pub struct PageTold {
     pub state: u32,
     pub order: u32,
@@ -62,17 +62,11 @@ pub fn page_told(state: &State) -> PageTold
     ensures { result ≡ page_told state.now }
 {
     match state {
-        State::Tail => PageTold {
-            state: 0,
-            order: 0,
-            kind: 0,
-            worker: 0,
-        },
+        State::Tail => PageTold::default(),
         State::Free(order) => PageTold {
             state: 1,
             order: u32::from(order.number()),
-            kind: 0,
-            worker: 0,
+            ..PageTold::default()
         },
         State::Out(order, kind, worker) => block_told(2, order, kind, worker),
         State::Posted(order, kind, worker) => block_told(3, order, kind, worker),

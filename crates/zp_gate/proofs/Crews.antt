@@ -1,5 +1,5 @@
 -- Numbers and values, one by one.
-use Rattle.std.proofs.Common.{ℕ, zero, suc, ◌≡◌, ◌<◌, ◌+◌, List, [], ◌∷◌, All, length, slice_index_or, inl, inr, subst, arith}
+use Rattle.std.proofs.Common.{ℕ, zero, suc, ◌<◌, ◌+◌, [], ◌∷◌, slice_index_or, inl, inr, subst, arith}
 use Rattle.std.proofs.lemmas.Bool.{cases_lt}
 
 -- where it is so of each number below another, and of that
@@ -9,9 +9,3 @@ below_next P n each here w lt = elim (cases_lt w n) [ inl x ↦ each w x | inr x
 pub each : {A : Type 0} (P : A → Type 0) (x : A) → P x → (k : ℕ) (d : A) → k < 1 → P (slice_index_or (x ∷ []) k d)
 each P x p zero d lt = p
 each P x p (suc k) d lt = absurd (omega (arith, lt))
-
--- where it is so of the one value of a list
-pub of_one : {A : Type 0} (P : A → Type 0) (xs : List A) (none : A) → length xs ≡ 1 → P (slice_index_or xs 0 none) → All P xs
-of_one P [] none e p = λ k d lt. absurd (omega (arith, e))
-of_one P (x ∷ []) none e p = each P x p
-of_one P (x ∷ y ∷ xs) none e p = λ k d lt. absurd (omega (arith, e))

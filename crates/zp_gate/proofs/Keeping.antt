@@ -1,17 +1,18 @@
 -- What one call makes of what stands behind a lock: it is the zone of the same key still.
 use Rattle.std.proofs.Common.{◌≡◌, List, [], ◌∷◌, length, All, sym, ap, ◌∙◌, subst, inl, inr}
-use Rattle.std.specs.Prelude.{Option, Some, None}
+use Rattle.std.specs.Prelude.{Option, Some, None, Result, Ok, Err}
 use Rattle.std.proofs.lemmas.List.{length-set}
 use Rattle.std.proofs.lemmas.List.Elements.{All-append}
 use Rattle.zp_model.specs.declared.refused.Refused.{Refused}
 use Rattle.zp_model.specs.declared.request.Request.{Request}
 use Rattle.zp_model.specs.declared.request.Reply.{Reply}
 use Rattle.zp_model.specs.Step.{step as stepping}
+use Rattle.zp_model.specs.Zone.{workers_of}
 use Rattle.zp_laws.proofs.Sameness.{step-same}
 use Rattle.zp_zone.specs.Seats.{ZoneState}
 use Rattle.zp_share.specs.PlainShares.{refusal_of}
-use Rattle.zp_share.specs.Sections.{ComesOf, IsAsked}
-use Rattle.zp_share.specs.Shares.{ShareState, ZoneKey, key_of, share_at, with_zone_share}
+use Rattle.zp_share.specs.Sections.{ComesOf, IsAsked, IsRefilled}
+use Rattle.zp_share.specs.Shares.{ShareState, ZoneKey, key_of, share_at}
 use Rattle.zp_share.specs.ZoneShares.{ZoneShareState, plain_share}
 use Rattle.zp_share.proofs.Telling.{same-key}
 use Rattle.zp_gate.specs.GatedZones.{GatedState, IsBehind, IsOneCall, IsOneShare, IsSectionOf}
@@ -24,6 +25,14 @@ key_came None r q z y a b x = ap key_of x.zone ∙ same-key z (stepping z.plain 
 
 pub key_stays : (r : Request) (q : Reply) (z y : ZoneState) (a b : ZoneShareState) → IsAsked r q z y a b → key_of y ≡ key_of z
 key_stays r q z y a b x = key_came (refusal_of r (plain_share a)) r q z y a b x.made
+
+-- nor do its workers change
+pub workers_stay : (r : Request) (q : Reply) (z y : ZoneState) (a b : ZoneShareState) → IsAsked r q z y a b → workers_of y.plain ≡ workers_of z.plain
+workers_stay r q z y a b x = ap (λ (k : ZoneKey). k.workers) (key_stays r q z y a b x)
+
+pub refill_workers : (r : Request) (z y : ZoneState) (a b : ZoneShareState) (answer : Result (Unit {0}) Refused) → IsRefilled (λ q. IsAsked r q z y a b) answer → workers_of y.plain ≡ workers_of z.plain
+refill_workers r z y a b (Ok u) got = workers_stay r (Reply.Pages got.0) z y a b got.1
+refill_workers r z y a b (Err e) got = workers_stay r (Reply.Refused e) z y a b got
 
 -- what stands behind a lock stands there after one call
 pub one_call_behind : (key : ZoneKey) (y z : GatedState) → IsBehind key y → IsOneCall key y z → IsBehind key z
@@ -46,8 +55,8 @@ base_came (Some e) r q z y s t x = ap (λ (a : ZoneShareState). a.seat.part.base
 base_came None r q z y s t x = ap (λ (a : ZoneShareState). a.seat.part.base) x.share
 
 -- a share that made a section is one of the same zone still
-pub share_stays : (key : ZoneKey) (r : Request) (q : Reply) (y z : GatedState) (s t : ShareState) → IsOneShare key s → IsSectionOf r q y z s t → t ≡ with_zone_share 0 (share_at t 0) s → IsOneShare key t
-share_stays key r q y z s t one x rest = (
-  ap (λ (u : ShareState). length u.zones) rest ∙ length-set s.zones 0 (share_at t 0) ∙ one.0,
+pub share_stays : (key : ZoneKey) (r : Request) (q : Reply) (y z : GatedState) (s t : ShareState) → IsOneShare key s → IsSectionOf r q y z s t → IsOneShare key t
+share_stays key r q y z s t one x = (
+  ap (λ (u : ShareState). length u.zones) x.2 ∙ length-set s.zones 0 (share_at t 0) ∙ one.0,
   (x.0.same.tie ∙ one.1.0, base_came (refusal_of r (plain_share (share_at s 0))) r q y.zone z.zone (share_at s 0) (share_at t 0) x.0.made ∙ one.1.1),
 )

@@ -1,5 +1,4 @@
 pub mod Keeping
-pub mod Rooms
 pub mod Refusals
 pub mod Leaving
 pub mod Steps

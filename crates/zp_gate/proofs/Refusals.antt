@@ -12,19 +12,5 @@ module _ (n : ℕ) (configs : List ZoneConfig) (i : ℕ) (config : ZoneConfig) (
   first e x = inr (record { i = i; config = config; before = before; at = at; refused = x })
 
   pub why_no_row : (e : Refused) → IsWideWhy (wanted_by n config) e → IsWhyNoRow n configs e
-  why_no_row refusal.BadName x = first refusal.BadName x
-  why_no_row refusal.BadBase x = first refusal.BadBase x
-  why_no_row refusal.BadPages x = first refusal.BadPages x
-  why_no_row refusal.BadMark x = first refusal.BadMark x
-  why_no_row refusal.BadWorkers x = first refusal.BadWorkers x
   why_no_row refusal.Memory x = inl refl
-  why_no_row refusal.BelowMark x = first refusal.BelowMark x
-  why_no_row refusal.NoBlock x = first refusal.NoBlock x
-  why_no_row refusal.NothingPosted x = first refusal.NothingPosted x
-  why_no_row refusal.BadPageblock x = first refusal.BadPageblock x
-  why_no_row refusal.AlreadyIsolated x = first refusal.AlreadyIsolated x
-  why_no_row refusal.NotIsolated x = first refusal.NotIsolated x
-  why_no_row refusal.NotLent x = first refusal.NotLent x
-  why_no_row refusal.ListFull x = first refusal.ListFull x
-  why_no_row refusal.JournalFull x = first refusal.JournalFull x
-  why_no_row refusal.NoThread x = first refusal.NoThread x
+  why_no_row e x = first e x

@@ -1,18 +1,18 @@
 -- Each step on a lock keeps its rule.
-use Rattle.std.proofs.Common.{◌≡◌, ◌⊎◌, ℕ, zero, suc, ◌<◌, ◌==◌, List, [], ◌∷◌, ◌++◌, length, map, set, refl, sym, ap, ◌∙◌, subst, inl, inr, arith}
+use Rattle.std.proofs.Common.{◌≡◌, ℕ, zero, suc, ◌<◌, ◌==◌, List, [], ◌∷◌, ◌++◌, length, set, refl, sym, ap, ◌∙◌, subst, inl, inr, arith}
 use Rattle.std.specs.Prelude.{Some}
-use mathlib.Core.Option.{some, none, some-ne-none, some-injective}
+use mathlib.Core.Option.{some, none}
 use lib.ListN.{get_elem?}
 use prog.Atomic.{either}
 use Rattle.std.specs.List.{slice_index}
-use Rattle.atomic_table.specs.Table.{State, Me, Act, opening, Valid, step, stepped, keeps, takes, gives, carried_after, rest, Allows, put_back}
+use Rattle.atomic_table.specs.Table.{State, Me, Act, Valid, step, stepped, keeps, takes, gives, carried_after, rest, Allows, put_back}
 use Rattle.atomic_table.specs.Table.{Enters as Entering}
 use Rattle.atomic_table.specs.Seated.{TableId}
 use Rattle.atomic_table.specs.declared.shared.Seat.{Seat}
-use Rattle.atomic_table.proofs.Lists.{at_set, set_here, exchanged}
+use Rattle.atomic_table.proofs.Lists.{at_set, at_snoc, set_here, exchanged}
 use Rattle.zp_share.specs.Shares.{ZoneKey}
 use Rattle.zp_gate.specs.declared.visit_view.VisitView.{VisitView}
-use Rattle.zp_gate.specs.GatedZones.{GatedState, IsBehind, IsOneCall}
+use Rattle.zp_gate.specs.GatedZones.{GatedState, IsBehind}
 use Rattle.zp_gate.specs.Locks.{IsAtHome, IsGated, IsIn, MayLeave, Comes, Enters, Leaves, first_held, inside, outside}
 use Rattle.zp_gate.specs.Visits.{IsVisit}
 use Rattle.zp_gate.proofs.Keeping.{one_call_behind}
@@ -21,14 +21,8 @@ use Rattle.zp_gate.proofs.Keeping.{one_call_behind}
 abbrev Views : ZoneKey → List VisitView → Type 0
 Views key views = (by : ℕ) (v : VisitView) → get_elem? views by ≡ some v → v.key ≡ key
 
-at_end : {A : Type 0} (l : List A) (a b : A) (j : ℕ) → get_elem? (l ++ a ∷ []) j ≡ some b → (get_elem? l j ≡ some b) ⊎ ((j ≡ length l) × (a ≡ b))
-at_end [] a b zero e = inr (refl, some-injective a b e)
-at_end [] a b (suc j) e = absurd (some-ne-none b (sym e))
-at_end (x ∷ xs) a b zero e = inl e
-at_end (x ∷ xs) a b (suc j) e = elim (at_end xs a b j e) [ inl t ↦ inl t | inr t ↦ inr (ap suc t.0, t.1) ]
-
 views_end : (key : ZoneKey) (views : List VisitView) (w : VisitView) → w.key ≡ key → Views key views → Views key (views ++ w ∷ [])
-views_end key views w is old j u e = elim (at_end views w u j e) [ inl was ↦ old j u was | inr x ↦ ap (λ (v : VisitView). v.key) (sym x.1) ∙ is ]
+views_end key views w is old j u e = elim (at_snoc views w u j e) [ inl was ↦ old j u was | inr x ↦ ap (λ (v : VisitView). v.key) (sym x) ∙ is ]
 
 views_set : (key : ZoneKey) (views : List VisitView) (id : ℕ) (w : VisitView) → w.key ≡ key → Views key views → Views key (set views id w)
 views_set key views id w is old j u e = elim (at_set views id j w u e) [ inl x ↦ ap (λ (v : VisitView). v.key) (sym x.1) ∙ is | inr x ↦ old j u x.1 ]
@@ -91,18 +85,6 @@ came_in id key slots found p q of me same none_in entered =
       (y, e.1 ∙ ap (λ (k : ZoneKey). inside k y) is, e.2 ∙ ap (λ (m : Me GatedState VisitView). (0, y) ∷ m.1) me, subst (λ (k : ZoneKey). IsBehind k y) is e.3),
     )
 
--- a new lock: what stands behind it is at home
-pub opened : (key : ZoneKey) (slots : List GatedState) (y : GatedState) → slots ≡ y ∷ [] → IsBehind key y → IsGated key (opening (0 ∷ []) slots (outside key))
-opened key slots y e behind =
-    (0, refl, (λ _. (y, ap (λ (ys : List GatedState). get_elem? (map (λ (u : GatedState). some u) ys) 0) e, behind)), views_end key [] (outside key) refl (λ by v no. absurd (some-ne-none v (sym no))))
-
--- whoever is in has what stands there
-pub has_zone : (id : TableId) (key : ZoneKey) (p : Seat GatedState VisitView) → IsIn id key p → (p.table_id ≡ id) × ((x : GatedState) × (p.me.1 ≡ (0, x) ∷ rest p.me.1))
-has_zone id key p is =
-    let y : GatedState = is.1.0 in
-    let e : p.me.1 ≡ (0, y) ∷ [] = is.1.2 in
-    (is.0, (y, e ∙ sym (ap (λ (l : List (ℕ × GatedState)). (0, y) ∷ rest l) e)))
-
 first_zone : List (ℕ × GatedState) → GatedState → GatedState
 first_zone [] d = d
 first_zone (x ∷ xs) d = x.1
@@ -116,14 +98,6 @@ seen id key p was is has =
     let same : y ≡ was = ap (λ (l : List (ℕ × GatedState)). first_zone l y) (sym e ∙ has) in
     (is.1.1 ∙ ap (inside key) same, subst (IsBehind key) same is.1.3)
 
--- with what one call made of it in its place he may leave
-pub may_leave : (id : TableId) (key : ZoneKey) (p : Seat GatedState VisitView) (was now : GatedState) → IsIn id key p → p.me.1 ≡ (0, was) ∷ rest p.me.1 → IsOneCall key was now →
-    (p.table_id ≡ id) × ((y : GatedState) × (z : GatedState) × (p.me.0 ≡ inside key y) × ((0, now) ∷ rest p.me.1 ≡ (0, z) ∷ []) × IsBehind key y × IsOneCall key y z)
-may_leave id key p was now is has call =
-    let s = seen id key p was is has in
-    let e : p.me.1 ≡ (0, is.1.0) ∷ [] = is.1.2 in
-    (is.0, (was, now, s.0, ap (λ (l : List (ℕ × GatedState)). (0, now) ∷ rest l) e, s.1, call))
-
--- and his visit then tells of both
+-- his visit tells of what he found, and of what he left
 pub visited : (id : TableId) (key : ZoneKey) (p : Seat GatedState VisitView) (was now : GatedState) (v : VisitView) → IsIn id key p → p.me.1 ≡ (0, was) ∷ rest p.me.1 → v ≡ record { key = p.me.0.key; found = p.me.0.found; left = Some now } → IsVisit key was now v
 visited id key p was now v is has left = let s = seen id key p was is has in record { view = left ∙ ap (λ (u : VisitView). record u { left = Some now }) s.0; behind = s.1 }

@@ -1,6 +1,6 @@
 -- What a worker has of each zone of its row, and what its calls come to. A zone behind a lock is not seen between calls: each of them
 -- speaks of the zone as it is then, whatever it is (this profile).
-use Rattle.std.specs.Prelude.{ℕ, ◌≡◌, ◌≢◌, ◌<◌, ◌≤◌, ◌+◌, ◌-◌, ◌⊎◌, ◌++◌, false, List, [], ◌∷◌, All, length, map, slice_index_or, slice_set, take, Some, Result, Ok, Err}
+use Rattle.std.specs.Prelude.{ℕ, ◌≡◌, ◌≢◌, ◌<◌, ◌≤◌, ◌+◌, ◌-◌, ◌⊎◌, ◌↔◌, ◌++◌, false, IfErr, IfOk, List, [], ◌∷◌, All, length, map, slice_index_or, slice_set, take, Some, Result, Ok, Err}
 use Rattle.zp_model.specs.declared.request.Request.{Request}
 use Rattle.zp_model.specs.declared.request.Reply.{Reply}
 use Rattle.zp_model.specs.declared.refused.Refused.{Refused as Refusal}
@@ -117,6 +117,15 @@ IsOfSection e = ⊥
 abbrev pub IsDenial : Request → CallError → GatedShareState → GatedShareState → Type 0
 IsDenial r why d f = (IsUnasked r why d × (f ≡ d)) ⊎ ((e : Refusal) × (why ≡ Refused e) × (e ≢ NotLent) × HasTurned (IsAnswer d.key r (Reply.Refused e)) d f)
 
+-- What a request to the zone comes to: it is granted by the reply that gives this, or denied, and when it is denied for what is seen without the zone.
+-- That is where the zone has no such worker, and where the block is not lent; what else denies it is the zone's, or that somebody is in it
+pub record IsSection {A : Type 0} (r : Request) (given : A → Reply) (result : Result A CallError) (d f : GatedShareState) : Type 0 where
+  pub ok : IfOk result (λ a. IsGranted r (given a) d f)
+  pub worker : (result ≡ Err NoWorker) ↔ LacksWorker r d
+  pub lent : (result ≡ Err (Refused NotLent)) ↔ LacksBlock r d
+  pub why : IfErr result IsOfSection
+  pub denied : IfErr result (λ e. IsDenial r e d f)
+
 -- a drain of so many pages has too few, or is to give none
 abbrev pub HasTooFew : MigrateType → ℕ → ShareState → Type 0
 HasTooFew k n s = (n ≡ 0) ⊎ (length (cached_of (share_at s 0) k) < n)
@@ -144,6 +153,15 @@ IsGrantedAt i r q v w = IsAtShare i (IsGranted r q) v w
 -- the request to the zone at place i was denied so: where there is no such zone nothing is asked
 abbrev pub IsDeniedAt : ℕ → Request → CallError → WorkerState → WorkerState → Type 0
 IsDeniedAt i r e v w = ((e ≡ NoZone) × (¬ HasZone i v) × (w ≡ v)) ⊎ IsAtShare i (IsDenial r e) v w
+
+-- and what it comes to for a worker: also denied where there is no such zone
+pub record IsSectionAt {A : Type 0} (i : ℕ) (r : Request) (given : A → Reply) (result : Result A CallError) (v w : WorkerState) : Type 0 where
+  pub ok : IfOk result (λ a. IsGrantedAt i r (given a) v w)
+  pub zone : (result ≡ Err NoZone) ↔ ¬ HasZone i v
+  pub worker : (result ≡ Err NoWorker) ↔ (HasZone i v × LacksWorker r (gated_at v i))
+  pub lent : (result ≡ Err (Refused NotLent)) ↔ (HasZone i v × LacksBlock r (gated_at v i))
+  pub why : IfErr result (λ e. HasZone i v → IsOfSection e)
+  pub denied : IfErr result (λ e. IsDeniedAt i r e v w)
 
 -- the page in front of a type's list was taken, and is lent
 pub record IsTaken (k : MigrateType) (page : ℕ) (s t : ShareState) : Type 0 where

@@ -5,22 +5,17 @@ use Rattle.zp_model.specs.declared.request.Reply.{Reply}
 use Rattle.zp_model.specs.declared.migrate_type.MigrateType.{MigrateType}
 use Rattle.zp_model.specs.Run.{IsHistory}
 use Rattle.zp_zone.specs.Seats.{ZoneState, SeatState}
-use Rattle.zp_share.specs.Commands.{no_zone as no_named}
 use Rattle.zp_share.specs.declared.gathering.Totals.{Totals}
 use Rattle.zp_share.specs.Gathering.{AddsUp, IsCrewOf, IsOneOf, owns_at, totals_of}
 use Rattle.zp_share.specs.PlainShares.{back}
 use Rattle.zp_share.specs.Sections.{IsAsked}
-use Rattle.zp_share.specs.Shares.{ShareState, ZoneKey, key_of, no_tie, plain, share_at}
+use Rattle.zp_share.specs.Shares.{ShareState, ZoneKey, key_of, plain, share_at, with_zone_share}
 use Rattle.zp_share.specs.ZoneShares.{cached_of}
 
 pub record GatedState : Type 0 where
   pub zone : ZoneState
   -- the shares that workers left, the first to leave in front
   pub left : List ShareState
-
--- there is always one
-abbrev pub no_zone : ZoneState
-no_zone = record { tie = no_tie; name = []; plain = no_named.plain; entries = [] }
 
 -- a seat of the zone with this key
 abbrev pub IsSeatBy : ZoneKey → SeatState → Type 0
@@ -39,9 +34,9 @@ pub record IsBehind (key : ZoneKey) (y : GatedState) : Type 0 where
 abbrev pub drain_request : ℕ → MigrateType → ShareState → Request
 drain_request n k s = Request.Drain k (back n (cached_of (share_at s 0) k))
 
--- a share made one section with the zone; the shares that were left stay
+-- a share made one section with the zone; the rest of the share stays, and the shares that were left
 abbrev pub IsSectionOf : Request → Reply → GatedState → GatedState → ShareState → ShareState → Type 0
-IsSectionOf r q y z s t = IsAsked r q y.zone z.zone (share_at s 0) (share_at t 0) × (z ≡ record y { zone = z.zone })
+IsSectionOf r q y z s t = IsAsked r q y.zone z.zone (share_at s 0) (share_at t 0) × (z ≡ record y { zone = z.zone }) × (t ≡ with_zone_share 0 (share_at t 0) s)
 
 -- a worker left its share; the zone stays
 abbrev pub IsLeavingOf : ShareState → GatedState → GatedState → Type 0

@@ -4,7 +4,7 @@ use Rattle.zp_model.specs.declared.request.Request.{Request}
 use Rattle.zp_model.specs.declared.request.Reply.{Reply}
 use Rattle.zp_share.specs.Gathering.{IsCrewOf}
 use Rattle.zp_share.specs.declared.gathering.Totals.{Totals}
-use Rattle.zp_share.specs.Shares.{ShareState, ZoneKey, share_at, with_zone_share}
+use Rattle.zp_share.specs.Shares.{ShareState, ZoneKey}
 use Rattle.zp_gate.specs.declared.try_lock.GatherError.{GatherError}
 use Rattle.zp_gate.specs.declared.try_lock.GatherError.TheVariants.{Busy, HasWorkers}
 use Rattle.zp_gate.specs.declared.visit_view.VisitView.{VisitView}
@@ -17,7 +17,7 @@ pub record IsVisit (key : ZoneKey) (y z : GatedState) (v : VisitView) : Type 0 w
 
 -- a share made one section with the zone of this key, whatever it was, and this is the zone's answer; the rest of the share stays
 abbrev pub IsAnswer : ZoneKey → Request → Reply → ShareState → ShareState → Type 0
-IsAnswer key r q s t = (y : GatedState) × (z : GatedState) × IsBehind key y × IsSectionOf r q y z s t × (t ≡ with_zone_share 0 (share_at t 0) s)
+IsAnswer key r q s t = (y : GatedState) × (z : GatedState) × IsBehind key y × IsSectionOf r q y z s t
 
 -- this share was left, behind those that had been
 abbrev pub HasKept : ZoneKey → ShareState → VisitView → Type 0

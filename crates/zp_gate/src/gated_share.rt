@@ -1,18 +1,18 @@
 //! One worker's share of one zone behind its lock.
-ghost use Rattle.std.specs.Prelude.{◌≡◌, ◌<◌, ◌≤◌, ◌↔◌, true, false, length, IfOk, IfErr, OnOk, Err};
+ghost use Rattle.std.specs.Prelude.{◌≡◌, ◌<◌, ◌↔◌, true, false, IfOk, IfErr, OnOk, Err};
 ghost use Rattle.std.specs.Arc.{arc_value};
 ghost use Rattle.zp_model.specs.declared.request.Request.TheVariants as request;
 ghost use Rattle.zp_model.specs.declared.request.Reply.TheVariants as reply;
-ghost use Rattle.zp_model.specs.declared.refused.Refused.TheVariants.{Memory, NotLent};
+ghost use Rattle.zp_model.specs.declared.refused.Refused.TheVariants.{Memory};
 ghost use Rattle.zp_zone.specs.Seats.{IsUnused};
 ghost use Rattle.zp_share.specs.PlainShares.{lends_for};
 ghost use Rattle.zp_share.specs.Shares.{share_at};
-ghost use Rattle.zp_share.specs.ZoneShares.{cached_of, plain_share};
+ghost use Rattle.zp_share.specs.ZoneShares.{plain_share};
 ghost use Rattle.zp_gate.specs.Calls.{reply_of, request_of};
 ghost use Rattle.zp_gate.specs.GatedZones.{IsOneShare, IsSeatBy, drain_request};
-ghost use Rattle.zp_gate.specs.declared.call_error.CallError.TheVariants.{NoLists, NotEmpty, NoWorker, TooFew, Refused as Because};
+ghost use Rattle.zp_gate.specs.declared.call_error.CallError.TheVariants.{NoLists, NotEmpty, TooFew};
 ghost use Rattle.zp_gate.specs.GatedRows.{lock_key};
-ghost use Rattle.zp_gate.specs.GatedWorkers.{HasPages, HasTooFew, HasTurned, IsDenial, IsDrained, IsFilled, IsGranted, IsNewShare, IsOfSection, LacksBlock, LacksWorker};
+ghost use Rattle.zp_gate.specs.GatedWorkers.{HasPages, HasTooFew, HasTurned, IsDenial, IsDrained, IsFilled, IsNewShare, IsOfSection, IsSection, LacksWorker};
 ghost use Rattle.zp_gate.specs.Readings.{HasPage, HasPageblock, IsThen, Tells};
 ghost use Rattle.zp_gate.specs.Visits.{HasKept};
 
@@ -79,47 +79,36 @@ impl GatedShare {
         kind: MigrateType,
         mark: Mark,
     ) -> Result<PageNo, CallError>
-        ensures ok { IfOk result (λ page. IsGranted (request.Alloc order kind mark) (reply.Page page) self.old self.new) }
-        ensures worker { ¬ (result ≡ Err NoWorker) }
-        ensures lent { ¬ (result ≡ Err (Because NotLent)) }
-        ensures why { IfErr result IsOfSection }
-        ensures denied { IfErr result (λ e. IsDenial (request.Alloc order kind mark) e self.old self.new) }
+        ensures { IsSection (request.Alloc order kind mark) reply.Page result self.old self.new }
     {
-        match self.lock.alloc(&mut self.share, order, kind, mark) {
-            Ok(Ok(page)) => Ok(page),
-            Ok(Err(refused)) => Err(CallError::Refused(refused)),
-            Err(busy) => Err(CallError::Busy(busy)),
-        }
+        let mut visitor = self.lock.enter().map_err(CallError::Busy)?;
+        let zone = visitor.slot_mut(&self.lock.table.shared, 0);
+        let answer = zone.alloc(&mut self.share, order, kind, mark);
+        self.lock.leave(visitor);
+        answer.map_err(CallError::Refused)
     }
 
     /// Frees a lent block. Whether it is lent is tested before anybody enters. Refused 20 or 30.
     #[inline(always)]
     pub(crate) fn free(&mut self, page: PageNo, order: Order) -> Result<(), CallError>
-        ensures ok { OnOk result (IsGranted (request.Free page order) reply.Freed self.old self.new) }
-        ensures worker { ¬ (result ≡ Err NoWorker) }
-        ensures lent { (result ≡ Err (Because NotLent)) ↔ LacksBlock (request.Free page order) self.old }
-        ensures why { IfErr result IsOfSection }
-        ensures denied { IfErr result (λ e. IsDenial (request.Free page order) e self.old self.new) }
+        ensures { IsSection (request.Free page order) (λ _. reply.Freed) result self.old self.new }
     {
         if !self.share.is_lent(0, page, order) {
             return Err(CallError::Refused(Refused::NotLent));
         }
-        match self.lock.free(&mut self.share, page, order) {
-            Ok(Ok(())) => Ok(()),
-            Ok(Err(refused)) => Err(CallError::Refused(refused)),
-            Err(busy) => Err(CallError::Busy(busy)),
-        }
+        let mut visitor = self.lock.enter().map_err(CallError::Busy)?;
+        let zone = visitor.slot_mut(&self.lock.table.shared, 0);
+        let answer = zone.free(&mut self.share, page, order);
+        self.lock.leave(visitor);
+        answer.map_err(CallError::Refused)
     }
 
     /// Another request to the zone. Whether the zone has the worker to whom a block is posted, and whether the block is lent, is tested before
     /// anybody enters. Refused 20, and as the zone refuses it.
+    #[tactic(auto, using(crate::proofs::Keeping::share_stays))]
     #[inline(always)]
     pub(crate) fn section(&mut self, call: ZoneCall) -> Result<Given, CallError>
-        ensures ok { IfOk result (λ g. IsGranted (request_of call) (reply_of call g) self.old self.new) }
-        ensures worker { (result ≡ Err NoWorker) ↔ LacksWorker (request_of call) self.old }
-        ensures lent { (result ≡ Err (Because NotLent)) ↔ LacksBlock (request_of call) self.old }
-        ensures why { IfErr result IsOfSection }
-        ensures denied { IfErr result (λ e. IsDenial (request_of call) e self.old self.new) }
+        ensures { IsSection (request_of call) (reply_of call) result self.old self.new }
     {
         if self.lacks_worker(&call) {
             return Err(CallError::NoWorker);
@@ -127,10 +116,13 @@ impl GatedShare {
         if !self.lends_for(&call) {
             return Err(CallError::Refused(Refused::NotLent));
         }
-        match self.lock.section(&mut self.share, call) {
-            Ok(Ok(given)) => Ok(given),
-            Ok(Err(refused)) => Err(CallError::Refused(refused)),
-            Err(busy) => Err(CallError::Busy(busy)),
+        let mut visitor = self.lock.enter().map_err(CallError::Busy)?;
+        let zone = visitor.slot_mut(&self.lock.table.shared, 0);
+        let answer = zone.section(&mut self.share, call);
+        self.lock.leave(visitor);
+        match answer {
+            Ok(given) => Ok(given),
+            Err(refused) => Err(CallError::Refused(refused)),
         }
     }
 
@@ -170,10 +162,13 @@ impl GatedShare {
         if self.share.cached_len(0, kind) != 0 {
             return Err(CallError::NotEmpty);
         }
-        match self.lock.fill(&mut self.share, kind, mark) {
-            Ok(Ok(())) => Ok(()),
-            Ok(Err(refused)) => Err(CallError::Refused(refused)),
-            Err(busy) => Err(CallError::Busy(busy)),
+        let mut visitor = self.lock.enter().map_err(CallError::Busy)?;
+        let zone = visitor.slot_mut(&self.lock.table.shared, 0);
+        let answer = zone.fill(&mut self.share, kind, mark);
+        self.lock.leave(visitor);
+        match answer {
+            Ok(()) => Ok(()),
+            Err(refused) => Err(CallError::Refused(refused)),
         }
     }
 
@@ -187,11 +182,11 @@ impl GatedShare {
         if count == 0 || self.share.cached_len(0, kind) < count {
             return Err(CallError::TooFew);
         }
-        match self.lock.drain(&mut self.share, kind, count) {
-            Ok(Ok(())) => Ok(()),
-            Ok(Err(refused)) => Err(CallError::Refused(refused)),
-            Err(busy) => Err(CallError::Busy(busy)),
-        }
+        let mut visitor = self.lock.enter().map_err(CallError::Busy)?;
+        let zone = visitor.slot_mut(&self.lock.table.shared, 0);
+        let answer = zone.drain(&mut self.share, kind, count);
+        self.lock.leave(visitor);
+        answer.map_err(CallError::Refused)
     }
 
     /// What the zone reports.
@@ -200,7 +195,11 @@ impl GatedShare {
         ensures same { self.new ≡ self.old }
         ensures told { IfOk result (λ a. IsThen self.old.key self.old.share (Tells question a)) }
     {
-        self.lock.tell(&mut self.share, question)
+        let mut visitor = self.lock.enter()?;
+        let zone = visitor.slot_mut(&self.lock.table.shared, 0);
+        let answer = zone.tell(&mut self.share, question);
+        self.lock.leave(visitor);
+        Ok(answer)
     }
 
     /// Whether a page is one of the zone's.

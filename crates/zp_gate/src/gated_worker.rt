@@ -3,11 +3,10 @@ ghost use Rattle.std.specs.Prelude.{◌≡◌, ◌<◌, ◌≤◌, ◌↔◌, le
 ghost use Rattle.zp_model.specs.declared.request.Request.TheVariants as request;
 ghost use Rattle.zp_model.specs.declared.request.Reply.TheVariants as reply;
 ghost use Rattle.zp_model.specs.declared.constants.TheConstants.{LONGEST_LIST};
-ghost use Rattle.zp_model.specs.declared.refused.Refused.TheVariants.{NotLent};
 ghost use Rattle.zp_share.specs.Shares.{share_at};
 ghost use Rattle.zp_share.specs.ZoneShares.{cached_of, is_lent};
-ghost use Rattle.zp_gate.specs.declared.call_error.CallError.TheVariants.{NoLists, NotEmpty, NoWorker, NoZone, TooFew, Refused as Because};
-ghost use Rattle.zp_gate.specs.GatedWorkers.{AreDrained, AreDrainedTill, HasLeftDownTo, HasLeftLast, HasPages, HasTooFew, HasZone, IsAt, IsDeniedAt, IsDrained, IsFilled, IsGrantedAt, IsListDenied, IsListDrained, IsOfSection, IsPutDenial, IsPutOn, IsTaken, LacksBlock, LacksWorker, gated_at, worker_share};
+ghost use Rattle.zp_gate.specs.declared.call_error.CallError.TheVariants.{NoLists, NotEmpty, NoZone, TooFew};
+ghost use Rattle.zp_gate.specs.GatedWorkers.{AreDrained, AreDrainedTill, HasLeftDownTo, HasLeftLast, HasPages, HasTooFew, HasZone, IsAt, IsDeniedAt, IsDrained, IsFilled, IsListDenied, IsListDrained, IsOfSection, IsPutDenial, IsPutOn, IsSectionAt, IsTaken, gated_at, worker_share};
 ghost use Rattle.zp_gate.specs.Calls.{reply_of, request_of};
 ghost use Rattle.zp_gate.specs.GatedZones.{drain_request};
 ghost use Rattle.zp_gate.specs.Readings.{HasPage, HasPageblock, IsThen, Tells};
@@ -50,12 +49,7 @@ impl GatedWorker {
         kind: MigrateType,
         mark: Mark,
     ) -> Result<PageNo, CallError>
-        ensures ok { IfOk result (λ page. IsGrantedAt zone (request.Alloc order kind mark) (reply.Page page) self.old self.new) }
-        ensures zone { (result ≡ Err NoZone) ↔ ¬ HasZone zone self.old }
-        ensures worker { ¬ (result ≡ Err NoWorker) }
-        ensures lent { ¬ (result ≡ Err (Because NotLent)) }
-        ensures why { IfErr result (λ e. HasZone zone self.old → IsOfSection e) }
-        ensures denied { IfErr result (λ e. IsDeniedAt zone (request.Alloc order kind mark) e self.old self.new) }
+        ensures { IsSectionAt zone (request.Alloc order kind mark) reply.Page result self.old self.new }
     {
         let Some(share) = self.shares.get_mut(zone) else {
             return Err(CallError::NoZone);
@@ -66,12 +60,7 @@ impl GatedWorker {
     /// Frees a lent block. Refused 20 or 30.
     #[inline(always)]
     pub fn free(&mut self, zone: usize, page: PageNo, order: Order) -> Result<(), CallError>
-        ensures ok { OnOk result (IsGrantedAt zone (request.Free page order) reply.Freed self.old self.new) }
-        ensures zone { (result ≡ Err NoZone) ↔ ¬ HasZone zone self.old }
-        ensures worker { ¬ (result ≡ Err NoWorker) }
-        ensures lent { (result ≡ Err (Because NotLent)) ↔ (HasZone zone self.old × LacksBlock (request.Free page order) (gated_at self.old zone)) }
-        ensures why { IfErr result (λ e. HasZone zone self.old → IsOfSection e) }
-        ensures denied { IfErr result (λ e. IsDeniedAt zone (request.Free page order) e self.old self.new) }
+        ensures { IsSectionAt zone (request.Free page order) (λ _. reply.Freed) result self.old self.new }
     {
         let Some(share) = self.shares.get_mut(zone) else {
             return Err(CallError::NoZone);
@@ -82,12 +71,7 @@ impl GatedWorker {
     /// Another request to the zone at a place, whatever is asked.
     #[inline(always)]
     pub fn section(&mut self, zone: usize, call: ZoneCall) -> Result<Given, CallError>
-        ensures ok { IfOk result (λ g. IsGrantedAt zone (request_of call) (reply_of call g) self.old self.new) }
-        ensures zone { (result ≡ Err NoZone) ↔ ¬ HasZone zone self.old }
-        ensures worker { (result ≡ Err NoWorker) ↔ (HasZone zone self.old × LacksWorker (request_of call) (gated_at self.old zone)) }
-        ensures lent { (result ≡ Err (Because NotLent)) ↔ (HasZone zone self.old × LacksBlock (request_of call) (gated_at self.old zone)) }
-        ensures why { IfErr result (λ e. HasZone zone self.old → IsOfSection e) }
-        ensures denied { IfErr result (λ e. IsDeniedAt zone (request_of call) e self.old self.new) }
+        ensures { IsSectionAt zone (request_of call) (reply_of call) result self.old self.new }
     {
         let Some(share) = self.shares.get_mut(zone) else {
             return Err(CallError::NoZone);

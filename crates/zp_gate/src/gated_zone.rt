@@ -1,16 +1,15 @@
 //! What stands behind a lock. Each call is exact here: what it does not name stays.
-ghost use Rattle.std.specs.Prelude.{ℕ, ◌≡◌, ◌<◌, ◌≤◌, ◌==◌, [], All, IfErr, IfNone, IfOk, IfSome, IsTrue, OnOk, Ok, Err, false, length, map};
+ghost use Rattle.std.specs.Prelude.{ℕ, ◌≡◌, ◌<◌, ◌≤◌, ◌==◌, [], All, IfErr, IfNone, IfOk, IfSome, IsTrue, OnOk, Ok, Err, false, length};
 ghost use Rattle.std.specs.List.{count_by};
 ghost use Rattle.zp_model.specs.declared.refused.Refused.TheVariants.{Memory};
 ghost use Rattle.zp_model.specs.declared.request.Request.TheVariants as request;
-ghost use Rattle.zp_model.specs.Run.{IsHistory};
 ghost use Rattle.zp_model.specs.Zone.{workers_of};
-ghost use Rattle.zp_share.specs.Gathering.{AddsUp, IsCrewOf, IsOneOf, owns_at, totals_of};
+ghost use Rattle.zp_share.specs.Gathering.{IsCrewOf};
 ghost use Rattle.zp_model.specs.declared.request.Reply.TheVariants as reply;
 ghost use Rattle.zp_zone.specs.NamedZone.{page_reply};
 ghost use Rattle.zp_zone.specs.Seats.{IsSeatOf};
 ghost use Rattle.zp_share.specs.Sections.{IsAsked, IsRefilled, MayAsk, done_reply};
-ghost use Rattle.zp_share.specs.Shares.{ShareState, key_of, plain, share_at, with_zone_share};
+ghost use Rattle.zp_share.specs.Shares.{ShareState, key_of, share_at, with_zone_share};
 ghost use Rattle.zp_share.specs.ZoneShares.{cached_of};
 ghost use Rattle.zp_gate.specs.Calls.{answer_of, request_of};
 ghost use Rattle.zp_gate.specs.GatedZones.{IsGatheredIn, IsLeavingOf, IsOneShare, IsSectionOf, drain_request};
@@ -23,27 +22,27 @@ use std::alloc::Global;
 use std::marker::Model;
 use zp_info::{TextBuffer, push_counts};
 use zp_model::{Mark, MigrateType, Order, PageNo, Refused};
-use zp_share::{Share, Totals, gather};
+use zp_share::{Share, Totals, gather_zone};
 use zp_zone::Zone;
 
-/// A zone, in a row of one, and the shares of it that workers left when they ended, for which there is room.
+/// A zone, and the shares of it that workers left when they ended, for which there is room.
 #[derive(Drop)]
 pub struct GatedZone {
-    zones: Vec<Zone>,
+    zone: Zone,
     workers: u32,
     left: Vec<Share>,
 }
 
 impl Model for GatedZone {
-    ghost use Rattle.std.specs.Prelude.{◌≡◌, ◌≤◌, length, slice_index_or, vec_capacity};
+    ghost use Rattle.std.specs.Prelude.{◌≡◌, ◌≤◌, vec_capacity};
     ghost use Rattle.zp_model.specs.Zone.{workers_of};
-    ghost use Rattle.zp_gate.specs.GatedZones.{GatedState, no_zone};
+    ghost use Rattle.zp_gate.specs.GatedZones.{GatedState};
 
     ghost Value = { GatedState };
 
-    ghost view = { λ g. record { zone = slice_index_or g.zones.items 0 no_zone; left = g.left.items } };
+    ghost view = { λ g. record { zone = g.zone; left = g.left.items } };
 
-    ghost invariant = { λ g. (length g.zones.items ≡ 1) × (g.workers ≡ workers_of (slice_index_or g.zones.items 0 no_zone).plain) × (g.workers ≤ vec_capacity g.left) };
+    ghost invariant = { λ g. (g.workers ≡ workers_of g.zone.plain) × (g.workers ≤ vec_capacity g.left) };
 }
 
 impl GatedZone {
@@ -56,11 +55,8 @@ impl GatedZone {
         let Ok(left) = Vec::with_capacity(alloc, workers as usize) else {
             return Err(Refused::Memory);
         };
-        let Ok(zones) = Vec::from_array(alloc, [zone]) else {
-            return Err(Refused::Memory);
-        };
         Ok(GatedZone {
-            zones,
+            zone,
             workers,
             left,
         })
@@ -76,13 +72,13 @@ impl GatedZone {
         mark: Mark,
     ) -> Result<PageNo, Refused>
         requires share { IsOneShare (key_of self.old.zone) share.old }
-        ensures section { IsSectionOf (request.Alloc order kind mark) (page_reply result) self.old self.new share.old share.new }
-        ensures share { share.new ≡ with_zone_share 0 (share_at share.new 0) share.old }
+        ensures { IsSectionOf (request.Alloc order kind mark) (page_reply result) self.old self.new share.old share.new }
     {
-        share.alloc_block(&mut self.zones[0], 0, order, kind, mark)
+        share.alloc_block(&mut self.zone, 0, order, kind, mark)
     }
 
     /// A block back from a share of the zone.
+    #[tactic(auto, using(crate::proofs::Keeping::workers_stay))]
     #[inline(always)]
     pub(crate) fn free(
         &mut self,
@@ -91,21 +87,20 @@ impl GatedZone {
         order: Order,
     ) -> Result<(), Refused>
         requires share { IsOneShare (key_of self.old.zone) share.old }
-        ensures section { IsSectionOf (request.Free page order) (done_reply reply.Freed result) self.old self.new share.old share.new }
-        ensures share { share.new ≡ with_zone_share 0 (share_at share.new 0) share.old }
+        ensures { IsSectionOf (request.Free page order) (done_reply reply.Freed result) self.old self.new share.old share.new }
     {
-        share.free_block(&mut self.zones[0], 0, page, order)
+        share.free_block(&mut self.zone, 0, page, order)
     }
 
     /// Another request of a share to the zone.
+    #[tactic(auto, using(crate::proofs::Keeping::workers_stay))]
     #[inline(always)]
     pub(crate) fn section(&mut self, share: &mut Share, call: ZoneCall) -> Result<Given, Refused>
         requires share { IsOneShare (key_of self.old.zone) share.old }
         requires may { MayAsk (workers_of self.old.zone.plain) share.old.batch (request_of call) (share_at share.old 0) }
-        ensures section { IsSectionOf (request_of call) (answer_of call result) self.old self.new share.old share.new }
-        ensures share { share.new ≡ with_zone_share 0 (share_at share.new 0) share.old }
+        ensures { IsSectionOf (request_of call) (answer_of call result) self.old self.new share.old share.new }
     {
-        asked(&mut self.zones[0], share, call)
+        asked(&mut self.zone, share, call)
     }
 
     /// Frees so many pages from the back of the share's list of this type.
@@ -119,10 +114,9 @@ impl GatedZone {
         requires share { IsOneShare (key_of self.old.zone) share.old }
         requires some { 1 ≤ count }
         requires within { count ≤ length (cached_of (share_at share.old 0) kind) }
-        ensures section { IsSectionOf (drain_request count kind share.old) (done_reply reply.Drained result) self.old self.new share.old share.new }
-        ensures share { share.new ≡ with_zone_share 0 (share_at share.new 0) share.old }
+        ensures { IsSectionOf (drain_request count kind share.old) (done_reply reply.Drained result) self.old self.new share.old share.new }
     {
-        share.drain(&mut self.zones[0], 0, kind, count)
+        share.drain(&mut self.zone, 0, kind, count)
     }
 
     /// Fills the share's empty list of this type, by the section of a refill whose pages are not returned.
@@ -136,10 +130,9 @@ impl GatedZone {
         requires share { IsOneShare (key_of self.old.zone) share.old }
         requires empty { cached_of (share_at share.old 0) kind ≡ [] }
         requires lists { 1 ≤ share.old.batch }
-        ensures section { IsRefilled (λ q. IsSectionOf (request.Refill kind mark share.old.batch) q self.old self.new share.old share.new) result }
-        ensures share { share.new ≡ with_zone_share 0 (share_at share.new 0) share.old }
+        ensures { IsRefilled (λ q. IsSectionOf (request.Refill kind mark share.old.batch) q self.old self.new share.old share.new) result }
     {
-        share.fill(&mut self.zones[0], 0, kind, mark)
+        share.fill(&mut self.zone, 0, kind, mark)
     }
 
     /// What the zone reports to a share of it.
@@ -151,10 +144,9 @@ impl GatedZone {
         ensures zone { IsZoneOf (key_of self.old.zone) share.old self.old.zone }
         ensures told { Tells question result self.old.zone }
     {
-        share.check(&mut self.zones[0], 0);
-        let zone = &self.zones[0];
-        zone.history();
-        told(zone, question)
+        share.check(&mut self.zone, 0);
+        self.zone.history();
+        told(&self.zone, question)
     }
 
     /// A worker leaves its share. It comes back where as many were left as the zone has workers.
@@ -179,33 +171,8 @@ impl GatedZone {
         if !is_crew(self.left.as_slice(), self.workers) {
             return None;
         }
-        Some(self.totals())
-    }
-
-    /// Nothing changes, and the shares that were left agree with the zone.
-    fn check_left(&mut self)
-        requires { All (IsOneShare (key_of self.old.zone)) self.old.left }
-        ensures same { self.new ≡ self.old }
-        ensures agree { All (IsOneOf self.old.zone 0) self.old.left }
-        ensures history { IsHistory self.old.zone.plain self.old.zone.entries }
-    {
-        check_all(&mut self.zones[0], self.left.as_mut_slice());
-        self.zones[0].history();
-    }
-
-    /// Where the pages of the zone are: each of its workers has left its share.
-    fn totals(&mut self) -> Totals
-        requires left { All (IsOneShare (key_of self.old.zone)) self.old.left }
-        requires crew { IsCrewOf self.old.left self.old.zone }
-        ensures same { self.new ≡ self.old }
-        ensures totals { IsGatheredIn self.old result }
-    {
-        self.check_left();
-        let mut totals = gather(self.zones.as_mut_slice(), self.left.as_mut_slice());
-        let Some(totals) = totals.pop() else {
-            unreachable!()
-        };
-        totals
+        self.zone.history();
+        Some(gather_zone(&mut self.zone, self.left.as_mut_slice(), 0))
     }
 }
 
@@ -263,18 +230,6 @@ fn told(zone: &Zone, question: Question) -> Answer
         }
         Question::Page(page) => Answer::Page(zone.entry(page)),
         Question::Pageblock(pageblock) => Answer::Pageblock(zone.pageblock(pageblock)),
-    }
-}
-
-/// Nothing changes, and each share agrees with the zone.
-fn check_all(zone: &mut Zone, shares: &mut [Share])
-    requires { All (IsOneShare (key_of zone.old)) shares.old }
-    ensures zone { zone.new ≡ zone.old }
-    ensures shares { shares.new ≡ shares.old }
-    ensures agree { All (IsOneOf zone.old 0) shares.old }
-{
-    for share in shares {
-        share.check(zone, 0);
     }
 }
 

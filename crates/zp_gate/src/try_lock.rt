@@ -1,29 +1,20 @@
 //! A lock that nobody waits for, with a zone behind it. A visitor enters where nobody is in, makes one call of what stands there, and
 //! leaves.
-ghost use Rattle.std.specs.Prelude.{◌≡◌, ◌<◌, ◌≤◌, IfErr, IfOk, [], length};
+ghost use Rattle.std.specs.Prelude.{◌≡◌, ◌<◌, IfErr, IfOk, length};
 ghost use Rattle.zp_model.specs.Area.{pageblocks_of};
 ghost use Rattle.zp_model.specs.declared.refused.Refused.TheVariants.{Memory};
-ghost use Rattle.zp_model.specs.declared.request.Request.TheVariants as request;
-ghost use Rattle.zp_model.specs.declared.request.Reply.TheVariants as reply;
-ghost use Rattle.zp_zone.specs.NamedZone.{page_reply};
-ghost use Rattle.zp_share.specs.Sections.{IsRefilled, MayAsk, done_reply};
-ghost use Rattle.zp_share.specs.Shares.{key_of, share_at};
-ghost use Rattle.zp_share.specs.ZoneShares.{cached_of};
-ghost use Rattle.zp_gate.specs.Calls.{answer_of, request_of};
-ghost use Rattle.zp_gate.specs.GatedZones.{IsOneShare, drain_request};
+ghost use Rattle.zp_share.specs.Shares.{key_of};
+ghost use Rattle.zp_gate.specs.GatedZones.{IsOneShare};
 ghost use Rattle.zp_gate.specs.Locks.{IsIn, MayLeave, first_held};
-ghost use Rattle.zp_gate.specs.Readings.{IsThen, Tells};
-ghost use Rattle.zp_gate.specs.Visits.{HasGathered, HasKept, IsAnswer, IsUngathered};
+ghost use Rattle.zp_gate.specs.Visits.{HasGathered, HasKept, IsUngathered};
 
-use crate::call::{Given, ZoneCall};
 use crate::gated_zone::GatedZone;
-use crate::question::{Answer, Question};
 use crate::visit_view::VisitView;
 use crate::zone_facts::ZoneFacts;
 use atomic_table::{Play, Seat as Place, Table, TableRule};
 use std::alloc::Global;
 use std::marker::Model;
-use zp_model::{Mark, MigrateType, Order, PageNo, Refused};
+use zp_model::Refused;
 use zp_share::{Share, Totals};
 use zp_zone::Zone;
 
@@ -150,7 +141,7 @@ impl TryLock {
 
     /// Enters where nobody is in.
     #[inline(always)]
-    fn enter(&self) -> Result<Visitor, Busy>
+    pub(crate) fn enter(&self) -> Result<Visitor, Busy>
         ensures { IfOk result (IsIn self.now.table.shared.table_id self.now.table.shared.key) }
     {
         let shared = &self.table.shared;
@@ -163,132 +154,13 @@ impl TryLock {
 
     /// The visitor leaves.
     #[inline(always)]
-    fn leave(&self, visitor: Visitor) -> Visit
+    pub(crate) fn leave(&self, visitor: Visitor) -> Visit
         requires { MayLeave self.now.table.shared.table_id self.now.table.shared.key visitor }
         ensures { result ≡ record visitor.me.0 { left = first_held visitor.me.1 } }
     {
         let mut seat = visitor;
         self.table.shared.store::<Leave>(&mut seat, 0, FREE);
         Visit { seat }
-    }
-
-    /// A block for a share of the zone.
-    #[inline(always)]
-    pub(crate) fn alloc(
-        &self,
-        share: &mut Share,
-        order: Order,
-        kind: MigrateType,
-        mark: Mark,
-    ) -> Result<Result<PageNo, Refused>, Busy>
-        requires share { IsOneShare self.now.table.shared.key share.old }
-        ensures share { IsOneShare self.now.table.shared.key share.new }
-        ensures ok { IfOk result (λ a. IsAnswer self.now.table.shared.key (request.Alloc order kind mark) (page_reply a) share.old share.new) }
-        ensures busy { IfErr result (λ _. share.new ≡ share.old) }
-    {
-        let mut visitor = self.enter()?;
-        let zone = visitor.slot_mut(&self.table.shared, 0);
-        let answer = zone.alloc(share, order, kind, mark);
-        self.leave(visitor);
-        Ok(answer)
-    }
-
-    /// A block back from a share of the zone.
-    #[inline(always)]
-    pub(crate) fn free(
-        &self,
-        share: &mut Share,
-        page: PageNo,
-        order: Order,
-    ) -> Result<Result<(), Refused>, Busy>
-        requires share { IsOneShare self.now.table.shared.key share.old }
-        ensures share { IsOneShare self.now.table.shared.key share.new }
-        ensures ok { IfOk result (λ a. IsAnswer self.now.table.shared.key (request.Free page order) (done_reply reply.Freed a) share.old share.new) }
-        ensures busy { IfErr result (λ _. share.new ≡ share.old) }
-    {
-        let mut visitor = self.enter()?;
-        let zone = visitor.slot_mut(&self.table.shared, 0);
-        let answer = zone.free(share, page, order);
-        self.leave(visitor);
-        Ok(answer)
-    }
-
-    /// Another request of a share to the zone.
-    #[inline(always)]
-    pub(crate) fn section(
-        &self,
-        share: &mut Share,
-        call: ZoneCall,
-    ) -> Result<Result<Given, Refused>, Busy>
-        requires share { IsOneShare self.now.table.shared.key share.old }
-        requires may { MayAsk self.now.table.shared.key.workers share.old.batch (request_of call) (share_at share.old 0) }
-        ensures share { IsOneShare self.now.table.shared.key share.new }
-        ensures ok { IfOk result (λ a. IsAnswer self.now.table.shared.key (request_of call) (answer_of call a) share.old share.new) }
-        ensures busy { IfErr result (λ _. share.new ≡ share.old) }
-    {
-        let mut visitor = self.enter()?;
-        let zone = visitor.slot_mut(&self.table.shared, 0);
-        let answer = zone.section(share, call);
-        self.leave(visitor);
-        Ok(answer)
-    }
-
-    /// Frees so many pages from the back of the share's list of this type.
-    #[inline(always)]
-    pub(crate) fn drain(
-        &self,
-        share: &mut Share,
-        kind: MigrateType,
-        count: usize,
-    ) -> Result<Result<(), Refused>, Busy>
-        requires share { IsOneShare self.now.table.shared.key share.old }
-        requires some { 1 ≤ count }
-        requires within { count ≤ length (cached_of (share_at share.old 0) kind) }
-        ensures share { IsOneShare self.now.table.shared.key share.new }
-        ensures ok { IfOk result (λ a. IsAnswer self.now.table.shared.key (drain_request count kind share.old) (done_reply reply.Drained a) share.old share.new) }
-        ensures busy { IfErr result (λ _. share.new ≡ share.old) }
-    {
-        let mut visitor = self.enter()?;
-        let zone = visitor.slot_mut(&self.table.shared, 0);
-        let answer = zone.drain(share, kind, count);
-        self.leave(visitor);
-        Ok(answer)
-    }
-
-    /// Fills the share's empty list of this type, by the section of a refill whose pages are not returned.
-    #[inline(always)]
-    pub(crate) fn fill(
-        &self,
-        share: &mut Share,
-        kind: MigrateType,
-        mark: Mark,
-    ) -> Result<Result<(), Refused>, Busy>
-        requires share { IsOneShare self.now.table.shared.key share.old }
-        requires empty { cached_of (share_at share.old 0) kind ≡ [] }
-        requires lists { 1 ≤ share.old.batch }
-        ensures share { IsOneShare self.now.table.shared.key share.new }
-        ensures ok { IfOk result (IsRefilled (λ q. IsAnswer self.now.table.shared.key (request.Refill kind mark share.old.batch) q share.old share.new)) }
-        ensures busy { IfErr result (λ _. share.new ≡ share.old) }
-    {
-        let mut visitor = self.enter()?;
-        let zone = visitor.slot_mut(&self.table.shared, 0);
-        let filled = zone.fill(share, kind, mark);
-        self.leave(visitor);
-        Ok(filled)
-    }
-
-    /// What the zone reports to a share of it.
-    #[inline(always)]
-    pub(crate) fn tell(&self, share: &mut Share, question: Question) -> Result<Answer, Busy>
-        requires share { IsOneShare self.now.table.shared.key share.old }
-        ensures same { share.new ≡ share.old }
-        ensures told { IfOk result (λ a. IsThen self.now.table.shared.key share.old (Tells question a)) }
-    {
-        let mut visitor = self.enter()?;
-        let zone = visitor.slot_mut(&self.table.shared, 0);
-        let answer = zone.tell(share, question);
-        self.leave(visitor);
-        Ok(answer)
     }
 
     /// A worker leaves its share. It comes back where somebody is in, or where all workers left theirs.

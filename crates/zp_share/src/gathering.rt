@@ -39,13 +39,14 @@ pub fn gather(zones: &mut [Zone], shares: &mut [Share]) -> ArrayVec<Totals, MAX_
     totals
 }
 
-/// Where the pages of the zone at this place are.
-fn gather_zone(zone: &mut Zone, shares: &mut [Share], place: usize) -> Totals
+/// Where the pages of the zone at this place are. All stay as they were; each share is checked with the zone.
+pub fn gather_zone(zone: &mut Zone, shares: &mut [Share], place: usize) -> Totals
     requires place { All (λ (s : ShareState). place < length s.zones) shares.old }
     requires fits { All (λ s. IsSeatOf zone.old (share_at s place).seat) shares.old }
     requires crew { IsCrewOf shares.old zone.old }
     ensures zone { zone.new ≡ zone.old }
     ensures shares { shares.new ≡ shares.old }
+    ensures agree { All (IsOneOf zone.old place) shares.old }
     ensures totals { result ≡ totals_of zone.old.plain (owns_at (map plain shares.old) place) }
     ensures adds_up { AddsUp zone.old.plain (owns_at (map plain shares.old) place) }
 {

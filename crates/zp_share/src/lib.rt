@@ -17,7 +17,7 @@ mod zones;
 
 pub use answered::is_section;
 pub use commands::{Lent, alloc, drain_all, free};
-pub use gathering::{Totals, gather};
+pub use gathering::{Totals, gather, gather_zone};
 pub use list_config::ListConfig;
 pub use plain_zones::PlainZones;
 pub use share::Share;

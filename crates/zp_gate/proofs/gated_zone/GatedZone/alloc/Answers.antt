@@ -1,10 +1,6 @@
-use Rattle.zp_share.specs.Shares.{share_at}
-use Rattle.zp_gate.proofs.Keeping.{key_stays}
-use Rattle.zp_gate.proofs.Rooms.{room_stays}
+use Rattle.std.proofs.Common.{sym, ◌∙◌}
+use Rattle.zp_gate.proofs.Keeping.{workers_stay}
 use Rattle.zp_gate.proofs.gated_zone.GatedZone.alloc.Goals as goal
 
 pub invariant_of-self : goal.invariant_of-self
-invariant_of-self c =
-    let inside = c.self.inside in
-    room_stays inside.zones.items inside.workers _ c.index_mut.result.now c.alloc_block.new.zone c.self.invariant c.index_mut.ensures.value
-    (key_stays _ _ c.index_mut.result.now c.alloc_block.new.zone (share_at c.args.share.now 0) (share_at c.alloc_block.new.self 0) c.alloc_block.ensures.section)
+invariant_of-self c = (c.self.invariant.0 ∙ sym (workers_stay _ _ _ _ _ _ c.alloc_block.ensures.section), c.self.invariant.1)

@@ -1,29 +1,31 @@
 use Rattle.std.proofs.Common.{ℕ, List, ◌≡◌, ◌<◌, ◌==◌, ◌∙◌, ap, sym, subst}
 use Rattle.std.specs.List.{count_by}
 use Rattle.zp_model.specs.Zone.{workers_of}
+use Rattle.zp_zone.specs.Seats.{ZoneState}
 use Rattle.zp_share.specs.Gathering.{IsCrewOf}
 use Rattle.zp_share.specs.Shares.{ShareState}
-use Rattle.zp_gate.specs.GatedZones.{GatedState}
+use Rattle.zp_gate.specs.GatedZones.{GatedState, IsGatheredIn}
 use Rattle.zp_gate.proofs.gated_zone.GatedZone.gather.Goals as goal
 
--- each of so many workers has one of the shares that were left
+-- each of so many workers has one of the shares
 abbrev EachOne : ℕ → List ShareState → Type 0
 EachOne n ss = (w : ℕ) → w < n → count_by (λ (s : ShareState). s.worker == w) ss ≡ 1
 
-crew_is : (g : GatedState) (n : ℕ) (ss : List ShareState) → n ≡ workers_of g.zone.plain → ss ≡ g.left → EachOne n ss → IsCrewOf g.left g.zone
-crew_is g n ss many same each w lt = subst (λ (xs : List ShareState). count_by (λ (s : ShareState). s.worker == w) xs ≡ 1) same (each w (subst (λ m. w < m) (sym many) lt))
+each_one : (n m : ℕ) (ss ts : List ShareState) → m ≡ n → ss ≡ ts → EachOne n ss → EachOne m ts
+each_one n m ss ts many same each w lt = subst (λ (xs : List ShareState). count_by (λ (s : ShareState). s.worker == w) xs ≡ 1) same (each w (subst (λ k. w < k) many lt))
 
-is_crew : (g : GatedState) (n : ℕ) (ss : List ShareState) → n ≡ workers_of g.zone.plain → ss ≡ g.left → IsCrewOf g.left g.zone → EachOne n ss
-is_crew g n ss many same crew w lt = subst (λ (xs : List ShareState). count_by (λ (s : ShareState). s.worker == w) xs ≡ 1) (sym same) (crew w (subst (λ m. w < m) many lt))
-
-pub totals-requires-clause-crew : goal.totals-requires-clause-crew
-totals-requires-clause-crew c =
-    let g = c.args.self.now in
-    crew_is g c.self.inside.workers c.as_slice.result.now (c.self.invariant.1 ∙ ap (λ (x : GatedState). workers_of x.zone.plain) c.self.view_is) (c.as_slice.ensures.value ∙ ap (λ (x : GatedState). x.left) c.self.view_is)
-    (c.is_crew.ensures.yes c.if-not-is_crew.false)
+pub gather_zone-requires-clause-crew : goal.gather_zone-requires-clause-crew
+gather_zone-requires-clause-crew c = each_one _ _ _ _ (sym c.self.invariant.0) (c.as_slice.ensures.value ∙ sym c.as_mut_slice.ensures.value) (c.is_crew.ensures.yes c.if-not-is_crew.false)
 
 pub returns-then-not-is_crew-clause-none : goal.returns-then-not-is_crew-clause-none
 returns-then-not-is_crew-clause-none c = λ crew.
-    let g = c.args.self.now in
-    c.is_crew.ensures.no c.if-not-is_crew.true
-    (is_crew g c.self.inside.workers c.as_slice.result.now (c.self.invariant.1 ∙ ap (λ (x : GatedState). workers_of x.zone.plain) c.self.view_is) (c.as_slice.ensures.value ∙ ap (λ (x : GatedState). x.left) c.self.view_is) crew)
+    let many = c.self.invariant.0 ∙ ap (λ (g : GatedState). workers_of g.zone.plain) c.self.view_is in
+    c.is_crew.ensures.no c.if-not-is_crew.true (each_one _ _ _ _ many (sym (c.as_slice.ensures.value ∙ ap (λ (g : GatedState). g.left) c.self.view_is)) crew)
+
+pub returns-clause-some : goal.returns-clause-some
+returns-clause-some c =
+    let told = c.gather_zone.ensures in
+    let crew = each_one _ _ _ _ (sym c.self.invariant.0) (c.as_slice.ensures.value ∙ sym c.as_mut_slice.ensures.value) (c.is_crew.ensures.yes c.if-not-is_crew.false) in
+    let from : List ShareState → Type 0 = λ ss. IsGatheredIn (record { zone = c.self.inside.zone; left = ss }) c.gather_zone.result in
+    subst (λ (g : GatedState). IsGatheredIn g c.gather_zone.result) c.self.view_is
+    (subst from c.as_mut_slice.ensures.value (record { crew = crew; agree = told.agree; totals = told.totals; adds_up = told.adds_up; history = c.history.ensures }))

@@ -1,41 +1,18 @@
 -- `held` lends the worker, and the slot follows it. Assumes `Logic`.
-use Rattle.std.proofs.Common.{◌≡◌, ℕ, List, [], ◌∷◌, ◌++◌, refl, sym, ap, ◌∙◌}
-use Rattle.std.specs.Prelude.{Option, Some, IsSome}
-use seplogic.Ra.Ura.{Ura}
-use base.Fraction.{full_share}
-use mir.Syntax.{Fn, named}
-use mir.Raw.{raw as bare}
-use mir.Val.{Val, vptr, vstruct, of_list}
-use base.Logic.{SProp, ent, sep, never, fst∗, id⊢}
-use base.Fml.{GName, Fml, ftrue, fsep, flft}
-use prog.Wp.{Env}
-use contract.Monad.{fact}
-use contract.Running.{tables}
-use types.Logic.{Logic, sem}
-use types.Kit.{‵, raw, ◌⊛◌, some, later, await, pick, at_ret, ◌$◌, ◌∵◌, !, qed, move, keep, drop, use1, use0, split, split3, join, group, rewrite, fsplit, fsplit3, fjoin, fpick, fpack, feq_l, suffices, frame, done}
-use types.Part.{whole, sub, look_in}
-use types.Run.{stop, fld, load, of_opd, addr, first, blocks, exec, returns, enter}
-use types.ByLocal.{alloc_all, pass_all, free_all, look_at, get, through, sets, sets_last, env}
-use denote.Exit.{no}
-use denote.Follow.{follows, Part, lends_Part}
-use denote.Memory.{mem, cell_at, lone, part_at, part_of}
-use denote.RattleType.{RattleType, owns}
-use denote.RawPtr.{Ptr, block_ptr, null_ptr, in_a_block}
-use denote.Ref.{MutRef, mut_vals, mut_Tells}
-use denote.Signature.{plain, mut_ref_to}
-use denote.Steps.{nothing, heard, opens}
-use denote.Triple.Walked.{says, Stays, stay_dropped, walk_of, ends_at, Goes-spent_ref}
-use Rattle.std.specs.Box.Ownership.{box_owns}
-use Rattle.std.proofs.alloc.Shapes.{after}
-use Rattle.std.proofs.raw_atomic.Walks.{proved}
+use Rattle.zonealloc.proofs.Walking.{◌≡◌, ℕ, List, [], ◌∷◌, ◌++◌, refl, sym, ap, ◌∙◌, Option, Some, IsSome, Ura, full_share, Fn, named, bare, Val, vptr, vstruct, of_list, SProp, ent, sep}
+use Rattle.zonealloc.proofs.Walking.{never, fst∗, id⊢, GName, Fml, ftrue, fsep, flft, Env, fact, tables, Logic, sem, ‵, raw, ◌⊛◌, some, later, await, pick, at_ret, ◌$◌, ◌∵◌, !, qed, move}
+use Rattle.zonealloc.proofs.Walking.{keep, drop, use1, use0, split, split3, join, group, rewrite, fsplit, fsplit3, fjoin, fpick, fpack, feq_l, suffices, frame, done, whole, sub, look_in}
+use Rattle.zonealloc.proofs.Walking.{stop, fld, load, of_opd, addr, first, blocks, exec, returns, enter, alloc_all, pass_all, free_all, look_at, get, through, sets, sets_last, env, no, follows}
+use Rattle.zonealloc.proofs.Walking.{Part, lends_Part, mem, cell_at, lone, part_at, part_of, RattleType, owns, Ptr, block_ptr, null_ptr, in_a_block, MutRef, mut_vals, mut_Tells, plain, mut_ref_to}
+use Rattle.zonealloc.proofs.Walking.{nothing, heard, opens, says, Stays, stay_dropped, walk_of, ends_at, Goes-spent_ref, box_owns, after, proved}
 use Rattle.zonealloc.specs.Slot.{chunk, slot_owns}
 use Rattle.zp_gate.specs.contracts.gated_worker.GatedWorker as worker
-use Rattle.zonealloc.specs.contracts.worker_slot.WorkerSlot as slot
-use Rattle.zonealloc.proofs.Values.{held_in, held_is, list_made, list_own, list_val}
-use Rattle.zonealloc.specs.contracts.worker_slot.WorkerSlot.held.{ended, clauses}
-use Rattle.zonealloc.specs.contracts.worker_slot.WorkerSlot.held.Key.{name as #self}
-use Rattle.zonealloc.proofs.worker_slot.WorkerSlot.held.Statement.{statement}
-use Rattle.zonealloc.proofs.worker_slot.WorkerSlot.held.Code as code
+use Rattle.zonealloc.specs.contracts.slots.WorkerSlot as slot
+use Rattle.zonealloc.proofs.SlotWalks.{held_in, held_is, list_made, list_own, list_val}
+use Rattle.zonealloc.specs.contracts.slots.WorkerSlot.held.{ended, clauses}
+use Rattle.zonealloc.specs.contracts.slots.WorkerSlot.held.Key.{name as #self}
+use Rattle.zonealloc.proofs.slots.WorkerSlot.held.Statement.{statement}
+use Rattle.zonealloc.proofs.slots.WorkerSlot.held.Code as code
 
 abbrev R : RattleType
 R = worker.the_row
@@ -56,7 +33,7 @@ module _ {M : Type 1} {𝓤 : Ura M} (𝓛 : Logic 𝓤) (d : B.Denot) (b o rb r
   back e w =
       qed 𝓛 (‵ (part_at R full_share w b o) ∷ ‵ (Rest b o rb ro) ∷ []) ∵ move ! (1 ∷ []) $ fsplit ! $ move ! (2 ∷ 0 ∷ []) $ fjoin ! $
       rewrite ! 0 (λ (p : Ptr). ‵ (box_owns chunk R p w)) (sym e) refl $
-      use0 𝓛 (‵ (list_own d.at (list_val d.at ∷ []))) (list_made 𝓛 d.at tt) $ fjoin ! $ move ! (1 ∷ 0 ∷ []) $
+      use0 𝓛 (‵ (list_own d.at (list_val d.at ∷ []))) (list_made 𝓛 d.at) $ fjoin ! $ move ! (1 ∷ 0 ∷ []) $
       rewrite ! 0 (λ (p : Ptr). ‵ (cell_at full_share B.mir (list_val p ∷ []) rb ro)) (sym e) refl $ fjoin ! $
       fpack ! (List Val) (λ us. fsep (cell_at full_share B.mir us rb ro) (B.own_val (with_worker w d) us)) (list_val d.at ∷ []) $ done !
 
