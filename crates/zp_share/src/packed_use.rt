@@ -68,10 +68,13 @@ impl PackedUse {
         if self.byte == byte_of(order.number() + 1, MigrateType::Movable) {
             return Some(MigrateType::Movable);
         }
-        if !self.is_lent(order) {
-            return None;
-        }
-        if self.byte % TYPE_ROOM == 0 {
+        // the bytes of blocks that are lent with one order stand in a row, by their types
+        let above = self
+            .byte
+            .wrapping_sub(byte_of(order.number() + 1, MigrateType::Unmovable));
+        if above > 1 {
+            None
+        } else if above == 0 {
             Some(MigrateType::Unmovable)
         } else {
             Some(MigrateType::Reclaimable)
