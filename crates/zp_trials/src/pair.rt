@@ -2,6 +2,7 @@
 ghost use Rattle.std.specs.Prelude.{◌≡◌, ◌≤◌, IfSome};
 ghost use Rattle.zp_plain.specs.declared.room.TheConstants.{PLAIN_PAGES};
 
+use crate::batches::Places;
 use std::alloc::{AllocError, AllocGlobal, Global};
 use std::process::Abort;
 use zp_model::{Largest, MigrateType, ORDERS, Order, PageAt, PageblockType, State, Worker};
@@ -89,6 +90,50 @@ impl Pair {
             self.plain.give(at, order);
         }
         clear
+    }
+
+    /// Takes a run of pages, and from the plain one as many pages one by one: the same ones. Each is noted as out by itself.
+    pub fn take_run(
+        &mut self,
+        rt: &impl Abort,
+        kind: MigrateType,
+        most: u32,
+    ) -> Option<(PageAt, Order)> {
+        let Some(run) = self.buddy.take_run(kind, most.max(1)) else {
+            assert!(rt; self.plain.take(Order::zero(), kind).is_none());
+            return None;
+        };
+        let (head, order) = run;
+        let state = State::Out(Order::zero(), kind, Worker::first());
+        // a clause of this call says that the run lies in the zone
+        let _pages = self.buddy.pages();
+        self.buddy.hold_run(head, order, &state);
+        for it in 0..order.pages() {
+            let page = self
+                .plain
+                .take(Order::zero(), kind)
+                .expect(rt, "a page less");
+            assert!(rt; page.number() == head.number() + it);
+            self.plain.hold(page, state);
+        }
+        Some(run)
+    }
+
+    /// Frees a run as one block, and to the plain one page by page, in this order.
+    pub fn give_run(&mut self, rt: &impl Abort, head: PageAt, order: Order, places: Places) {
+        assert!(rt; self.buddy.is_clear(head, order));
+        // a clause of this call says that the run lies in the zone
+        let _pages = self.buddy.pages();
+        self.buddy.hold_run(head, order, &State::Tail);
+        assert!(rt; self.buddy.is_clear(head, order));
+        self.buddy.give(head, order);
+        let (step, turn) = places;
+        for it in 0..order.pages() {
+            let place = (it.wrapping_mul(step) ^ turn) % order.pages();
+            let page = page_of(rt, head.number() + place);
+            assert!(rt; self.plain.is_clear(page, Order::zero()));
+            self.plain.give(page, Order::zero());
+        }
     }
 
     /// How many pageblocks there are.

@@ -11,7 +11,7 @@ ghost use Rattle.zp_zone.specs.NamedZone.{KeepsOut, KeepsOutBeside, IsFresh, Are
 use super::UntiedZone;
 use super::parts::push_part;
 use arrayvec::ArrayVec;
-use zp_model::{MAX_BATCH, Mark, MigrateType, Order, PageNo, Refused, Worker};
+use zp_model::{MAX_BATCH, Mark, MigrateType, PageNo, Refused, Worker};
 
 impl UntiedZone {
     /// Up to `count` pages for this type, each held to this mark, in the order taken. Refused 10 or 11 where none is got; a
