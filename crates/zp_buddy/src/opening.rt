@@ -9,7 +9,7 @@ use zp_area::FreeArea;
 use zp_model::{Order, PageAt};
 
 /// The largest order, at most `most`, of a block with no more than so many pages.
-pub fn fitting(most: Order, pages: u32) -> Order
+fn fitting(most: Order, pages: u32) -> Order
     requires { 0 < pages }
     ensures within { result ≤ most }
     ensures fits { 2 ^ result ≤ pages }

@@ -15,7 +15,7 @@
 //! Cost, where m is the zone's largest order: step 1 looks at m + 1 fronts at most, and step 4 splits m times at most. To learn its order a
 //! claim looks at four fronts, and then at 64 pageblocks and 22 counts at most. It then walks the lists of that order alone, to the first
 //! block whose pageblock has pages enough. At orders m and m - 1 that is the front; below them many blocks can stand before it.
-ghost use Rattle.std.specs.Prelude.{◌≡◌, ◌<◌, length, None, Some};
+ghost use Rattle.std.specs.Prelude.{◌≡◌, ◌≤◌, ◌<◌, ◌^◌, length, None, Some};
 ghost use Rattle.zp_model.specs.Choose.{own};
 ghost use Rattle.zp_model.specs.Frames.{with_area};
 ghost use Rattle.zp_model.specs.Take.{taken};
@@ -24,7 +24,6 @@ ghost use Rattle.zp_buddy.specs.Choices.{IsFreeBlock, IsTaken, area_in, chosen_o
 ghost use Rattle.zp_buddy.specs.Runs.{IsRunOf};
 
 use crate::choice::{Choice, FreeBlock, foreign_choice, own_block};
-use crate::opening::fitting;
 use crate::split::take_block;
 use zp_area::FreeArea;
 use zp_model::{MigrateType, Order, PageAt};
@@ -88,6 +87,20 @@ pub fn take(area: &mut FreeArea, order: Order, kind: MigrateType) -> Option<Page
     take_foreign(area, order, kind)
 }
 
+/// The largest order, at most that of the block found, of no more pages than are wanted.
+fn run_order(found: Order, most: u32) -> Order
+    requires { 0 < most }
+    ensures within { result ≤ found }
+    ensures fits { 2 ^ result ≤ most }
+{
+    let wanted = 31 - most.leading_zeros();
+    if wanted < u32::from(found.number()) {
+        Order::at(wanted as u8)
+    } else {
+        found
+    }
+}
+
 /// Takes pages in a row off the smallest block of the request's own type: as many as a block has, `most` of them or fewer. Where the type has
 /// no block, one page as `take` does. The first page, and the order of the run.
 #[inline(always)]
@@ -102,7 +115,7 @@ pub fn take_run(area: &mut FreeArea, kind: MigrateType, most: u32) -> Option<(Pa
             order: found,
             kind: own,
         } = block;
-        let order = fitting(found, most);
+        let order = run_order(found, most);
         take_block(area, head, found, own, order);
         return Some((head, order));
     }

@@ -37,8 +37,8 @@ impl UntiedZone {
         ensures fresh { IfOk result (λ pages. All (IsFresh self.old.plain) pages.items) }
         ensures kept { KeepsOut self.old.plain self.new.plain }
     {
-        let mut pages = ArrayVec::new();
         let first = self.alloc_part(worker, kind, mark, u32::from(count))?;
+        let mut pages = ArrayVec::new();
         push_part(&mut pages, first);
         'parts: while pages.len() < usize::from(count) {
             let wanted = u32::from(count) - pages.len() as u32;
