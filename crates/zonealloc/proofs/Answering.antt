@@ -160,8 +160,11 @@ module _ (i : ℕ) (r : Request) (v w : WorkerState) where
     at_denied e x = unasked_at e (omega arith) (λ why z. cc) x
 
 -- what a call comes to that was denied so
-pub denied_at : (asks : Option WorkerState → Request → Type 0) (told : Reply → Type 0) (kept : Type 0) (i : ℕ) (r : Request) (e : CallError) (v w : WorkerState) → asks (Some v) r → kept → IsDeniedAt i r e v w → IsCall asks told kept i (error_number e) (Some v) (Some w)
-denied_at asks told kept i r e v w is k x = at_denied i r v w asks told kept is k e x
+pub denied_at : (asks : Option WorkerState → Request → Type 0) (told : Reply → Type 0) (kept : Type 0) (i : ℕ) (r : Request) (e : CallError) (code : ℕ) (b a : Option WorkerState) (v w : WorkerState)
+    → asks (Some v) r → kept → IsDeniedAt i r e v w → b ≡ Some v → a ≡ Some w → code ≡ error_number e → IsCall asks told kept i code b a
+denied_at asks told kept i r e code b a v w is k x was now number =
+    subst (λ n. IsCall asks told kept i n b a) (sym number)
+    (subst (λ o. IsCall asks told kept i (error_number e) o a) (sym was) (subst (λ o. IsCall asks told kept i (error_number e) (Some v) o) (sym now) (at_denied i r v w asks told kept is k e x)))
 
 -- what a call comes to whose request came to no reply
 pub denied_call : (asks : Option WorkerState → Request → Type 0) (told : Reply → Type 0) (kept : Type 0) (i code : ℕ) (r : Request) (b a : Option WorkerState) → asks b r → kept → IsAskDenied i r code b a → IsCall asks told kept i code b a
@@ -191,11 +194,6 @@ pub ask_denied : {A : Type 0} (given : A → Reply) (i : ℕ) (r : Request) (e :
 ask_denied given i r e code b a v w x was now is =
     subst (λ n. IsAskDenied i r n b a) (sym is) (subst (λ o. IsAskDenied i r (error_number e) o a) (sym was) (subst (λ o. IsAskDenied i r (error_number e) (Some v) o) (sym now) (asked_denied i r v w given e x)))
 
-pub called_by : (asks : Option WorkerState → Request → Type 0) (told : Reply → Type 0) (kept : Type 0) (i : ℕ) (e : CallError) (code : ℕ) (b a : Option WorkerState) (v w : WorkerState) → b ≡ Some v → a ≡ Some w → code ≡ error_number e
-    → IsCall asks told kept i (error_number e) (Some v) (Some w) → IsCall asks told kept i code b a
-called_by asks told kept i e code b a v w was now is x =
-    subst (λ n. IsCall asks told kept i n b a) (sym is) (subst (λ o. IsCall asks told kept i (error_number e) o a) (sym was) (subst (λ o. IsCall asks told kept i (error_number e) (Some v) o) (sym now) x))
-
 -- a drain is denied for somebody in the zone, or by the refusal 30
 drain_number : (i n : ℕ) (k : MigrateType) (e : CallError) (v w : WorkerState) → IsOfSection e → IsAtShare i (IsDenial (drain_request n k (worker_share v i)) e) v w → (error_number e ≡ 30) ⊎ (error_number e ≡ 42)
 drain_number i n k (Busy b) v w of x = inr refl
@@ -216,8 +214,8 @@ zone_number : (e : CallError) → e ≡ NoZone → error_number e ≡ 40
 zone_number e is = ap error_number is
 
 -- what comes of draining all lists, where that was denied
-pub drained_call : (i : ℕ) (e : CallError) (v w : WorkerState) → (e ≡ NoZone) ↔ HasNoZone i v → (HasNoZone i v → w ≡ v) → (HasZone i v → AreDrainedTill i e v w) → IsDrainAllCall i (error_number e) (Some v) (Some w)
-drained_call i e v w zone same till = elim (cases_lt i (length v.shares)) [
+drained_here : (i : ℕ) (e : CallError) (v w : WorkerState) → (e ≡ NoZone) ↔ HasNoZone i v → (HasNoZone i v → w ≡ v) → (HasZone i v → AreDrainedTill i e v w) → IsDrainAllCall i (error_number e) (Some v) (Some w)
+drained_here i e v w zone same till = elim (cases_lt i (length v.shares)) [
   | inl has ↦
       let n = till_number i e v w (till has) in
       record {
@@ -235,8 +233,8 @@ drained_call i e v w zone same till = elim (cases_lt i (length v.shares)) [
       }
 ]
 
-pub drained_denied : (i : ℕ) (e : CallError) (v w : WorkerState) → (e ≡ NoZone) ↔ HasNoZone i v → (HasZone i v → AreDrainedTill i e v w) → IsDenied ⊥ (HasNoZone i) (λ n. (n ≡ 30) ⊎ (n ≡ 42)) (error_number e) (Some v)
-drained_denied i e v w zone till = elim (cases_lt i (length v.shares)) [
+denied_here : (i : ℕ) (e : CallError) (v w : WorkerState) → (e ≡ NoZone) ↔ HasNoZone i v → (HasZone i v → AreDrainedTill i e v w) → IsDenied ⊥ (HasNoZone i) (λ n. (n ≡ 30) ⊎ (n ≡ 42)) (error_number e) (Some v)
+denied_here i e v w zone till = elim (cases_lt i (length v.shares)) [
   | inl has ↦
       let n = till_number i e v w (till has) in
       record {
@@ -254,5 +252,18 @@ drained_denied i e v w zone till = elim (cases_lt i (length v.shares)) [
       }
 ]
 
-pub no_zone_err : {A : Type 0} (i : ℕ) (e : CallError) (v : WorkerState) → (err A e ≡ err A NoZone) ↔ HasNoZone i v → (e ≡ NoZone) ↔ HasNoZone i v
-no_zone_err {A} i e v zone = (λ is. zone.0 (ap (err A) is), λ out. (let f : err A e ≡ err A NoZone = zone.1 out in cc))
+no_zone_err : (i : ℕ) (e : CallError) (v : WorkerState) → (err (Unit {0}) e ≡ err (Unit {0}) NoZone) ↔ HasNoZone i v → (e ≡ NoZone) ↔ HasNoZone i v
+no_zone_err i e v zone = (λ is. zone.0 (ap (err (Unit {0})) is), λ out. (let f : err (Unit {0}) e ≡ err (Unit {0}) NoZone = zone.1 out in cc))
+
+-- and so by the handle and the number
+pub drained_call : (i : ℕ) (e : CallError) (code : ℕ) (b a : Option WorkerState) (v w : WorkerState) → (err (Unit {0}) e ≡ err (Unit {0}) NoZone) ↔ HasNoZone i v → (HasNoZone i v → w ≡ v) → (HasZone i v → AreDrainedTill i e v w)
+    → b ≡ Some v → a ≡ Some w → code ≡ error_number e → IsDrainAllCall i code b a
+drained_call i e code b a v w zone same till was now number =
+    subst (λ n. IsDrainAllCall i n b a) (sym number)
+    (subst (λ o. IsDrainAllCall i (error_number e) o a) (sym was) (subst (λ o. IsDrainAllCall i (error_number e) (Some v) o) (sym now) (drained_here i e v w (no_zone_err i e v zone) same till)))
+
+pub drained_denied : (i : ℕ) (e : CallError) (code : ℕ) (b : Option WorkerState) (v w : WorkerState) → (err (Unit {0}) e ≡ err (Unit {0}) NoZone) ↔ HasNoZone i v → (HasZone i v → AreDrainedTill i e v w) → b ≡ Some v → code ≡ error_number e
+    → IsDenied ⊥ (HasNoZone i) (λ n. (n ≡ 30) ⊎ (n ≡ 42)) code b
+drained_denied i e code b v w zone till was number =
+    subst (λ n. IsDenied ⊥ (HasNoZone i) (λ m. (m ≡ 30) ⊎ (m ≡ 42)) n b) (sym number)
+    (subst (λ o. IsDenied ⊥ (HasNoZone i) (λ m. (m ≡ 30) ⊎ (m ≡ 42)) (error_number e) o) (sym was) (denied_here i e v w (no_zone_err i e v zone) till))

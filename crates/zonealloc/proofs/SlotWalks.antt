@@ -47,10 +47,6 @@ module _ (R Z : RattleType) (L : Laws Z) (g : Ghosts Z.Denot) where
 abbrev pub plainly : List RattleType → RattleType
 plainly Rs = Struct (record { name = []; args = []; types = []; fields = Rs })
 
-pub ptr_typed : (p : Ptr) → Good ty_ptr (ptr_val p)
-ptr_typed (block_ptr b o) = (tt, tt)
-ptr_typed null_ptr = (tt, record { fits = lit< tt })
-
 abbrev pub list_val : Ptr → Val
 list_val p0 = vstruct (vcons (ptr_val p0) vnil)
 

@@ -13,6 +13,7 @@ use zp_gate::{Given, ZoneCall};
 use zp_model::{Mark, MigrateType, Order, PageNo};
 
 /// A block for the worker in a handle: its first page, else the number of why there is none.
+#[tactic(auto, using(crate::proofs::Answering::ask_denied))]
 #[inline(always)]
 pub fn ask_alloc(
     worker: &mut WorkerHandle,
@@ -35,6 +36,7 @@ pub fn ask_alloc(
 }
 
 /// Frees a block of the worker in a handle; else the number of why it was not freed.
+#[tactic(auto, using(crate::proofs::Answering::ask_denied))]
 #[inline(always)]
 pub fn ask_free(worker: &mut WorkerHandle, zone: u32, page: PageNo, order: Order) -> Result<(), u32>
     ensures granted { OnOk result (IsOfBoth (IsGrantedAt zone (request.Free page order) reply.Freed) worker.old.slot.value worker.new.slot.value) }

@@ -81,10 +81,11 @@ impl GatedShare {
     ) -> Result<PageNo, CallError>
         ensures { IsSection (request.Alloc order kind mark) reply.Page result self.old self.new }
     {
-        let mut visitor = self.lock.enter().map_err(CallError::Busy)?;
-        let zone = visitor.slot_mut(&self.lock.table.shared, 0);
+        let lock = &*self.lock;
+        let mut visitor = lock.enter().map_err(CallError::Busy)?;
+        let zone = visitor.slot_mut(&lock.table.shared, 0);
         let answer = zone.alloc(&mut self.share, order, kind, mark);
-        self.lock.leave(visitor);
+        lock.leave(visitor);
         answer.map_err(CallError::Refused)
     }
 
@@ -96,10 +97,11 @@ impl GatedShare {
         if !self.share.is_lent(0, page, order) {
             return Err(CallError::Refused(Refused::NotLent));
         }
-        let mut visitor = self.lock.enter().map_err(CallError::Busy)?;
-        let zone = visitor.slot_mut(&self.lock.table.shared, 0);
+        let lock = &*self.lock;
+        let mut visitor = lock.enter().map_err(CallError::Busy)?;
+        let zone = visitor.slot_mut(&lock.table.shared, 0);
         let answer = zone.free(&mut self.share, page, order);
-        self.lock.leave(visitor);
+        lock.leave(visitor);
         answer.map_err(CallError::Refused)
     }
 
@@ -116,10 +118,11 @@ impl GatedShare {
         if !self.lends_for(&call) {
             return Err(CallError::Refused(Refused::NotLent));
         }
-        let mut visitor = self.lock.enter().map_err(CallError::Busy)?;
-        let zone = visitor.slot_mut(&self.lock.table.shared, 0);
+        let lock = &*self.lock;
+        let mut visitor = lock.enter().map_err(CallError::Busy)?;
+        let zone = visitor.slot_mut(&lock.table.shared, 0);
         let answer = zone.section(&mut self.share, call);
-        self.lock.leave(visitor);
+        lock.leave(visitor);
         match answer {
             Ok(given) => Ok(given),
             Err(refused) => Err(CallError::Refused(refused)),
@@ -162,10 +165,11 @@ impl GatedShare {
         if self.share.cached_len(0, kind) != 0 {
             return Err(CallError::NotEmpty);
         }
-        let mut visitor = self.lock.enter().map_err(CallError::Busy)?;
-        let zone = visitor.slot_mut(&self.lock.table.shared, 0);
+        let lock = &*self.lock;
+        let mut visitor = lock.enter().map_err(CallError::Busy)?;
+        let zone = visitor.slot_mut(&lock.table.shared, 0);
         let answer = zone.fill(&mut self.share, kind, mark);
-        self.lock.leave(visitor);
+        lock.leave(visitor);
         match answer {
             Ok(()) => Ok(()),
             Err(refused) => Err(CallError::Refused(refused)),
@@ -182,10 +186,11 @@ impl GatedShare {
         if count == 0 || self.share.cached_len(0, kind) < count {
             return Err(CallError::TooFew);
         }
-        let mut visitor = self.lock.enter().map_err(CallError::Busy)?;
-        let zone = visitor.slot_mut(&self.lock.table.shared, 0);
+        let lock = &*self.lock;
+        let mut visitor = lock.enter().map_err(CallError::Busy)?;
+        let zone = visitor.slot_mut(&lock.table.shared, 0);
         let answer = zone.drain(&mut self.share, kind, count);
-        self.lock.leave(visitor);
+        lock.leave(visitor);
         answer.map_err(CallError::Refused)
     }
 
@@ -195,10 +200,11 @@ impl GatedShare {
         ensures same { self.new ≡ self.old }
         ensures told { IfOk result (λ a. IsThen self.old.key self.old.share (Tells question a)) }
     {
-        let mut visitor = self.lock.enter()?;
-        let zone = visitor.slot_mut(&self.lock.table.shared, 0);
+        let lock = &*self.lock;
+        let mut visitor = lock.enter()?;
+        let zone = visitor.slot_mut(&lock.table.shared, 0);
         let answer = zone.tell(&mut self.share, question);
-        self.lock.leave(visitor);
+        lock.leave(visitor);
         Ok(answer)
     }
 

@@ -28,7 +28,7 @@ use zp_zone::Zone;
 /// A zone, and the shares of it that workers left when they ended, for which there is room.
 #[derive(Drop)]
 pub struct GatedZone {
-    zone: Zone,
+    zone: Box<Zone>,
     workers: u32,
     left: Vec<Share>,
 }
@@ -40,9 +40,9 @@ impl Model for GatedZone {
 
     ghost Value = { GatedState };
 
-    ghost view = { λ g. record { zone = g.zone; left = g.left.items } };
+    ghost view = { λ g. record { zone = g.zone.value; left = g.left.items } };
 
-    ghost invariant = { λ g. (g.workers ≡ workers_of g.zone.plain) × (g.workers ≤ vec_capacity g.left) };
+    ghost invariant = { λ g. (g.workers ≡ workers_of g.zone.value.plain) × (g.workers ≤ vec_capacity g.left) };
 }
 
 impl GatedZone {
@@ -53,6 +53,9 @@ impl GatedZone {
         ensures why { IfErr result (λ e. e ≡ Memory) }
     {
         let Ok(left) = Vec::with_capacity(alloc, workers as usize) else {
+            return Err(Refused::Memory);
+        };
+        let Ok(zone) = Box::new(alloc, zone) else {
             return Err(Refused::Memory);
         };
         Ok(GatedZone {

@@ -1,5 +1,6 @@
 use Rattle.std.proofs.Common.{ℕ, List, ◌≡◌, ◌<◌, ◌==◌, ◌∙◌, ap, sym, subst}
 use Rattle.std.specs.List.{count_by}
+use Rattle.zp_model.specs.Run.{IsHistory}
 use Rattle.zp_model.specs.Zone.{workers_of}
 use Rattle.zp_zone.specs.Seats.{ZoneState}
 use Rattle.zp_share.specs.Gathering.{IsCrewOf}
@@ -15,7 +16,9 @@ each_one : (n m : ℕ) (ss ts : List ShareState) → m ≡ n → ss ≡ ts → E
 each_one n m ss ts many same each w lt = subst (λ (xs : List ShareState). count_by (λ (s : ShareState). s.worker == w) xs ≡ 1) same (each w (subst (λ k. w < k) many lt))
 
 pub gather_zone-requires-clause-crew : goal.gather_zone-requires-clause-crew
-gather_zone-requires-clause-crew c = each_one _ _ _ _ (sym c.self.invariant.0) (c.as_slice.ensures.value ∙ sym c.as_mut_slice.ensures.value) (c.is_crew.ensures.yes c.if-not-is_crew.false)
+gather_zone-requires-clause-crew c =
+    let many = ap (λ (z : ZoneState). workers_of z.plain) c.deref_mut.ensures.value ∙ sym c.self.invariant.0 in
+    each_one _ _ _ _ many (c.as_slice.ensures.value ∙ sym c.as_mut_slice.ensures.value) (c.is_crew.ensures.yes c.if-not-is_crew.false)
 
 pub returns-then-not-is_crew-clause-none : goal.returns-then-not-is_crew-clause-none
 returns-then-not-is_crew-clause-none c = λ crew.
@@ -25,7 +28,10 @@ returns-then-not-is_crew-clause-none c = λ crew.
 pub returns-clause-some : goal.returns-clause-some
 returns-clause-some c =
     let told = c.gather_zone.ensures in
-    let crew = each_one _ _ _ _ (sym c.self.invariant.0) (c.as_slice.ensures.value ∙ sym c.as_mut_slice.ensures.value) (c.is_crew.ensures.yes c.if-not-is_crew.false) in
-    let from : List ShareState → Type 0 = λ ss. IsGatheredIn (record { zone = c.self.inside.zone; left = ss }) c.gather_zone.result in
+    let many = ap (λ (z : ZoneState). workers_of z.plain) c.deref_mut.ensures.value ∙ sym c.self.invariant.0 in
+    let crew = each_one _ _ _ _ many (c.as_slice.ensures.value ∙ sym c.as_mut_slice.ensures.value) (c.is_crew.ensures.yes c.if-not-is_crew.false) in
+    let history = subst (λ (z : ZoneState). IsHistory z.plain z.entries) (c.deref.ensures ∙ sym c.deref_mut.ensures.value) c.history.ensures in
+    let from : ZoneState → List ShareState → Type 0 = λ z ss. IsGatheredIn (record { zone = z; left = ss }) c.gather_zone.result in
     subst (λ (g : GatedState). IsGatheredIn g c.gather_zone.result) c.self.view_is
-    (subst from c.as_mut_slice.ensures.value (record { crew = crew; agree = told.agree; totals = told.totals; adds_up = told.adds_up; history = c.history.ensures }))
+    (subst (λ z. from z c.self.inside.left.items) c.deref_mut.ensures.value
+    (subst (from c.deref_mut.result.now) c.as_mut_slice.ensures.value (record { crew = crew; agree = told.agree; totals = told.totals; adds_up = told.adds_up; history = history })))
