@@ -3,7 +3,8 @@
 //! In Linux: `__free_one_page`, with `page_is_buddy`.
 ghost use Rattle.std.specs.Prelude.{◌≡◌, ◌+◌, ◌/◌, ◌%◌, ◌^◌, ◌↔◌, ◌<◌, ℕ, false, length, slice_index, slice_set, IsTrue};
 ghost use Rattle.zp_model.specs.declared.state.State.TheVariants.{Free};
-ghost use Rattle.zp_model.specs.Block.{IsBlock, IsBuddy};
+ghost use Rattle.zp_model.specs.Block.{IsBlock, IsBuddy, head};
+ghost use Rattle.zp_model.specs.declared.constants.TheConstants.{LARGEST_ORDER};
 ghost use Rattle.zp_model.specs.Rows.{state_at};
 ghost use Rattle.zp_model.specs.Area.{kind_at, pageblock_pages};
 ghost use Rattle.zp_area.specs.Chains.{IsJoinedUp};
@@ -33,6 +34,16 @@ pub fn has_free_buddy(lists: &Lists, largest: Largest, at: PageAt, order: Order)
     ensures none { result ≡ false → order < largest → (c d : ℕ) → IsBuddy at order c d → state_at lists.now.states c ≡ Free order → ⊥ }
 {
     order.number() < largest.number() && is_free(lists, at.buddy(order), order)
+}
+
+/// The buddy of the block of this order around a page.
+// (one shift down and one up: the block's own head is not needed)
+#[inline(always)]
+fn buddy_around(at: PageAt, order: Order) -> PageAt
+    requires { order < LARGEST_ORDER }
+    ensures { IsBuddy (head at order) order result (head at (order + 1)) }
+{
+    PageAt::at(((at.number() >> order.number()) ^ 1) << order.number())
 }
 
 /// Takes a block into the set, joined with its buddies as long as they are free. Each leaves its list; the head of what the block
@@ -67,17 +78,16 @@ pub fn join_up(
         ..
     } = blocks;
     free_in[pageblock] += order.pages();
-    let mut head = at;
     let mut joined = order;
     'joins: while joined.number() < largest.number() {
-        let buddy = head.buddy(joined);
+        let buddy = buddy_around(at, joined);
         if !is_free(lists, buddy, joined) {
             break;
         }
         take_out(lists, kind, buddy, joined);
-        head = PageAt::at(head.number().min(buddy.number()));
         joined = joined.higher();
     }
+    let head = at.head(joined);
     tell_joined(tree, kind, at, order, joined);
     put_in(lists, kind, head, joined);
 }
