@@ -99,12 +99,14 @@ pub fn split_off(
     take_out(lists, kind, at, from);
     tree.split(at, from, to);
     let mut order = from;
+    let mut pages = from.pages();
     // (counted down, as a product in the loop costs more)
     let mut list = list_of(from, kind);
     'halves: while to.number() < order.number() {
         order = order.lower();
         list -= PAGEBLOCK_TYPES;
-        let high = PageAt::at(at.number() + order.pages());
+        pages /= 2;
+        let high = PageAt::at(at.number() + pages);
         lists.push_front_noted(list, high, State::Free(order));
     }
     free_in[pageblock] -= to.pages();

@@ -9,7 +9,7 @@ use Rattle.zp_model.proofs.Heads.{two, head_le, lt_head, head_of, head_aligned, 
 use Rattle.zp_tree.specs.declared.constants.TheConstants.{PLACES, WORD_LEVELS}
 use Rattle.zp_tree.specs.Blocks.{buddy}
 use Rattle.zp_tree.specs.Words.{node, IsPlace}
-use Rattle.zp_tree.proofs.Nodes.{node_is}
+use Rattle.zp_tree.proofs.Nodes.{node_is, node_within}
 
 -- one of the run and its buddy is the low half of their double, the other the high half
 pub sides : (h k : ℕ) → let d = head h (k + 1) in ((head h k ≡ d) × (buddy h k ≡ d + 2 ^ k)) ⊎ ((head h k ≡ d + 2 ^ k) × (buddy h k ≡ d))
@@ -47,6 +47,16 @@ buddy_around h k o lt =
 
 pub head_around : (h k o : ℕ) → k ≤ o → head h k / 2 ^ o ≡ h / 2 ^ o
 head_around h k o le = sym (number_around (head h k) h k o le (head_aligned h k) (head_le h k) (lt_head h k))
+
+-- the block around a place of a word is one of the word's, and its node that of the place
+pub head_place : (p l : ℕ) → p < PLACES → l ≤ WORD_LEVELS → IsPlace (head p l) l
+head_place p l lt le = record { level = le; aligned = head_aligned p l; inside = omega (arith, head_le p l) }
+
+pub head_node : (p l : ℕ) → l ≤ WORD_LEVELS → node p l ≡ node (head p l) l
+head_node p l le = omega (arith, node_is p l le, node_is (head p l) l le, head_around p l l (omega arith))
+
+pub place_inside : (p l : ℕ) → p < PLACES → l ≤ WORD_LEVELS → node p l < 64
+place_inside p l lt le = let w = node_within (head p l) l (head_place p l lt le) in omega (arith, head_node p l le, w.1)
 
 -- the number of a buddy among the runs of its order
 abbrev pub other_number : ℕ → ℕ

@@ -3,7 +3,7 @@ use Rattle.std.proofs.Common.{ℕ, zero, suc, ◌+◌, ◌-◌, ◌*◌, ◌/◌
 use Rattle.std.specs.Int.{bit_at, bit_not}
 use Rattle.std.proofs.lemmas.Bool.{cases_lt, cases_eq, agree_below_at}
 use Rattle.std.proofs.lemmas.Nat.{pow-add, pow_pos, shr-shr, shr_split, shr_below}
-use Rattle.std.proofs.lemmas.Nat.Bits.{bit_at_and, bit_at_or, bit_at_not, bit_at-lt, bit_at-zero, bit_at_mask_inside, bit_at_mask_below, ones_shl}
+use Rattle.std.proofs.lemmas.Nat.Bits.{bit_at_and, bit_at_or, bit_at_not, bit_at_xor, bit_at-lt, bit_at-zero}
 use Rattle.std.proofs.Math.Nat.{mul-div_cancel}
 use Rattle.std.proofs.Math.Pow.{pow_mono}
 use Rattle.zp_model.proofs.Heads.{two, aligned_down}
@@ -13,7 +13,7 @@ use Rattle.zp_tree.specs.Blocks.{buddy}
 use Rattle.zp_tree.specs.Words.{node, IsPlace, IsMarked, IsChain, IsHalved, IsUnpaired}
 use Rattle.zp_tree.proofs.Nodes.{node_is, node_within, place_lt}
 use Rattle.zp_tree.proofs.WordBits.{set_bit, set_marks, set_keeps_none}
-use Rattle.zp_tree.proofs.BuddyPlaces.{buddy_place, buddy_node}
+use Rattle.zp_tree.proofs.BuddyPlaces.{buddy_place, buddy_node, place_inside}
 
 entry : ℕ → ℕ
 entry n = slice_index BUDDIES n
@@ -44,14 +44,11 @@ around_within p k lt le =
     let s : p / 2 ^ k < 2 ^ (WORD_LEVELS - k) = shr_below p (WORD_LEVELS - k) k (rw (← e) b) in
     (omega (arith, node_is p k le), omega (arith, node_is p k le, s, two (WORD_LEVELS - k)))
 
-around_inside : (p k : ℕ) → p < PLACES → k ≤ WORD_LEVELS → node p k < 64
-around_inside p k lt le = let top : 2 ^ (WORD_LEVELS - k + 1) ≤ 2 ^ (WORD_LEVELS + 1) = pow_mono {i = WORD_LEVELS - k + 1} {j = WORD_LEVELS + 1} (omega arith) in omega (arith, around_within p k lt le, top)
-
 entry_marked : (p k : ℕ) → p < PLACES → k < WORD_LEVELS → IsMarked (entry (node p (k + 1))) (entry (node p k)) (buddy p k) k 1 × (bit_at (entry (node p (k + 1))) 0 ≡ 0 → bit_at (entry (node p k)) 0 ≡ 0)
 entry_marked p k lt few =
     let low : 2 ^ 1 ≤ 2 ^ (WORD_LEVELS - k) = pow_mono {i = 1} {j = WORD_LEVELS - k} (omega arith) in
     let e : entry (node p k) ≡ set_bit (entry (node p (k + 1))) (bit_xor (node p k) 1) =
-    each_entry (node p k) (omega (arith, around_within p k lt (omega arith), low)) (around_inside p k lt (omega arith)) ∙ ap (λ n. set_bit (entry n) (bit_xor (node p k) 1)) (node_above p k) in
+    each_entry (node p k) (omega (arith, around_within p k lt (omega arith), low)) (place_inside p k lt (omega arith)) ∙ ap (λ n. set_bit (entry n) (bit_xor (node p k) 1)) (node_above p k) in
     let b = buddy_place p k lt few in
     let n = sym (buddy_node p k lt few) in
     (rw e (set_marks _ _ _ _ b n), λ none. rw e (set_keeps_none _ _ _ _ b n none))
@@ -79,48 +76,28 @@ whole_chain (suc d) p f lt e =
     let h = whole_chain d p (f + 1) lt (omega arith) in
     one_level_lower p f WORD_LEVELS _ _ lt (omega arith) (omega arith) h m.0 (m.1 h.none)
 
--- the nodes of the levels below t have their numbers from the first of level t - 1 on
-first_node : (t : ℕ) → t ≤ WORD_LEVELS → 64 / 2 ^ t ≡ 2 ^ (WORD_LEVELS + 1 - t)
-first_node t le =
-    let e : (WORD_LEVELS + 1 - t) + t ≡ WORD_LEVELS + 1 = omega arith in
-    let w : 64 ≡ 2 ^ (WORD_LEVELS + 1 - t) * 2 ^ t = ap (λ n. 2 ^ n) (sym e) ∙ pow-add 2 (WORD_LEVELS + 1 - t) t in
-    ap (λ n. n / 2 ^ t) w ∙ mul-div_cancel (2 ^ (WORD_LEVELS + 1 - t)) (pow_pos t)
+-- of the buddies up to the root those from level t on are left out
+chain_between : (p f t v u : ℕ) → p < PLACES → f ≤ t → t ≤ WORD_LEVELS → IsChain p f WORD_LEVELS v → IsChain p t WORD_LEVELS u → IsChain p f t (bit_xor v u)
+chain_between p f t v u lt up le h g = record {
+  buddies = λ k from to.
+      let y = buddy_place p k lt (omega arith) in
+      omega (arith, bit_at_xor v u (node (buddy p k) k), h.buddies k from (omega arith), g.others (buddy p k) k y (λ _ high _. omega (arith, high, to)));
+  others = λ q k y ne. elim (cases_lt k t) [
+    | inl low ↦ omega (arith, bit_at_xor v u (node q k), h.others q k y (λ a from _. ne a from low), g.others q k y (λ _ high _. omega (arith, high, low)))
+    | inr high ↦ elim (cases_eq q (buddy p k)) [
+      | inl e ↦ elim (cases_lt k WORD_LEVELS) [
+        | inl few ↦ rw e (omega (arith, bit_at_xor v u (node (buddy p k) k), h.buddies k (omega arith) few, g.buddies k (omega arith) few))
+        | inr all ↦ omega (arith, bit_at_xor v u (node q k), h.others q k y (λ _ _ few. omega (arith, few, all)), g.others q k y (λ _ _ few. omega (arith, few, all)))
+      ]
+      | inr other ↦ omega (arith, bit_at_xor v u (node q k), h.others q k y (λ a _ _. other a), g.others q k y (λ a _ _. other a))
+    ]
+  ];
+  none = omega (arith, bit_at_xor v u 0, h.none, g.none);
+}
 
-pub first_within : (t : ℕ) → 0 < t → t ≤ WORD_LEVELS → 64 / 2 ^ t < 64
-first_within t pos le = let b : 2 ^ (WORD_LEVELS + 1 - t) ≤ 2 ^ WORD_LEVELS = pow_mono {i = WORD_LEVELS + 1 - t} {j = WORD_LEVELS} (omega arith) in omega (arith, first_node t le, b)
-
-from_first : (q k t : ℕ) → IsPlace q k → k < t → t ≤ WORD_LEVELS → 64 / 2 ^ t ≤ node q k
-from_first q k t y lt le = let b : 2 ^ (WORD_LEVELS + 1 - t) ≤ 2 ^ (WORD_LEVELS - k) = pow_mono {i = WORD_LEVELS + 1 - t} {j = WORD_LEVELS - k} (omega arith) in omega (arith, first_node t le, b, node_is q k y.level)
-
-before_first : (q k t : ℕ) → IsPlace q k → t ≤ k → node q k < 64 / 2 ^ t
-before_first q k t y le =
-    let x = y.level in
-    let b : 2 ^ (WORD_LEVELS - k + 1) ≤ 2 ^ (WORD_LEVELS + 1 - t) = pow_mono {i = WORD_LEVELS - k + 1} {j = WORD_LEVELS + 1 - t} (omega arith) in
-    omega (arith, first_node t (omega arith), b, node_is q k x, place_lt q k y, two (WORD_LEVELS - k))
-
--- a chain up to the root that is cut at a level
-cut_chain : (p f t v : ℕ) → p < PLACES → 0 < t → t ≤ WORD_LEVELS → IsChain p f WORD_LEVELS v → IsChain p f t (bit_and v (2 ^ 64 - 2 ^ (64 / 2 ^ t)))
-cut_chain p f t v lt pos le h =
-    let s = 64 / 2 ^ t in
-    let mask = 2 ^ 64 - 2 ^ s in
-    record {
-      buddies = λ k from to.
-          let y = buddy_place p k lt (omega arith) in
-          let n = node (buddy p k) k in
-          let inside : bit_at mask n ≡ 1 = bit_at_mask_inside s 64 n (from_first (buddy p k) k t y to le) (omega (arith, node_within (buddy p k) k y)) in
-          omega (arith, bit_at_and v mask n, inside, h.buddies k from (omega arith));
-      others = λ q k y ne. elim (cases_lt k t) [
-        | inl low ↦ omega (arith, bit_at_and v mask (node q k), h.others q k y (λ a from to. ne a from low))
-        | inr high ↦ omega (arith, bit_at_and v mask (node q k), bit_at_mask_below s 64 (node q k) (before_first q k t y (omega arith)))
-      ];
-      none = omega (arith, bit_at_and v mask 0, h.none);
-    }
-
-pub chain_bits : (p f t : ℕ) → p < PLACES → f < t → t ≤ WORD_LEVELS → IsChain p f t (bit_and (slice_index BUDDIES (node p f)) ((2 ^ 64 - 1) * 2 ^ (64 / 2 ^ t) % 2 ^ 64))
+pub chain_bits : (p f t : ℕ) → p < PLACES → f ≤ t → t ≤ WORD_LEVELS → IsChain p f t (bit_xor (slice_index BUDDIES (node p f)) (slice_index BUDDIES (node p t)))
 unfolding entry
-chain_bits p f t lt up le =
-    let m = ones_shl 64 (64 / 2 ^ t) (omega (arith, first_within t (omega arith) le)) in
-    rw m (cut_chain p f t _ lt (omega arith) le (whole_chain (WORD_LEVELS - f) p f lt (omega arith)))
+chain_bits p f t lt up le = chain_between p f t _ _ lt up le (whole_chain (WORD_LEVELS - f) p f lt (omega arith)) (whole_chain (WORD_LEVELS - t) p t lt (omega arith))
 
 -- the high halves of a block are the buddies of its low parts
 high_half : (p k l : ℕ) → IsPlace p l → k < l → buddy p k ≡ p + 2 ^ k

@@ -1,10 +1,11 @@
 -- The words of a zone after a run was joined with its buddies.
-use Rattle.std.proofs.Common.{ℕ, ◌+◌, ◌-◌, ◌/◌, ◌%◌, ◌≡◌, ◌≤◌, ◌<◌, inl, inr, refl, sym, ◌∙◌, ap, arith, List, length, slice_index, slice_set}
+use Rattle.std.proofs.Common.{ℕ, ◌+◌, ◌-◌, ◌*◌, ◌/◌, ◌%◌, ◌^◌, ◌≡◌, ◌≤◌, ◌<◌, inl, inr, refl, sym, ◌∙◌, ap, arith, List, length, slice_index, slice_set}
 use Rattle.std.specs.Int.{bit_at}
 use Rattle.std.proofs.lemmas.Bool.{cases_lt}
 use Rattle.std.proofs.lemmas.List.{length-set}
 use Rattle.zp_model.specs.Block.{head}
-use Rattle.zp_tree.specs.declared.constants.TheConstants.{PLACES, WORD_LEVELS, GROUP_PAGES}
+use Rattle.zp_model.proofs.Heads.{head_le}
+use Rattle.zp_tree.specs.declared.constants.TheConstants.{PLACES, WORD_LEVELS, GROUP_ORDER, GROUP_PAGES}
 use Rattle.zp_tree.specs.Blocks.{buddy}
 use Rattle.zp_tree.specs.Words.{node, IsMarked, IsUnpaired}
 use Rattle.zp_tree.specs.Marks.{mark, IsWords, IsInGroups, IsJoinedUp}
@@ -12,7 +13,18 @@ use Rattle.zp_tree.proofs.Rows.{all_places}
 use Rattle.zp_tree.proofs.Places as Places
 use Rattle.zp_tree.proofs.Places.{low_place, high_mark}
 use Rattle.zp_tree.proofs.Marking.{low_others, low_here, low_words, high_others, high_here, high_words}
-use Rattle.zp_tree.proofs.BuddyPlaces.{buddy_place, buddy_low, buddy_high, buddy_whole, head_around}
+use Rattle.zp_tree.proofs.BuddyPlaces.{buddy_place, buddy_low, buddy_high, buddy_whole, head_around, head_shift, head_words}
+
+-- the place of the block around a page is around the page's
+pub low_head : (p t : ℕ) → t ≤ WORD_LEVELS → head p t % PLACES ≡ head (p % PLACES) t
+low_head p t le =
+    let q = p % PLACES in
+    let e : p ≡ p / PLACES * 2 ^ WORD_LEVELS + q = omega arith in
+    let s : head p t ≡ p / PLACES * 2 ^ WORD_LEVELS + head q t = ap (λ n. head n t) e ∙ head_shift (p / PLACES) q WORD_LEVELS t le in
+    omega (arith, s, head_le q t)
+
+pub high_head : (p t : ℕ) → WORD_LEVELS ≤ t → t ≤ GROUP_ORDER → head p t / PLACES % PLACES ≡ head (p / PLACES % PLACES) (t - WORD_LEVELS)
+high_head p t le few = omega (arith, head_words p t (t - WORD_LEVELS) (omega arith), low_head (p / PLACES) (t - WORD_LEVELS) (omega arith))
 
 -- within a low word
 pub low_joined : (ls hs : List ℕ) (v w p f t : ℕ) → IsWords ls hs → IsInGroups hs (head p t) t → t < WORD_LEVELS → IsUnpaired (slice_index ls (p / PLACES)) v (p % PLACES) f t → IsMarked v w (head p t % PLACES) t 1 →

@@ -1,5 +1,5 @@
 //! The bits of blocks in the low and the high words.
-ghost use Rattle.std.specs.Prelude.{◌≡◌, ◌≤◌, ◌<◌, ◌+◌, ◌^◌, cond, length};
+ghost use Rattle.std.specs.Prelude.{◌≡◌, ◌≤◌, ◌<◌, ◌+◌, ◌^◌, ℕ, List, cond, length};
 ghost use Rattle.zp_model.specs.Block.{head};
 ghost use Rattle.zp_tree.specs.declared.constants.TheConstants.{WORD_LEVELS, MOST_GROUPS};
 ghost use Rattle.zp_tree.specs.Marks.{mark, AreEmptied, IsWords, IsInGroups, IsGroupCleared, IsRemarked, IsJoinedUp, IsSplitUp};
@@ -64,17 +64,32 @@ pub fn split_marks(
         low.write(word, new);
         return;
     }
-    let group = group_of(at);
-    let place = high_place(at);
-    let level = top - WORD_LEVELS;
-    let end = least.max(WORD_LEVELS) - WORD_LEVELS;
-    let old = high.read(group, &mut meter);
-    let new = old.without(place, level).with_halves(place, level, end);
-    high.write(group, new);
     if least < WORD_LEVELS {
+        split_high(high, at, top, WORD_LEVELS);
         let old = low.read(word, &mut meter);
         low.write(word, old.with_halves(0, WORD_LEVELS, least));
+    } else {
+        split_high(high, at, top, least);
     }
+}
+
+/// The same in a high word alone, for the orders of these numbers.
+#[inline(always)]
+fn split_high(high: &mut Metered<Word>, at: PageAt, from: u8, to: u8)
+    requires inside { IsInGroups high.old at from }
+    requires down { to ≤ from }
+    requires high { WORD_LEVELS ≤ to }
+    ensures { (ls : List ℕ) → IsWords ls high.old → IsSplitUp ls high.old ls high.new at from to }
+{
+    let mut meter = Meter::new();
+    let group = group_of(at);
+    let place = high_place(at);
+    let level = from - WORD_LEVELS;
+    let old = high.read(group, &mut meter);
+    let new = old
+        .without(place, level)
+        .with_halves(place, level, to - WORD_LEVELS);
+    high.write(group, new);
 }
 
 /// Clears the bits of the buddies of the runs around a page, of orders `from` to below `to`, and sets that of the block of order `to`
@@ -96,23 +111,36 @@ pub fn join_marks(
     let least = from.number();
     let top = to.number();
     let word = low_word(at);
-    let head = at.head(to);
-    if least < WORD_LEVELS {
-        let place = low_place(at);
-        let old = low.read(word, &mut meter);
-        if top < WORD_LEVELS {
-            let left = old.without_buddies(place, least, top);
-            low.write(word, left.with(low_place(head), top));
-            return;
-        }
-        low.write(word, old.without_buddies(place, least, WORD_LEVELS));
+    if least >= WORD_LEVELS {
+        join_high(high, at, least, top);
+        return;
     }
+    let place = low_place(at);
+    let old = low.read(word, &mut meter);
+    if top < WORD_LEVELS {
+        let left = old.without_buddies(place, least, top);
+        low.write(word, left.with_around(place, top));
+        return;
+    }
+    low.write(word, old.without_buddies(place, least, WORD_LEVELS));
+    join_high(high, at, WORD_LEVELS, top);
+}
+
+/// The same in a high word alone, for the orders of these numbers.
+#[inline(always)]
+fn join_high(high: &mut Metered<Word>, at: PageAt, from: u8, to: u8)
+    requires inside { IsInGroups high.old (head at to) to }
+    requires up { from ≤ to }
+    requires high { WORD_LEVELS ≤ from }
+    ensures { (ls : List ℕ) → IsWords ls high.old → IsJoinedUp ls high.old ls high.new at from to }
+{
+    let mut meter = Meter::new();
     let group = group_of(at);
-    let level = top - WORD_LEVELS;
-    let start = least.max(WORD_LEVELS) - WORD_LEVELS;
+    let place = high_place(at);
+    let level = to - WORD_LEVELS;
     let old = high.read(group, &mut meter);
-    let left = old.without_buddies(high_place(at), start, level);
-    high.write(group, left.with(high_place(head), level));
+    let left = old.without_buddies(place, from - WORD_LEVELS, level);
+    high.write(group, left.with_around(place, level));
 }
 
 /// Empties so many words from one on.

@@ -3,6 +3,7 @@
 //! Six levels of a binary tree in its own numbering: bit 1 stands for all places, bits 2 and 3 for its halves, and so on to bits 32 to 63
 //! for single places. A bit is set where its places are a block.
 ghost use Rattle.std.specs.Prelude.{◌≡◌, ◌≤◌, ◌<◌, ◌+◌, ◌*◌, ◌^◌, cond, length};
+ghost use Rattle.zp_model.specs.Block.{head};
 ghost use Rattle.zp_tree.specs.declared.constants.TheConstants.{PLACES, WORD_LEVELS};
 ghost use Rattle.zp_tree.specs.Words.{node, IsPlace, IsMarked, IsChain, IsHalved, IsUnpaired, IsRow, IsLargestIn, IsFirstOf, IsFirst, IsUnion};
 
@@ -44,14 +45,14 @@ fn node_of(place: u32, level: u8) -> u32
 #[inline]
 fn chain(place: u32, from: u8, to: u8) -> u64
     requires place { place < PLACES }
-    requires up { from < to }
+    requires up { from ≤ to }
     requires levels { to ≤ WORD_LEVELS }
     ensures { IsChain place from to result }
 {
-    let node = (PLACES + place) >> from;
-    // the nodes of the levels below `to` have their numbers from here on
-    let first = 2 * PLACES >> to;
-    BUDDIES[node as usize] & u64::MAX << first
+    let first = (PLACES + place) >> from;
+    let end = (PLACES + place) >> to;
+    // the buddies from level `to` on are on the way up from both nodes
+    BUDDIES[first as usize] ^ BUDDIES[end as usize]
 }
 
 /// How many places a block of this level has.
@@ -79,6 +80,18 @@ impl Word {
     {
         Word {
             bits: self.bits | 1 << node_of(place, level),
+        }
+    }
+
+    /// With the block of this level around a place. Its node is that of the place on this level.
+    #[inline]
+    pub fn with_around(self, place: u32, level: u8) -> Word
+        requires place { place < PLACES }
+        requires level { level ≤ WORD_LEVELS }
+        ensures { IsMarked self result (head place level) level 1 }
+    {
+        Word {
+            bits: self.bits | 1 << ((PLACES + place) >> level),
         }
     }
 
@@ -113,9 +126,6 @@ impl Word {
         requires down { to ≤ from }
         ensures { IsHalved self result place from to }
     {
-        if to == from {
-            return self;
-        }
         let halves = chain(place, to, from);
         Word {
             bits: self.bits | halves,
@@ -130,9 +140,6 @@ impl Word {
         requires levels { to ≤ WORD_LEVELS }
         ensures { IsUnpaired self result place from to }
     {
-        if from == to {
-            return self;
-        }
         let buddies = chain(place, from, to);
         Word {
             bits: self.bits & !buddies,

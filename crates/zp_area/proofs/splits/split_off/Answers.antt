@@ -5,6 +5,7 @@ use Rattle.zp_area.specs.KeptSets.{set_of}
 use Rattle.zp_area.proofs.AvailableBlocks.{available-from, available-split}
 use Rattle.zp_model.specs.Area.{available_blocks, list_number}
 use Rattle.zp_model.specs.PageblockType.{pageblock_types}
+use Rattle.zp_model.proofs.Heads.{two}
 use Rattle.zp_model.proofs.TypeNumbers.{list_number_below}
 use Rattle.zp_tree.specs.Blocks.{split_set}
 use Rattle.zp_area.proofs.Keeping.{blocks_length, counted_there, read_at}
@@ -31,8 +32,13 @@ halves-init c =
     let a : Blocks = set_of c.args.blocks.now in
     record {
       split = rw (c.take_out.ensures, c.requires.typed) (split_begins c.args.blocks.now.largest a _ c.args.at c.args.to c.args.from c.requires.kept c.requires.block (omega arith));
+      pages = c.pages-pages.ensures.pages;
       list = c.list_of-list.ensures.number;
     }
+
+-- it has half of the pages
+pages_now : (c : After-lower-order) → c.halves.pages / 2 ≡ 2 ^ c.lower-order.result
+pages_now c = omega (arith, c.halves.invariant.pages, ap (λ n. 2 ^ n) (sym c.lower-order.ensures), two c.lower-order.result)
 
 -- its list is that of the next order
 list_now : (c : After-lower-order) → c.halves.list - pageblock_types ≡ list_number c.lower-order.result c.args.kind
@@ -49,25 +55,28 @@ push_front_noted-requires-clause-list c =
 
 pub push_front_noted-requires-clause-page : goal.push_front_noted-requires-clause-page
 push_front_noted-requires-clause-page c =
-    let x = half (goal.at.push_front_noted-requires-clause-page c).After-lower-order in
-    let e : c.at-high.result ≡ c.args.at + 2 ^ c.lower-order.result = omega arith in
+    let before = (goal.at.push_front_noted-requires-clause-page c).After-lower-order in
+    let x = half before in
+    let e : c.at-high.result ≡ c.args.at + 2 ^ c.lower-order.result = omega (arith, pages_now before) in
     rw e (head_below _ _ _ _ (half_coming c.lower-order.result x).block)
 
 pub push_front_noted-requires-clause-loose : goal.push_front_noted-requires-clause-loose
 push_front_noted-requires-clause-loose c =
-    let x = half (goal.at.push_front_noted-requires-clause-loose c).After-lower-order in
-    let e : c.at-high.result ≡ c.args.at + 2 ^ c.lower-order.result = omega arith in
+    let before = (goal.at.push_front_noted-requires-clause-loose c).After-lower-order in
+    let x = half before in
+    let e : c.at-high.result ≡ c.args.at + 2 ^ c.lower-order.result = omega (arith, pages_now before) in
     rw e (coming_loose (half_coming c.lower-order.result x))
 
 pub halves-preserved : goal.halves-preserved
 halves-preserved c =
     let before = (goal.at.halves-preserved c).After-lower-order in
     let x = half before in
-    let e : c.at-high.result ≡ c.args.at + 2 ^ c.lower-order.result = omega arith in
+    let e : c.at-high.result ≡ c.args.at + 2 ^ c.lower-order.result = omega (arith, pages_now before) in
     record {
       split =
           rw (c.push_front_noted.ensures.after, e, list_now before, half_kind c.lower-order.result x c.args.kind c.requires.typed)
           (split_goes c.lower-order.result x (omega arith) (counted_there c.args.blocks.now.largest _ _ c.args.at c.args.from c.requires.kept.each (block (goal.at.halves-preserved c).Start)));
+      pages = pages_now before;
       list = list_now before;
     }
 
@@ -81,13 +90,13 @@ read c b = read_at c.args.blocks.now.largest _ _ c.args.at c.args.from _ _ c.req
 pub overflow_sub-index_mut : goal.overflow_sub-index_mut
 overflow_sub-index_mut c =
     let now = (goal.at.overflow_sub-index_mut c).After-index_mut in
-    omega (arith, read now (block (goal.at.overflow_sub-index_mut c).Start), (whole now).most, c.pages-2.ensures.pages)
+    omega (arith, read now (block (goal.at.overflow_sub-index_mut c).Start), (whole now).most, c.pages.ensures.pages)
 
 pub returns-clause-kept : goal.returns-clause-kept
 returns-clause-kept c =
     let now = (goal.at.returns-clause-kept c).After-index_mut in
     let a : Blocks = set_of c.args.blocks.now in
-    rw (c.requires.here, read now (block (goal.at.returns-clause-kept c).Start), c.pages-2.ensures.pages) (split_ends c.args.blocks.now.largest a _ _ c.args.at c.args.to c.args.from (whole now)).0
+    rw (c.requires.here, read now (block (goal.at.returns-clause-kept c).Start), c.pages.ensures.pages) (split_ends c.args.blocks.now.largest a _ _ c.args.at c.args.to c.args.from (whole now)).0
 
 pub split-requires-clause-block : goal.split-requires-clause-block
 split-requires-clause-block c =
@@ -106,7 +115,7 @@ returns-clause-told c =
 pub returns-clause-numbers : goal.returns-clause-numbers
 returns-clause-numbers c =
     let now = (goal.at.returns-clause-numbers c).After-index_mut in
-    rw (c.requires.here, read now (block (goal.at.returns-clause-numbers c).Start), c.pages-2.ensures.pages) refl
+    rw (c.requires.here, read now (block (goal.at.returns-clause-numbers c).Start), c.pages.ensures.pages) refl
 
 pub returns-clause-after : goal.returns-clause-after
 returns-clause-after c =

@@ -3,8 +3,7 @@ use Rattle.zp_tree.specs.declared.constants.TheConstants.{PLACES, WORD_LEVELS, G
 use Rattle.zp_tree.specs.Words.{IsMarked, IsHalved}
 use Rattle.zp_tree.specs.Marks.{IsSplitUp}
 use Rattle.zp_tree.proofs.Places.{low_place, high_place}
-use Rattle.zp_tree.proofs.SplitMarks.{low_split, high_split, split_on}
-use Rattle.zp_tree.proofs.marks.split_marks.Goals.{After-with_halves-new-2}
+use Rattle.zp_tree.proofs.SplitMarks.{low_split, split_on}
 use Rattle.zp_tree.proofs.marks.split_marks.Goals as goal
 
 pub without-requires : goal.without-requires
@@ -23,33 +22,14 @@ returns-then-top-lt-WORD_LEVELS c =
     let h : IsHalved c.without.result c.with_halves-new.result (c.args.at % PLACES) c.args.from c.args.to = rw (c.low_place-place.ensures.place, c.number-top.ensures.same, c.number-least.ensures.same) at c.with_halves-new.ensures in
     rw (c.write.ensures, c.low_word-word.ensures) (low_split c.args.low.now c.args.high.now c.without.result c.with_halves-new.result c.args.at c.args.from c.args.to c.requires.words c.requires.inside lt m h)
 
-pub without-requires-2 : goal.without-requires-2
-without-requires-2 c = rw (c.high_place-place.ensures.place, c.number-top.ensures.same) (high_place c.args.high.now c.args.at c.args.from c.requires.inside (omega arith)).place
-
-pub with_halves-new-requires-2-clause-block : goal.with_halves-new-requires-2-clause-block
-with_halves-new-requires-2-clause-block c = rw (c.high_place-place.ensures.place, c.number-top.ensures.same) (high_place c.args.high.now c.args.at c.args.from c.requires.inside (omega arith)).place
-
--- the high word after it, for the last order that stands there
-high : (c : After-with_halves-new-2) → (t : ℕ) → t ≡ max c.args.to WORD_LEVELS → IsSplitUp c.args.low.now c.args.high.now c.args.low.now (slice_set c.args.high.now c.group_of-group.result c.with_halves-new-2.result) c.args.at c.args.from t
-high c t e =
-    let le : WORD_LEVELS ≤ c.args.from = omega arith in
-    let room = (high_place c.args.high.now c.args.at c.args.from c.requires.inside le).word in
-    let read : c.read-old-2.result ≡ slice_index c.args.high.now (c.args.at / GROUP_PAGES) =
-    c.read-old-2.ensures.node 0 ∙ ap (slice_index c.args.high.now) c.group_of-group.ensures in
-    let end : c.max-end.result ≡ t = omega arith in
-    let m : IsMarked (slice_index c.args.high.now (c.args.at / GROUP_PAGES)) c.without-2.result (c.args.at / PLACES % PLACES) (c.args.from - WORD_LEVELS) 0 = rw (read, c.high_place-place.ensures.place, c.number-top.ensures.same) at c.without-2.ensures in
-    let h : IsHalved c.without-2.result c.with_halves-new-2.result (c.args.at / PLACES % PLACES) (c.args.from - WORD_LEVELS) (t - WORD_LEVELS) = rw (c.high_place-place.ensures.place, c.number-top.ensures.same, end) at c.with_halves-new-2.ensures in
-    rw c.group_of-group.ensures (high_split c.args.low.now c.args.high.now c.without-2.result c.with_halves-new-2.result c.args.at c.args.from t c.requires.words c.requires.inside (omega arith) (omega arith) m h)
-
 pub returns-then-least-lt-WORD_LEVELS : goal.returns-then-least-lt-WORD_LEVELS
 returns-then-least-lt-WORD_LEVELS c =
-    let s = high (goal.at.returns-then-least-lt-WORD_LEVELS c).After-with_halves-new-2 WORD_LEVELS (omega arith) in
-    let room = (high_place c.args.high.now c.args.at c.args.from c.requires.inside (omega arith)).word in
+    let s : IsSplitUp c.args.low.now c.args.high.now c.args.low.now c.split_high.new.high c.args.at c.args.from WORD_LEVELS = rw c.number-top.ensures.same at (c.split_high.ensures c.args.low.now c.requires.words) in
     let w = c.read-old-then-least-lt-WORD_LEVELS in
     let read : w.result ≡ slice_index c.args.low.now (c.args.at / PLACES) =
     w.ensures.node 0 ∙ ap (slice_index c.args.low.now) c.low_word-word.ensures in
     let h : IsHalved (slice_index c.args.low.now (c.args.at / PLACES)) c.with_halves.result 0 WORD_LEVELS c.args.to = rw (read, c.number-least.ensures.same) at c.with_halves.ensures in
-    rw (c.write-2.ensures, c.write-then-least-lt-WORD_LEVELS.ensures, c.low_word-word.ensures) (split_on c.args.low.now c.args.high.now _ _ _ c.args.at c.args.from c.args.to (omega arith) (omega arith) c.requires.inside s h)
+    rw (c.write-then-least-lt-WORD_LEVELS.ensures, c.low_word-word.ensures) (split_on c.args.low.now c.args.high.now _ _ _ c.args.at c.args.from c.args.to (omega arith) (omega arith) c.requires.inside s h)
 
 pub returns-else-least-lt-WORD_LEVELS : goal.returns-else-least-lt-WORD_LEVELS
-returns-else-least-lt-WORD_LEVELS c = rw c.write-2.ensures (high (goal.at.returns-else-least-lt-WORD_LEVELS c).After-with_halves-new-2 c.args.to (omega arith))
+returns-else-least-lt-WORD_LEVELS c = rw (c.number-top.ensures.same, c.number-least.ensures.same) at (c.split_high-else-least-lt-WORD_LEVELS.ensures c.args.low.now c.requires.words)

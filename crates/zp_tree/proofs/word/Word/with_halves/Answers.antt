@@ -4,8 +4,8 @@ use Rattle.zp_tree.specs.Words.{IsHalved}
 use Rattle.zp_tree.proofs.Chains.{with_chain}
 use Rattle.zp_tree.proofs.word.Word.with_halves.Goals as goal
 
-pub invariant_of-result-2 : goal.invariant_of-result-2
-invariant_of-result-2 c = omega (arith, bit_at_or c.self.inside.bits c.chain-halves.result 0, c.self.invariant, c.chain-halves.ensures.none)
+pub invariant_of-result : goal.invariant_of-result
+invariant_of-result c = omega (arith, bit_at_or c.self.inside.bits c.chain-halves.result 0, c.self.invariant, c.chain-halves.ensures.none)
 
 pub returns : goal.returns
 returns c =

@@ -5,8 +5,8 @@ use Rattle.zp_tree.specs.Words.{IsUnpaired}
 use Rattle.zp_tree.proofs.Chains.{without_chain}
 use Rattle.zp_tree.proofs.word.Word.without_buddies.Goals as goal
 
-pub invariant_of-result-2 : goal.invariant_of-result-2
-invariant_of-result-2 c = omega (arith, bit_at_and c.self.inside.bits (bit_not w64 c.chain-buddies.result) 0, c.self.invariant)
+pub invariant_of-result : goal.invariant_of-result
+invariant_of-result c = omega (arith, bit_at_and c.self.inside.bits (bit_not w64 c.chain-buddies.result) 0, c.self.invariant)
 
 pub returns : goal.returns
 returns c =

@@ -1,0 +1,19 @@
+use Rattle.std.proofs.Common.{ℕ, ◌+◌, ◌-◌, ◌/◌, ◌%◌, ◌≡◌, ◌≤◌, ◌∙◌, ap, arith, slice_index}
+use Rattle.zp_model.specs.Block.{head}
+use Rattle.zp_tree.specs.declared.constants.TheConstants.{PLACES, WORD_LEVELS, GROUP_PAGES}
+use Rattle.zp_tree.specs.Words.{IsMarked, IsUnpaired}
+use Rattle.zp_tree.proofs.Places.{high_place}
+use Rattle.zp_tree.proofs.BuddyPlaces.{head_around}
+use Rattle.zp_tree.proofs.JoinMarks.{high_joined, high_head}
+use Rattle.zp_tree.proofs.marks.join_high.Goals as goal
+
+pub returns : goal.returns
+returns c = λ ls words.
+    let le : WORD_LEVELS ≤ c.args.to = omega arith in
+    let room = (high_place c.args.high.now (head c.args.at c.args.to) c.args.to c.requires.inside le).word in
+    let around = head_around c.args.at c.args.to (WORD_LEVELS + WORD_LEVELS) (omega (arith, c.requires.inside.order)) in
+    let read : c.read-old.result ≡ slice_index c.args.high.now (c.args.at / GROUP_PAGES) =
+    c.read-old.ensures.node 0 ∙ ap (slice_index c.args.high.now) c.group_of-group.ensures in
+    let a : IsUnpaired (slice_index c.args.high.now (c.args.at / GROUP_PAGES)) c.without_buddies-left.result (c.args.at / PLACES % PLACES) (c.args.from - WORD_LEVELS) (c.args.to - WORD_LEVELS) = rw (read, c.high_place-place.ensures.place) at c.without_buddies-left.ensures in
+    let m : IsMarked c.without_buddies-left.result c.with_around.result (head c.args.at c.args.to / PLACES % PLACES) (c.args.to - WORD_LEVELS) 1 = rw (c.high_place-place.ensures.place, ← high_head c.args.at c.args.to le c.requires.inside.order) at c.with_around.ensures in
+    rw (c.write.ensures, c.group_of-group.ensures) (high_joined ls c.args.high.now _ _ c.args.at c.args.from c.args.to words c.requires.inside c.requires.high c.requires.up a m)
