@@ -39,14 +39,9 @@ one_less v a w was some last =
       visits = omega (arith, more, long, some, was.visits);
       before = ap (take (length v.left)) left ∙ take-append-le (length v.left) a.left (visit ∷ []) (omega (arith, was.visits, was.within)) ∙ was.before;
       kept = λ i j none low high at. elim (cases_lt i n) [
-        | inr not ↦
-            subst (λ (x : VisitView). HasKept (gated_at v i).key (worker_share v i) x) (sym (ap (λ (xs : List VisitView). slice_index_or xs j none) left ∙ get_or_append_left a.left (visit ∷ []) none j (omega (arith, at, not, was.visits))))
-            (was.kept i j none (omega (arith, not)) high at)
+        | inr not ↦ rw (left, get_or_append_left a.left (visit ∷ []) none j (omega (arith, at, not, was.visits))) (was.kept i j none (omega (arith, not)) high at)
         | inl less ↦
             let is : i ≡ m = omega (arith, less, low, long) in
-            let there : HasKept (gated_at v m).key (worker_share v m) visit = subst (λ (d : GatedShareState). HasKept d.key d.share visit) same last.1 in
-            subst (λ (x : VisitView). HasKept (gated_at v i).key (worker_share v i) x)
-            (sym (ap (λ (xs : List VisitView). slice_index_or xs j none) left ∙ get_or_push a.left visit none j (omega (arith, at, is, some, was.visits))))
-            (subst (λ k. HasKept (gated_at v k).key (worker_share v k) visit) (sym is) there)
+            rw (left, get_or_push a.left visit none j (omega (arith, at, is, some, was.visits)), is) (subst (λ (d : GatedShareState). HasKept d.key d.share visit) same last.1)
       ];
     }
