@@ -2,9 +2,8 @@
 use Rattle.std.proofs.Common.{ℕ, ◌≡◌, ◌<◌, ◌+◌, ◌-◌, ◌++◌, ◌∷◌, ◌∙◌, List, [], ap, length, take, slice_index_or, sym, subst, inl, inr, arith}
 use Rattle.std.proofs.lemmas.Bool.{cases_lt}
 use Rattle.std.proofs.lemmas.List.{get_or_append_left, get_or_push, get_or-take, length-append, length-take-le, take-append-le, take-take, take_all}
-use Rattle.zp_gate.specs.declared.visit_view.VisitView.{VisitView}
 use Rattle.zp_gate.specs.Visits.{HasKept}
-use Rattle.zp_gate.specs.GatedWorkers.{GatedShareState, WorkerState, HasLeftDownTo, HasLeftLast, gated_at, no_gated_share, worker_share}
+use Rattle.zp_gate.specs.GatedWorkers.{GatedShareState, WorkerState, HasLeftDownTo, HasLeftLast, gated_at, no_gated_share}
 
 -- one that has left none yet
 pub none_left : (v : WorkerState) → HasLeftDownTo (length v.shares) v v

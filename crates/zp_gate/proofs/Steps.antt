@@ -1,12 +1,12 @@
 -- Each step on a lock keeps its rule.
-use Rattle.std.proofs.Common.{◌≡◌, ℕ, zero, suc, ◌<◌, ◌==◌, List, [], ◌∷◌, ◌++◌, length, set, refl, sym, ap, ◌∙◌, subst, inl, inr, arith}
+use Rattle.std.proofs.Common.{◌≡◌, ℕ, ◌==◌, List, [], ◌∷◌, ◌++◌, set, refl, sym, ap, ◌∙◌, subst, inl, inr, arith}
 use Rattle.std.specs.Prelude.{Some}
 use Rattle.std.proofs.lemmas.Bool.{cases_lt}
 use mathlib.Core.Option.{some, none}
 use lib.ListN.{get_elem?}
 use prog.Atomic.{either}
 use Rattle.std.specs.List.{slice_index}
-use Rattle.atomic_table.specs.Table.{State, Me, Act, Valid, step, stepped, keeps, takes, gives, carried_after, rest, Allows, put_back}
+use Rattle.atomic_table.specs.Table.{State, Me, Act, step, stepped, keeps, takes, gives, rest, Allows, put_back}
 use Rattle.atomic_table.specs.Table.{Enters as Entering}
 use Rattle.atomic_table.specs.Seated.{TableId}
 use Rattle.atomic_table.specs.declared.shared.Seat.{Seat}
@@ -14,7 +14,7 @@ use Rattle.atomic_table.proofs.Lists.{at_set, at_snoc, set_here, exchanged}
 use Rattle.zp_share.specs.Shares.{ZoneKey}
 use Rattle.zp_gate.specs.declared.visit_view.VisitView.{VisitView}
 use Rattle.zp_gate.specs.GatedZones.{GatedState, IsBehind}
-use Rattle.zp_gate.specs.Locks.{IsAtHome, IsGated, IsIn, MayLeave, Comes, Enters, Leaves, first_held, inside, outside}
+use Rattle.zp_gate.specs.Locks.{IsGated, IsIn, MayLeave, Comes, Enters, Leaves, first_held, inside, outside}
 use Rattle.zp_gate.specs.Visits.{IsVisit}
 use Rattle.zp_gate.proofs.Keeping.{one_call_behind}
 
@@ -58,17 +58,6 @@ leaves key tid slots p one may s gated len at small =
     let home : get_elem? (put_back s.homes p.me.1) 0 ≡ some (some z) = rw may.1.3 (set_here s.homes 0 (some z) (omega (arith, one, len))) in
     let now : VisitView = record p.me.0 { left = first_held p.me.1 } in
     (now, gives, tt, (0, ap (λ (ws : List ℕ). set ws 0 0) gated.1, (λ _. (z, home, behind)), views_set key s.views p.id now (ap (λ (v : VisitView). v.key) may.1.2) gated.3), refl)
-
--- whoever came in is in
-pub came_in : (id : TableId) (key : ZoneKey) (slots found : ℕ) (p q : Seat GatedState VisitView) → p.table_id ≡ id → p.me ≡ (outside key, []) → q.table_id ≡ p.table_id → found ≡ 0 →
-    Enters (step slots 0 0 1 none) p.me found q.me → IsIn id key q
-came_in id key slots found p q of me same none_in entered =
-    let e = entered none_in in
-    let y : GatedState = e.0 in
-    let is : p.me.0.key ≡ key = ap (λ (m : Me GatedState VisitView). m.0.key) me in (
-      same ∙ of,
-      (y, e.1 ∙ ap (λ (k : ZoneKey). inside k y) is, e.2 ∙ ap (λ (m : Me GatedState VisitView). (0, y) ∷ m.1) me, subst (λ (k : ZoneKey). IsBehind k y) is e.3),
-    )
 
 -- what he sees there is what he found, and his visit tells of that, and of what he left
 pub visited : (id : TableId) (key : ZoneKey) (p : Seat GatedState VisitView) (was now : GatedState) (v : VisitView) → IsIn id key p → p.me.1 ≡ (0, was) ∷ rest p.me.1 → v ≡ record { key = p.me.0.key; found = p.me.0.found; left = Some now } → IsVisit key was now v

@@ -1,9 +1,8 @@
-use Rattle.std.proofs.Common.{ℕ, ◌≡◌, ◌<◌, ◌+◌, ◌-◌, ◌++◌, ◌∷◌, ◌∙◌, List, [], length, map, refl, subst, sym, inl, inr, Box, Global, arith}
+use Rattle.std.proofs.Common.{ℕ, ◌≡◌, ◌+◌, ◌-◌, ◌++◌, ◌∷◌, ◌∙◌, List, [], length, map, refl, subst, sym, inl, inr, Box, Global, arith}
 use Rattle.std.proofs.lemmas.Bool.{cases_lt}
 use Rattle.std.proofs.lemmas.List.{get_or_append_left, get_or_push, length_push}
-use Rattle.zp_share.specs.Shares.{ZoneKey}
 use Rattle.zp_gate.specs.declared.gated_worker.GatedWorker.{GatedWorker}
-use Rattle.zp_gate.specs.GatedWorkers.{AllDown, IsNewWorker, WorkerState}
+use Rattle.zp_gate.specs.GatedWorkers.{AllDown, IsNewWorker}
 use Rattle.zp_gate.proofs.Keys.{key_in}
 use Rattle.zp_gate.proofs.opening.crew_of.Goals as goal
 

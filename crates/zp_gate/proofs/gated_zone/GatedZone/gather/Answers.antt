@@ -1,4 +1,3 @@
-use Rattle.std.proofs.Common.{sym}
 use Rattle.zp_gate.proofs.gated_zone.GatedZone.gather.Goals as goal
 
 pub gather_zone-requires-clause-crew : goal.gather_zone-requires-clause-crew
