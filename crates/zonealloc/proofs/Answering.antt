@@ -10,9 +10,8 @@ use Rattle.zp_model.specs.declared.request.Reply.{Reply}
 use Rattle.zp_model.specs.declared.refused.Refused.{Refused as Refusal}
 use Rattle.zp_model.specs.declared.refused.Refused.TheVariants as refusal
 use Rattle.zp_model.specs.Refused.{refused_number}
-use Rattle.zp_gate.specs.declared.try_lock.Busy.{Busy as Seen}
 use Rattle.zp_gate.specs.declared.call_error.CallError.{CallError}
-use Rattle.zp_gate.specs.declared.call_error.CallError.TheVariants.{NoZone, Busy, NoWorker, NoLists, NotEmpty, TooFew, Refused}
+use Rattle.zp_gate.specs.declared.call_error.CallError.TheVariants.{NoZone, Busy, NoWorker, Refused}
 use Rattle.zp_gate.specs.GatedWorkers.{AreDrainedTill, GatedShareState, WorkerState, HasZone, IsAtShare, IsDenial, IsDeniedAt, IsOfSection, IsSectionAt, IsUnasked, LacksBlock, LacksWorker, gated_at, no_gated_share, worker_share}
 use Rattle.zp_gate.specs.GatedZones.{drain_request}
 use Rattle.zonealloc.specs.Numbers.{error_number}

@@ -1,4 +1,3 @@
-use Rattle.std.proofs.Common.{sym}
 use Rattle.zonealloc.proofs.making.made.Goals as goal
 
 pub returns-clause-new : goal.returns-clause-new
