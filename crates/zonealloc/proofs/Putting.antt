@@ -3,7 +3,7 @@ use Rattle.std.proofs.Common.{ℕ, ◌≡◌, ◌<◌, ◌≤◌, ◌⊎◌, ◌
 use Rattle.std.specs.Prelude.{Some, Err}
 use Rattle.zp_share.specs.Shares.{ShareState}
 use Rattle.zp_gate.specs.declared.call_error.CallError.{CallError}
-use Rattle.zp_gate.specs.declared.call_error.CallError.TheVariants.{NoZone, Busy, NoWorker, NoLists, NotEmpty, TooFew, Refused}
+use Rattle.zp_gate.specs.declared.call_error.CallError.TheVariants.{NoLists, Refused}
 use Rattle.zp_gate.specs.GatedWorkers.{WorkerState, IsAt, IsPutDenial, gated_at, worker_share}
 use Rattle.zonealloc.specs.Numbers.{error_number}
 use Rattle.zonealloc.specs.Calls.{IsPutCall}

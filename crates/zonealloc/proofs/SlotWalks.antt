@@ -1,5 +1,5 @@
 -- The walks of a slot, whatever it holds: how an empty one is made, how one takes over a loose box, and how it gives that up. Assumes `Logic`.
-use Rattle.zonealloc.proofs.Walking.{◌≡◌, ℕ, zero, suc, List, [], ◌∷◌, ◌++◌, refl, ◌∙◌, subst, lit<, map, sym, ap, true, ◌&&◌, T, Ura, impl, tnil, tcons, dnil, ty_ptr, ty_struct, Body, Callee}
+use Rattle.zonealloc.proofs.Walking.{◌≡◌, ℕ, List, [], ◌∷◌, ◌++◌, refl, ◌∙◌, subst, lit<, map, sym, ap, true, ◌&&◌, T, Ura, impl, tnil, tcons, dnil, ty_ptr, ty_struct, Body, Callee}
 use Rattle.zonealloc.proofs.Walking.{Fn, Way, Sym, Ty, aggregate, assign, copy, field, int, local, place, return, rv_opd, seq, value_local, w64, bare, Val, vptr, vstruct, vcons, vnil, of_list}
 use Rattle.zonealloc.proofs.Walking.{has_ty, WT, ent, emp, never, fst∗, SProp, Fml, Lft, ftrue, fsep, Logic, sem, Item, Goal, Seq, Step, step, ‵, ◌$◌, move, drop, fsplit, fjoin, fpick, fpack}
 use Rattle.zonealloc.proofs.Walking.{feq_i, feq_l, raw, ◌⊛◌, prop, ◌∵◌, !, qed, by, keep, use0, split, regoal, rewrite, RattleType, Valss, owns, RawPtr, shadow, makes_shadow, plain, types_at}

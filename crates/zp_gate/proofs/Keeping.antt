@@ -1,8 +1,8 @@
 -- What one call makes of what stands behind a lock: it is the zone of the same key still.
-use Rattle.std.proofs.Common.{◌≡◌, List, [], ◌∷◌, length, All, sym, ap, ◌∙◌, subst, inl, inr}
+use Rattle.std.proofs.Common.{◌≡◌, List, length, All, sym, ap, ◌∙◌, subst, inl, inr}
 use Rattle.std.specs.Prelude.{Option, Some, None, Result, Ok, Err}
 use Rattle.std.proofs.lemmas.List.{length-set}
-use Rattle.std.proofs.lemmas.List.Elements.{All-append}
+use Rattle.std.proofs.lemmas.List.Elements.{All-push}
 use Rattle.zp_model.specs.declared.refused.Refused.{Refused}
 use Rattle.zp_model.specs.declared.request.Request.{Request}
 use Rattle.zp_model.specs.declared.request.Reply.{Reply}
@@ -16,15 +16,14 @@ use Rattle.zp_share.specs.Shares.{ShareState, ZoneKey, key_of, share_at}
 use Rattle.zp_share.specs.ZoneShares.{ZoneShareState, plain_share}
 use Rattle.zp_share.proofs.Telling.{same-key}
 use Rattle.zp_gate.specs.GatedZones.{GatedState, IsBehind, IsOneCall, IsOneShare, IsSectionOf}
-use Rattle.zp_gate.proofs.Crews.{each}
 
--- whatever is asked, the zone's key stays
-key_came : (e : Option Refused) (r : Request) (q : Reply) (z y : ZoneState) (a b : ZoneShareState) → ComesOf e r q z y a b → key_of y ≡ key_of z
-key_came (Some e) r q z y a b x = ap key_of x.1.zone
-key_came None r q z y a b x = ap key_of x.zone ∙ same-key z (stepping z.plain a.seat.worker r).zone (step-same z.plain a.seat.worker r)
+-- whatever is asked, the zone's key stays, and the first page of the share
+came : (e : Option Refused) (r : Request) (q : Reply) (z y : ZoneState) (a b : ZoneShareState) → ComesOf e r q z y a b → (key_of y ≡ key_of z) × (b.seat.part.base ≡ a.seat.part.base)
+came (Some e) r q z y a b x = (ap key_of x.1.zone, ap (λ (s : ZoneShareState). s.seat.part.base) x.1.share)
+came None r q z y a b x = (ap key_of x.zone ∙ same-key z (stepping z.plain a.seat.worker r).zone (step-same z.plain a.seat.worker r), ap (λ (s : ZoneShareState). s.seat.part.base) x.share)
 
 pub key_stays : (r : Request) (q : Reply) (z y : ZoneState) (a b : ZoneShareState) → IsAsked r q z y a b → key_of y ≡ key_of z
-key_stays r q z y a b x = key_came (refusal_of r (plain_share a)) r q z y a b x.made
+key_stays r q z y a b x = (came (refusal_of r (plain_share a)) r q z y a b x.made).0
 
 -- nor do its workers change
 pub workers_stay : (r : Request) (q : Reply) (z y : ZoneState) (a b : ZoneShareState) → IsAsked r q z y a b → workers_of y.plain ≡ workers_of z.plain
@@ -46,17 +45,13 @@ one_call_behind key y z behind (inr (inl x)) =
     record {
       known = ap (λ (g : GatedState). key_of g.zone) x.2 ∙ behind.known;
       left = subst (λ (ss : List ShareState). All (IsOneShare key) ss) (sym (ap (λ (g : GatedState). g.left) x.2))
-          (All-append (IsOneShare key) y.left (x.0 ∷ []) behind.left (each (IsOneShare key) x.0 x.1));
+          (All-push (IsOneShare key) y.left x.0 behind.left x.1);
     }
 one_call_behind key y z behind (inr (inr same)) = subst (IsBehind key) (sym same) behind
-
-base_came : (e : Option Refused) (r : Request) (q : Reply) (z y : ZoneState) (s t : ZoneShareState) → ComesOf e r q z y s t → t.seat.part.base ≡ s.seat.part.base
-base_came (Some e) r q z y s t x = ap (λ (a : ZoneShareState). a.seat.part.base) x.1.share
-base_came None r q z y s t x = ap (λ (a : ZoneShareState). a.seat.part.base) x.share
 
 -- a share that made a section is one of the same zone still
 pub share_stays : (key : ZoneKey) (r : Request) (q : Reply) (y z : GatedState) (s t : ShareState) → IsOneShare key s → IsSectionOf r q y z s t → IsOneShare key t
 share_stays key r q y z s t one x = (
   ap (λ (u : ShareState). length u.zones) x.2 ∙ length-set s.zones 0 (share_at t 0) ∙ one.0,
-  (x.0.same.tie ∙ one.1.0, base_came (refusal_of r (plain_share (share_at s 0))) r q y.zone z.zone (share_at s 0) (share_at t 0) x.0.made ∙ one.1.1),
+  (x.0.same.tie ∙ one.1.0, (came (refusal_of r (plain_share (share_at s 0))) r q y.zone z.zone (share_at s 0) (share_at t 0) x.0.made).1 ∙ one.1.1),
 )

@@ -1,6 +1,6 @@
 -- The keys of a row's zones while it is made.
-use Rattle.std.proofs.Common.{ℕ, ◌≡◌, ◌∙◌, List, [], All, ap, length, replicate, true}
-use Rattle.std.proofs.lemmas.List.{length-replicate}
+use Rattle.std.proofs.Common.{ℕ, ◌≡◌, ◌<◌, ◌+◌, ◌++◌, ◌∷◌, ◌∙◌, List, [], All, ap, length, map, replicate, slice_index_or, sym, take, true}
+use Rattle.std.proofs.lemmas.List.{length-replicate, map_more, map_push}
 use Rattle.std.proofs.lemmas.List.Elements.{All-map}
 use Rattle.std.specs.Arc.{arc_value}
 use Rattle.std.specs.List.{range_with_len}
@@ -17,6 +17,12 @@ use Rattle.zp_gate.specs.GatedRows.{lock_key}
 
 abbrev pub key_in : OpenedZone → ZoneKey
 key_in z = lock_key (arc_value z.lock)
+
+-- what is the same of two lists so far is so with one value more of each
+pub same_next : {A B K : Type 0} (f : A → K) (g : B → K) (xs now : List A) (a : A) (bs : List B) (i : ℕ) (d : B) → i < length bs → now ≡ xs ++ a ∷ [] → map f xs ≡ map g (take i bs) → f a ≡ g (slice_index_or bs i d) →
+    map f now ≡ map g (take (i + 1) bs)
+same_next f g xs now a bs i d lt is same here =
+    ap (map f) is ∙ map_push f xs a ∙ ap (λ ks. ks ++ f a ∷ []) same ∙ ap (λ k. map g (take i bs) ++ k ∷ []) here ∙ sym (map_more g bs i d lt)
 
 -- a zone that was opened has the key that it was made with
 pub opening_key : (z : ZoneState) (t : TableId) (name : List ℕ) (m base pages min workers : ℕ) → z ≡ record { tie = t; name = name; plain = zone_opening m base pages min workers; entries = [] } →

@@ -2,9 +2,8 @@
 use Rattle.std.proofs.Common.{ℕ, ◌≡◌, ◌<◌, ◌+◌, ◌-◌, ◌++◌, ◌∷◌, ◌∙◌, List, [], ap, length, take, slice_index_or, sym, subst, inl, inr, arith}
 use Rattle.std.proofs.lemmas.Bool.{cases_lt}
 use Rattle.std.proofs.lemmas.List.{get_or_append_left, get_or_push, get_or-take, length-append, length-take-le, take-append-le, take-take, take_all}
-use Rattle.zp_gate.specs.declared.visit_view.VisitView.{VisitView}
 use Rattle.zp_gate.specs.Visits.{HasKept}
-use Rattle.zp_gate.specs.GatedWorkers.{GatedShareState, WorkerState, HasLeftDownTo, HasLeftLast, gated_at, no_gated_share, worker_share}
+use Rattle.zp_gate.specs.GatedWorkers.{GatedShareState, WorkerState, HasLeftDownTo, HasLeftLast, gated_at, no_gated_share}
 
 -- one that has left none yet
 pub none_left : (v : WorkerState) → HasLeftDownTo (length v.shares) v v
@@ -39,14 +38,9 @@ one_less v a w was some last =
       visits = omega (arith, more, long, some, was.visits);
       before = ap (take (length v.left)) left ∙ take-append-le (length v.left) a.left (visit ∷ []) (omega (arith, was.visits, was.within)) ∙ was.before;
       kept = λ i j none low high at. elim (cases_lt i n) [
-        | inr not ↦
-            subst (λ (x : VisitView). HasKept (gated_at v i).key (worker_share v i) x) (sym (ap (λ (xs : List VisitView). slice_index_or xs j none) left ∙ get_or_append_left a.left (visit ∷ []) none j (omega (arith, at, not, was.visits))))
-            (was.kept i j none (omega (arith, not)) high at)
+        | inr not ↦ rw (left, get_or_append_left a.left (visit ∷ []) none j (omega (arith, at, not, was.visits))) (was.kept i j none (omega (arith, not)) high at)
         | inl less ↦
             let is : i ≡ m = omega (arith, less, low, long) in
-            let there : HasKept (gated_at v m).key (worker_share v m) visit = subst (λ (d : GatedShareState). HasKept d.key d.share visit) same last.1 in
-            subst (λ (x : VisitView). HasKept (gated_at v i).key (worker_share v i) x)
-            (sym (ap (λ (xs : List VisitView). slice_index_or xs j none) left ∙ get_or_push a.left visit none j (omega (arith, at, is, some, was.visits))))
-            (subst (λ k. HasKept (gated_at v k).key (worker_share v k) visit) (sym is) there)
+            rw (left, get_or_push a.left visit none j (omega (arith, at, is, some, was.visits)), is) (subst (λ (d : GatedShareState). HasKept d.key d.share visit) same last.1)
       ];
     }

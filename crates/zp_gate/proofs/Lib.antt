@@ -2,8 +2,5 @@ pub mod Keeping
 pub mod Refusals
 pub mod Leaving
 pub mod Steps
-pub mod Crews
 pub mod Keys
-pub mod InOrder
-pub mod Handing
 pub mod Putting

@@ -1,11 +1,12 @@
 -- Each step on a lock keeps its rule.
-use Rattle.std.proofs.Common.{◌≡◌, ℕ, zero, suc, ◌<◌, ◌==◌, List, [], ◌∷◌, ◌++◌, length, set, refl, sym, ap, ◌∙◌, subst, inl, inr, arith}
+use Rattle.std.proofs.Common.{◌≡◌, ℕ, ◌==◌, List, [], ◌∷◌, ◌++◌, set, refl, sym, ap, ◌∙◌, subst, inl, inr, arith}
 use Rattle.std.specs.Prelude.{Some}
+use Rattle.std.proofs.lemmas.Bool.{cases_lt}
 use mathlib.Core.Option.{some, none}
 use lib.ListN.{get_elem?}
 use prog.Atomic.{either}
 use Rattle.std.specs.List.{slice_index}
-use Rattle.atomic_table.specs.Table.{State, Me, Act, Valid, step, stepped, keeps, takes, gives, carried_after, rest, Allows, put_back}
+use Rattle.atomic_table.specs.Table.{State, Me, Act, step, stepped, keeps, takes, gives, rest, Allows, put_back}
 use Rattle.atomic_table.specs.Table.{Enters as Entering}
 use Rattle.atomic_table.specs.Seated.{TableId}
 use Rattle.atomic_table.specs.declared.shared.Seat.{Seat}
@@ -13,7 +14,7 @@ use Rattle.atomic_table.proofs.Lists.{at_set, at_snoc, set_here, exchanged}
 use Rattle.zp_share.specs.Shares.{ZoneKey}
 use Rattle.zp_gate.specs.declared.visit_view.VisitView.{VisitView}
 use Rattle.zp_gate.specs.GatedZones.{GatedState, IsBehind}
-use Rattle.zp_gate.specs.Locks.{IsAtHome, IsGated, IsIn, MayLeave, Comes, Enters, Leaves, first_held, inside, outside}
+use Rattle.zp_gate.specs.Locks.{IsGated, IsIn, MayLeave, Comes, Enters, Leaves, first_held, inside, outside}
 use Rattle.zp_gate.specs.Visits.{IsVisit}
 use Rattle.zp_gate.proofs.Keeping.{one_call_behind}
 
@@ -30,74 +31,37 @@ views_set key views id w is old j u e = elim (at_set views id j w u e) [ inl x �
 pub comes : (key : ZoneKey) (slots : ℕ) → Entering (IsGated key) slots 0 (λ n w. Comes (step slots 0 0 0 none) (outside key, []) n (w, []))
 comes key slots s gated len small = (outside key, (gated.0, gated.1, gated.2, views_end key s.views (outside key) refl gated.3), refl)
 
-abbrev Entered : ZoneKey → ℕ → ℕ → Me GatedState VisitView → State GatedState VisitView → Type 0
-Entered key slots id me s =
-    (w : VisitView) × (a : Act GatedState) × Valid s.homes me.1 a × IsGated key (stepped s 0 (either (slice_index s.words 0 == 0) 1 (slice_index s.words 0)) id me.1 w a) × Enters (step slots 0 0 1 none) me (slice_index s.words 0) (w, carried_after me.1 a)
-
-entered : (key : ZoneKey) (slots id : ℕ) (me : Me GatedState VisitView) (s : State GatedState VisitView) (w : ℕ) → s.words ≡ w ∷ [] → IsAtHome key w s → Views key s.views → get_elem? s.views id ≡ some me.0 → Entered key slots id me s
-entered key slots id me s zero e home views at =
-    let h = home refl in
-    let is : me.0.key ≡ key = views id me.0 at in (
-      inside me.0.key h.0,
-      takes 0 h.0,
-      h.1,
-      (1, ap (λ (ws : List ℕ). set ws 0 (either (slice_index ws 0 == 0) 1 (slice_index ws 0))) e, (λ no. absurd (omega (arith, no))), views_set key s.views id (inside me.0.key h.0) is views),
-      (λ found. (h.0, refl, refl, subst (λ (k : ZoneKey). IsBehind k h.0) (sym is) h.2)),
-    )
-entered key slots id me s (suc n) e home views at =
-    let is : me.0.key ≡ key = views id me.0 at in
-    let word : slice_index s.words 0 ≡ suc n = ap (λ (ws : List ℕ). slice_index ws 0) e in (
-      me.0,
-      keeps,
-      tt,
-      (suc n, ap (λ (ws : List ℕ). set ws 0 (either (slice_index ws 0 == 0) 1 (slice_index ws 0))) e ∙ ap (λ (k : ℕ). k ∷ []) (exchanged (suc n) 0 1 (λ k. k ≡ suc n) (λ z. absurd (omega (arith, z))) (λ ne. refl)), (λ no. absurd (omega (arith, no))), views_set key s.views id me.0 is views),
-      (λ found. absurd (omega (arith, found, word))),
-    )
+-- a lock that was tried is not free, whatever it was
+shut : (key : ZoneKey) (id : ℕ) (me : List (ℕ × GatedState)) (s : State GatedState VisitView) (v : VisitView) (a : Act GatedState) → IsGated key s → v.key ≡ key →
+    IsGated key (stepped s 0 (either (slice_index s.words 0 == 0) 1 (slice_index s.words 0)) id me v a)
+shut key id me s v a gated is =
+    let n = slice_index s.words 0 in
+    let no : either (n == 0) 1 n ≡ 0 → ⊥ = exchanged n 0 1 (λ k. k ≡ 0 → ⊥) (λ z e. absurd (omega (arith, e))) (λ ne e. ne e) in
+    (either (n == 0) 1 n, ap (λ (ws : List ℕ). set ws 0 (either (n == 0) 1 n)) gated.1, (λ free. absurd (no free)), views_set key s.views id v is gated.3)
 
 pub enters : (key : ZoneKey) (slots id : ℕ) (me : Me GatedState VisitView) → Allows (IsGated key) slots id me 0 (λ n. either (n == 0) 1 n) (Enters (step slots 0 0 1 none) me)
-enters key slots id me s gated len at small = entered key slots id me s gated.0 gated.1 gated.2 gated.3 at
+enters key slots id me s gated len at small =
+    let is : me.0.key ≡ key = gated.3 id me.0 at in
+    let word : slice_index s.words 0 ≡ gated.0 = ap (λ (ws : List ℕ). slice_index ws 0) gated.1 in
+    elim (cases_lt 0 gated.0) [
+      | inl more ↦ (me.0, keeps, tt, shut key id me.1 s me.0 keeps gated is, (λ found. absurd (omega (arith, found, word, more))))
+      | inr free ↦
+          let h = gated.2 (omega (arith, free)) in
+          let in' = inside me.0.key h.0 in
+          (in', takes 0 h.0, h.1, shut key id me.1 s in' (takes 0 h.0) gated is, (λ found. (h.0, refl, refl, subst (λ (k : ZoneKey). IsBehind k h.0) (sym is) h.2)))
+    ]
 
 pub leaves : (key : ZoneKey) (id : TableId) (slots : ℕ) (p : Seat GatedState VisitView) → slots ≡ 1 → MayLeave id key p → Allows (IsGated key) slots p.id p.me 0 (λ _. 0) (λ _. Leaves (step slots 0 0 0 none) p.me 0)
 leaves key tid slots p one may s gated len at small =
-    let y : GatedState = may.1.0 in
     let z : GatedState = may.1.1 in
-    let view : p.me.0 ≡ inside key y = may.1.2 in
-    let has : p.me.1 ≡ (0, z) ∷ [] = may.1.3 in
-    let behind : IsBehind key z = one_call_behind key y z may.1.4 may.1.5 in
-    let below : 0 < length s.homes = omega (arith, one, len) in
-    let home : get_elem? (put_back s.homes p.me.1) 0 ≡ some (some z) = subst (λ (c : List (ℕ × GatedState)). get_elem? (put_back s.homes c) 0 ≡ some (some z)) (sym has) (set_here s.homes 0 (some z) below) in
-    let now : VisitView = record p.me.0 { left = first_held p.me.1 } in (
-      now,
-      gives,
-      tt,
-      (0, ap (λ (ws : List ℕ). set ws 0 0) gated.1, (λ _. (z, home, behind)), views_set key s.views p.id now (ap (λ (v : VisitView). v.key) view) gated.3),
-      refl,
-    )
+    let behind : IsBehind key z = one_call_behind key may.1.0 z may.1.4 may.1.5 in
+    let home : get_elem? (put_back s.homes p.me.1) 0 ≡ some (some z) = rw may.1.3 (set_here s.homes 0 (some z) (omega (arith, one, len))) in
+    let now : VisitView = record p.me.0 { left = first_held p.me.1 } in
+    (now, gives, tt, (0, ap (λ (ws : List ℕ). set ws 0 0) gated.1, (λ _. (z, home, behind)), views_set key s.views p.id now (ap (λ (v : VisitView). v.key) may.1.2) gated.3), refl)
 
--- whoever came in is in
-pub came_in : (id : TableId) (key : ZoneKey) (slots found : ℕ) (p q : Seat GatedState VisitView) → p.table_id ≡ id → p.me ≡ (outside key, []) → q.table_id ≡ p.table_id → found ≡ 0 →
-    Enters (step slots 0 0 1 none) p.me found q.me → IsIn id key q
-came_in id key slots found p q of me same none_in entered =
-    let e = entered none_in in
-    let y : GatedState = e.0 in
-    let is : p.me.0.key ≡ key = ap (λ (m : Me GatedState VisitView). m.0.key) me in (
-      same ∙ of,
-      (y, e.1 ∙ ap (λ (k : ZoneKey). inside k y) is, e.2 ∙ ap (λ (m : Me GatedState VisitView). (0, y) ∷ m.1) me, subst (λ (k : ZoneKey). IsBehind k y) is e.3),
-    )
-
-first_zone : List (ℕ × GatedState) → GatedState → GatedState
-first_zone [] d = d
-first_zone (x ∷ xs) d = x.1
-
--- what he sees there is what he found
-pub seen : (id : TableId) (key : ZoneKey) (p : Seat GatedState VisitView) (was : GatedState) → IsIn id key p → p.me.1 ≡ (0, was) ∷ rest p.me.1 → (p.me.0 ≡ inside key was) × IsBehind key was
-unfolding first_zone
-seen id key p was is has =
-    let y : GatedState = is.1.0 in
-    let e : p.me.1 ≡ (0, y) ∷ [] = is.1.2 in
-    let same : y ≡ was = ap (λ (l : List (ℕ × GatedState)). first_zone l y) (sym e ∙ has) in
-    (is.1.1 ∙ ap (inside key) same, subst (IsBehind key) same is.1.3)
-
--- his visit tells of what he found, and of what he left
+-- what he sees there is what he found, and his visit tells of that, and of what he left
 pub visited : (id : TableId) (key : ZoneKey) (p : Seat GatedState VisitView) (was now : GatedState) (v : VisitView) → IsIn id key p → p.me.1 ≡ (0, was) ∷ rest p.me.1 → v ≡ record { key = p.me.0.key; found = p.me.0.found; left = Some now } → IsVisit key was now v
-visited id key p was now v is has left = let s = seen id key p was is has in record { view = left ∙ ap (λ (u : VisitView). record u { left = Some now }) s.0; behind = s.1 }
+visited id key p was now v is has left =
+    let found : Some is.1.0 ≡ Some was = ap first_held (sym is.1.2 ∙ has) in
+    let same : is.1.0 ≡ was = cc in
+    record { view = left ∙ ap (λ (u : VisitView). record u { left = Some now }) (is.1.1 ∙ ap (inside key) same); behind = subst (IsBehind key) same is.1.3 }

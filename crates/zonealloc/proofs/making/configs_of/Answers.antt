@@ -1,7 +1,7 @@
 use Rattle.std.proofs.Common.{All, arith, inr, subst}
 use Rattle.std.proofs.lemmas.List.{get_or_default, take_all}
 use Rattle.std.proofs.lemmas.List.Elements.{All-more}
-use Rattle.zp_gate.proofs.Handing.{same_next}
+use Rattle.zp_gate.proofs.Keys.{same_next}
 use Rattle.zp_gate.specs.GatedRows.{key_for, wanted_by}
 use Rattle.zonealloc.specs.Zones.{IsConfig, spec_key, wanted_zone}
 use Rattle.zonealloc.proofs.making.configs_of.Goals as goal

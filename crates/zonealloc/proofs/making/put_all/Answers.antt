@@ -1,8 +1,7 @@
 use Rattle.std.proofs.Common.{ℕ, ◌≡◌, ◌<◌, ◌∙◌, ◌∷◌, [], length, slice_index_or, slice_set, ap, sym, inl, inr, arith, Some, Box, Global}
 use Rattle.std.proofs.lemmas.Bool.{cases_lt}
-use Rattle.std.proofs.lemmas.List.{get_or-set_same, get_or-set_other, get_or_append_left, get_or_push, length-set}
+use Rattle.std.proofs.lemmas.List.{get_or-set_same, get_or-set_other, get_or_append_left, get_or_push, length-set, length_push}
 use Rattle.zp_gate.specs.declared.gated_worker.GatedWorker.{GatedWorker}
-use Rattle.zp_gate.proofs.Handing.{one_more}
 use Rattle.zonealloc.specs.declared.handles.WorkerHandle.{WorkerHandle}
 use Rattle.zonealloc.proofs.making.put_all.Goals as goal
 
@@ -18,7 +17,7 @@ loop-place-preserved c =
     let workers = c.loop-place.workers in
     let handle = c.put_worker.new.handle in
     let many = length-set workers place handle in
-    let more = one_more all rest last pops in
+    let more = ap length pops ∙ length_push rest last in
     let below : place < length workers = omega (arith, more, kept.left) in
     let popped : (k : ℕ) (d : Box GatedWorker Global) → k ≡ length rest → slice_index_or given k d ≡ last =
     λ k d at. sym (kept.same k d (omega (arith, at, more))) ∙ ap (λ xs. slice_index_or xs k d) pops ∙ get_or_push rest last d k (sym at) in

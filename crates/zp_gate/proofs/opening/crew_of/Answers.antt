@@ -1,10 +1,19 @@
-use Rattle.std.proofs.Common.{ℕ, ◌≡◌, ◌+◌, ◌-◌, ◌∙◌, List, map, refl, subst, sym, Box, Global, arith}
-use Rattle.zp_share.specs.Shares.{ZoneKey}
+use Rattle.std.proofs.Common.{ℕ, ◌≡◌, ◌+◌, ◌-◌, ◌++◌, ◌∷◌, ◌∙◌, List, [], length, map, refl, subst, sym, inl, inr, Box, Global, arith}
+use Rattle.std.proofs.lemmas.Bool.{cases_lt}
+use Rattle.std.proofs.lemmas.List.{get_or_append_left, get_or_push, length_push}
 use Rattle.zp_gate.specs.declared.gated_worker.GatedWorker.{GatedWorker}
-use Rattle.zp_gate.specs.GatedWorkers.{AllDown, IsNewWorker, WorkerState}
-use Rattle.zp_gate.proofs.InOrder.{down_next}
+use Rattle.zp_gate.specs.GatedWorkers.{AllDown, IsNewWorker}
 use Rattle.zp_gate.proofs.Keys.{key_in}
 use Rattle.zp_gate.proofs.opening.crew_of.Goals as goal
+
+-- one more of those that are numbered downwards
+down_next : {A : Type 0} (P : ℕ → A → Type 0) (m n : ℕ) (xs : List A) (x : A) → length xs + n + 1 ≡ m → AllDown P m xs → P n x → AllDown P m (xs ++ x ∷ [])
+down_next P m n xs x many so here k w none lt at =
+    let long = length_push xs x in
+    elim (cases_lt k (length xs)) [
+      | inl less ↦ subst (P w) (sym (get_or_append_left xs (x ∷ []) none k less)) (so k w none less at)
+      | inr not ↦ subst (P w) (sym (get_or_push xs x none k (omega (arith, not, lt, long)))) (subst (λ v. P v x) (omega (arith, not, lt, long, many, at)) here)
+    ]
 
 pub next_worker-requires : goal.next_worker-requires
 next_worker-requires c = λ k d lt.
@@ -21,9 +30,7 @@ loop-preserved c =
     let w : ℕ = c.args.workers - (c.loop.counter + 1) in
     let is : w + 1 + c.loop.counter ≡ c.args.workers = omega arith in
     let made = c.in_ok-worker.ensures.new w (kept.left (w + 1) is) in
-    let here : IsNewWorker w lists.batch lists.high_len row boxed.value =
-    subst (λ (v : WorkerState). IsNewWorker w lists.batch lists.high_len row v) (sym c.in-Ok-new.ensures.ok)
-    (subst (λ (ks : List ZoneKey). IsNewWorker w lists.batch lists.high_len ks c.in_ok-worker.worker) kept.keys made) in
+    let here : IsNewWorker w lists.batch lists.high_len row boxed.value = rw c.in-Ok-new.ensures.ok (rw kept.keys at made) in
     record {
       many = omega (arith, c.push_reserved.ensures.len, kept.many);
       room = omega (arith, c.push_reserved.ensures.capacity, kept.room);

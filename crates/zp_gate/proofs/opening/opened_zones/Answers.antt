@@ -1,10 +1,9 @@
 use Rattle.std.proofs.Common.{List, ◌≡◌, ◌∙◌, ◌++◌, All, length, take, ◌∷◌, [], ap, arith, map, subst, sym}
 use Rattle.std.proofs.lemmas.List.{get_or_default, map_more, map_push}
-use Rattle.std.proofs.lemmas.List.Elements.{All-append, All-more}
+use Rattle.std.proofs.lemmas.List.Elements.{All-more, All-push}
 use Rattle.zp_share.specs.Shares.{ZoneKey}
 use Rattle.zp_gate.specs.declared.opening.OpenedZone.{OpenedZone}
 use Rattle.zp_gate.specs.GatedRows.{IsGoodConfig, key_for, untied}
-use Rattle.zp_gate.proofs.Crews.{each}
 use Rattle.zp_gate.proofs.Keys.{key_in}
 use Rattle.zp_gate.proofs.Refusals.{why_no_row}
 use Rattle.zp_gate.proofs.opening.opened_zones.Goals as goal
@@ -23,7 +22,7 @@ loop-config-preserved c =
       keys =
           ap (λ zs. map untied (map key_in zs)) pushed ∙ ap (map untied) (map_push key_in was zone) ∙ map_push untied (map key_in was) (key_in zone) ∙ ap (λ (ks : List ZoneKey). ks ++ untied (key_in zone) ∷ []) kept.keys
           ∙ ap (λ (k : ZoneKey). map (key_for n) (take i configs) ++ k ∷ []) (made.key ∙ ap (key_for n) c.config-item.is) ∙ sym (map_more (key_for n) configs i config lt);
-      seats = subst (All HasSeats) (sym pushed) (All-append HasSeats was (zone ∷ []) kept.seats (each HasSeats zone made.seats));
+      seats = subst (All HasSeats) (sym pushed) (All-push HasSeats was zone kept.seats made.seats);
     }
 
 pub returns-in-Err-clause-why : goal.returns-in-Err-clause-why
