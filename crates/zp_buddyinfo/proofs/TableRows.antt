@@ -1,13 +1,13 @@
 -- The rows of a text, line by line.
-use Rattle.std.proofs.Common.{ℕ, ◌≡◌, ◌≢◌, ◌<◌, ◌≤◌, ◌+◌, ◌-◌, List, [], ◌∷◌, ◌++◌, length, map, take, take_all, filter, get_or, slice_index_or, sym, ap, subst, ◌∙◌, arith, nat_lt, cond, true, Bool, inl, inr}
+use Rattle.std.proofs.Common.{ℕ, ◌≡◌, ◌≢◌, ◌<◌, ◌+◌, ◌-◌, List, [], ◌∷◌, ◌++◌, length, map, take, filter, get_or, slice_index_or, sym, ap, subst, ◌∙◌, arith, nat_lt, cond, true, Bool, inl, inr}
 use Rattle.std.specs.Borrow.{Bor}
 use Rattle.std.specs.List.{All}
 use Rattle.std.proofs.lemmas.Bool.Decides.{nat_tests}
 use Rattle.std.proofs.lemmas.List.{length-map, get_or-map, map-append, append-nil, nil_from_length}
-use Rattle.std.proofs.lemmas.List.Elements.{filter_more, All-nil, All-push}
+use Rattle.std.proofs.lemmas.List.Elements.{filter_more, All-push}
 use borrow.Author.Count.{below_more}
 use Rattle.zp_buddyinfo.specs.declared.row.BuddyinfoRow.{BuddyinfoRow}
-use Rattle.zp_buddyinfo.specs.Rows.{spelled, lines_of, words_of, row_words, IsRow, IsGoodLine, IsBadLine, AreRowsOf}
+use Rattle.zp_buddyinfo.specs.Rows.{spelled, lines_of, words_of, row_words, IsRow, IsGoodLine, IsBadLine}
 use Rattle.zp_buddyinfo.proofs.WordLists.{nowhere}
 
 abbrev pub words_told : BuddyinfoRow → List (List ℕ)
@@ -24,13 +24,6 @@ pub record RowsSoFar (lines : List (List ℕ)) (i : ℕ) (rows : List BuddyinfoR
   pub sound : All (λ r. IsRow r.node r.zone.now r.blocks) rows
   pub written : map (λ r. row_words r.node r.zone.now r.blocks) rows ≡ filter (λ words. nat_lt 0 (length words)) (take i (map words_of lines))
   pub good : (k : ℕ) → k < i → IsGoodLine (slice_index_or lines k [])
-
-pub none_so_far : (lines : List (List ℕ)) (rows : List BuddyinfoRow) → rows ≡ [] → RowsSoFar lines 0 rows
-none_so_far lines rows is = record {
-  sound = subst (All IsSound) (sym is) (All-nil IsSound);
-  written = ap (map words_told) is;
-  good = λ k lt. absurd (omega arith);
-}
 
 line_more : (lines : List (List ℕ)) (i : ℕ) → i < length lines →
     filter has_words (take (i + 1) (map words_of lines)) ≡ filter has_words (take i (map words_of lines)) ++ cond (has_words (words_of (get_or lines i []))) (words_of (get_or lines i []) ∷ []) []
@@ -57,12 +50,6 @@ row_so_far lines i rows next r lt so_far sound words is =
           ∙ sym (line_more lines i lt ∙ ap (λ (w : List (List ℕ)). filter has_words (take i (map words_of lines)) ++ cond (has_words w) (w ∷ []) []) words ∙ ap (λ (b : Bool). filter has_words (take i (map words_of lines)) ++ cond b (words_told r ∷ []) []) told);
       good = below_more (λ k. IsGoodLine (get_or lines k [])) i so_far.good (inr (r.node, r.zone.now, r.blocks, sound, words));
     }
-
-pub all_rows : (text : List ℕ) (i : ℕ) (rows : List BuddyinfoRow) → length (lines_of text) ≤ i → RowsSoFar (lines_of text) i rows → AreRowsOf text rows
-all_rows text i rows far so_far = record {
-  sound = so_far.sound;
-  written = so_far.written ∙ ap (filter has_words) (take_all i (map words_of (lines_of text)) (omega (arith, far, length-map (lines_of text) words_of)));
-}
 
 -- a line that has words, but not those of a row
 pub bad_line : (text : List ℕ) (i : ℕ) (rows : List BuddyinfoRow) → i < length (lines_of text) → RowsSoFar (lines_of text) i rows → words_of (get_or (lines_of text) i []) ≢ [] →

@@ -1,5 +1,5 @@
 -- Words of a line, and the numbers that they write.
-use Rattle.std.proofs.Common.{ℕ, zero, suc, IsTrue, ◌≡◌, ◌<◌, ◌+◌, ◌^◌, List, [], ◌∷◌, ◌++◌, length, map, take, filter, get_or, sym, ap, subst, ◌∙◌, arith, Option, Some, None, IfNone, nat_lt, cond, true, false, Bool, refl, length-append}
+use Rattle.std.proofs.Common.{ℕ, zero, suc, IsTrue, ◌≡◌, ◌<◌, ◌+◌, ◌^◌, List, [], ◌∷◌, ◌++◌, length, map, take, filter, get_or, sym, ap, subst, ◌∙◌, arith, Option, Some, None, IfNone, nat_lt, cond, true, false, Bool, refl}
 use Rattle.std.specs.Borrow.{Bor}
 use Rattle.std.specs.List.{AllByRecursion}
 use Rattle.std.specs.Fmt.{decimal}
@@ -95,15 +95,6 @@ piece_left pieces words d i lt so_far left =
 -- what a read past the end answers
 abbrev pub nowhere : Bor (List ℕ)
 nowhere = record { ref_ptr = (0, 0); now = [] }
-
--- texts with one byte more that are the same
-pub last_same : (a b : List ℕ) (x y : ℕ) → a ++ x ∷ [] ≡ b ++ y ∷ [] → a ≡ b
-last_same [] [] x y e = refl
-last_same [] (n ∷ b) x y e = absurd (omega (arith, ap length e, length-append b (y ∷ [])))
-last_same (m ∷ a) [] x y e = absurd (omega (arith, ap length e, length-append a (x ∷ [])))
-last_same (m ∷ a) (n ∷ b) x y e =
-    let rest = last_same a b x y cc in
-    cc
 
 -- the bytes of a name are ASCII
 pub name_ascii : (name : List ℕ) → AllByRecursion (λ b. IsTrue (is_ascii_graphic b)) name → (i : ℕ) → get_or name i 0 < 128

@@ -1,13 +1,12 @@
 -- What ftrace says of its buffer, part by part.
-use Rattle.std.proofs.Common.{ℕ, ◌≡◌, ◌≢◌, ◌<◌, ◌≤◌, ◌+◌, inl, inr, List, [], ◌∷◌, ◌++◌, length, drop, codes, sym, subst, ◌∙◌, arith}
+use Rattle.std.proofs.Common.{ℕ, ◌≡◌, ◌≢◌, ◌<◌, ◌+◌, inl, inr, List, [], ◌∷◌, ◌++◌, drop, codes, sym, subst, ◌∙◌, arith}
 use Rattle.std.specs.List.{All, AllByRecursion}
 use Rattle.std.specs.Str.Parse.{AllDigits}
 use Rattle.std.proofs.lemmas.Bool.{cases_lt}
-use Rattle.std.proofs.lemmas.List.{drop_all}
 use Rattle.std.proofs.lemmas.List.Elements.{recursion_from_All}
 use Rattle.std.proofs.lemmas.Str.Parse.{digit_from_value}
 use Rattle.zp_events.specs.Numbers.{IsNumber}
-use Rattle.zp_events.specs.BufferLines.{AreEntries, BeginsWithLost, IsLost}
+use Rattle.zp_events.specs.BufferLines.{AreEntries, BeginsWithLost}
 use Rattle.zp_events.proofs.Heads.{first_unique, has_byte}
 
 -- no digit is a slash or a space
@@ -27,9 +26,6 @@ label = codes "entries-in-buffer/entries-written:"
 abbrev pub NoEntries : List (List ℕ) → Type 0
 NoEntries words = (kept written : ℕ) → AreEntries words kept written → ⊥
 
-pub no_mark : (words : List (List ℕ)) → ((more : List (List ℕ)) → words ≡ codes "#" ∷ more → ⊥) → NoEntries words
-no_mark words none k w x = none (label ∷ (x.kept_digits ++ (codes "/" ++ x.written_digits)) ∷ x.more) x.are
-
 pub no_label : (words a : List (List ℕ)) → words ≡ codes "#" ∷ a → ((more : List (List ℕ)) → a ≡ label ∷ more → ⊥) → NoEntries words
 no_label words a e none k w x =
     let are = x.are in
@@ -38,9 +34,6 @@ no_label words a e none k w x =
 
 words_behind : (words a b : List (List ℕ)) (k w : ℕ) → words ≡ codes "#" ∷ a → a ≡ label ∷ b → (x : AreEntries words k w) → b ≡ (x.kept_digits ++ (codes "/" ++ x.written_digits)) ∷ x.more
 words_behind words a b k w e f x = let are = x.are in cc
-
-pub no_numbers : (words a b : List (List ℕ)) → words ≡ codes "#" ∷ a → a ≡ label ∷ b → b ≡ [] → NoEntries words
-no_numbers words a b e f none k w x = let behind = words_behind words a b k w e f x in cc
 
 word_is : (words a b c : List (List ℕ)) (word : List ℕ) (k w : ℕ) → words ≡ codes "#" ∷ a → a ≡ label ∷ b → b ≡ word ∷ c → (x : AreEntries words k w) → word ≡ x.kept_digits ++ 47 ∷ x.written_digits
 word_is words a b c word k w e f g x = let behind = words_behind words a b k w e f x in cc
@@ -80,9 +73,6 @@ lost_behind text inside n e x =
     let whole : text ≡ codes "[LOST " ++ (x.digits ++ 32 ∷ (codes "EVENTS]" ++ x.rest)) = x.written in
     cc
 
-pub no_front : (text : List ℕ) → ((r : List ℕ) → text ≡ codes "[LOST " ++ r → ⊥) → NoLost text
-no_front text none n x = none (x.digits ++ (codes " EVENTS]" ++ x.rest)) x.written
-
 pub no_space_in : (text inside : List ℕ) → text ≡ codes "[LOST " ++ inside → All (λ b. b ≢ 32) inside → NoLost text
 no_space_in text inside e all n x =
     has_byte 32 x.digits (codes "EVENTS]" ++ x.rest) (subst (AllByRecursion (λ b. b ≢ 32)) (lost_behind text inside n e x) (recursion_from_All (λ b. b ≢ 32) inside all))
@@ -99,11 +89,6 @@ no_lost_number text inside digits after e f all none n x =
 pub no_lost_end : (text inside digits after : List ℕ) → text ≡ codes "[LOST " ++ inside → inside ≡ digits ++ 32 ∷ after → All (λ b. b ≢ 32) digits → ((r : List ℕ) → after ≡ codes "EVENTS]" ++ r → ⊥) → NoLost text
 no_lost_end text inside digits after e f all none n x = none x.rest (lost_parts text inside digits after n e f all x).1
 
-pub lost_made : (text inside digits after rest : List ℕ) (n : ℕ) → text ≡ codes "[LOST " ++ inside → inside ≡ digits ++ 32 ∷ after → IsNumber 10 digits n → after ≡ codes "EVENTS]" ++ rest → BeginsWithLost text n
-lost_made text inside digits after rest n e f is g =
-    let whole : text ≡ codes "[LOST " ++ (digits ++ (codes " EVENTS]" ++ rest)) = cc in
-    record { digits = digits; rest = rest; written = whole; number_is = is }
-
 -- no report begins at one of the first places of a line
 abbrev pub NoLostBelow : List ℕ → ℕ → Type 0
 NoLostBelow line i = (k other : ℕ) → k < i → BeginsWithLost (drop k line) other → ⊥
@@ -115,14 +100,4 @@ none_more line i before here k other below x =
       | inr above ↦
           let same : k ≡ i = omega arith in
           here other (subst (λ n. BeginsWithLost (drop n line) other) same x)
-    ]
-
-pub none_lost : (line : List ℕ) (i : ℕ) → length line ≤ i → NoLostBelow line i → (n : ℕ) → IsLost line n → ⊥
-none_lost line i far before n x =
-    elim (cases_lt x.place i) [
-      | inl less ↦ before x.place n less x.here
-      | inr above ↦
-          let empty : drop x.place line ≡ [] = drop_all x.place line (omega arith) in
-          let front : drop x.place line ≡ codes "[LOST " ++ (x.here.digits ++ (codes " EVENTS]" ++ x.here.rest)) = x.here.written in
-          cc
     ]

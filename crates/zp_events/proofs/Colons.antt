@@ -105,9 +105,6 @@ pub record IsPassed (line rest : List ℕ) : Type 0 where
   pub ends : EndsInColon front
   pub none : (k cpu : ℕ) (name : EventName) (fields : List ℕ) → NamesEventAt line k cpu name fields → length front ≤ k
 
-pub nothing_passed : (line : List ℕ) → IsPassed line line
-nothing_passed line = record { front = []; written = refl; ends = inl refl; none = λ k cpu name fields n. omega arith }
-
 -- beside a colon no event is named
 abbrev pub NoneBeside : List ℕ → List ℕ → Type 0
 NoneBeside before behind = (cpu : ℕ) (time : List ℕ) (name : EventName) (fields : List ℕ) → IsLastMark before cpu time → IsSpacedName behind name fields → ⊥

@@ -14,13 +14,6 @@ front_between s e front more le is =
     let size : length (drop s front) ≡ e - s = length-drop s front ∙ ap (λ (n : ℕ). n - s) (sym is) in
     ap (take (e - s)) cut ∙ take-append-le (e - s) (drop s front) more (omega arith) ∙ take_all (e - s) (drop s front) (omega arith)
 
--- what is written behind the second place does not change them
-unchanged : (s e : ℕ) (buffer more : List ℕ) → s ≤ e → e ≤ length buffer → take (e - s) (drop s (take e buffer ++ more)) ≡ take (e - s) (drop s buffer)
-unchanged s e buffer more le within =
-    let size : e ≡ length (take e buffer) = sym (length-take-le e buffer within) in
-    front_between s e (take e buffer) more le size
-    ∙ sym (ap (λ (b : List ℕ). take (e - s) (drop s b)) (sym (take-append-drop e buffer)) ∙ front_between s e (take e buffer) (drop e buffer) le size)
-
 -- of what is written there the first n bytes come behind them
 grown : (s e n : ℕ) (buffer written rest : List ℕ) → s ≤ e → e ≤ length buffer → n ≤ length written →
     take ((e + n) - s) (drop s (take e buffer ++ (written ++ rest))) ≡ take (e - s) (drop s buffer) ++ take n written
@@ -64,12 +57,6 @@ lent_items : {Z : Type 0} (v : Vec ℕ Z) (s e : ℕ) (buffer piece : List ℕ) 
     (with_items v (put_mid e (length buffer - e) buffer piece)).items ≡ put_mid e (length buffer - e) buffer piece
 lent_items v s e buffer piece l =
     with_items_is v (put_mid e (length buffer - e) buffer piece) (lent_size e (length buffer - e) buffer piece l.within refl l.piece_size ∙ l.size)
-
-pub same_between : {Z : Type 0} (v : Vec ℕ Z) (s e : ℕ) (buffer piece kept : List ℕ) → IsLent v s e buffer piece → take (e - s) (drop s v.items) ≡ kept →
-    take (e - s) (drop s (with_items v (put_mid e (length buffer - e) buffer piece)).items) ≡ kept
-same_between v s e buffer piece kept l is =
-    ap (λ (b : List ℕ). take (e - s) (drop s b)) (lent_items v s e buffer piece l)
-    ∙ unchanged s e buffer (piece ++ post_of e (length buffer - e) buffer) l.ordered l.within ∙ ap (λ (b : List ℕ). take (e - s) (drop s b)) l.same ∙ is
 
 pub more_between : {Z : Type 0} (v : Vec ℕ Z) (s e n : ℕ) (buffer piece kept : List ℕ) → IsLent v s e buffer piece → n ≤ length piece → take (e - s) (drop s v.items) ≡ kept →
     take ((e + n) - s) (drop s (with_items v (put_mid e (length buffer - e) buffer piece)).items) ≡ kept ++ take n piece

@@ -31,9 +31,6 @@ one_more test found rest name after flags e h so_far =
 last_one : (test : List ℕ → Bool) (found : Bool) (rest flags : List ℕ) → All (λ b. b ≢ bar) rest → IsSoFar test found rest flags → (found || test rest) ≡ has_name test flags
 last_one test found rest flags h so_far = ap (λ (b : Bool). found || b) (sym (name_last rest test h)) ∙ so_far
 
-pub none_so_far : (flags : List ℕ) → AreSoFar (record { dma = false; dma32 = false; both = false; high = false; movable = false }) flags flags
-none_so_far flags = record { dma = refl; dma32 = refl; both = refl; high = refl; movable = refl }
-
 pub more_so_far : (names : ZoneNames) (rest name after flags : List ℕ) → rest ≡ name ++ bar ∷ after → All (λ b. b ≢ bar) name → AreSoFar names rest flags → AreSoFar (with_name names name) after flags
 more_so_far names rest name after flags e h s = record {
   dma = one_more is_dma names.dma rest name after flags e h s.dma;

@@ -104,9 +104,6 @@ pub record HoldsAsRest (line rest : List ℕ) : Type 0 where
   pub written : line ≡ front ++ rest
   pub behind : HoldsEventName line → HoldsEventName rest
 
-pub whole_line : (line : List ℕ) → HoldsAsRest line line
-whole_line line = record { front = []; written = refl; behind = λ h. h }
-
 pub name_found : (line rest before behind : List ℕ) → HoldsAsRest line rest → rest ≡ before ++ 58 ∷ behind → EndsInName before → HoldsEventName line
 name_found line rest before behind r e n =
     subst HoldsEventName (sym r.written) (holds_behind r.front rest (subst HoldsEventName (sym e) (holds_at before behind n)))

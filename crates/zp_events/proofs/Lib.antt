@@ -10,7 +10,6 @@ pub mod HeldNames
 pub mod Buffers
 pub mod Actions
 pub mod Places
-pub mod Frames
 pub mod Readings
 pub mod Filling
 pub mod Looking

@@ -1,13 +1,13 @@
 -- The next line of what is kept, and of what is read behind it.
 use Rattle.std.proofs.Common.{ℕ, zero, suc, ◌≡◌, ◌≢◌, ◌<◌, ◌≤◌, ◌+◌, ◌-◌, inl, inr, List, [], ◌∷◌, ◌++◌, length, take, drop, Option, None, Some, refl, sym, ap, subst, ◌∙◌, arith, append_assoc, length-append, length-take-le, length-drop}
 use Rattle.std.specs.List.{AllByRecursion}
-use Rattle.std.specs.Io.KnownBytes.{Consumes, IsAtEnd, Keeps}
+use Rattle.std.specs.Io.KnownBytes.{Consumes, IsAtEnd}
 use Rattle.std.proofs.Math.Seq.{take-append_seam}
 use Rattle.std.proofs.lemmas.List.{take-append-drop, take-append-le, take_all, append-nil}
 use Rattle.zp_events.specs.declared.reading.TheConstants.{LONGEST_LINE}
 use Rattle.zp_events.specs.Words.{IsFirstPlace}
 use Rattle.zp_events.specs.Windows.{IsFilled}
-use Rattle.zp_events.specs.Reading.{HasNoLineFeed, Spot, spot, IsReadOn, IsAhead, IsOver, IsTooLong}
+use Rattle.zp_events.specs.Reading.{HasNoLineFeed, Spot, spot, IsReadOn, IsAhead, IsTooLong}
 
 -- ---- bytes without a line feed
 
@@ -32,11 +32,6 @@ pub read_nothing : (a : Option (List ℕ)) → Consumes a a []
 read_nothing None = tt
 read_nothing (Some x) = refl
 
-read_kept : (a b : Option (List ℕ)) → Keeps a b → Consumes a b []
-read_kept None b k = tt
-read_kept (Some x) None k = absurd k
-read_kept (Some x) (Some y) k = sym k
-
 pub nothing_read : (at : Spot) → IsReadOn at at
 nothing_read at = record { read = []; front = read_nothing at.left; behind = sym (append-nil at.kept); none = refl }
 
@@ -50,9 +45,6 @@ more_read from mid to a b = record {
 
 pub filled_read : (old new : List ℕ) (n : ℕ) (had left : Option (List ℕ)) (passed : ℕ) → IsFilled old new n had left → IsReadOn (spot old had passed) (spot new left passed)
 filled_read old new n had left passed f = record { read = f.read; front = f.front; behind = f.behind; none = refl }
-
-pub failed_read : (old new : List ℕ) (had left : Option (List ℕ)) (passed : ℕ) → new ≡ old → Keeps had left → IsReadOn (spot old had passed) (spot new left passed)
-failed_read old new had left passed same keeps = record { read = []; front = read_kept had left keeps; behind = same ∙ sym (append-nil old); none = refl }
 
 -- ---- what is found
 
@@ -119,7 +111,3 @@ rest_ahead kept left passed n none is short some end = record {
   next = record { no_line_feed = none; within = omega arith; ended = inr (refl, omega arith, end) };
   found = ap Some is;
 }
-
-pub over : (kept : List ℕ) (left : Option (List ℕ)) (passed : ℕ) → length kept ≡ 0 → IsAtEnd left → IsOver (spot kept left passed)
-over [] left passed none end = record { none = refl; end = end }
-over (x ∷ kept) left passed none end = absurd (omega arith)

@@ -1,14 +1,13 @@
 -- The head of a line, part by part.
-use Rattle.std.proofs.Common.{ℕ, ◌≡◌, ◌≢◌, ◌<◌, ◌≤◌, ◌+◌, ◌-◌, inl, inr, List, [], ◌∷◌, ◌++◌, length, take, drop, get_or, codes, sym, ap, subst, ◌∙◌, arith}
+use Rattle.std.proofs.Common.{ℕ, ◌≡◌, ◌≢◌, ◌<◌, ◌≤◌, ◌+◌, ◌-◌, inl, inr, List, [], ◌∷◌, ◌++◌, length, take, drop, get_or, sym, ap, subst, ◌∙◌, arith}
 use Rattle.std.specs.List.{All, AllByRecursion}
-use Rattle.std.proofs.lemmas.Bool.{cases_lt}
-use Rattle.std.proofs.lemmas.List.{drop_all, length-drop, take_all}
+use Rattle.std.proofs.lemmas.List.{length-drop, take_all}
 use Rattle.std.proofs.lemmas.List.Elements.{recursion_from_All}
 use Rattle.zp_events.specs.declared.event.EventName.{EventName}
 use Rattle.zp_events.specs.declared.event.EventName.TheVariants.{Alloc, Free, Fallback}
 use Rattle.zp_events.specs.Numbers.{IsSmall}
 use Rattle.zp_events.specs.Lines.{IsMark, IsLastMark, name_text, IsNamed, IsSpacedName}
-use Rattle.zp_events.proofs.Heads.{first_unique, has_byte, small_no_bracket, no_space, same_behind_spaces, not_subsystem}
+use Rattle.zp_events.proofs.Heads.{first_unique, has_byte, small_no_bracket, no_space, same_behind_spaces}
 
 -- no mark stands at the front of the text
 abbrev pub NoMark : List ℕ → Type 0
@@ -23,9 +22,6 @@ mark_behind : (text rest : List ℕ) (cpu : ℕ) (more : List ℕ) → text ≡ 
 mark_behind text rest cpu more e m =
     let whole : text ≡ 32 ∷ 91 ∷ (m.number ++ 93 ∷ (32 ∷ more)) = m.written in
     cc
-
-pub no_front_no_mark : (text : List ℕ) → ((rest : List ℕ) → text ≡ 32 ∷ 91 ∷ rest → ⊥) → NoMark text
-no_front_no_mark text none cpu more m = none (m.number ++ 93 ∷ (32 ∷ more)) m.written
 
 pub no_bracket_no_mark : (text rest : List ℕ) → text ≡ 32 ∷ 91 ∷ rest → All (λ b. b ≢ 93) rest → NoMark text
 no_bracket_no_mark text rest e h cpu more m =
@@ -45,31 +41,9 @@ pub no_space_no_mark : (text rest word after : List ℕ) → text ≡ 32 ∷ 91 
 no_space_no_mark text rest word after e f h none cpu more m =
     none more (mark_parts text rest word after cpu more e f h m).1
 
-pub mark_made : (text rest word after more : List ℕ) (cpu : ℕ) → text ≡ 32 ∷ 91 ∷ rest → rest ≡ word ++ 93 ∷ after → IsSmall word cpu → after ≡ 32 ∷ more → IsMark text cpu more
-mark_made text rest word after more cpu e f small g =
-    let whole : text ≡ 32 ∷ 91 ∷ (word ++ 93 ∷ (32 ∷ more)) = cc in
-    record { number = word; written = whole; number_is = small }
-
 -- what stands from a place on, as a slice has it
 pub from_place : (line : List ℕ) (i : ℕ) → take (length line - i) (drop i line) ≡ drop i line
 from_place line i = take_all _ _ (omega (arith, length-drop i line))
-
--- at the end of a text stands none
-pub none_past : (text : List ℕ) (i k cpu : ℕ) (rest : List ℕ) → length text ≤ i → i ≤ k → IsMark (drop k text) cpu rest → ⊥
-none_past text i k cpu rest far above m =
-    let empty : drop k text ≡ [] = drop_all k text (omega arith) in
-    let front : drop k text ≡ 32 ∷ 91 ∷ (m.number ++ 93 ∷ (32 ∷ rest)) = m.written in
-    cc
-
--- one place more, going back
-pub none_from : (text : List ℕ) (i j : ℕ) → j + 1 ≡ i → NoMarkFrom text i → NoMark (drop j text) → NoMarkFrom text j
-none_from text i j next behind here k other more above m =
-    elim (cases_lt j k) [
-      | inl less ↦ behind k other more (omega arith) m
-      | inr most ↦
-          let same : k ≡ j = omega arith in
-          here other more (subst (λ n. IsMark (drop n text) other more) same m)
-    ]
 
 pub last_made : (text : List ℕ) (i j cpu : ℕ) (rest : List ℕ) → j + 1 ≡ i → NoMarkFrom text i → IsMark (drop j text) cpu rest → IsLastMark text cpu rest
 last_made text i j cpu rest next behind m = record { place = j; mark = m; last = λ k other more above. behind k other more (omega arith) }
@@ -82,22 +56,6 @@ pub no_names : (text : List ℕ) → ((r : List ℕ) → text ≡ name_text Allo
 no_names text a f x Alloc rest e = a rest e
 no_names text a f x Free rest e = f rest e
 no_names text a f x Fallback rest e = x rest e
-
-behind_kmem : (text a b : List ℕ) → text ≡ codes "kmem:" ++ a → text ≡ codes "kmem:" ++ b → a ≡ b
-behind_kmem text a b e f = cc
-
--- behind the subsystem there is no name
-pub none_behind : (text named : List ℕ) → text ≡ codes "kmem:" ++ named → NoName named → (name : EventName) (rest : List ℕ) → IsNamed text name rest → ⊥
-none_behind text named e none name rest (inl alone) = not_subsystem name text rest named alone e
-none_behind text named e none name rest (inr behind) = none name rest (behind_kmem text named (name_text name ++ rest) e behind)
-
--- there is no subsystem, and no name
-pub none_alone : (text : List ℕ) → ((r : List ℕ) → text ≡ codes "kmem:" ++ r → ⊥) → NoName text → (name : EventName) (rest : List ℕ) → IsNamed text name rest → ⊥
-none_alone text lacks none name rest (inl alone) = none name rest alone
-none_alone text lacks none name rest (inr behind) = lacks (name_text name ++ rest) behind
-
-pub named_behind : (text named rest : List ℕ) (name : EventName) → text ≡ codes "kmem:" ++ named → named ≡ name_text name ++ rest → IsNamed text name rest
-named_behind text named rest name e f = inr (e ∙ ap (λ (t : List ℕ). codes "kmem:" ++ t) f)
 
 -- the text names no event behind spaces
 abbrev pub NoSpacedName : List ℕ → Type 0

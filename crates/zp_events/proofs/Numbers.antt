@@ -1,5 +1,5 @@
 -- Numbers, digit by digit.
-use Rattle.std.proofs.Common.{ℕ, zero, suc, ◌≡◌, ◌<◌, ◌≤◌, ◌+◌, ◌*◌, ◌^◌, List, [], ◌∷◌, length, take, take_all, get_or, sym, ap, subst, ◌∙◌, arith}
+use Rattle.std.proofs.Common.{ℕ, zero, suc, ◌≡◌, ◌<◌, ◌≤◌, ◌+◌, ◌*◌, ◌^◌, List, [], ◌∷◌, length, take, get_or, sym, subst, ◌∙◌, arith}
 use Rattle.std.specs.Char.{digit_value}
 use Rattle.std.specs.Str.Parse.{AllDigits, digits_value}
 use Rattle.std.proofs.lemmas.Int.Digits.{digits_value_more, digits_more}
@@ -29,9 +29,3 @@ pub more : (base : ℕ) (word : List ℕ) (i n digit m : ℕ) → i < length wor
 more base word i n digit m inside ds so_far below is sum =
     let same : n * base + digit ≡ digits_value base (take i word) * base + digit_value (get_or word i 0) = cc in
     (digits_more base word i inside ds below, sum ∙ same ∙ sym (digits_value_more base word i inside))
-
--- all digits
-pub all : (base : ℕ) (word : List ℕ) (i n : ℕ) → length word ≤ i → 0 < length word → AllDigits base (take i word) → n ≡ digits_value base (take i word) → n < 2 ^ 64 → IsNumber base word n
-all base word i n far some ds so_far small =
-    let whole : take i word ≡ word = take_all i word far in
-    record { some = some; digits = subst (AllDigits base) whole ds; value = so_far ∙ ap (digits_value base) whole; fits = small }

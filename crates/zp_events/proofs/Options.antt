@@ -1,5 +1,5 @@
 -- What is said of a value that may be missing.
-use Rattle.std.proofs.Common.{Option, Some, None, IfSome, IfNone, MatchOption, Result, Ok, Err, OnErr, Bool, true, false, MatchBool, ◌≡◌}
+use Rattle.std.proofs.Common.{Option, Some, None, IfSome, IfNone, MatchOption, Bool, true, false, MatchBool, ◌≡◌}
 
 -- what holds of the value
 pub of_some : {T : Type 0} (r : Option T) (P : Type 0) (Q : T → Type 0) → MatchOption r P Q → IfSome r Q
@@ -25,11 +25,6 @@ at_none (Some x) p = tt
 pub some_weaker : {T : Type 0} (r : Option T) {P Q : T → Type 0} → ((x : T) → P x → Q x) → IfSome r P → IfSome r Q
 some_weaker None f p = p
 some_weaker (Some x) f p = f x p
-
--- what holds anyway holds at an error
-pub on_err : {T E P : Type 0} (r : Result T E) → P → OnErr r P
-on_err (Ok x) p = tt
-on_err (Err e) p = p
 
 true_not : false ≡ true → ⊥
 true_not e = cc

@@ -14,7 +14,7 @@ use Rattle.zp_events.specs.declared.text.TextFault.{TextFault}
 use Rattle.zp_events.specs.declared.text.TextFault.TheVariants as fault
 use Rattle.zp_events.specs.Lines.{IsBroken}
 use Rattle.zp_events.specs.Reading.{HasNoLineFeed, joined, Spot, spot, IsReadOn, ArePassed, IsEnded, IsAhead, IsOver, IsTooLong, line_ahead, is_unended, behind_line, passed_with}
-use Rattle.zp_events.specs.Texts.{with_front, lines_of, IsToldBy, IsTaken, IsUntaken, AreTaken, AreTakenTo, AreAllTaken, IsNextTaken, AreLastTaken, IsStoppedAtBroken, IsStoppedAtTooLong, IsStoppedInReading, IsStoppedBySink, IsStoppedByCount, IsStoppedBy}
+use Rattle.zp_events.specs.Texts.{with_front, lines_of, IsToldBy, IsTaken, IsUntaken, AreTaken, AreTakenTo, AreAllTaken, IsNextTaken, AreLastTaken, IsStoppedAtBroken, IsStoppedAtTooLong, IsStoppedInReading, IsStoppedBySink, IsStoppedBy}
 use Rattle.zp_events.proofs.Options.{where_true, where_false}
 use Rattle.zp_events.proofs.Looking.{read_then, read_nothing, nothing_read}
 
@@ -306,9 +306,6 @@ module _ {S : Type 0} (carries : S → PageEvent → S → Type 0) (passes : S �
   pub stopped_so_far : (fails : S → S → Type 0) (s u t : S) (a b c : Spot) (e : TextFault) → IsTakenSoFar s a b u → IsStoppedBy carries passes drops mode fails u b c e t →
       IsStoppedBy carries passes drops mode fails s a c e t
   stopped_so_far fails s u t a b c e p q = stopped_then fails s u t a b c p.lines e p.taken q
-
-  pub counted_so_far : (s u : S) (a b : Spot) (n : ℕ) → IsTakenSoFar s a b u → n ≡ b.passed → n < 2 ^ 64 → 2 ^ 64 - 1 ≤ n → IsStoppedByCount carries passes drops mode s a b u
-  counted_so_far s u a b n p is fits most = record { before = p.lines; taken = p.taken; last = omega arith }
 
 not_ok : false ≡ true → ⊥
 not_ok e = cc

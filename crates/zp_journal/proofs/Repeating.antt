@@ -49,11 +49,6 @@ answered_same z y w r ps None (inl a) = left_same z y a.1
 answered_same z y w r ps None (inr a) = asked_same z y w r a.after
 answered_same z y w r ps (Some q) a = asked_same z y w r a.after
 
--- what was asked was answered
-pub is_answered : (z y : ZoneState) (w : ℕ) (r : Request) (ps : List ℕ) (o : Option Answered) → IsAskedWith z w r ps o y → IsAnsweredWith z w r ps o y
-is_answered z y w r ps None a = inr a
-is_answered z y w r ps (Some q) a = a
-
 -- the zone's seats are its seats still, when one of them was asked with
 pub seats_after : (z y : ZoneState) (seats : List SeatState) (i : ℕ) (s t : SeatState) (r : Request) (ps : List ℕ) (o : Option Answered) → AreSeatsOf z seats → i < length seats →
     IsAnsweredWith z (get_or seats i s).worker r ps o y → IsSeatStill (get_or seats i s) t → AreSeatsOf y (set seats i t)

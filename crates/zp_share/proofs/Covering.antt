@@ -4,7 +4,7 @@ use Rattle.std.proofs.lemmas.Bool.{cases_eq}
 use Rattle.zp_model.specs.declared.migrate_type.MigrateType.{MigrateType}
 use Rattle.zp_model.specs.declared.request.Request.{Request}
 use Rattle.zp_model.specs.declared.request.Reply.{Reply}
-use Rattle.zp_share.specs.PlainShares.{PlainZoneShare, list_of, put, taken, taken_at}
+use Rattle.zp_share.specs.PlainShares.{PlainZoneShare, list_of, taken, taken_at}
 use Rattle.zp_share.specs.ZoneShares.{ZoneShareState, answered, plain_share}
 use Rattle.zp_share.specs.Shares.{ShareState, is_section, noted_at, sections_at, share_at, with_zone_share}
 use Rattle.zp_share.specs.Readings.{CoversOwn}
@@ -63,7 +63,3 @@ covers_taken b v u i t e f =
     covers_kept b v u
     (sections_moved v u i e
     (ap (λ (x : PlainZoneShare). x.sections) f ∙ sections-taken t (plain_share (share_at v i)) (list_of (plain_share (share_at v i)) t)))
-
-pub covers_put : (b : ℕ → ℕ → Type 0) (v u : ShareState) (i p : ℕ) (t : MigrateType) → u ≡ with_zone_share i (share_at u i) v → plain_share (share_at u i) ≡ put p t (plain_share (share_at v i)) →
-    CoversOwn b b v u
-covers_put b v u i p t e f = covers_kept b v u (sections_moved v u i e (ap (λ (x : PlainZoneShare). x.sections) f))

@@ -12,7 +12,7 @@ use Rattle.zp_model.specs.declared.request.Reply.TheVariants as reply
 use Rattle.zp_model.specs.MigrateType.{type_number}
 use Rattle.zp_share.specs.PlainShares.{back, without_back}
 use Rattle.zp_share.specs.ZoneShares.{ZoneShareState, IsShare, answered, cached_of}
-use Rattle.zp_share.specs.Shares.{ShareState, AreDrained, DrainsOnce, HasEmptyLists, IsDrainedTill, emptied_lists, list_place, noted_at, share_at, was_emptied}
+use Rattle.zp_share.specs.Shares.{ShareState, AreDrained, DrainsOnce, IsDrainedTill, emptied_lists, list_place, noted_at, share_at, was_emptied}
 use Rattle.zp_share.proofs.Lending.{noted_here, noted_elsewhere}
 use Rattle.zp_share.proofs.Listing.{number_in}
 use Rattle.zp_share.proofs.Closing.{listing}
@@ -58,14 +58,6 @@ drained_at s u i t none others = record {
     outside (inl lt) e = omega (arith, lt, e)
     outside (inr le) e = omega (arith, le, e)
 
--- no list changed
-pub drained_none : (n : ℕ) (s u : ShareState) → u ≡ s → AreDrained n n s u
-drained_none n s u e = record { emptied = λ i t lo hi. absurd (omega (arith, lo, hi)); others = λ i t out. ap (λ v. cached_of (share_at v i) t) e }
-
--- the list was empty
-pub drained_empty : (s u : ShareState) (i : ℕ) (t : MigrateType) → u ≡ s → cached_of (share_at s i) t ≡ [] → AreDrained (list_place i t) (list_place i t + 1) s u
-drained_empty s u i t e none = drained_at s u i t (ap (λ v. cached_of (share_at v i) t) e ∙ none) (λ j w ne. ap (λ v. cached_of (share_at v j) w) e)
-
 -- lists and then those after them
 pub drained_then : (n m o p : ℕ) (s v u : ShareState) → n ≤ m → m ≡ o → o ≤ p → AreDrained n m s v → AreDrained o p v u → AreDrained n p s u
 drained_then n m o p s v u le same more x y = record {
@@ -81,10 +73,6 @@ drained_then n m o p s v u le same more x y = record {
     after i t (inl lt) = y.others i t (inl (omega (arith, lt, le, same))) ∙ x.others i t (inl lt)
     after i t (inr ge) = y.others i t (inr ge) ∙ x.others i t (inr (omega (arith, ge, more, same)))
 
--- a list with pages was asked for, and refused
-pub till_here : (s u : ShareState) (i n : ℕ) (t : MigrateType) → u ≡ s → n ≢ 0 → n ≡ length (cached_of (share_at s i) t) → IsDrainedTill (list_place i t) s u
-till_here s u i n t e ne len = record { zone = i; kind = t; pages = omega (arith, ne, len); from = omega arith; drained = drained_none (list_place i t) s u e }
-
 pub till_then : (n m o : ℕ) (s v u : ShareState) → n ≤ m → m ≡ o → AreDrained n m s v → IsDrainedTill o v u → IsDrainedTill n s u
 till_then n m o s v u le same x y = record {
   zone = y.zone;
@@ -93,15 +81,6 @@ till_then n m o s v u le same x y = record {
   from = omega (arith, le, same, y.from);
   drained = drained_then n m o (list_place y.zone y.kind) s v u le same y.from x y.drained;
 }
-
--- all lists are empty
-pub drained_whole : (s u : ShareState) (n : ℕ) → n ≡ length u.zones → AreDrained 0 (n * TYPES) s u → HasEmptyLists u
-drained_whole s u n same x i t lt = x.emptied i t (omega arith) (below t)
-  where
-    below : (t : MigrateType) → list_place i t < n * TYPES
-    below Unmovable = omega (arith, lt, same)
-    below Reclaimable = omega (arith, lt, same)
-    below Movable = omega (arith, lt, same)
 
 -- whether a list had pages and has none, over lists that are given back one after another
 same_none : (l : List ℕ) → was_emptied l l ≡ 0
@@ -150,12 +129,6 @@ gone i t s u some none = ap (was_emptied (cached_of (share_at s i) t)) none ∙ 
     go : (l : List ℕ) → 1 ≤ length l → was_emptied l [] ≡ 1
     go [] le = absurd (omega (arith, le))
     go (p ∷ ps) le = refl
-
-pub once_none : (s u : ShareState) → u ≡ s → DrainsOnce s u
-once_none s u e i =
-    let same : (t : MigrateType) → was_emptied (cached_of (share_at s i) t) (cached_of (share_at u i) t) ≡ 0 = λ t. kept i t s u (ap (λ v. cached_of (share_at v i) t) e) in
-    let made : (share_at u i).sections.made ≡ (share_at s i).sections.made = ap (λ v. (share_at v i).sections.made) e in
-    omega (arith, same Unmovable, same Reclaimable, same Movable, made)
 
 -- a whole list was given back by one section
 pub record IsOneDrained (s u : ShareState) (i : ℕ) (t : MigrateType) : Type 0 where
@@ -242,14 +215,6 @@ pub till_third : (i : ℕ) (s v w u : ShareState) → AreDrained (list_place i U
 till_third i s v w u x y z =
     subst (λ n. IsDrainedTill n s u) (from_zone i)
     (till_then (list_place i Unmovable) (list_place i Reclaimable + 1) (list_place i Movable) s w u (omega arith) (omega arith) (drained_two i s v w x y) z)
-
-pub drained_zone : (i : ℕ) (s v w u : ShareState) → AreDrained (list_place i Unmovable) (list_place i Unmovable + 1) s v → AreDrained (list_place i Reclaimable) (list_place i Reclaimable + 1) v w →
-    AreDrained (list_place i Movable) (list_place i Movable + 1) w u → AreDrained (i * TYPES) (i * TYPES + TYPES) s u
-drained_zone i s v w u x y z =
-    let last : list_place i Movable + 1 ≡ i * TYPES + TYPES = omega arith in
-    subst (λ n. AreDrained n (i * TYPES + TYPES) s u) (from_zone i)
-    (subst (λ m. AreDrained (list_place i Unmovable) m s u) last
-    (drained_then (list_place i Unmovable) (list_place i Reclaimable + 1) (list_place i Movable) (list_place i Movable + 1) s w u (omega arith) (omega arith) (omega arith) (drained_two i s v w x y) z))
 
 pub once_second : (i m : ℕ) (s v u : ShareState) → AreDrained (list_place i Unmovable) (list_place i Unmovable + 1) s v → AreDrained (list_place i Reclaimable) m v u → DrainsOnce s v → DrainsOnce v u → DrainsOnce s u
 once_second i m s v u x y f g = once_then (list_place i Unmovable) (list_place i Unmovable + 1) (list_place i Reclaimable) m s v u x y f g

@@ -1,7 +1,7 @@
 -- A block out of a zone or one below it, and a page off a list: what is lent then, and what is done.
 use Rattle.std.specs.Option.{ok_or}
 use Rattle.std.proofs.lemmas.Bool.{cases_eq}
-use Rattle.std.proofs.Common.{ℕ, ◌+◌, ◌==◌, ◌&&◌, not, ◌≡◌, ◌≢◌, ◌<◌, ◌≤◌, ◌⊎◌, inl, inr, refl, sym, ◌∙◌, ap, subst, arith, Bool, true, cond, List, [], ◌∷◌, ◌++◌, length, All, Option, Result, Ok, Some, Err, false, zero, suc}
+use Rattle.std.proofs.Common.{ℕ, ◌+◌, ◌==◌, ◌&&◌, not, ◌≡◌, ◌≢◌, ◌<◌, ◌≤◌, inl, inr, refl, sym, ◌∙◌, ap, subst, arith, Bool, true, cond, List, [], ◌∷◌, ◌++◌, length, All, Option, Result, Ok, Some, Err, false, zero, suc}
 use Rattle.std.proofs.lemmas.List.{get_or-set_same, length-append, nil_from_length}
 use Rattle.zp_model.specs.declared.mark.Mark.{Mark}
 use Rattle.zp_model.specs.declared.migrate_type.MigrateType.{MigrateType}
@@ -13,14 +13,13 @@ use Rattle.zp_model.specs.Rows.{front, stands_in}
 use Rattle.zp_model.specs.declared.request.Request.{Request}
 use Rattle.zp_model.specs.declared.request.Request.TheVariants.{Refill}
 use Rattle.zp_model.proofs.Settles.{stands_first}
-use Rattle.zp_zone.specs.NamedZone.{NamedZone, page_reply}
+use Rattle.zp_zone.specs.NamedZone.{NamedZone}
 use Rattle.zp_model.specs.declared.request.Request.TheVariants as request
 use Rattle.zp_share.specs.declared.page_use.PageUse.{PageUse}
 use Rattle.zp_share.specs.declared.page_use.PageUse.TheVariants.{Away, Lent, Cached}
 use Rattle.zp_share.specs.PageUses.{is_lent_as, use_of, all_as}
 use Rattle.zp_share.specs.PlainShares.{lends, taken, taken_at, own_at, list_of}
 use Rattle.zp_share.specs.ZoneShares.{ZoneShareState, IsAllocRefusal, IsShare, IsNew, use_in, is_lent, cached_of, answered, plain_share}
-use Rattle.zp_share.specs.Sections.{IsReplyTo}
 use Rattle.zp_share.specs.Shares.{ShareState, AreAskedDown, AreAskedTo, IsAskedFor, IsGivenBy, IsGivenIn, IsSameShare, HasSameLent, is_section, noted, page_request, share_at, with_zone_share, noted_at, IsDone, plain, world}
 use Rattle.zp_share.specs.declared.commands.Lent.{Lent as LentBlock}
 use Rattle.zp_share.specs.Commands.{World, Done, told_as, and_then, done_answer, section, is_listed, alloc_in, alloc_listed, alloc_down, goes_down, lent_in, take_front, front_answer}
@@ -64,17 +63,6 @@ filled_now s v i n t m ps lt whole is new some =
       some = omega (arith, some, many, at);
     })
 
--- a request that a zone refused leaves the same blocks lent
-same_lent_refused : (k : ℕ) (t : MigrateType) (m : Mark) (i : ℕ) (e : Refused) (s : ShareState) → i < length s.zones → HasSameLent s (noted_at i (page_request s k t m) (Reply.Refused e) s)
-same_lent_refused k t m i e s lt =
-    subst (λ w. HasSameLent s w) (sym (noted_one s i (page_request s k t m) (Reply.Refused e)))
-    (same_lent s i (noted (page_request s k t m) (Reply.Refused e) (share_at s i)) lt (λ p j. go (is_listed (plain s) k) (is_section (Reply.Refused e)) p j))
-  where
-    go : (b c : Bool) (p j : ℕ) → is_lent (cond c (answered (cond b (request.Refill t m s.batch) (request.Alloc k t m)) (Reply.Refused e) (share_at s i)) (share_at s i)) p j ≡ is_lent (share_at s i) p j
-    go b false p j = refl
-    go true true p j = refl
-    go false true p j = refl
-
 -- what the share has of the zone of a request is noted there, and elsewhere all stays
 pub noted_here : (s u : ShareState) (i : ℕ) (r : Request) (q : Reply) → i < length s.zones → u ≡ noted_at i r q s → share_at u i ≡ noted r q (share_at s i)
 noted_here s u i r q lt is = ap (λ w. share_at w i) (is ∙ noted_one s i r q) ∙ here s i (noted r q (share_at s i)) lt
@@ -85,46 +73,6 @@ noted_elsewhere s u i j r q ne is = ap (λ w. share_at w j) (is ∙ noted_one s 
 -- the request for a page, where lists serve it and where they do not
 pub request_listed : (s : ShareState) (k : ℕ) (t : MigrateType) (m : Mark) → is_listed (plain s) k ≡ true → page_request s k t m ≡ request.Refill t m s.batch
 request_listed s k t m on = ap (λ b. cond b (request.Refill t m s.batch) (request.Alloc k t m)) on
-
-pub request_unlisted : (s : ShareState) (k : ℕ) (t : MigrateType) (m : Mark) → is_listed (plain s) k ≡ false → page_request s k t m ≡ request.Alloc k t m
-request_unlisted s k t m off = ap (λ b. cond b (request.Refill t m s.batch) (request.Alloc k t m)) off
-
--- a zone that was asked for a page and refused it
-pub refused_for : (k : ℕ) (t : MigrateType) (m : Mark) (i : ℕ) (e : Refused) (r : Request) (s u : ShareState) → i < length s.zones → page_request s k t m ≡ r → u ≡ noted_at i r (Reply.Refused e) s →
-    IsAskedFor k t m i (Err e) s u
-refused_for k t m i e r s u lt same is =
-    let asked : u ≡ noted_at i (page_request s k t m) (Reply.Refused e) s = is ∙ ap (λ v. noted_at i v (Reply.Refused e) s) (sym same) in
-    record {
-      fresh = tt;
-      others = tt;
-      left = subst (λ w. HasSameLent s w) (sym asked) (same_lent_refused k t m i e s lt);
-      given = tt;
-      refused = noted_here s u i (page_request s k t m) (Reply.Refused e) lt asked;
-      elsewhere = λ j ne. noted_elsewhere s u i j (page_request s k t m) (Reply.Refused e) ne asked;
-    }
-
--- a zone that gave a block past the lists
-given_past : (k : ℕ) (t : MigrateType) (m : Mark) (i p : ℕ) (s u : ShareState) → i < length s.zones → is_listed (plain s) k ≡ false → u ≡ noted_at i (request.Alloc k t m) (Reply.Page p) s →
-    IsGivenIn k t m i p s u
-given_past k t m i p s u lt off is =
-    let now : share_at u i ≡ answered (request.Alloc k t m) (Reply.Page p) (share_at s i) = noted_here s u i (request.Alloc k t m) (Reply.Page p) lt is in
-    subst (λ b. IsGivenBy b (cached_of (share_at s i) t) (page_request s k t m) t p (share_at s i) (share_at u i)) (sym off)
-    (now ∙ ap (λ r. answered r (Reply.Page p) (share_at s i)) (sym (request_unlisted s k t m off)))
-
-pub block_for : (k : ℕ) (t : MigrateType) (m : Mark) (i : ℕ) (r : Result ℕ Refused) (s u : ShareState) → i < length s.zones → is_listed (plain s) k ≡ false → u ≡ noted_at i (request.Alloc k t m) (page_reply r) s →
-    IsReplyTo (request.Alloc k t m) (page_reply r) (share_at s i) (share_at u i) → IsAskedFor k t m i r s u
-block_for k t m i (Err e) s u lt off is reply = refused_for k t m i e (request.Alloc k t m) s u lt (request_unlisted s k t m off) is
-block_for k t m i (Ok p) s u lt off is reply = record {
-  fresh = λ j. ap (is_lent_as j) reply.fresh.away;
-  others = λ j q l ne.
-      ap (λ w. is_lent (share_at w j) q l) (is ∙ noted_one s i (request.Alloc k t m) (Reply.Page p))
-      ∙ same_lent_but s i p (answered (request.Alloc k t m) (Reply.Page p) (share_at s i)) lt
-      (λ v n other. ap (is_lent_as n) (use-set_other (share_at s i).seat.part.base p v (Lent k t) (share_at s i).uses reply.fresh.place.from other)) j q l ne;
-  left = tt;
-  given = given_past k t m i p s u lt off is;
-  refused = tt;
-  elsewhere = λ j ne. noted_elsewhere s u i j (request.Alloc k t m) (Reply.Page p) ne is;
-}
 
 -- a page off a list that had some, and off one that was filled first
 pub given_before : (k : ℕ) (t : MigrateType) (m : Mark) (i n : ℕ) (s v u : ShareState) → is_listed (plain s) k ≡ true → n ≡ length (cached_of (share_at s i) t) → n ≢ 0 → v ≡ s →
@@ -245,28 +193,6 @@ from_refill rows s u v x i k n t m ps r told mid on len none d same share e g a 
     subst (λ y. IsDone y r told u) (sym is)
     (then_ok sec f tt (Ok tt) told v r told u (told_as_is done_answer (section w i (Refill t m s.batch)) (Reply.Pages ps) (Ok tt) told v y refl) refl
     (λ rows2 e2. takes rows2 v u i t r told e2 e g a))
-
--- the walk down the zones: the zone at the top gave a page
-pub asked_first : (k : ℕ) (t : MigrateType) (m : Mark) (n : ℕ) (l : LentBlock) (s u : ShareState) → l.zone ≡ n → IsAskedFor k t m n (Ok l.page) s u → AreAskedDown k t m n (Ok l) s u
-asked_first k t m n l s u at x = (
-  record {
-    within = omega (arith, at);
-    above = λ i lo hi. absurd (omega (arith, at, lo, hi));
-    below = λ i lt. x.elsewhere i (λ e. omega (arith, at, lt, e));
-  },
-  subst (λ i. IsGivenIn k t m i l.page s u) (sym at) x.given,
-)
-
--- it refused, and was the last that was asked
-pub asked_last : (k : ℕ) (t : MigrateType) (m : Mark) (n : ℕ) (e : Refused) (s u : ShareState) → (e ≡ JournalFull) ⊎ (n ≡ 0) → IsAskedFor k t m n (Err e) s u → AreAskedDown k t m n (Err e) s u
-asked_last k t m n e s u why x = (
-  n,
-  (
-    record { within = omega arith; above = λ i lo hi. absurd (omega (arith, lo, hi)); below = λ i lt. x.elsewhere i (λ e. omega (arith, lt, e)) },
-    why,
-    x.refused,
-  ),
-)
 
 -- a request for a page is the same after a zone was asked
 same_request : (k : ℕ) (t : MigrateType) (m : Mark) (s v : ShareState) → IsSameShare s v → page_request v k t m ≡ page_request s k t m

@@ -1,7 +1,6 @@
 -- One writing after another, and the texts of a list's items, written one after another.
 use Rattle.std.proofs.Common.{ℕ, ◌+◌, ◌≡◌, List, ◌++◌, length, take, Option, None, Some, sym, ap, subst, ◌∙◌, append_assoc, ◌<◌, [], ◌∷◌, drop, get_or, Result, Ok, Err, OnErr, inl, inr, arith}
 use Rattle.std.proofs.Math.Seq.{take-append-add, take-append_seam}
-use Rattle.std.specs.Io.KnownBytes.{Keeps}
 use Rattle.zp_streams.specs.Streams.{IsWritten, IsBegun}
 use Rattle.std.specs.List.{flat_map}
 use Rattle.std.proofs.lemmas.Bool.{cases_lt}
@@ -16,13 +15,6 @@ written-then None b c x y e f = tt
 written-then (Some z) None c x y e f = absurd e
 written-then (Some z) (Some w) None x y e f = absurd f
 written-then (Some z) (Some w) (Some v) x y e f = f ∙ ap (λ q. q ++ y) e ∙ append_assoc z x y
-
--- a call that fails writes nothing more
-pub written-kept : (a b c : Option (List ℕ)) (x : List ℕ) → IsWritten a b x → Keeps b c → IsWritten a c x
-written-kept None b c x e k = tt
-written-kept (Some z) None c x e k = absurd e
-written-kept (Some z) (Some w) None x e k = absurd k
-written-kept (Some z) (Some w) (Some v) x e k = k ∙ e
 
 pub begun-then : (a b c : Option (List ℕ)) (x y : List ℕ) → IsWritten a b x → IsBegun b c y → IsBegun a c (x ++ y)
 begun-then a b c x y e f =

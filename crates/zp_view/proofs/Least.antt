@@ -32,13 +32,6 @@ number_of b k al = omega (arith, shr_split b k)
 later : (a b p : ℕ) → a ≤ b → a * p ≤ b * p
 later a b p le = mul-le-mul_right p le
 
--- a row that is shorter than a run has none
-pub too_short : (n k : ℕ) → n / 2 ^ k ≤ 0 → 2 ^ k ≤ n → ⊥
-too_short n k none le =
-    let zero_of : n / 2 ^ k ≡ 0 = omega arith in
-    let s = rw zero_of at (shr_split n k) in
-    omega (arith, s, mod_below n (2 ^ k) (pow_pos k))
-
 among_runs : (b k n : ℕ) → b % 2 ^ k ≡ 0 → b + 2 ^ k ≤ n → b / 2 ^ k < n / 2 ^ k
 among_runs b k n al le =
     elim (cases_lt (b / 2 ^ k) (n / 2 ^ k)) [

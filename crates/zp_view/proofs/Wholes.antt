@@ -1,16 +1,13 @@
 -- A page of a block lies in it, and rows of states.
-use Rattle.std.proofs.Common.{ℕ, suc, zero, ◌≡◌, ◌≤◌, ◌+◌, ◌∙◌, ap, subst, arith, inl, inr, List, [], ◌∷◌, ◌++◌, length, Some}
+use Rattle.std.proofs.Common.{ℕ, suc, zero, ◌≡◌, ◌∙◌, ap, subst, List, [], ◌∷◌, ◌++◌, length, Some}
 use Rattle.std.specs.Prelude.{slice_get}
-use Rattle.std.proofs.lemmas.Bool.{cases_lt}
-use Rattle.zp_model.specs.declared.constants.TheConstants.{BASE_LIMIT}
 use Rattle.zp_model.specs.declared.state.State.{State}
 use Rattle.zp_model.specs.declared.state.State.TheVariants.{Tail, Free, Out, Posted}
 use Rattle.zp_model.specs.Block.{in_run}
-use Rattle.zp_model.specs.Zone.{PlainZone, pages_of}
+use Rattle.zp_model.specs.Zone.{PlainZone}
 use Rattle.zp_view.specs.declared.states.PageBlock.{PageBlock}
-use Rattle.zp_view.specs.declared.page_state.PageState.{PageState}
 use Rattle.zp_view.specs.Blocks.{reaches}
-use Rattle.zp_view.specs.States.{IsPageBlock, IsPageState, IsRowFrom, IsRowOf, IsWhole, Lending, order_noted}
+use Rattle.zp_view.specs.States.{IsPageBlock, IsPageState, IsWhole, Lending, order_noted}
 
 reaches_order : (s : State) (k first page : ℕ) → order_noted s ≡ Some k → reaches s first page ≡ in_run first k page
 reaches_order Tail k first page e = cc
@@ -38,11 +35,3 @@ pushed f [] x all here zero s e = let same : x ≡ s = cc in subst (f zero) same
 pushed f [] x all here (suc k) s e = cc
 pushed f (y ∷ ys) x all here zero s e = all zero s e
 pushed f (y ∷ ys) x all here (suc k) s e = pushed (λ n t. f (suc n) t) ys x (λ n t q. all (suc n) t q) here k s e
-
--- a row from the zone's first page on has all its pages
-pub whole_row : (lent : Lending) (z : PlainZone) (p : ℕ) (row : List PageState) → p ≡ z.base → p ≤ BASE_LIMIT → IsRowFrom lent z p row → IsRowOf lent z row
-whole_row lent z p row here low x =
-    elim (cases_lt (length row) (pages_of z)) [
-      | inl less ↦ absurd (x.ends low less (omega arith, omega arith))
-      | inr all ↦ record { pages = omega (arith, x.few); states = subst (λ q. (k : ℕ) (s : PageState) → slice_get row k ≡ Some s → IsPageState lent z (q + k) s) here x.states }
-    ]

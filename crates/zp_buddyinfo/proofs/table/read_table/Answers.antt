@@ -3,11 +3,8 @@ use Rattle.std.specs.Borrow.{Bor}
 use Rattle.std.proofs.lemmas.Bool.Decides.{nat_tests}
 use Rattle.std.proofs.lemmas.List.{length-map}
 use Rattle.zp_buddyinfo.specs.Rows.{spelled, lines_of, words_of, IsBadLine}
-use Rattle.zp_buddyinfo.proofs.TableRows.{RowsSoFar, none_so_far, blank_so_far, row_so_far, all_rows, bad_line, line_words, no_words}
+use Rattle.zp_buddyinfo.proofs.TableRows.{RowsSoFar, blank_so_far, row_so_far, bad_line, line_words, no_words}
 use Rattle.zp_buddyinfo.proofs.table.read_table.Goals as goal
-
-pub loop-index-init : goal.loop-index-init
-loop-index-init c = none_so_far _ _ c.new-rows.ensures.items
 
 pub loop-index-preserved-then-is_empty : goal.loop-index-preserved-then-is_empty
 loop-index-preserved-then-is_empty c =
@@ -39,9 +36,3 @@ loop-index-preserved c =
     let is = line_words lines c.in_ok-words.words.items c.loop-index.index c.loop-index-test.true c.in_ok-words.ensures in
     row_so_far (spelled lines) c.loop-index.index c.loop-index.rows.items _ c.in-Some.row (omega (arith, c.loop-index-test.true, length-map lines (λ (w : Bor (List ℕ)). w.now))) c.loop-index.invariant
     c.in-Some.ensures.some.0 (is ∙ sym (ap spelled c.as_slice.ensures.value) ∙ c.in-Some.ensures.some.1) c.in-Ok.ensures.items
-
-pub returns-clause-rows : goal.returns-clause-rows
-returns-clause-rows c =
-    let lines = c.deref-line-items.result.now in
-    let same : spelled lines ≡ lines_of c.args.text.now = ap spelled c.deref-line-items.ensures.value ∙ c.in_ok-pieces.ensures in
-    all_rows c.args.text.now c.loop-index.index c.loop-index.rows.items (omega (arith, c.loop-index-test.false, ap length same, length-map lines (λ (w : Bor (List ℕ)). w.now))) (subst (λ ls. RowsSoFar ls c.loop-index.index c.loop-index.rows.items) same c.loop-index.invariant)

@@ -1,19 +1,11 @@
 use Rattle.zp_events.specs.Words.{words_of}
 use Rattle.zp_events.proofs.Options.{at_none}
-use Rattle.zp_events.proofs.Buffers.{NoEntries, no_mark, no_label, no_numbers, no_slash_in, no_kept, no_written, entries_made}
+use Rattle.zp_events.proofs.Buffers.{NoEntries, no_label, no_slash_in, no_kept, no_written, entries_made}
 use Rattle.zp_events.proofs.buffer_lines.buffer_entries.Goals as goal
-
-pub returns-in_err-behind_mark-clause-none : goal.returns-in_err-behind_mark-clause-none
-returns-in_err-behind_mark-clause-none c =
-    at_none _ {P = NoEntries (words_of c.args.line.now)} (no_mark _ c.in_err-behind_mark.ensures.none)
 
 pub returns-in_err-behind_label-clause-none : goal.returns-in_err-behind_label-clause-none
 returns-in_err-behind_label-clause-none c =
     at_none _ {P = NoEntries (words_of c.args.line.now)} (no_label _ _ c.in_ok-behind_mark.ensures.some c.in_err-behind_label.ensures.none)
-
-pub returns-in_err-word-clause-none : goal.returns-in_err-word-clause-none
-returns-in_err-word-clause-none c =
-    at_none _ {P = NoEntries (words_of c.args.line.now)} (no_numbers _ _ _ c.in_ok-behind_mark.ensures.some c.in_ok-behind_label.ensures.some c.in_err-word.ensures.none)
 
 pub returns-in_err-kept_digits-clause-none : goal.returns-in_err-kept_digits-clause-none
 returns-in_err-kept_digits-clause-none c =

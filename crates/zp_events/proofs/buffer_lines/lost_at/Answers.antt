@@ -1,10 +1,6 @@
 use Rattle.zp_events.proofs.Options.{at_none}
-use Rattle.zp_events.proofs.Buffers.{NoLost, no_front, no_space_in, no_lost_number, no_lost_end, lost_made}
+use Rattle.zp_events.proofs.Buffers.{NoLost, no_space_in, no_lost_number, no_lost_end}
 use Rattle.zp_events.proofs.buffer_lines.lost_at.Goals as goal
-
-pub returns-in_err-inside-clause-none : goal.returns-in_err-inside-clause-none
-returns-in_err-inside-clause-none c =
-    at_none _ {P = NoLost c.args.text.now} (no_front c.args.text.now c.in_err-inside.ensures.none)
 
 pub returns-in_err-digits-clause-none : goal.returns-in_err-digits-clause-none
 returns-in_err-digits-clause-none c =
@@ -17,7 +13,3 @@ returns-in_err-number-clause-none c =
 pub returns-in_err-_rest-clause-none : goal.returns-in_err-_rest-clause-none
 returns-in_err-_rest-clause-none c =
     at_none _ {P = NoLost c.args.text.now} (no_lost_end c.args.text.now _ c.in_ok-digits.digits.now c.in_ok-digits.after.now c.in_ok-inside.ensures.some c.in_ok-digits.ensures.some.0 c.in_ok-digits.ensures.some.1 c.in_err-_rest.ensures.none)
-
-pub returns-clause-some : goal.returns-clause-some
-returns-clause-some c =
-    lost_made c.args.text.now _ c.in_ok-digits.digits.now c.in_ok-digits.after.now _ c.in_ok-number.number c.in_ok-inside.ensures.some c.in_ok-digits.ensures.some.0 c.in_ok-number.ensures.some c.in_ok-_rest.ensures.some

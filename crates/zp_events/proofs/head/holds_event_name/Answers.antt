@@ -1,8 +1,5 @@
-use Rattle.zp_events.proofs.HeldNames.{whole_line, name_found, colon_passed, name_missing}
+use Rattle.zp_events.proofs.HeldNames.{name_found, colon_passed, name_missing}
 use Rattle.zp_events.proofs.head.holds_event_name.Goals as goal
-
-pub colons-init : goal.colons-init
-colons-init c = whole_line c.args.line.now
 
 pub returns-then-ends_in_name : goal.returns-then-ends_in_name
 returns-then-ends_in_name c =

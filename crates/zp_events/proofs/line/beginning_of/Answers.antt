@@ -1,8 +1,5 @@
-use Rattle.zp_events.proofs.Colons.{nothing_passed, colon_passed, beginning_found, none_left}
+use Rattle.zp_events.proofs.Colons.{colon_passed, beginning_found, none_left}
 use Rattle.zp_events.proofs.line.beginning_of.Goals as goal
-
-pub colons-init : goal.colons-init
-colons-init c = nothing_passed c.args.line.now
 
 pub colons-preserved : goal.colons-preserved
 colons-preserved c =

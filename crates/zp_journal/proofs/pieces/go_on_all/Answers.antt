@@ -1,4 +1,4 @@
-use Rattle.std.proofs.Common.{◌<◌, ◌≤◌, [], arith, length}
+use Rattle.std.proofs.Common.{◌≤◌, [], arith, length}
 use Rattle.zp_journal.proofs.Replayed.{gone_none}
 use Rattle.zp_journal.proofs.Together.{gone_further, further_whole, illegal_whole}
 use Rattle.zp_journal.proofs.pieces.go_on_all.Goals as goal

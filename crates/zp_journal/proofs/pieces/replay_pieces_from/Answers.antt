@@ -1,4 +1,3 @@
-use Rattle.std.proofs.Common.{refl}
 use Rattle.zp_journal.specs.Pieces.{entries_of}
 use Rattle.zp_journal.proofs.Together.{replayed_whole}
 use Rattle.zp_journal.proofs.pieces.replay_pieces_from.Goals as goal

@@ -1,5 +1,5 @@
-use Rattle.std.proofs.Common.{◌≡◌, ◌*◌, ◌^◌, length, arith, sym, ap, subst, refl, ◌∙◌}
-use Rattle.zp_buddyinfo.specs.Figures.{suitable_blocks, free_pages, AreFreeBlocks}
+use Rattle.std.proofs.Common.{◌≡◌, ◌*◌, ◌^◌, length, arith, sym, ap, refl, ◌∙◌}
+use Rattle.zp_buddyinfo.specs.Figures.{suitable_blocks, free_pages}
 use Rattle.zp_buddyinfo.proofs.Made.{one_more, one_more-le, suitable_none, suitable_pages}
 use Rattle.zp_buddyinfo.proofs.index.FreeBlocks.suitable_blocks.Goals as goal
 
@@ -34,6 +34,3 @@ pub returns-clause-within : goal.returns-clause-within
 returns-clause-within c =
     let is : c.loop-next.suitable ≡ suitable_blocks c.args.self.now c.args.order = returns-clause-blocks c in
     omega (arith, ap (λ m. m * 2 ^ c.args.order) is, suitable_pages c.args.self.now c.args.order c.requires)
-
-pub returns-clause-sound : goal.returns-clause-sound
-returns-clause-sound c = subst AreFreeBlocks c.self.view_is c.self.invariant

@@ -2,7 +2,7 @@ use Rattle.std.proofs.Common.{ℕ, List, ◌≡◌, ◌≤◌, ◌<◌, ◌-◌,
 use Rattle.zp_events.specs.Words.{IsFirstPlace}
 use Rattle.zp_events.specs.Reading.{HasNoLineFeed, IsAhead, spot}
 use Rattle.zp_events.specs.declared.reading.TheConstants.{LONGEST_LINE}
-use Rattle.zp_events.proofs.Looking.{more_read, filled_read, failed_read, found_line, found_far, none_kept, long_kept, searched_kept, same_kept, rest_ahead, over}
+use Rattle.zp_events.proofs.Looking.{more_read, filled_read, found_line, found_far, none_kept, long_kept, searched_kept, same_kept, rest_ahead}
 use Rattle.zp_events.proofs.reading.Lines.peek.Goals as goal
 
 pub returns-in_err-line_within-clause-too_long : goal.returns-in_err-line_within-clause-too_long
@@ -31,22 +31,6 @@ returns-in_default-fill-clause-no_more g c = λ e.
     let none = none_kept c.reads.self.window c.reads.searched c.reads.invariant.none
     (subst (λ (b : List ℕ). HasNoLineFeed (take (length b - c.reads.searched) (drop c.reads.searched b))) c.bytes.ensures c.in_default.ensures.none) in
     subst HasNoLineFeed (sym c.in_default-fill.ensures.kept) none
-
-pub returns-in_default-fill-clause-read : goal.returns-in_default-fill-clause-read
-returns-in_default-fill-clause-read g c =
-    more_read _ _ _ c.reads.invariant.read
-    (failed_read c.reads.self.window c.fill.new.self (g.R.Reader.remaining c.reads.self.reader) (g.R.Reader.remaining c.fill.new.reader) c.reads.self.passed c.in_default-fill.ensures.kept c.in_default-fill.ensures.fault.0)
-
-pub returns-then-searched-eq0-clause-read : goal.returns-then-searched-eq0-clause-read
-returns-then-searched-eq0-clause-read g c =
-    more_read _ _ _ c.reads.invariant.read
-    (filled_read c.reads.self.window c.fill.new.self c.in-Ok.count (g.R.Reader.remaining c.reads.self.reader) (g.R.Reader.remaining c.fill.new.reader) c.reads.self.passed c.in-Ok.ensures.filled)
-
-pub returns-then-searched-eq0-clause-found : goal.returns-then-searched-eq0-clause-found
-returns-then-searched-eq0-clause-found g c =
-    let same = same_kept c.reads.self.window c.fill.new.self c.in-Ok.count (g.R.Reader.remaining c.reads.self.reader) (g.R.Reader.remaining c.fill.new.reader) c.in-Ok.ensures.filled c.if-count-eq0.true in
-    let size : length c.fill.new.self ≡ 0 = omega (arith, ap length same, ap length c.bytes-in-reads.ensures, c.in_ok-searched.ensures.ok.0, c.if-searched-eq0.true) in
-    over c.fill.new.self (g.R.Reader.remaining c.fill.new.reader) c.reads.self.passed size (c.in-Ok.ensures.filled.end c.if-count-eq0.true)
 
 pub returns-then-count-eq0-clause-found : goal.returns-then-count-eq0-clause-found
 returns-then-count-eq0-clause-found g c =
