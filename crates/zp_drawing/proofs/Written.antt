@@ -3,12 +3,8 @@ use Rattle.std.proofs.Common.{◌≡◌, ◌+◌, ◌-◌, ◌∙◌, ap, sym, m
 use Rattle.std.proofs.Common.{Result, Ok, Err, OnOk, append_assoc, length, take, drop, flat_map, zero-add, add-one}
 use Rattle.std.specs.List.{range_with_len}
 use Rattle.std.specs.Io.KnownBytes.{Appends}
-use Rattle.std.proofs.lemmas.List.{append-nil, flat_map_more, length-drop, take_all, take_min}
+use Rattle.std.proofs.lemmas.List.{flat_map_more, length-drop, take_all, take_min}
 use Rattle.zp_model.proofs.FirstFound.{range-snoc}
-
-pub Appends-nil : (a : Option (List ℕ)) → Appends a a []
-Appends-nil None = tt
-Appends-nil (Some x) = sym (append-nil x)
 
 pub Appends-then : (a b c : Option (List ℕ)) (bs cs : List ℕ) → Appends a b bs → Appends b c cs → Appends a c (bs ++ cs)
 Appends-then None b c bs cs p q = tt

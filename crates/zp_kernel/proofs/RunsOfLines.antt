@@ -26,10 +26,6 @@ module _ {S O : Type 0} (state : S → RunState O) (hears : O → List ℕ → O
   abbrev pub Taken : S → List (List ℕ) → S → Type 0
   Taken s lines t = AreTaken Carried Passed Dropped mode s lines t
 
-  -- these events more
-  abbrev ran : List PageEvent → PlainKernel → PlainKernel
-  ran events k = record k { state = after_events k.setting k.state events }
-
   -- the lines are counted
   counted : (lines : List (List ℕ)) (s t : S) → Taken s lines t → AreCounted (state s).lines lines (state t).lines
   unfolding AreTaken AreCounted

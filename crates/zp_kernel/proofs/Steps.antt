@@ -1,5 +1,5 @@
 -- What one line makes of a run.
-use Rattle.std.proofs.Common.{ℕ, ◌≡◌, List, Option, None, Some, Result, Ok, Err, IfSome, OnOk, refl, ap, subst}
+use Rattle.std.proofs.Common.{ℕ, ◌≡◌, List, Option, Some, Result, Ok, Err, IfSome, OnOk, refl, ap, subst}
 use Rattle.zp_events.specs.declared.event.PageEvent.{PageEvent}
 use Rattle.zp_kernel.specs.declared.line_counts.LineCounts.{LineCounts}
 use Rattle.zp_kernel.specs.declared.line_counts.Remark.{Remark}
@@ -18,11 +18,6 @@ at_any_rate (Ok a) p = p
 at_any_rate (Err e) p = tt
 
 module _ {O : Type 0} (hears : O → List ℕ → O → Type 0) (opens : O → PlainKernel → Type 0) where
-  -- zones that are open stay so
-  pub open_still : (o : O) (was : Option PlainKernel) → IfSome was (AreOpen opens o was)
-  open_still o None = tt
-  open_still o (Some k) = refl
-
   pub passes : {A E : Type 0} (r : Result A E) (o p : O) (k : Option PlainKernel) (c : LineCounts) (line : List ℕ) (remark : Remark) → IsRemark line remark → OnOk r (hears o line p) →
       (d : LineCounts) → d ≡ with_other remark c → OnOk r (Passes hears opens (record { onlooker = o; kernel = k; lines = c }) line (record { onlooker = p; kernel = k; lines = d }))
   passes r o p k c line remark is h d counted =

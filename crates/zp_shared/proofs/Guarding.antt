@@ -1,5 +1,5 @@
 -- A request of a share to the guarded zone at its place: what the zone, its journal, its board and the share are after it.
-use Rattle.std.proofs.Common.{ℕ, ◌≡◌, ◌≢◌, ◌<◌, ◌≤◌, ◌==◌, ◌+◌, ◌++◌, ◌⊎◌, inl, inr, Bool, true, false, leb, refl, sym, ◌∙◌, ap, subst, arith, cond, List, [], ◌∷◌, get_or, length, length-append, None, Some, ◌↔◌}
+use Rattle.std.proofs.Common.{ℕ, ◌≡◌, ◌≢◌, ◌<◌, ◌≤◌, ◌==◌, ◌+◌, ◌++◌, Bool, true, false, leb, refl, sym, ◌∙◌, ap, subst, arith, cond, List, [], ◌∷◌, get_or, length, length-append, None, Some, ◌↔◌}
 use Rattle.std.proofs.lemmas.Bool.{eqb-true, leb-false, leb-true}
 use Rattle.std.specs.Prelude.{IsTrue}
 use Rattle.std.proofs.Math.ListN.{get_or-map}
@@ -24,7 +24,7 @@ use Rattle.zp_counts.specs.CountBoards.{CountTie, CountsPublished, HoldsCounts}
 use Rattle.zp_model.specs.declared.constants.TheConstants.{NARROW_PAGES}
 use Rattle.zp_journal.specs.Journals.{counts_after}
 use Rattle.zp_share.specs.declared.sections_made.TheConstants.{LAST_SECTION}
-use Rattle.zp_share.specs.PlainShares.{lends, lends_for, refusal, refused_full}
+use Rattle.zp_share.specs.PlainShares.{lends_for, refusal}
 use Rattle.zp_share.specs.Sections.{ComesOf, IsAsked, IsReplyTo}
 use Rattle.zp_share.specs.ZoneShares.{ZoneShareState, SharesIn, IsLeft, IsSection, answered, opening_share, plain_share}
 use Rattle.zp_share.specs.Shares.{ShareState, ZoneKey, IsAskedAt, IsShareOf, no_key, no_tie, key_of, ties_of, share_at, with_zone_share, is_section, noted_at, no_seat}
@@ -150,27 +150,6 @@ unasked keys r q g s key fits none reply made = record {
   share = sym (ap (λ b. cond b (with_zone_share g.place (answered r q (share_at s g.place)) s) s) none);
   reply = reply;
 }
-
-one_of : (b : Bool) → (cond b JournalFull NotLent ≡ NotLent) ⊎ (cond b JournalFull NotLent ≡ JournalFull)
-one_of true = inr refl
-one_of false = inl refl
-
--- the refusal where there is no room is one to each request, and no section
-pub full_reply : (r : Request) (s t : ZoneShareState) → IsReplyTo r (refused_full r (plain_share s)) s t
-full_reply (Request.Alloc k u m) s t = inr (inr refl)
-full_reply (Request.AllocLow k) s t = inr refl
-full_reply (Request.Free p k) s t = one_of (lends (plain_share s) p k)
-full_reply (Request.Post p k to) s t = one_of (lends (plain_share s) p k)
-full_reply Request.Collect s t = inr refl
-full_reply (Request.Refill u m n) s t = inr (inr refl)
-full_reply (Request.Drain u ps) s t = refl
-full_reply (Request.Isolate b) s t = inr (inr refl)
-full_reply (Request.Release b u) s t = inr (inr refl)
-
-pub full_made : (lent full : Bool) (r : Request) (z : ZoneState) (a : ZoneShareState) → full ≡ true → ComesOf (refusal lent full) r (Reply.Refused (cond lent JournalFull NotLent)) z z a a
-full_made false full r z a f = (refl, record { zone = refl; share = refl })
-full_made true true r z a f = (refl, record { zone = refl; share = refl })
-full_made true false r z a f = absurd (cc)
 
 pub full_section : (lent : Bool) → is_section (Reply.Refused (cond lent JournalFull NotLent)) ≡ false
 full_section true = refl
@@ -324,15 +303,6 @@ module _ {X : Type 0} (capacity : X → ℕ → ℕ) (bounds : ℕ → ℕ → T
             };
       })
 
-  -- where there is no room
-  pub full_left : (keys : List ZoneKey) (boards : List BoardState) (r : Request) (g : GuardedZone) (p : Parts X) (s : ShareState) → AreGuarded keys boards p → IsShareOf keys s → guarded_of boards p ≡ g →
-      leb (room_of boards p) (length p.zone.entries) ≡ true → IsAskedUnderLock keys r (refused_full r (plain_share (share_at s p.place))) g g s s
-  full_left keys boards r g p s guarded fits view full =
-      let own = plain_share (share_at s p.place) in
-      subst (λ v. IsAskedUnderLock keys r (refused_full r own) v v s s) view
-      (unasked keys r (refused_full r own) (guarded_of boards p) s guarded.0 fits (full_section (lends_for r own)) (full_reply r (share_at s p.place) (share_at s p.place))
-      (full_made (lends_for r own) (is_journal_full (guarded_of boards p)) r p.zone (share_at s p.place) full))
-
   pub not_lent_left : (keys : List ZoneKey) (boards : List BoardState) (r : Request) (q : Reply) (g : GuardedZone) (p : Parts X) (y : ZoneState) (s t : ShareState) → AreGuarded keys boards p → IsShareOf keys s →
       guarded_of boards p ≡ g → leb (room_of boards p) (length p.zone.entries) ≡ false → room_of boards p ≤ LAST_SECTION → t ≡ with_zone_share p.place (share_at t p.place) s →
       IsAsked r q p.zone y (share_at s p.place) (share_at t p.place) → is_section q ≡ false → SharesIn y (share_at t p.place) →
@@ -355,23 +325,6 @@ module _ {X : Type 0} (capacity : X → ℕ → ℕ) (bounds : ℕ → ℕ → T
             unasked keys r q (guarded_of boards p) s guarded.0 fits none (subst (λ v. IsReplyTo r q (share_at s i) v) was.1.1.share x.reply)
             (subst (λ b. ComesOf (refusal b (is_journal_full (guarded_of boards p))) r q p.zone p.zone (share_at s i) (share_at s i)) (sym was.0) (was.1.0, record { zone = refl; share = refl }));
       })))
-
--- at another place's zone: what a worker's view says of the request
-pub strayed : (keys : List ZoneKey) (i : ℕ) (r : Request) (s : ShareState) → IsShareOf keys s → IsAskedAt i r (refused_full r (plain_share (share_at s i))) keys keys None None s s
-strayed keys i r s fits =
-    let own = plain_share (share_at s i) in
-    record {
-      keys = refl;
-      fits = fits;
-      share = sym (ap (λ b. cond b (with_zone_share i (answered r (refused_full r own) (share_at s i)) s) s) (full_section (lends_for r own)));
-      reply = full_reply r (share_at s i) (share_at s i);
-      not_lent = not_lent (lends_for r own);
-      told = λ rows e. absurd (cc);
-    }
-  where
-    not_lent : (b : Bool) → (Reply.Refused (cond b JournalFull NotLent) ≡ Reply.Refused NotLent) ↔ (b ≡ false)
-    not_lent true = (λ e. absurd (cc), λ e. absurd (cc))
-    not_lent false = (λ e. refl, λ e. refl)
 
 -- under the lock of a place it says what came of it there
 pub viewed : (keys : List ZoneKey) (i : ℕ) (r : Request) (q : Reply) (g h : GuardedZone) (s t : ShareState) → g.place ≡ i → IsAskedUnderLock keys r q g h s t → IsAskedAt i r q keys keys None None s t

@@ -1,5 +1,5 @@
 -- The places of a row, and what stands at them.
-use Rattle.std.proofs.Common.{ℕ, suc, ◌≡◌, ◌<◌, ◌+◌, All, Bool, true, false, not, List, [], ◌∷◌, ◌++◌, length, map, get_or, refl, sym, ap, ap₂, subst, ◌∙◌, arith, append_assoc, length-append}
+use Rattle.std.proofs.Common.{ℕ, suc, ◌≡◌, ◌<◌, ◌+◌, All, List, [], ◌∷◌, ◌++◌, length, map, get_or, refl, sym, ap, ap₂, subst, ◌∙◌, arith, append_assoc, length-append}
 use Rattle.std.specs.List.{AllZip, range_with_len}
 use Rattle.std.proofs.lemmas.List.FromFn.{get_or-range_with_len, length-range_with_len}
 use Rattle.std.proofs.lemmas.List.Elements.{AllZip-get_or}
@@ -77,10 +77,6 @@ zip_more R [] [] x y zip r = (r, zip)
 zip_more R [] (b ∷ ys) x y zip r = absurd zip
 zip_more R (a ∷ xs) [] x y zip r = absurd zip
 zip_more R (a ∷ xs) (b ∷ ys) x y zip r = (zip.0, zip_more R xs ys x y zip.1 r)
-
-pub not_false : (b : Bool) → not b ≡ false → b ≡ true
-not_false true e = refl
-not_false false e = let bad : true ≡ false = e in cc
 
 -- journals of zones with these keys are legal from the zones' openings
 pub legal_by_keys : (zs : List ZoneState) (js : List JournalState) → AllZip IsJournalOf zs js → AllZip IsLegalBy (map key_of zs) js

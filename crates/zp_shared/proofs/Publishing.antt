@@ -1,5 +1,5 @@
 -- Counts after the entries of a zone, as they are published: one entry more, the last of them, and what a reader took of them.
-use Rattle.std.proofs.Common.{ℕ, ◌≡◌, ◌<◌, ◌≤◌, ◌+◌, ◌-◌, ◌++◌, ◌⊎◌, inl, inr, List, [], ◌∷◌, Some, length, length-append, get_or, take, sym, ◌∙◌, ap, arith}
+use Rattle.std.proofs.Common.{ℕ, ◌≡◌, ◌<◌, ◌≤◌, ◌+◌, ◌-◌, ◌++◌, ◌⊎◌, inl, inr, List, [], ◌∷◌, Some, length, length-append, get_or, sym, ◌∙◌, ap, arith}
 use Rattle.std.specs.List.{slice_get}
 use Rattle.std.proofs.Math.Seq.{get_or-append_seam}
 use Rattle.std.proofs.lemmas.Bool.{cases_lt}
@@ -12,7 +12,7 @@ use Rattle.zp_model.specs.Info.{counts_of}
 use Rattle.zp_model.specs.Zone.{PlainZone}
 use Rattle.zp_model.specs.Run.{IsHistory, opening_of, run}
 use Rattle.zp_counts.specs.declared.reading.Reading.{Reading}
-use Rattle.zp_counts.specs.CountBoards.{IsReadingOf, counts_in, last_counts, last_reading}
+use Rattle.zp_counts.specs.CountBoards.{IsReadingOf, counts_in, last_counts}
 use Rattle.zp_counts.proofs.CountLists.{reading_kept}
 use Rattle.zp_journal.specs.Journals.{counts_after}
 use Rattle.zp_zone.specs.Seats.{ZoneState}
@@ -49,27 +49,6 @@ last_published z cs h p =
     p.each n (last_counts cs) last
     ∙ ap (λ l. let y : PlainZone = run (opening_of z.plain) l in counts_of y.area.largest y.area.free) (take_all n z.entries (omega arith))
     ∙ ap (λ (y : PlainZone). counts_of y.area.largest y.area.free) h.run
-
--- so they are the last reading, at the place of the last entry
-pub reading_published : (z : ZoneState) (cs : List Counts) → IsHistory z.plain z.entries → IsPublished z cs → last_reading cs ≡ record { counts = zone_counts z; place = length z.entries }
-reading_published z cs h p =
-    let at : length cs - 1 ≡ length z.entries = omega (arith, p.many) in
-    λ j. record { counts = last_published z cs h p j; place = at j }
-
--- before its first entry a zone's counts are those of its opening
-pub opening_published : (z : ZoneState) → z.entries ≡ [] → IsHistory z.plain z.entries → IsPublished z (zone_counts z ∷ [])
-opening_published z none h = record {
-  many = omega (arith, ap length none);
-  each = λ i c at. go i c at (slice_get_within (zone_counts z ∷ []) i c at);
-}
-  where
-    go : (i : ℕ) (c : Counts) → slice_get (zone_counts z ∷ []) i ≡ Some c → i < 1 → c ≡ counts_after (opening_of z.plain) z.entries i
-    go i c at lt =
-        let zeroth : i ≡ 0 = omega arith in
-        sym (get_or_from_slice_get (zone_counts z ∷ []) i c c at)
-        ∙ ap (λ k. get_or (zone_counts z ∷ []) k c) zeroth
-        ∙ ap (λ (y : PlainZone). counts_of y.area.largest y.area.free) (sym h.run ∙ ap (run (opening_of z.plain)) none)
-        ∙ ap (λ l. let y : PlainZone = run (opening_of z.plain) l in counts_of y.area.largest y.area.free) (sym (ap (take i) none ∙ ap (λ k. take k []) zeroth))
 
 -- what a reader took of the first of them is counts after so many entries
 pub taken_published : (z : ZoneState) (seen cs : List Counts) (r : Reading) → IsPublished z cs → IsPrefix seen cs → IsReadingOf seen r → IsCountsOf z r
