@@ -1,21 +1,18 @@
 -- A block that comes back and grows: what is kept beside the lists, buddy by buddy, and what the set is then.
-use Rattle.std.proofs.Common.{ℕ, zero, suc, ◌+◌, ◌-◌, ◌*◌, ◌/◌, ◌^◌, ◌≡◌, ◌≤◌, ◌<◌, ◌⊎◌, inl, inr, refl, sym, ◌∙◌, ap, subst, arith, bit_xor, List, length, set, get_or, get_or-set_same, length-set, Option, None, Some, IfNone, IfSome}
+use Rattle.std.proofs.Common.{ℕ, zero, suc, ◌+◌, ◌-◌, ◌/◌, ◌^◌, ◌≡◌, ◌≤◌, ◌<◌, ◌⊎◌, inl, inr, refl, sym, ◌∙◌, ap, subst, arith, List, length, set, get_or, get_or-set_same, length-set, Option, None}
 use Rattle.std.specs.List.{slice_index}
 use Rattle.std.proofs.lemmas.Nat.{pow_pos}
 use Rattle.std.proofs.lemmas.Bool.{cases_lt}
 use Rattle.std.proofs.lemmas.List.{map-set, set-get_or, set-set, set_past}
 use Rattle.zp_model.specs.declared.pageblock_type.PageblockType.{PageblockType}
-use Rattle.zp_model.specs.declared.state.State.TheVariants.{Free, Tail}
-use Rattle.zp_model.specs.declared.constants.TheConstants.{LARGEST_ORDER, MAX_PAGES}
+use Rattle.zp_model.specs.declared.state.State.TheVariants.{Tail}
 use Rattle.zp_model.specs.Block.{head, IsBlock, IsBuddy}
 use Rattle.zp_model.specs.BlockSet.{Starts}
-use Rattle.zp_model.specs.Rows.{state_at}
 use Rattle.zp_model.specs.Area.{pageblock_pages, kind_at}
-use Rattle.zp_model.proofs.Heads.{two, head_aligned, head_le, lt_head, head_of, head_self, number_around}
+use Rattle.zp_model.proofs.Heads.{two, head_le, lt_head, head_of, head_self, number_around}
 use Rattle.zp_model.proofs.Pages.{run_cases}
 use Rattle.zp_tree.specs.Blocks.{with_block, buddy, without_buddies, joined_set, HasBuddies}
 use Rattle.zp_tree.proofs.Apart.{clear-starts}
-use Rattle.zp_tree.proofs.BuddyPlaces.{buddy_is, buddy_within, sides, turned_last}
 use Rattle.zp_area.specs.Given.{IsClearRun}
 use Rattle.zp_area.specs.NotedBlocks.{free_order}
 use Rattle.zp_area.specs.Blocks.{Blocks, block_set, added, removed}
@@ -70,34 +67,6 @@ buddy_unique b j c d e f x y =
     let dx : head b (j + 1) ≡ d = head_of d b (j + 1) x.double (omega (arith, two j)) (omega (arith, two j)) in
     let dy : head b (j + 1) ≡ f = head_of f b (j + 1) y.double (omega (arith, two j)) (omega (arith, two j)) in
     omega arith
-
--- the buddy of the block around a page, by the block's number among those of its order
-pub turned_around : (p j : ℕ) → IsBuddy (head p j) j (bit_xor (p / 2 ^ j) 1 * 2 ^ j) (head p (j + 1))
-turned_around p j =
-    let e : bit_xor (p / 2 ^ j) 1 * 2 ^ j ≡ buddy p j = ap (λ n. n * 2 ^ j) (turned_last (p / 2 ^ j)) ∙ sym (buddy_is p j) in
-    rw e record {
-      double = head_aligned p (j + 1);
-      halves = elim (sides p j) [ inl low ↦ inl (low.0, low.1) | inr high ↦ inr (high.1, high.0) ];
-    }
-
-pub around_fits : (p j : ℕ) → j < LARGEST_ORDER → p < MAX_PAGES → bit_xor (p / 2 ^ j) 1 * 2 ^ j < MAX_PAGES
-around_fits p j lt fits =
-    let e : bit_xor (p / 2 ^ j) 1 * 2 ^ j ≡ buddy p j = ap (λ n. n * 2 ^ j) (turned_last (p / 2 ^ j)) ∙ sym (buddy_is p j) in
-    let z : head p 24 ≡ 0 = head_of 0 p 24 (omega arith) (omega arith) fits in
-    omega (arith, e, z, (buddy_within p j 24 (omega arith)).1, pow_pos j)
-
--- the free buddy of the block around a page can be joined with it, and where there is none, none can
-pub next_joinable : (m : ℕ) (b : Blocks) (p j : ℕ) (r : Option ℕ) → IfSome r (λ c. (j < m) × IsBuddy (head p j) j c (head p (j + 1)) × (state_at b.rows.states c ≡ Free j)) → IfSome r (λ c. IsJoinable m b (head p j) j c (head p (j + 1)))
-next_joinable m b p j None h = tt
-next_joinable m b p j (Some c) h = record { order = h.0; buddy = h.1; free = h.2 }
-
-pub none_joinable : (m : ℕ) (b : Blocks) (p j : ℕ) (r : Option ℕ) → IfNone r (j < m → (c d : ℕ) → IsBuddy (head p j) j c d → state_at b.rows.states c ≡ Free j → ⊥) → IfNone r ((c d : ℕ) → IsJoinable m b (head p j) j c d → ⊥)
-none_joinable m b p j None h = λ c d y. h y.order c d y.buddy y.free
-none_joinable m b p j (Some c) h = tt
-
-pub none_left : {A : Type 0} (r : Option ℕ) → ((c : ℕ) → r ≡ Some c → ⊥) → IfNone r A → A
-none_left None h a = a
-none_left (Some c) h a = absurd (h c refl)
 
 -- a block of the set without some buddies was there before
 starts_before : (d : ℕ) (s : List (Option ℕ)) (h k p i : ℕ) → Starts (without_buddies s h k d) p i → Starts s p i

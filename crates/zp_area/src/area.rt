@@ -21,7 +21,7 @@ ghost use Rattle.zp_model.specs.declared.constants.TheConstants.{MAX_PAGES};
 ghost use Rattle.zp_model.specs.declared.pageblock_type.PageblockType.TheVariants.{Movable};
 ghost use Rattle.zp_model.specs.PageblockType.{pageblock_type};
 ghost use Rattle.zp_model.specs.declared.state.State.TheVariants.{Free};
-ghost use Rattle.zp_model.specs.Block.{IsBlock, has, head, size};
+ghost use Rattle.zp_model.specs.Block.{IsBlock, has, size};
 ghost use Rattle.zp_model.specs.BlockSet.{Starts, cover, lowest, largest_in};
 ghost use Rattle.zp_model.specs.Rows.{IsLoose, IsOn, IsRow, after, front, state_at};
 ghost use Rattle.zp_model.specs.Described.{IsLinkedAt};
@@ -30,7 +30,7 @@ ghost use Rattle.zp_model.specs.Area.{available, is_isolated, kind_at, list_numb
 ghost use Rattle.zp_tree.specs.Blocks.{IsBeside};
 ghost use Rattle.zp_area.specs.Given.{IsClearRun};
 ghost use Rattle.zp_area.specs.Blocks.{block_set, count_of, free_list_of, free_lists, side_list_of, no_blocks, added, removed, noted, side_pushed, side_popped};
-ghost use Rattle.zp_area.specs.Chains.{split_off, IsJoinable, IsJoinedUp};
+ghost use Rattle.zp_area.specs.Chains.{split_off, IsJoinedUp};
 ghost use Rattle.zp_area.specs.Retyped.{retyped};
 ghost use Rattle.zp_area.specs.OneSet.{IsOneSet};
 ghost use Rattle.zp_area.specs.Available.{choosable};
@@ -230,24 +230,24 @@ impl FreeArea {
         requires clear { IsClearRun self.old.largest self.old.rows.states self.old.rows.lists at order }
         ensures { (d : ℕ) × IsJoinedUp d self.old.largest self.old at order self.new }
     {
-        match joins::free_buddy(&self.blocks.lists, self.blocks.largest, at, order) {
-            Some(buddy) => self.join_buddies(at, order, buddy),
-            None => self.add(at, order),
+        if joins::has_free_buddy(&self.blocks.lists, self.blocks.largest, at, order) {
+            self.join_buddies(at, order);
+        } else {
+            self.add(at, order);
         }
     }
 
-    /// The same of a block that is joined, first with this buddy.
+    /// The same of a block that is joined.
     // (out of line, as most blocks have no free buddy)
     #[inline(never)]
-    fn join_buddies(&mut self, at: PageAt, order: Order, buddy: PageAt)
+    fn join_buddies(&mut self, at: PageAt, order: Order)
         requires block { IsBlock self.old.largest (length self.old.rows.states) at order }
         requires clear { IsClearRun self.old.largest self.old.rows.states self.old.rows.lists at order }
-        requires free { IsJoinable self.old.largest self.old at order buddy (head at (order + 1)) }
         ensures { (d : ℕ) × IsJoinedUp d self.old.largest self.old at order self.new }
     {
         let pageblock = self.blocks.largest.pageblock_of(at);
         let kind = self.blocks.kinds[pageblock];
-        joins::join_up(&mut self.blocks, pageblock, kind, at, order, buddy);
+        joins::join_up(&mut self.blocks, pageblock, kind, at, order);
         count_isolated(&mut self.isolated, kind, order);
         noting::changed(&mut self.noted, &self.blocks, pageblock);
     }

@@ -1,13 +1,12 @@
 //! Joining a block that comes back with its free buddies, as one change of what is kept beside the lists.
 //!
 //! In Linux: `__free_one_page`, with `page_is_buddy`.
-ghost use Rattle.std.specs.Prelude.{◌≡◌, ◌+◌, ◌/◌, ◌%◌, ◌^◌, ◌↔◌, ◌<◌, ℕ, false, length, slice_index, slice_set, IfNone, IfSome, IsTrue};
+ghost use Rattle.std.specs.Prelude.{◌≡◌, ◌+◌, ◌/◌, ◌%◌, ◌^◌, ◌↔◌, ◌<◌, ℕ, false, length, slice_index, slice_set, IsTrue};
 ghost use Rattle.zp_model.specs.declared.state.State.TheVariants.{Free};
-ghost use Rattle.zp_model.specs.Block.{IsBlock, IsBuddy, head};
-ghost use Rattle.zp_model.specs.declared.constants.TheConstants.{LARGEST_ORDER};
+ghost use Rattle.zp_model.specs.Block.{IsBlock, IsBuddy};
 ghost use Rattle.zp_model.specs.Rows.{state_at};
 ghost use Rattle.zp_model.specs.Area.{kind_at, pageblock_pages};
-ghost use Rattle.zp_area.specs.Chains.{IsJoinable, IsJoinedUp};
+ghost use Rattle.zp_area.specs.Chains.{IsJoinedUp};
 ghost use Rattle.zp_area.specs.Given.{IsClearRun};
 ghost use Rattle.zp_area.specs.KeptSets.{set_of};
 ghost use Rattle.zp_area.specs.OneSet.{IsKept};
@@ -27,35 +26,17 @@ pub fn is_free(lists: &Lists, at: PageAt, order: Order) -> bool
     at.index() < lists.pages() && lists.holds(at, State::Free(order))
 }
 
-/// The buddy of the block of this order around a page.
-// (one shift down and one up: the block's own head is not needed)
-#[inline(always)]
-fn buddy_around(at: PageAt, order: Order) -> PageAt
-    requires { order < LARGEST_ORDER }
-    ensures { IsBuddy (head at order) order result (head at (order + 1)) }
+/// Whether a block has a free buddy, with which it makes a larger one.
+pub fn has_free_buddy(lists: &Lists, largest: Largest, at: PageAt, order: Order) -> bool
+    requires { at % 2 ^ order ≡ 0 }
+    ensures some { IsTrue result → (c : ℕ) × (d : ℕ) × (order < largest) × IsBuddy at order c d × (state_at lists.now.states c ≡ Free order) }
+    ensures none { result ≡ false → order < largest → (c d : ℕ) → IsBuddy at order c d → state_at lists.now.states c ≡ Free order → ⊥ }
 {
-    PageAt::at(((at.number() >> order.number()) ^ 1) << order.number())
+    order.number() < largest.number() && is_free(lists, at.buddy(order), order)
 }
 
-/// The free buddy of the block of this order around a page, where it has one, with which it makes a larger block.
-#[inline(always)]
-pub fn free_buddy(lists: &Lists, largest: Largest, at: PageAt, order: Order) -> Option<PageAt>
-    ensures some { IfSome result (λ c. (order < largest) × IsBuddy (head at order) order c (head at (order + 1)) × (state_at lists.now.states c ≡ Free order)) }
-    ensures none { IfNone result (order < largest → (c d : ℕ) → IsBuddy (head at order) order c d → state_at lists.now.states c ≡ Free order → ⊥) }
-{
-    if order.number() >= largest.number() {
-        return None;
-    }
-    let buddy = buddy_around(at, order);
-    if is_free(lists, buddy, order) {
-        Some(buddy)
-    } else {
-        None
-    }
-}
-
-/// Takes a block into the set, joined with its buddies as long as they are free, of which this is the first. Each leaves its list; the head
-/// of what the block has grown to comes on a list last, and in the tree all is one change, where the pageblock, which has this type, is not isolated.
+/// Takes a block into the set, joined with its buddies as long as they are free. Each leaves its list; the head of what the block
+/// has grown to comes on a list last, and in the tree all is one change, where the pageblock, which has this type, is not isolated.
 #[inline(always)]
 pub fn join_up(
     blocks: &mut KeptBlocks,
@@ -63,7 +44,6 @@ pub fn join_up(
     kind: PageblockType,
     at: PageAt,
     order: Order,
-    buddy: PageAt,
 )
     requires kept { IsKept blocks.old.largest (set_of blocks.old) blocks.old.free_in.items }
     requires told { blocks.old.tree ≡ choosable blocks.old.largest (set_of blocks.old) }
@@ -71,7 +51,6 @@ pub fn join_up(
     requires here { pageblock ≡ at / pageblock_pages blocks.old.largest }
     requires block { IsBlock blocks.old.largest (length blocks.old.lists.states) at order }
     requires clear { IsClearRun blocks.old.largest blocks.old.lists.states blocks.old.lists.lists at order }
-    requires free { IsJoinable blocks.old.largest (set_of blocks.old) at order buddy (head at (order + 1)) }
     ensures kept { IsKept blocks.old.largest (record (set_of blocks.old) { rows = blocks.new.lists }) blocks.new.free_in.items }
     ensures told { blocks.new.tree ≡ choosable blocks.old.largest (record (set_of blocks.old) { rows = blocks.new.lists }) }
     ensures stays { (blocks.new.largest ≡ blocks.old.largest) × (blocks.new.kinds ≡ blocks.old.kinds) }
@@ -88,14 +67,17 @@ pub fn join_up(
         ..
     } = blocks;
     free_in[pageblock] += order.pages();
+    let mut head = at;
     let mut joined = order;
-    let mut next = Some(buddy);
-    'joins: while let Some(buddy) = next {
+    'joins: while joined.number() < largest.number() {
+        let buddy = head.buddy(joined);
+        if !is_free(lists, buddy, joined) {
+            break;
+        }
         take_out(lists, kind, buddy, joined);
+        head = PageAt::at(head.number().min(buddy.number()));
         joined = joined.higher();
-        next = free_buddy(lists, largest, at, joined);
     }
-    let head = at.head(joined);
     tell_joined(tree, kind, at, order, joined);
     put_in(lists, kind, head, joined);
 }
