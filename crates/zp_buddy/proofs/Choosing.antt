@@ -15,7 +15,6 @@ use Rattle.zp_model.specs.Area.{Area, list_number, lists_count, free_list, kind_
 use Rattle.zp_model.specs.Choose.{own, claim, borrow, least_movable_claim, claim_pages, is_claimable}
 use Rattle.zp_model.specs.Frames.{Frames}
 use Rattle.zp_model.proofs.Settles.{stands_cases, stands_later}
-use Rattle.zp_laws.proofs.Choosing.{or_None}
 use Rattle.zp_area.specs.Blocks.{Blocks, block_set, free_list_of}
 use Rattle.zp_area.specs.Claims.{is_half_free, IsInClaimable, IsLargestClaimable}
 use Rattle.zp_area.specs.OneSet.{IsOneSet}

@@ -1,5 +1,4 @@
-use Rattle.std.proofs.Common.{ℕ, ◌+◌, ◌^◌, ◌≡◌, ◌<◌, ◌/◌, min, refl, ◌∙◌, ap, cond, false, length, List, set, slice_index, arith}
-use Rattle.std.proofs.lemmas.Bool.{both_ways}
+use Rattle.std.proofs.Common.{ℕ, ◌+◌, ◌^◌, ◌≡◌, ◌<◌, ◌/◌, refl, ◌∙◌, ap, cond, false, length, List, set, slice_index, arith}
 use Rattle.std.proofs.Math.Pow.{pow_mono}
 use Rattle.zp_model.specs.PageblockType.{is_isolate}
 use Rattle.zp_model.specs.declared.pageblock_type.PageblockType.{PageblockType}

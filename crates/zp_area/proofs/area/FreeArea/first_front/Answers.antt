@@ -1,5 +1,4 @@
 use Rattle.std.proofs.Common.{◌+◌, ◌-◌, ◌≤◌, ◌≡◌, ◌∙◌, ap, sym, Some, arith}
-use Rattle.zp_model.specs.Area.{list_number}
 use Rattle.zp_model.specs.Rows.{front, list_at}
 use Rattle.zp_model.proofs.FirstFound.{first_none, first_some}
 use Rattle.zp_area.specs.Blocks.{free_list_of}
