@@ -29,7 +29,7 @@ ghost use Rattle.zp_model.specs.Frames.{IsNote};
 ghost use Rattle.zp_model.specs.Area.{available, is_isolated, kind_at, list_number, lists_count, pageblock_pages, size_in};
 ghost use Rattle.zp_tree.specs.Blocks.{IsBeside};
 ghost use Rattle.zp_area.specs.Given.{IsClearRun};
-ghost use Rattle.zp_area.specs.Blocks.{block_set, count_of, free_list_of, free_lists, side_list_of, no_blocks, added, removed, noted, side_pushed, side_popped};
+ghost use Rattle.zp_area.specs.Blocks.{block_set, count_of, free_list_of, free_lists, side_list_of, no_blocks, added, removed, noted, noted_run, side_pushed, side_popped};
 ghost use Rattle.zp_area.specs.Chains.{IsJoinable, split_off, IsJoinedUp};
 ghost use Rattle.zp_area.specs.Retyped.{retyped};
 ghost use Rattle.zp_area.specs.OneSet.{IsOneSet};
@@ -453,6 +453,17 @@ impl FreeArea {
         ensures still_clear { (h k : ℕ) → IsClearRun self.old.largest self.old.rows.states self.old.rows.lists h k → IsClearRun self.old.largest self.new.rows.states self.new.rows.lists h k }
     {
         self.blocks.lists.set_state(at, state);
+    }
+
+    /// Notes this of each page of a clear run. Such pages are on no list, so that each entry is written whole.
+    #[inline(always)]
+    pub fn hold_run(&mut self, at: PageAt, order: Order, state: State)
+        requires run { at + 2 ^ order ≤ length self.old.rows.states }
+        requires clear { IsClearRun self.old.largest self.old.rows.states self.old.rows.lists at order }
+        requires note { IsNote state }
+        ensures { self.new ≡ noted_run self.old at (2 ^ order) state }
+    {
+        self.blocks.lists.set_run(at, order.pages(), state);
     }
 
     /// What is noted of a page.
