@@ -27,9 +27,11 @@ fn expect_blocks(
     most_reads: u64,
     largest: u8,
     lowest: &[(u8, Option<(u32, u8)>)],
-) {
+)
+    ensures { tree.new ≡ tree.old }
+{
     assert!(rt; tree.largest().map(Order::number) == Some(largest));
-    for &(least, wanted) in lowest {
+    'orders: for &(least, wanted) in lowest {
         let mut meter = Meter::new();
         let found = tree.lowest(order_from(rt, least), &mut meter);
         let found = found.map(|(at, order)| (at.number(), order.number()));

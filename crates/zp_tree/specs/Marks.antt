@@ -139,8 +139,8 @@ pub record IsReranked (ls hs rs ts : List ℕ) (g : ℕ) : Type 0 where
   pub after : ts ≡ slice_set rs g rank
   pub is : IsRankOf ls hs g rank
 
--- the ranks serve a search for blocks of order k or more, where that of group x alone may be too large: it was reckoned anew, or k is at most
--- 5 and x has such a block
+-- the ranks serve a search for blocks of order k or more, though that of group x may have been too large: it was reckoned anew, or k is at
+-- most 5. A group whose rank is too large has a block of order 5 or more
 abbrev pub IsFit : List ℕ → List ℕ → List ℕ → List ℕ → ℕ → ℕ → Type 0
 IsFit ls hs rs ts x k = ((k ≤ WORD_LEVELS) × (ts ≡ rs)) ⊎ IsReranked ls hs rs ts x
 
