@@ -48,7 +48,8 @@ impl UntiedZone {
             };
             let (next, order) = part;
             put_part(&mut pages, got as usize, next, order);
-            got += order.pages();
+            let more = order.pages();
+            got += more;
         }
         let mut batch = ArrayVec::from(pages);
         batch.truncate(got as usize);

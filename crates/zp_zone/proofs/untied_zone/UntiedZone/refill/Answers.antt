@@ -32,7 +32,7 @@ pub parts-preserved : goal.parts-preserved
 parts-preserved c =
     let i = c.parts.invariant in
     let a = c.in-Ok.ensures in
-    let n : c.parts.got + c.pages-got-in-parts.result ≡ c.parts.got + 2 ^ c.in-Ok.part.1 = omega (arith, c.pages-got-in-parts.ensures.pages) in
+    let n : c.parts.got + c.pages-more.result ≡ c.parts.got + 2 ^ c.in-Ok.part.1 = omega (arith, c.pages-more.ensures.pages) in
     let long : length (take c.parts.got c.parts.pages) ≡ c.parts.got = length-take-le c.parts.got c.parts.pages (omega (arith, i.all, i.most, c.requires.batch)) in
     let room : c.parts.got + 2 ^ c.in-Ok.part.1 ≤ c.args.count = omega (arith, a.most, c.from-in-parts-2.ensures, c.parts-test.true, c.from-in-parts.ensures) in
     record {
