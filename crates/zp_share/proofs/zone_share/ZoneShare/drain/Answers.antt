@@ -1,4 +1,4 @@
-use Rattle.std.proofs.Common.{◌≡◌, ◌==◌, length, sym, ◌∙◌, ap, subst, refl, rules, true, false}
+use Rattle.std.proofs.Common.{◌≡◌, ◌==◌, sym, ◌∙◌, ap, subst, refl, rules, true, false}
 use Rattle.std.specs.Prelude.{slice_set}
 use Rattle.zp_model.specs.MigrateType.{type_number}
 use Rattle.zp_model.specs.Rows.{list_at}
