@@ -66,10 +66,7 @@ const HISTORIES: [History<'static>; 5] = [
             ),
             (
                 1,
-                Ask::Drain(
-                    MOVABLE,
-                    &[5, 4, 7, 6, 15, 14, 13, 12, 2, 3, 0, 1, 8, 9, 10],
-                ),
+                Ask::Drain(MOVABLE, &[5, 4, 7, 6, 15, 14, 13, 12, 2, 3, 0, 1, 8, 9, 10]),
                 Said::Drained,
             ),
         ],
@@ -119,11 +116,7 @@ const HISTORIES: [History<'static>; 5] = [
         asked: &[
             (0, Ask::Isolate(0), Said::Isolated),
             (0, Ask::Release(0, UNMOVABLE), Said::Released),
-            (
-                0,
-                Ask::Refill(4, Mark::Any),
-                Said::Pages(&[0, 1, 2, 3]),
-            ),
+            (0, Ask::Refill(4, Mark::Any), Said::Pages(&[0, 1, 2, 3])),
             (0, Ask::Low(2), Said::Block(4, 2, MOVABLE)),
         ],
         free: 1016,
@@ -142,11 +135,7 @@ const HISTORIES: [History<'static>; 5] = [
         asked: &[
             (0, Ask::Isolate(0), Said::Isolated),
             (0, Ask::Release(0, UNMOVABLE), Said::Released),
-            (
-                0,
-                Ask::Refill(3, Mark::Any),
-                Said::Pages(&[0, 1, 2]),
-            ),
+            (0, Ask::Refill(3, Mark::Any), Said::Pages(&[0, 1, 2])),
             (0, Ask::Low(0), Said::Block(3, 0, UNMOVABLE)),
         ],
         free: 4,
