@@ -9,6 +9,7 @@ use Rattle.zp_model.specs.declared.state.State.TheVariants.{Tail, Free}
 use Rattle.zp_model.specs.BlockSet.{is_order}
 use Rattle.zp_model.specs.Rows.{Rows, list_at, with_list, with_state, without_page, rest}
 use Rattle.zp_model.specs.Area.{list_number, lists_count, kind_at, pageblocks_of}
+use Rattle.zp_table.specs.Entries.{with_run}
 use Rattle.zp_area.specs.NotedBlocks.{blocks_of}
 
 pub record Blocks : Type 0 where
@@ -71,6 +72,10 @@ removed m a h k = record a { rows = with_state (taken_off a.rows (list_of_block 
 -- with another note of page h
 abbrev pub noted : Blocks → ℕ → State → Blocks
 noted a h s = record a { rows = with_state a.rows h s }
+
+-- and of so many pages from h on
+abbrev pub noted_run : Blocks → ℕ → ℕ → State → Blocks
+noted_run a h n s = record a { rows = record a.rows { states = with_run a.rows.states h n s } }
 
 -- with page h at the end of a further list, and without the page in front of one
 abbrev pub side_pushed : ℕ → Blocks → ℕ → ℕ → Blocks

@@ -16,21 +16,21 @@
 //!
 //! Cost: each split or join is one list operation of a constant number of steps, at most as many as the largest order. `retype` steps over
 //! the pages of one pageblock. Where 64 pageblocks are marked, a change that marks one more looks at another one first.
-ghost use Rattle.std.specs.Prelude.{ℕ, ◌≡◌, ◌<◌, ◌≤◌, ◌+◌, ◌^◌, ◌*◌, ◌/◌, ◌↔◌, false, length, slice_index_or, IfOk, Some, IfSome, IsTrue};
+ghost use Rattle.std.specs.Prelude.{ℕ, ◌≡◌, None, ◌<◌, ◌≤◌, ◌+◌, ◌^◌, ◌*◌, ◌/◌, ◌↔◌, false, length, slice_index_or, IfOk, Some, IfNone, IfSome, IsTrue};
 ghost use Rattle.zp_model.specs.declared.constants.TheConstants.{MAX_PAGES};
 ghost use Rattle.zp_model.specs.declared.pageblock_type.PageblockType.TheVariants.{Movable};
 ghost use Rattle.zp_model.specs.PageblockType.{pageblock_type};
 ghost use Rattle.zp_model.specs.declared.state.State.TheVariants.{Free};
 ghost use Rattle.zp_model.specs.Block.{IsBlock, has, size};
-ghost use Rattle.zp_model.specs.BlockSet.{Starts, cover, lowest, largest_in};
+ghost use Rattle.zp_model.specs.BlockSet.{Starts, cover, first_of, orders_from, lowest, largest_in};
 ghost use Rattle.zp_model.specs.Rows.{IsLoose, IsOn, IsRow, after, front, state_at};
 ghost use Rattle.zp_model.specs.Described.{IsLinkedAt};
 ghost use Rattle.zp_model.specs.Frames.{IsNote};
 ghost use Rattle.zp_model.specs.Area.{available, is_isolated, kind_at, list_number, lists_count, pageblock_pages, size_in};
 ghost use Rattle.zp_tree.specs.Blocks.{IsBeside};
 ghost use Rattle.zp_area.specs.Given.{IsClearRun};
-ghost use Rattle.zp_area.specs.Blocks.{block_set, count_of, free_list_of, free_lists, side_list_of, no_blocks, added, removed, noted, side_pushed, side_popped};
-ghost use Rattle.zp_area.specs.Chains.{split_off, IsJoinedUp};
+ghost use Rattle.zp_area.specs.Blocks.{block_set, count_of, free_list_of, free_lists, side_list_of, no_blocks, added, removed, noted, noted_run, side_pushed, side_popped};
+ghost use Rattle.zp_area.specs.Chains.{IsJoinable, split_off, IsJoinedUp};
 ghost use Rattle.zp_area.specs.Retyped.{retyped};
 ghost use Rattle.zp_area.specs.OneSet.{IsOneSet};
 ghost use Rattle.zp_area.specs.Available.{choosable};
@@ -47,7 +47,9 @@ use std::alloc::{AllocError, Global};
 use std::marker::Model;
 use zp_claims::{ClaimTable, StaleSet};
 use zp_links::Lists;
-use zp_model::{Largest, MAX_PAGES, MigrateType, Order, PageAt, PageblockType, State};
+use zp_model::{
+    Largest, MAX_PAGES, MigrateType, Order, PAGEBLOCK_TYPES, PageAt, PageblockType, State,
+};
 use zp_table::PageTable;
 use zp_tree::{Meter, OrderTree};
 
@@ -243,6 +245,7 @@ impl FreeArea {
     fn join_buddies(&mut self, at: PageAt, order: Order)
         requires block { IsBlock self.old.largest (length self.old.rows.states) at order }
         requires clear { IsClearRun self.old.largest self.old.rows.states self.old.rows.lists at order }
+        requires joined { (c : ℕ) × (d : ℕ) × IsJoinable self.old.largest self.old at order c d }
         ensures { (d : ℕ) × IsJoinedUp d self.old.largest self.old at order self.new }
     {
         let pageblock = self.blocks.largest.pageblock_of(at);
@@ -369,6 +372,29 @@ impl FreeArea {
         self.blocks.lists.front(list_of(order, kind))
     }
 
+    /// The head in front of the first list of this type that is not empty, from an order on, and the order of that list.
+    #[inline(always)]
+    pub fn first_front(&self, order: Order, kind: PageblockType) -> Option<(PageAt, Order)>
+        ensures none { IfNone result (first_of (λ o. front (free_list_of self.now.largest self.now o kind)) (orders_from self.now.largest order) ≡ None) }
+        ensures some { IfSome result (λ b. first_of (λ o. front (free_list_of self.now.largest self.now o kind)) (orders_from self.now.largest order) ≡ Some b.0) }
+        ensures starts { IfSome result (λ b. Starts (block_set self.now) b.0 b.1 × (order ≤ b.1)) }
+        ensures typed { IfSome result (λ b. kind ≡ kind_at self.now.largest self.now.kinds b.0) }
+    {
+        let largest = self.blocks.largest.number();
+        let lists = &self.blocks.lists;
+        let mut number = order.number();
+        // (counted up, as a product in the loop costs more)
+        let mut list = list_of(order, kind);
+        'orders: while number <= largest {
+            if let Some(head) = lists.front(list) {
+                return Some((head, Order::at(number)));
+            }
+            number += 1;
+            list += PAGEBLOCK_TYPES;
+        }
+        None
+    }
+
     /// The head after this one on the list of an order and a type.
     pub fn after(&self, order: Order, kind: PageblockType, at: PageAt) -> Option<PageAt>
         requires { IsOn (free_lists self.now.largest self.now) (list_number order kind) at }
@@ -426,6 +452,17 @@ impl FreeArea {
         ensures still_clear { (h k : ℕ) → IsClearRun self.old.largest self.old.rows.states self.old.rows.lists h k → IsClearRun self.old.largest self.new.rows.states self.new.rows.lists h k }
     {
         self.blocks.lists.set_state(at, state);
+    }
+
+    /// Notes this of each page of a clear run. Such pages are on no list, so that each entry is written whole.
+    #[inline(always)]
+    pub fn hold_run(&mut self, at: PageAt, order: Order, state: State)
+        requires run { at + 2 ^ order ≤ length self.old.rows.states }
+        requires clear { IsClearRun self.old.largest self.old.rows.states self.old.rows.lists at order }
+        requires note { IsNote state }
+        ensures { self.new ≡ noted_run self.old at (2 ^ order) state }
+    {
+        self.blocks.lists.set_run(at, order.pages(), state);
     }
 
     /// What is noted of a page.

@@ -2,11 +2,12 @@
 //!
 //! In Linux: `__free_one_page`, with `page_is_buddy`.
 ghost use Rattle.std.specs.Prelude.{◌≡◌, ◌+◌, ◌/◌, ◌%◌, ◌^◌, ◌↔◌, ◌<◌, ℕ, false, length, slice_index, slice_set, IsTrue};
-ghost use Rattle.zp_model.specs.declared.state.State.TheVariants.{Free};
+ghost use Rattle.zp_model.specs.declared.state.State.TheVariants.{Free, Tail};
 ghost use Rattle.zp_model.specs.Block.{IsBlock, IsBuddy};
-ghost use Rattle.zp_model.specs.Rows.{state_at};
-ghost use Rattle.zp_model.specs.Area.{kind_at, pageblock_pages};
-ghost use Rattle.zp_area.specs.Chains.{IsJoinedUp};
+ghost use Rattle.zp_model.specs.Rows.{IsOn, state_at, with_state};
+ghost use Rattle.zp_model.specs.Area.{kind_at, list_number, pageblock_pages};
+ghost use Rattle.zp_area.specs.Blocks.{taken_off};
+ghost use Rattle.zp_area.specs.Chains.{IsJoinable, IsJoinedUp};
 ghost use Rattle.zp_area.specs.Given.{IsClearRun};
 ghost use Rattle.zp_area.specs.KeptSets.{set_of};
 ghost use Rattle.zp_area.specs.OneSet.{IsKept};
@@ -35,8 +36,21 @@ pub fn has_free_buddy(lists: &Lists, largest: Largest, at: PageAt, order: Order)
     order.number() < largest.number() && is_free(lists, at.buddy(order), order)
 }
 
-/// Takes a block into the set, joined with its buddies as long as they are free. Each leaves its list; the head of what the block
-/// has grown to comes on a list last, and in the tree all is one change, where the pageblock, which has this type, is not isolated.
+/// Takes the free buddy of a block off its list, and notes it as free no more: the head of the double of the block.
+#[inline(always)]
+fn take_buddy(lists: &mut Lists, kind: PageblockType, at: PageAt, order: Order) -> PageAt
+    requires aligned { at % 2 ^ order ≡ 0 }
+    requires listed { (c d : ℕ) → IsBuddy at order c d → (c < length lists.old.states) × IsOn lists.old.lists (list_number order kind) c }
+    ensures { (c : ℕ) × IsBuddy at order c result × (lists.new ≡ with_state (taken_off lists.old (list_number order kind) c) c Tail) }
+{
+    let buddy = at.buddy(order);
+    take_out(lists, kind, buddy, order);
+    PageAt::at(at.number().min(buddy.number()))
+}
+
+/// Takes a block that has a free buddy into the set, joined with its buddies as long as they are free. Each leaves its list; the head of
+/// what the block has grown to comes on a list last, and in the tree all is one change, where the pageblock, which has this type, is not
+/// isolated.
 #[inline(always)]
 pub fn join_up(
     blocks: &mut KeptBlocks,
@@ -51,6 +65,7 @@ pub fn join_up(
     requires here { pageblock ≡ at / pageblock_pages blocks.old.largest }
     requires block { IsBlock blocks.old.largest (length blocks.old.lists.states) at order }
     requires clear { IsClearRun blocks.old.largest blocks.old.lists.states blocks.old.lists.lists at order }
+    requires joined { (c : ℕ) × (d : ℕ) × IsJoinable blocks.old.largest (set_of blocks.old) at order c d }
     ensures kept { IsKept blocks.old.largest (record (set_of blocks.old) { rows = blocks.new.lists }) blocks.new.free_in.items }
     ensures told { blocks.new.tree ≡ choosable blocks.old.largest (record (set_of blocks.old) { rows = blocks.new.lists }) }
     ensures stays { (blocks.new.largest ≡ blocks.old.largest) × (blocks.new.kinds ≡ blocks.old.kinds) }
@@ -67,16 +82,14 @@ pub fn join_up(
         ..
     } = blocks;
     free_in[pageblock] += order.pages();
-    let mut head = at;
-    let mut joined = order;
-    'joins: while joined.number() < largest.number() {
-        let buddy = head.buddy(joined);
-        if !is_free(lists, buddy, joined) {
-            break;
-        }
-        take_out(lists, kind, buddy, joined);
-        head = PageAt::at(head.number().min(buddy.number()));
+    // (the first join stands before the loop: most blocks join once, and the loop's counts cost as much again)
+    let mut head = take_buddy(lists, kind, at, order);
+    let mut joined = order.higher();
+    let mut joins = has_free_buddy(lists, largest, head, joined);
+    'joins: while joins {
+        head = take_buddy(lists, kind, head, joined);
         joined = joined.higher();
+        joins = has_free_buddy(lists, largest, head, joined);
     }
     tell_joined(tree, kind, at, order, joined);
     put_in(lists, kind, head, joined);

@@ -15,7 +15,6 @@ use Rattle.zp_model.specs.Area.{Area, list_number, lists_count, free_list, kind_
 use Rattle.zp_model.specs.Choose.{own, claim, borrow, least_movable_claim, claim_pages, is_claimable}
 use Rattle.zp_model.specs.Frames.{Frames}
 use Rattle.zp_model.proofs.Settles.{stands_cases, stands_later}
-use Rattle.zp_laws.proofs.Choosing.{or_None}
 use Rattle.zp_area.specs.Blocks.{Blocks, block_set, free_list_of}
 use Rattle.zp_area.specs.Claims.{is_half_free, IsInClaimable, IsLargestClaimable}
 use Rattle.zp_area.specs.OneSet.{IsOneSet}
@@ -25,11 +24,7 @@ use Rattle.zp_buddy.specs.declared.choice.FreeBlock.{FreeBlock}
 use Rattle.zp_buddy.proofs.Settled.{find_never}
 use Rattle.zp_model.proofs.TypeNumbers.{list_number_below}
 
-first_same : {Y : Type 0} → (f g : ℕ → Option Y) (a n : ℕ) → ((i : ℕ) → a ≤ i → i < a + n → f i ≡ g i) → first_of f (range_with_len a n) ≡ first_of g (range_with_len a n)
-first_same f g a zero e = refl
-first_same f g a (suc n) e = rw (e a (omega arith) (omega arith), first_same f g (a + 1) n (λ i p q. e i (omega arith) (omega arith)))
-
--- and with the last number first
+-- what is found where the last number comes first
 first-append : {X Y : Type 0} → (f : X → Option Y) (xs ys : List X) → first_of f (xs ++ ys) ≡ option_or (first_of f xs) (first_of f ys)
 first-append f [] ys = refl
 first-append f (x ∷ xs) ys = rw (first-append f xs ys) (regroup (f x) (first_of f xs) (first_of f ys))
@@ -111,9 +106,9 @@ on_typed m a h o t one on =
 pub list_of_frames : (m : ℕ) (a : Blocks) (f : Frames) (o : ℕ) (t : PageblockType) → frames_in m a ≡ f → free_list_of m a o t ≡ free_list f.area o t
 list_of_frames m a f o t e = ap (λ (g : Frames). free_list g.area o t) e
 
-pub own_fronts : (m : ℕ) (a : Blocks) (k : ℕ) (t : MigrateType) → first_of (front_of_order m a (t ∷ [])) (orders_from m k) ≡ own (area_in m a) k t
+pub own_fronts : (m : ℕ) (a : Blocks) (k : ℕ) (t : MigrateType) → first_of (λ o. front (free_list_of m a o (pageblock_type t))) (orders_from m k) ≡ own (area_in m a) k t
 unfolding own
-own_fronts m a k t = first_same _ _ k (m + 1 - k) (λ o p q. or_None (front (free_list_of m a o (pageblock_type t))))
+own_fronts m a k t = refl
 
 pub borrow_fronts : (m : ℕ) (a : Blocks) (k : ℕ) (t : MigrateType) → first_of (front_of_order m a (foreign t)) (orders_from m k) ≡ borrow (area_in m a) k t
 unfolding borrow

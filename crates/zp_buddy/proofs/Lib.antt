@@ -12,3 +12,4 @@ pub mod ClearByLooks
 pub mod Runs
 pub mod GiveRuns
 pub mod TurnedRuns
+pub mod HeldNotes

@@ -1,6 +1,6 @@
 -- Pages that are taken one by one off a block: they rise, and leave what the run of them leaves. Of a run the lower half goes first, and what is chosen then is the
 -- higher one.
-use Rattle.std.proofs.Common.{ℕ, suc, zero, ◌+◌, ◌-◌, ◌/◌, ◌^◌, ◌≡◌, ◌≤◌, ◌<◌, ◌↔◌, inl, inr, refl, sym, ◌∙◌, ap, arith, Bool, true, false, not, ◌&&◌, List, [], ◌∷◌, ◌++◌, length, map, leb, ltb, get_or-take, length-set, length-take-le, set, Option, Some, None}
+use Rattle.std.proofs.Common.{ℕ, suc, zero, ◌+◌, ◌-◌, ◌/◌, ◌^◌, ◌≡◌, ◌≤◌, ◌<◌, ◌↔◌, inl, inr, refl, sym, ◌∙◌, ap, arith, Bool, true, false, not, ◌&&◌, List, [], ◌∷◌, ◌++◌, length, map, leb, ltb, get_or-take, length-take-le, Option, Some, None}
 use Rattle.std.specs.List.{filter, range_with_len}
 use Rattle.std.specs.Option.{option_or}
 use Rattle.std.proofs.lemmas.Bool.{and_parts, and_from, cases_eq, eqb-true, eq-eqb, false≢true, not-true, both_ways, false_from_ne_true}
@@ -42,8 +42,7 @@ use Rattle.zp_model.specs.Frames.{Frames, with_area}
 use Rattle.zp_area.specs.Blocks.{Blocks, block_set}
 use Rattle.zp_buddy.specs.Choices.{IsTaken, area_in, chosen_of, frames_in}
 use Rattle.zp_buddy.specs.Sound.{IsSound}
-use Rattle.zp_model.specs.declared.state.State.{State}
-use Rattle.zp_buddy.specs.Runs.{IsRunTaking, noted_run, pages_taken, pages_left, run_pages}
+use Rattle.zp_buddy.specs.Runs.{IsRunTaking, pages_taken, pages_left, run_pages}
 use Rattle.zp_buddy.proofs.Settled.{kind_inside}
 
 -- the maximal blocks once the low run of one of them has left
@@ -353,18 +352,3 @@ run_one a n t most h some y =
       left = ap (λ (f : Frames). f.area.free) x.after ∙ free-taken (area_in a.largest a) 0 t (chosen_of y.0) ∙ ap (λ g. without (cover (block_set a)) g 0) (sym y.1);
       after = rw x.chosen x.after;
     }
-
--- one page more of a run is noted
-pub noted-more : (s : List State) (h n : ℕ) (x : State) → set (noted_run s h n x) (h + n) x ≡ noted_run s h (n + 1) x
-noted-more s h zero x =
-    let e : h + 0 ≡ h = omega arith in
-    let f : 0 + 1 ≡ 1 = omega arith in
-    ap (λ g. set s g x) e
-noted-more s h (suc n) x =
-    let e : h + suc n ≡ h + 1 + n = omega arith in
-    let f : suc n + 1 ≡ suc (n + 1) = omega arith in
-    ap (λ g. set (noted_run (set s h x) (h + 1) n x) g x) e ∙ noted-more (set s h x) (h + 1) n x ∙ ap (λ k. noted_run s h k x) (sym f)
-
-pub length-noted : (s : List State) (h n : ℕ) (x : State) → length (noted_run s h n x) ≡ length s
-length-noted s h zero x = refl
-length-noted s h (suc n) x = length-noted (set s h x) (h + 1) n x ∙ length-set s h x

@@ -1,7 +1,6 @@
 -- Pages that are taken, or given back, one after another.
-use Rattle.std.specs.Prelude.{ℕ, suc, zero, ◌+◌, ◌^◌, ◌≡◌, ◌≤◌, List, [], ◌∷◌, ◌++◌, length, slice_set, bit_xor, Option, None, Some}
+use Rattle.std.specs.Prelude.{ℕ, suc, zero, ◌+◌, ◌^◌, ◌≡◌, ◌≤◌, List, [], ◌∷◌, ◌++◌, length, bit_xor, Option, None, Some}
 use Rattle.zp_model.specs.declared.migrate_type.MigrateType.{MigrateType}
-use Rattle.zp_model.specs.declared.state.State.{State}
 use Rattle.zp_model.specs.Area.{Area}
 use Rattle.zp_model.specs.Block.{without}
 use Rattle.zp_model.specs.BlockSet.{Starts, cover}
@@ -26,11 +25,6 @@ pages_left a t (suc n) = pages_left (take_after a 0 t) t n
 abbrev pub run_pages : ℕ → ℕ → List (Option ℕ)
 run_pages h zero = []
 run_pages h (suc n) = Some h ∷ run_pages (h + 1) n
-
--- what is noted of the pages, with this of so many from h on
-abbrev pub noted_run : List State → ℕ → ℕ → State → List State
-noted_run states h zero s = states
-noted_run states h (suc n) s = noted_run (slice_set states h s) (h + 1) n s
 
 -- the run of order k at h, of so many pages at most, was taken for type t page by page, which leaves n
 pub record IsRunTaking (a : Blocks) (t : MigrateType) (most : ℕ) (n : Blocks) (h k : ℕ) : Type 0 where

@@ -11,7 +11,8 @@ ghost use Rattle.zp_model.specs.declared.pageblock_type.PageblockType.TheVariant
 ghost use Rattle.zp_model.specs.BlockSet.{largest_in, max_blocks};
 ghost use Rattle.zp_model.specs.Area.{available, list_number, free_list, kind_at, pageblock_pages, pageblocks_of, size_in};
 ghost use Rattle.zp_model.specs.Take.{retype, take_answer, take_after, take_low_answer, take_low_after};
-ghost use Rattle.zp_buddy.specs.Runs.{noted_run, pages_taken, pages_left, run_pages};
+ghost use Rattle.zp_table.specs.Entries.{with_run};
+ghost use Rattle.zp_buddy.specs.Runs.{pages_taken, pages_left, run_pages};
 
 use crate::clear::{is_block, is_clear_run};
 use crate::join::join;
@@ -160,23 +161,20 @@ impl Buddy {
         self.area.hold(at, state);
     }
 
-    /// Notes this of each page of a run, of which none is free.
+    /// Notes this of each page of a clear run.
     // (in line: a run of one page is noted with no loop)
     #[inline(always)]
     pub fn hold_run(&mut self, at: PageAt, order: Order, state: &State)
-        requires run { at + 2 ^ order ≤ length self.old.states }
-        requires used { (i : ℕ) → at ≤ i → i < at + 2 ^ order → has self.old.area.free i ≡ false }
+        requires clear { IsClear self.old at order }
         requires note { IsNote state.now }
-        ensures after { self.new ≡ record self.old { states = noted_run self.old.states at (2 ^ order) state.now } }
+        ensures after { self.new ≡ record self.old { states = with_run self.old.states at (2 ^ order) state.now } }
     {
+        // a clause of this call says that each page has a note
+        let _pages = self.pages();
         if order.number() == 0 {
             self.hold(at, *state);
-            return;
-        }
-        // a clause of this call says how many pages there can be
-        let _pages = self.pages();
-        'pages: for it in 0..order.pages() {
-            self.hold(PageAt::at(at.number() + it), *state);
+        } else {
+            self.area.hold_run(at, order, *state);
         }
     }
 

@@ -70,7 +70,8 @@ fn first_front(area: &FreeArea, order: Order, kinds: &[MigrateType]) -> Option<F
 pub fn own_block(area: &FreeArea, order: Order, kind: MigrateType) -> Option<FreeBlock>
     ensures { IsFoundAs area.now order (own (area_in area.now.largest area.now) order kind) result }
 {
-    first_front(area, order, &[kind])
+    let (head, order) = area.first_front(order, kind.pageblock_type())?;
+    Some(FreeBlock { head, order, kind })
 }
 
 /// The smallest block that serves of another type.

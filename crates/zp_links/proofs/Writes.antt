@@ -8,7 +8,7 @@ use Rattle.zp_model.specs.declared.state.State.{State}
 use Rattle.zp_model.specs.Rows.{Rows, list_at, with_list, with_state, without_page, IsOn, IsLoose}
 use Rattle.zp_model.proofs.RowLists.{replicated}
 use Rattle.zp_table.specs.declared.entry.PageEntry.{PageEntry}
-use Rattle.zp_table.specs.Entries.{entry_at, blank, with_entry_at, with_links_at, with_state_at, IsUnlinked}
+use Rattle.zp_table.specs.Entries.{entry_at, blank, with_entry_at, with_links_at, with_run, with_state_at, IsUnlinked}
 use Rattle.zp_links.specs.declared.ends.Ends.{Ends}
 use Rattle.zp_links.specs.Linked.{states_of, back_at, forward_at, end_if, with_back_of, with_forward_of, spelled, ends_at, no_ends, before, At, IsLinked}
 use Rattle.zp_links.proofs.Places.{put, any_at, nowhere, before_has}
@@ -208,6 +208,19 @@ state_last : (t : List PageEntry) (p : ℕ) (s : State) (b f : Option ℕ) → w
 state_last [] p s b f = refl
 state_last (d ∷ t) zero s b f = refl
 state_last (d ∷ t) (suc p) s b f = cc (state_last t p s b f)
+
+-- an entry of a page that stands nowhere is written whole: its links are none already
+none_left : (t : List PageEntry) (p : ℕ) (s : State) → back_at t p ≡ None → forward_at t p ≡ None → with_entry_at t p (noted s None None) ≡ with_state_at t p s
+none_left t p s b f = λ i. set t p (noted s (sym b i) (sym f i))
+
+-- what entries of pages in a row leave that stand nowhere
+pub noted_run : (n : ℕ) (w : Rows) (t : List PageEntry) (es : List Ends) (p : ℕ) (s : State) → value t es ≡ w → IsLinked t es (spelled t es) →
+    ((q : ℕ) → p ≤ q → q < p + n → IsLoose w.lists q) → Spell (with_run t p n (noted s None None)) es (record w { states = with_run w.states p n s })
+noted_run zero w t es p s v x loose = (x, v)
+noted_run (suc n) w t es p s v x loose =
+    let none = (linked_in w t es v x).loose p (nowhere w.lists p (loose p (omega arith) (omega arith))) in
+    let y = restated w t (set t p (noted s None None)) es p s v x (none_left t p s none.0 none.1) in
+    noted_run n (with_state w p s) (set t p (noted s None None)) es (p + 1) s y.1 y.0 (λ q lo hi. loose q (omega arith) (omega arith))
 
 -- what a push leaves where the page's entry is written whole
 pub pushed_noted : (w : Rows) (r i p : ℕ) (s : State) (t t' : List PageEntry) (es : List Ends) (e d : Ends) (b f : Option ℕ) → value t es ≡ w → IsLinked t es (spelled t es) → r < length w.lists →

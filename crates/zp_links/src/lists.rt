@@ -1,10 +1,10 @@
 //! Lists of pages.
 //!
 //! In Linux: `list_add`, `list_add_tail` and `list_del` on `page->lru`.
-ghost use Rattle.std.specs.Prelude.{◌≡◌, ◌<◌, ◌≤◌, ℕ, true, false, [], ◌∷◌, ◌++◌, length, map, replicate, slice_get, IfOk, IfSome, IsTrue, ◌↔◌, None, Some};
+ghost use Rattle.std.specs.Prelude.{◌≡◌, ◌<◌, ◌≤◌, ◌+◌, ℕ, true, false, [], ◌∷◌, ◌++◌, length, map, replicate, slice_get, IfOk, IfSome, IsTrue, ◌↔◌, None, Some};
 ghost use Rattle.zp_model.specs.Rows.{Rows, list_at, state_at, IsOn, IsLoose, IsRow, with_list, with_state, without_page, front, rest, after};
 ghost use Rattle.zp_model.specs.declared.constants.TheConstants.{MAX_PAGES};
-ghost use Rattle.zp_table.specs.Entries.{IsUnlinked};
+ghost use Rattle.zp_table.specs.Entries.{IsUnlinked, with_run};
 ghost use Rattle.zp_table.specs.Packed.{packed, told_layout};
 ghost use Rattle.zp_links.specs.Linked.{states_of, At, entry_in, loose_entry};
 ghost use Rattle.zp_links.specs.Moved.{StandAsBefore};
@@ -247,6 +247,22 @@ impl Lists {
         ensures { self.new ≡ with_state self.old at state }
     {
         self.table.set_state(at, state);
+    }
+
+    /// Notes this of so many pages in a row that stand on no list: each entry is written whole.
+    #[inline(always)]
+    pub fn set_run(&mut self, at: PageAt, pages: u32, state: State)
+        requires run { at + pages ≤ length self.old.states }
+        requires loose { (p : ℕ) → at ≤ p → p < at + pages → IsLoose self.old.lists p }
+        ensures { self.new ≡ record self.old { states = with_run self.old.states at pages state } }
+    {
+        let nowhere = Link::none();
+        let entry = PageEntry {
+            state,
+            back: nowhere,
+            forward: nowhere,
+        };
+        self.table.set_run(at, pages, entry);
     }
 
     /// The page before a page in its list.

@@ -26,7 +26,7 @@ use Rattle.zp_zone.specs.Seats.{ZoneState, SeatState, IsSeatOf, Agrees, IsNewTo,
 use Rattle.zp_share.specs.declared.page_use.PageUse.{PageUse}
 use Rattle.zp_share.specs.declared.page_use.PageUse.TheVariants.{Away, Lent, Cached}
 use Rattle.zp_share.specs.PageUses.{held, is_cached_as, all_as, uses_after, IsPlace, UsesState, use_of, is_lent_as, use_at}
-use Rattle.zp_share.specs.PlainShares.{without_back, lists_after, SectionsState}
+use Rattle.zp_share.specs.PlainShares.{back, without_back, lists_after, SectionsState}
 use Rattle.zp_share.specs.Sections.{IsBack}
 use Rattle.zp_share.specs.ZoneShares.{ZoneShareState, IsShare, IsNew, use_in, is_lent, cached_of, last_of, answered, SharesIn, IsSection, HasAtMost, opening_share}
 use Rattle.zp_share.specs.declared.zone_share.ZoneShare.TheInside.{Inside}
@@ -243,6 +243,15 @@ back_distinct o t ps x b =
 -- the list of a type, as the code reads it at the type's number
 pub list_read : (ls : List (List ℕ)) (n : ℕ) (t : MigrateType) (d : List ℕ) → type_number t < length ls → n ≡ type_number t → get_or ls n d ≡ list_at ls (type_number t)
 list_read ls n t d lt e = ap (λ m. get_or ls m d) e ∙ sym (get_or_default ls (type_number t) [] d lt)
+
+-- the pages that were read at the back of a type's list are its back
+pub back_read : (o : Inside) (s : ZoneShareState) (t : MigrateType) (n count : ℕ) (d ps : List ℕ) → share_of o ≡ s → IsWhole o → n ≡ type_number t → count ≤ length (cached_of s t) →
+    ps ≡ back count (get_or o.cached n d) → length ps ≡ count → IsBack (share_of o) t ps
+back_read o s t n count d ps view x e le f many =
+    let lt : type_number t < length o.cached = number_in o.seat.part.base o.uses.uses o.cached t (listing (share_of o) x.1) in
+    let is : ps ≡ back count (cached_of (share_of o) t) = f ∙ ap (back count) (list_read o.cached n t d lt e) in
+    let room : count ≤ length (cached_of (share_of o) t) = subst (λ v. count ≤ length (cached_of v t)) (sym view) le in
+    record { within = omega (arith, many, room); pages = subst (λ m. ps ≡ back m (cached_of (share_of o) t)) (sym many) is }
 
 pub list_changed : (ls : List (List ℕ)) (n : ℕ) (t : MigrateType) (d ys : List ℕ) (f : List ℕ → List ℕ) → type_number t < length ls → n ≡ type_number t → ys ≡ f (get_or ls n d) →
     slice_set ls n ys ≡ slice_set ls (type_number t) (f (list_at ls (type_number t)))

@@ -1,5 +1,5 @@
 //! A worker's list of pages of one type.
-ghost use Rattle.std.specs.Prelude.{◌≡◌, ◌<◌, ◌≤◌, ◌+◌, [], ◌∷◌, ◌++◌, length};
+ghost use Rattle.std.specs.Prelude.{◌≡◌, ◌<◌, ◌≤◌, ◌+◌, [], ◌∷◌, ◌++◌, drop, length, reverse, take};
 ghost use Rattle.zp_model.specs.Rows.{front, rest};
 ghost use Rattle.zp_share.specs.PlainShares.{back, without_back};
 
@@ -57,10 +57,12 @@ impl PageStack {
         requires { length pages.now + length self.old ≤ LONGEST_LIST }
         ensures { self.new ≡ pages.now ++ self.old }
     {
-        'pages: for left in 0..pages.len() {
-            let place = pages.len() - 1 - left;
-            self.pages.push(pages[place]);
-        }
+        let len = self.pages.len();
+        let Ok(()) = self.pages.try_extend_from_slice(pages) else {
+            unreachable!()
+        };
+        // the one that comes first is the front, which is last in the vector
+        turn(self.pages.as_mut_slice(), len);
     }
 
     /// The pages at the back, the last one first.
@@ -82,4 +84,13 @@ impl PageStack {
         self.pages.as_mut_slice().copy_within(count.., 0);
         self.pages.truncate(left);
     }
+}
+
+/// The pages from this place on come in the opposite order.
+#[inline(always)]
+fn turn(pages: &mut [PageNo], from: usize)
+    requires { from ≤ length pages.old }
+    ensures { pages.new ≡ take from pages.old ++ reverse (drop from pages.old) }
+{
+    pages[from..].reverse();
 }

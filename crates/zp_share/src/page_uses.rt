@@ -92,9 +92,7 @@ impl PageUses {
     {
         // it is packed once for all
         let packed = PackedUse::new(used);
-        for page in pages {
-            self.put(*page, packed);
-        }
+        put_all(self.uses.as_mut_slice(), self.base, pages, packed);
     }
 
     #[inline(always)]
@@ -169,5 +167,17 @@ impl PageUses {
             // a page is to the worker what it was, whatever the type of its pageblock
             Request::Isolate(_) | Request::Release(_, _) => {}
         }
+    }
+}
+
+/// Writes one use at each of these pages of a zone with this base. A function of a slice: where its bytes stand is not read anew after
+/// each of them.
+#[inline(always)]
+fn put_all(uses: &mut [PackedUse], base: usize, pages: &[PageNo], packed: PackedUse)
+    requires { All (IsPlace (record { base = base; uses = uses.old })) pages.now }
+    ensures { uses.new ≡ all_as base packed pages.now uses.old }
+{
+    for page in pages {
+        uses[page.number() as usize - base] = packed;
     }
 }

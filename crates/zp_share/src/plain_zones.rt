@@ -109,6 +109,17 @@ impl Zones for PlainZones {
         share.fill(&mut self.zones[zone], zone, kind, mark)
     }
 
+    #[inline(never)]
+    fn drain(
+        &mut self,
+        share: &mut Share,
+        zone: usize,
+        kind: MigrateType,
+        count: usize,
+    ) -> Result<(), Refused> {
+        share.drain(&mut self.zones[zone], zone, kind, count)
+    }
+
     fn counts(&mut self, zone: usize) -> Counts {
         self.zones[zone].counts()
     }

@@ -1,10 +1,13 @@
 //! How many sections a share has made with one zone, and the last one.
-ghost use Rattle.std.specs.Prelude.{◌≡◌, ◌<◌, ◌+◌, ◌==◌, Some, None, false};
+ghost use Rattle.std.specs.Prelude.{◌≡◌, ◌<◌, ◌≤◌, ◌+◌, ◌==◌, length, Some, None, false};
 ghost use Rattle.std.specs.Option.{option_copied};
 ghost use Rattle.zp_model.specs.Entries.{HasOneList};
+ghost use Rattle.zp_model.specs.declared.constants.TheConstants.{LONGEST_LIST};
+ghost use Rattle.zp_model.specs.declared.request.Request.TheVariants as request;
+ghost use Rattle.zp_model.specs.declared.request.Reply.TheVariants as reply;
 
 use std::marker::Model;
-use zp_model::{Entry, Reply, Request, Worker};
+use zp_model::{Entry, Mark, MigrateType, PageList, PageNo, Reply, Request, Worker};
 
 /// The number of sections after which none can be counted.
 pub const LAST_SECTION: u64 = u64::MAX;
@@ -66,5 +69,34 @@ impl SectionsMade {
     {
         self.made += 1;
         self.last.set(worker, request, reply);
+    }
+
+    /// One section more, in which a worker freed these pages of this type.
+    #[inline(always)]
+    pub fn add_drain(&mut self, worker: Worker, kind: MigrateType, pages: &[PageNo])
+        requires room { self.old.made < LAST_SECTION }
+        requires within { length pages.now ≤ LONGEST_LIST }
+        ensures { self.new ≡ record { made = self.old.made + 1; last = Some (record { worker = worker; request = request.Drain kind pages.now; reply = reply.Drained }) } }
+    {
+        let request = Request::Drain(kind, PageList::of(pages));
+        self.add(worker, &request, &Reply::Drained);
+    }
+
+    /// One section more, in which a worker asked for so many pages for this type, each held to this mark, and got these.
+    #[inline(always)]
+    pub fn add_refill(
+        &mut self,
+        worker: Worker,
+        kind: MigrateType,
+        mark: Mark,
+        count: u8,
+        pages: &[PageNo],
+    )
+        requires room { self.old.made < LAST_SECTION }
+        requires within { length pages.now ≤ LONGEST_LIST }
+        ensures { self.new ≡ record { made = self.old.made + 1; last = Some (record { worker = worker; request = request.Refill kind mark count; reply = reply.Pages pages.now }) } }
+    {
+        let request = Request::Refill(kind, mark, count);
+        self.add(worker, &request, &Reply::Pages(PageList::of(pages)));
     }
 }

@@ -1,9 +1,9 @@
 //! The table of page entries.
 //!
 //! In Linux: `mem_map`, an array of `struct page`.
-ghost use Rattle.std.specs.Prelude.{◌≡◌, ◌<◌, ◌≤◌, ◌↔◌, length, replicate, IfOk, IsTrue};
+ghost use Rattle.std.specs.Prelude.{◌≡◌, ◌<◌, ◌≤◌, ◌+◌, ◌↔◌, length, replicate, IfOk, IsTrue};
 ghost use Rattle.zp_model.specs.declared.constants.TheConstants.{MAX_PAGES};
-ghost use Rattle.zp_table.specs.Entries.{blank, entry_at, IsUnlinked, with_entry_at, with_state_at, with_links_at, with_back_at, with_forward_at};
+ghost use Rattle.zp_table.specs.Entries.{blank, entry_at, IsUnlinked, with_entry_at, with_run, with_state_at, with_links_at, with_back_at, with_forward_at};
 ghost use Rattle.zp_table.specs.Packed.{packed, told_layout};
 
 use crate::entry::PageEntry;
@@ -118,6 +118,17 @@ impl PageTable {
         self.entries[at.index()] = PackedEntry::new(entry);
     }
 
+    /// Gives so many pages in a row, from this one on, the same entry. It is packed once, and each is written whole.
+    #[inline(always)]
+    pub fn set_run(&mut self, at: PageAt, pages: u32, entry: PageEntry)
+        requires { at + pages ≤ length self.old }
+        ensures { self.new ≡ with_run self.old at pages entry }
+    {
+        let from = at.index();
+        let to = from + pages as usize;
+        write_each(&mut self.entries[from..to], PackedEntry::new(entry));
+    }
+
     pub fn set_state(&mut self, at: PageAt, state: State)
         requires { at < length self.old }
         ensures { self.new ≡ with_state_at self.old at state }
@@ -144,5 +155,16 @@ impl PageTable {
         ensures { self.new ≡ with_forward_at self.old at forward }
     {
         self.entries[at.index()].set_forward(forward);
+    }
+}
+
+/// Writes the same entry to each of a slice.
+// (in line: over a slice of its own the loop reads no pointer and makes no test)
+#[inline(always)]
+fn write_each(entries: &mut [PackedEntry], entry: PackedEntry)
+    ensures { entries.new ≡ replicate (length entries.old) entry }
+{
+    for it in entries.iter_mut() {
+        *it = entry;
     }
 }

@@ -26,8 +26,9 @@ use Rattle.zp_laws.proofs.Counting.{has-with_any}
 use Rattle.zp_laws.proofs.Held.{IsHolding, out-to, out_held}
 use Rattle.zp_laws.proofs.StaysOut.{freed-kept, none_left_at}
 use Rattle.zp_laws.proofs.Steps.{freed_lawful}
-use Rattle.zp_buddy.specs.Runs.{gives, noted_run, turned_pages}
-use Rattle.zp_buddy.proofs.Runs.{length-noted}
+use Rattle.zp_table.specs.Entries.{with_run}
+use Rattle.zp_buddy.specs.Runs.{gives, turned_pages}
+use Rattle.zp_table.proofs.Runs.{length-run}
 use Rattle.zp_buddy.proofs.TurnedRuns.{get_or-turned, gives_turned, length-turned, turned_back, turned_in, turned_number}
 use Rattle.zp_zone.specs.Kept.{holding_of, plain_of, IsKept, IsPostedAside}
 use Rattle.zp_zone.specs.NamedZone.{AreOut, NamedZone}
@@ -118,11 +119,11 @@ cleared_run out p j =
     ])
 
 -- what is noted of the pages of a run, and of the others
-noted_off : (n : ℕ) (s : List State) (h i : ℕ) (v : State) → (IsWithin h n i → ⊥) → state_at (noted_run s h n v) i ≡ state_at s i
+noted_off : (n : ℕ) (s : List State) (h i : ℕ) (v : State) → (IsWithin h n i → ⊥) → state_at (with_run s h n v) i ≡ state_at s i
 noted_off zero s h i v off = refl
 noted_off (suc n) s h i v off = noted_off n (set s h v) (h + 1) i v (λ r. off (omega (arith, r.0), omega (arith, r.1))) ∙ get_or-set_other s h i v Tail (λ e. off (omega arith, omega arith))
 
-noted_at : (n : ℕ) (s : List State) (h i : ℕ) (v : State) → IsWithin h n i → i < length s → state_at (noted_run s h n v) i ≡ v
+noted_at : (n : ℕ) (s : List State) (h i : ℕ) (v : State) → IsWithin h n i → i < length s → state_at (with_run s h n v) i ≡ v
 noted_at zero s h i v r lt = absurd (omega (arith, r.0, r.1))
 noted_at (suc n) s h i v r lt = elim (cases_eq i h) [
   | inl same ↦ noted_off n (set s h v) (h + 1) i v (λ q. omega (arith, q.0)) ∙ rw same (let below : h < length s = omega arith in get_or-set_same s h v Tail below)
@@ -151,7 +152,7 @@ module _ (f : Frames) (base min w p j : ℕ) (x : IsAsked f base min) (order : j
 
   -- nothing is noted of its pages any more
   abbrev noted : Frames
-  noted = record f { states = noted_run f.states run (2 ^ j) Tail }
+  noted = record f { states = with_run f.states run (2 ^ j) Tail }
 
   note_at : (i : ℕ) → IsWithin run (2 ^ j) i → state_at noted.states i ≡ Tail
   note_at i r = noted_at (2 ^ j) f.states run i Tail r (omega (arith, r.1, part_clear.block.inside, x.framed.pages))
@@ -164,8 +165,8 @@ module _ (f : Frames) (base min w p j : ℕ) (x : IsAsked f base min) (order : j
 
   noted_framed : IsFramed noted
   noted_framed = record {
-    pages = x.framed.pages ∙ sym (length-noted f.states run (2 ^ j) Tail);
-    typed = rw (length-noted f.states run (2 ^ j) Tail) x.framed.typed;
+    pages = x.framed.pages ∙ sym (length-run f.states run (2 ^ j) Tail);
+    typed = rw (length-run f.states run (2 ^ j) Tail) x.framed.typed;
     noted = λ g k. elim (cases_run run (2 ^ j) g) [
       | inl r ↦ (
         λ e. absurd (let tail : Tail ≡ Free k = sym (note_at g r) ∙ e in cc),
@@ -215,7 +216,7 @@ module _ (f : Frames) (base min w p j : ℕ) (x : IsAsked f base min) (order : j
       let a : Area = give f.area run j in
       let s : List State = set noted.states run Tail in
       let aside : IsPostedAside f.sides s = let P : List State → Type 0 = λ q. IsPostedAside f.sides q in subst P (sym again) (aside_noted_run (2 ^ j) f.sides f.states run Tail y.aside off (λ v. refl)) in
-      kept_by name f (given noted run j) base min count y (length-restated a.largest a.free s ∙ length-set noted.states run Tail ∙ length-noted f.states run (2 ^ j) Tail) refl
+      kept_by name f (given noted run j) base min count y (length-restated a.largest a.free s ∙ length-set noted.states run Tail ∙ length-run f.states run (2 ^ j) Tail) refl
       (aside_restated a.largest f.sides a.free s aside back_beside)
       (y.counted ∙ pages_same z (drained z turned) (sym (drained_posted turned z)) ∙ ap posted_pages (sym part_back)) (rw part_back lawful)
 
@@ -264,7 +265,7 @@ all_back before z w all (p ∷ ps) x e = absurd (omega arith)
 abbrev pub run_given : Frames → ℕ → ℕ → List ℕ → Frames
 run_given f base k pages =
     let h : ℕ = head (get_or pages 0 0 - base) k in
-    let g : Frames = record f { states = noted_run f.states h (2 ^ k) Tail } in
+    let g : Frames = record f { states = with_run f.states h (2 ^ k) Tail } in
     given g h k
 
 -- in the words of a zone that contracts see: what is out is a clear run, and comes back as the drain says

@@ -15,8 +15,9 @@ use Rattle.zp_model.proofs.Covers.{length-without}
 use Rattle.zp_model.proofs.MaximalBlocks.{length-restated}
 use Rattle.zp_laws.proofs.Areas.{free-taken}
 use Rattle.zp_laws.proofs.Counting.{has-without_any}
-use Rattle.zp_buddy.specs.Runs.{noted_run, pages_left}
-use Rattle.zp_buddy.proofs.Runs.{length-noted}
+use Rattle.zp_table.specs.Entries.{with_run}
+use Rattle.zp_buddy.specs.Runs.{pages_left}
+use Rattle.zp_table.proofs.Runs.{length-run}
 use Rattle.zp_zone.specs.Kept.{holding_of, plain_of, IsKept, IsPostedAside, is_posted_to}
 use Rattle.zp_zone.specs.Runs.{page_out, run_out}
 use Rattle.zp_zone.proofs.BlockSteps.{IsAsked, not_out}
@@ -41,14 +42,14 @@ abbrev pub IsRunOff : List (List ℕ) → ℕ → ℕ → Type 0
 IsRunOff sides h n = (i : ℕ) → h ≤ i → i < h + n → IsOffAll sides i
 
 pub plain-noted_run : (n : ℕ) (f : Frames) (base min h : ℕ) (v : State) → IsRunOff f.sides h n →
-    plain_of (record f { states = noted_run f.states h n v }) base min ≡ with_out_run (plain_of f base min) h n (holding_of v)
+    plain_of (record f { states = with_run f.states h n v }) base min ≡ with_out_run (plain_of f base min) h n (holding_of v)
 plain-noted_run zero f base min h v off = refl
 plain-noted_run (suc n) f base min h v off =
     plain-noted_run n (record f { states = set f.states h v }) base min (h + 1) v (λ i lo hi. off i (omega arith) (omega arith))
     ∙ ap (λ (z : PlainZone). with_out_run z (h + 1) n (holding_of v)) (plain-noted f base min h v (off_apart f.sides h (off h (omega arith) (omega arith))))
 
 pub aside_noted_run : (n : ℕ) (sides : List (List ℕ)) (s : List State) (h : ℕ) (v : State) → IsPostedAside sides s → IsRunOff sides h n → ((w : ℕ) → is_posted_to w v ≡ false) →
-    IsPostedAside sides (noted_run s h n v)
+    IsPostedAside sides (with_run s h n v)
 aside_noted_run zero sides s h v x off out = x
 aside_noted_run (suc n) sides s h v x off out =
     aside_noted_run n sides (set s h v) (h + 1) v (aside_noted sides s h v x (off h (omega arith) (omega arith)) out) (λ i lo hi. off i (omega arith) (omega arith)) out
@@ -88,10 +89,10 @@ part_off f g t n h k e c i lo hi r = let d = rw e at c in d.aside r i lo hi
 abbrev pub frames_run : Frames → ℕ → MigrateType → ℕ → ℕ → Frames
 frames_run f w t h n =
     let g : Frames = with_area f (pages_left f.area t n) in
-    record g { states = noted_run g.states h n (Out 0 t w) }
+    record g { states = with_run g.states h n (Out 0 t w) }
 
 -- in the words of the code
-pub held_run : (f g r : Frames) (w : ℕ) (t : MigrateType) (h n k : ℕ) → g ≡ with_area f (pages_left f.area t n) → k ≡ 0 → r ≡ record g { states = noted_run g.states h n (Out k t w) } →
+pub held_run : (f g r : Frames) (w : ℕ) (t : MigrateType) (h n k : ℕ) → g ≡ with_area f (pages_left f.area t n) → k ≡ 0 → r ≡ record g { states = with_run g.states h n (Out k t w) } →
     r ≡ frames_run f w t h n
 held_run f g r w t h n k e none held = rw (held, e, none)
 
@@ -111,6 +112,6 @@ module _ (f : Frames) (base min w : ℕ) (t : MigrateType) (h n : ℕ) (x : IsAs
   pub run_kept : {count : ℕ} → (name : List ℕ) → IsKept name f base min count → IsLawful (run_out (plain_of f base min) w t h n) → IsKept name (frames_run f w t h n) base min count
   run_kept {count} name y lawful =
       let s : List State = restated left.largest left.free f.states in
-      kept_by name f (frames_run f w t h n) base min count y (length-noted s h n (Out 0 t w) ∙ length-restated left.largest left.free f.states) refl
+      kept_by name f (frames_run f w t h n) base min count y (length-run s h n (Out 0 t w) ∙ length-restated left.largest left.free f.states) refl
       (aside_noted_run n f.sides s h (Out 0 t w) (aside_restated left.largest f.sides left.free f.states y.aside beside) off (λ v. refl))
       (y.counted ∙ pages_same (plain_of f base min) (run_out (plain_of f base min) w t h n) (ap (λ (z : PlainZone). z.posted) (sym (run_out_is n (plain_of f base min) w t h))) ∙ ap posted_pages (sym run_left)) (rw run_left lawful)

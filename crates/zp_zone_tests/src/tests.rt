@@ -1,6 +1,7 @@
 //! Zones that are made and refused, their bounds, their marks, and the info line.
 ghost use Rattle.zp_zone.specs.Seats.{IsSeatOf};
 
+mod batches;
 mod choosing;
 mod histories;
 mod isolating;

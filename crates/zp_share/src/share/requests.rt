@@ -165,8 +165,7 @@ impl Share {
         ensures section { IsAsked (request.Drain kind (back count (cached_of (share_at self.old place) kind))) (done_reply reply.Drained result) zone.old zone.new (share_at self.old place) (share_at self.new place) }
         ensures others { self.new ≡ with_zone_share place (share_at self.new place) self.old }
     {
-        let request = Request::Drain(kind, self.back(place, kind, count));
-        answered!(self.section(zone, place, &request), Reply::Drained => ())
+        self.zones[place].drain(zone, kind, count)
     }
 
     /// Isolates the pageblock of this number. The worker's lists and lent blocks stay, also those of the pageblock. Refused 13, 14

@@ -1,17 +1,21 @@
 //! One section of a share with the lent zone: a request on the zone, whatever is asked, and the same change in the share.
-ghost use Rattle.std.specs.Prelude.{ℕ, ◌≡◌, ◌≤◌};
-ghost use Rattle.zp_model.specs.declared.constants.TheConstants.{MAX_BATCH};
+ghost use Rattle.std.specs.Prelude.{ℕ, ◌≡◌, ◌≤◌, ◌+◌, ◌++◌, length, slice_set};
+ghost use Rattle.zp_model.specs.MigrateType.{type_number};
+ghost use Rattle.zp_model.specs.Rows.{list_at};
+ghost use Rattle.zp_model.specs.declared.constants.TheConstants.{LONGEST_LIST, MAX_BATCH};
 ghost use Rattle.zp_model.specs.Zone.{workers_of};
 ghost use Rattle.zp_model.specs.declared.request.Request.TheVariants as request;
+ghost use Rattle.zp_model.specs.declared.request.Reply.TheVariants as reply;
 ghost use Rattle.zp_zone.specs.NamedZone.{page_reply};
 ghost use Rattle.zp_zone.specs.Seats.{IsSeatOf};
-ghost use Rattle.zp_share.specs.PlainShares.{lends_for, lists_after};
-ghost use Rattle.zp_share.specs.Sections.{HaveRoom, IsAsked, IsRefilled, MayAsk};
-ghost use Rattle.zp_share.specs.ZoneShares.{HasAtMost, IsShare, RefillsAtMost, plain_share};
+ghost use Rattle.zp_share.specs.PlainShares.{back, lends_for, lists_after, without_back};
+ghost use Rattle.zp_share.specs.Sections.{HaveRoom, IsAsked, IsRefilled, MayAsk, done_reply};
+ghost use Rattle.zp_share.specs.ZoneShares.{HasAtMost, IsShare, RefillsAtMost, cached_of, plain_share};
 
 use super::ZoneShare;
 use crate::page_stack::PageStack;
-use zp_model::{Mark, MigrateType, Order, PageList, PageNo, Refused, Reply, Request, TYPES};
+use crate::page_use::PageUse;
+use zp_model::{Mark, MigrateType, Order, PageNo, Refused, Reply, Request, TYPES};
 use zp_zone::{Zone, page_reply};
 
 impl ZoneShare {
@@ -121,22 +125,68 @@ impl ZoneShare {
             return Err(Refused::JournalFull);
         }
         let worker = self.seat.worker();
-        let request = Request::Refill(kind, mark, count);
         match zone.refill(&mut self.seat, kind, mark, count) {
             Ok(pages) => {
-                let reply = Reply::Pages(PageList::of(pages.as_slice()));
-                self.uses.note(&request, &reply);
-                note_lists(&mut self.cached, &request, &reply);
-                self.sections.add(worker, &request, &reply);
+                let got = pages.as_slice();
+                self.uses.set_all(got, PageUse::Cached(kind));
+                put_pages(&mut self.cached, kind, got);
+                self.sections.add_refill(worker, kind, mark, count, got);
                 Ok(())
             }
             Err(refused) => {
+                let request = Request::Refill(kind, mark, count);
                 self.sections
                     .add(worker, &request, &Reply::Refused(refused));
                 Err(refused)
             }
         }
     }
+
+    /// Frees so many pages from the back of the list of this type, the last one first. Refused 30.
+    // (the pages are read where the list has them till all is noted: none are passed down)
+    #[inline(always)]
+    pub fn drain(&mut self, zone: &mut Zone, kind: MigrateType, count: usize) -> Result<(), Refused>
+        requires seat { IsSeatOf zone.old self.old.seat }
+        requires within { count ≤ length (cached_of self.old kind) }
+        ensures section { IsAsked (request.Drain kind (back count (cached_of self.old kind))) (done_reply reply.Drained result) zone.old zone.new self.old self.new }
+        ensures lists { (n : ℕ) → HasAtMost n self.old → HasAtMost n self.new }
+    {
+        let ZoneShare {
+            seat,
+            uses,
+            cached,
+            sections,
+        } = self;
+        if sections.are_full() {
+            return Err(Refused::JournalFull);
+        }
+        let worker = seat.worker();
+        let lists = &*cached;
+        let pages = lists[kind.number()].back(count);
+        zone.drain(seat, kind, pages);
+        uses.set_all(pages, PageUse::Away);
+        sections.add_drain(worker, kind, pages);
+        drop_pages(cached, kind, count);
+        Ok(())
+    }
+}
+
+/// These pages come to the front of the list of this type.
+#[inline(always)]
+fn put_pages(lists: &mut [PageStack; TYPES], kind: MigrateType, pages: &[PageNo])
+    requires { length pages.now + length (list_at lists.old (type_number kind)) ≤ LONGEST_LIST }
+    ensures { lists.new ≡ slice_set lists.old (type_number kind) (pages.now ++ list_at lists.old (type_number kind)) }
+{
+    lists[kind.number()].push_all_front(pages);
+}
+
+/// So many pages leave the back of the list of this type.
+#[inline(always)]
+fn drop_pages(lists: &mut [PageStack; TYPES], kind: MigrateType, count: usize)
+    requires { count ≤ length (list_at lists.old (type_number kind)) }
+    ensures { lists.new ≡ slice_set lists.old (type_number kind) (without_back count (list_at lists.old (type_number kind))) }
+{
+    lists[kind.number()].drop_back(count);
 }
 
 /// A refill's pages are put on in front, and those of a drain leave the back.
@@ -148,12 +198,12 @@ fn note_lists(lists: &mut [PageStack; TYPES], request: &Request, reply: &Reply)
     match request {
         Request::Refill(kind, _, _) => {
             if let Reply::Pages(pages) = reply {
-                lists[kind.number()].push_all_front(pages.as_slice());
+                put_pages(lists, *kind, pages.as_slice());
             }
         }
         Request::Drain(kind, pages) => {
             if let Reply::Drained = reply {
-                lists[kind.number()].drop_back(pages.as_slice().len());
+                drop_pages(lists, *kind, pages.as_slice().len());
             }
         }
         _ => {}

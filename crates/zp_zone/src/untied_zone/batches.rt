@@ -9,7 +9,7 @@ ghost use Rattle.zp_model.specs.Zone.{workers_of};
 ghost use Rattle.zp_zone.specs.NamedZone.{KeepsOut, KeepsOutBeside, IsFresh, AreOut, pages_reply};
 
 use super::UntiedZone;
-use super::parts::push_part;
+use super::parts::put_part;
 use arrayvec::ArrayVec;
 use zp_model::{MAX_BATCH, Mark, MigrateType, PageNo, Refused, Worker};
 
@@ -37,17 +37,23 @@ impl UntiedZone {
         ensures fresh { IfOk result (λ pages. All (IsFresh self.old.plain) pages.items) }
         ensures kept { KeepsOut self.old.plain self.new.plain }
     {
-        let first = self.alloc_part(worker, kind, mark, u32::from(count))?;
-        let mut pages = ArrayVec::new();
-        push_part(&mut pages, first);
-        'parts: while pages.len() < usize::from(count) {
-            let wanted = u32::from(count) - pages.len() as u32;
+        let (first, order) = self.alloc_part(worker, kind, mark, u32::from(count))?;
+        let mut pages = [PageNo::new(0); MAX_BATCH];
+        put_part(&mut pages, 0, first, order);
+        let mut got = order.pages();
+        'parts: while got < u32::from(count) {
+            let wanted = u32::from(count) - got;
             let Ok(part) = self.alloc_part(worker, kind, mark, wanted) else {
                 break;
             };
-            push_part(&mut pages, part);
+            let (next, order) = part;
+            put_part(&mut pages, got as usize, next, order);
+            let more = order.pages();
+            got += more;
         }
-        Ok(pages)
+        let mut batch = ArrayVec::from(pages);
+        batch.truncate(got as usize);
+        Ok(batch)
     }
 
     /// Frees these pages, each a block of order 0, in the slice's order. Their type is only noted. It is never refused.

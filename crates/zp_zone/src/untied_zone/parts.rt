@@ -15,7 +15,6 @@ ghost use Rattle.zp_zone.specs.Runs.{AreTurned, IsRunGot};
 
 use super::UntiedZone;
 use super::turned::turned_order;
-use arrayvec::ArrayVec;
 use zp_model::{
     BASE_LIMIT, MAX_BATCH, MAX_PAGES, Mark, MigrateType, Order, PageAt, PageNo, Refused, State,
     Worker,
@@ -111,20 +110,33 @@ fn room_above(min: u32, free: u32, mark: Mark) -> u32
     }
 }
 
-/// Adds the pages of a part to those of a refill, the first one first.
-// (in line: a part of one page is added with no loop)
+/// Writes the pages of a part into those of a refill, the first one at this place.
+// (in line: a part of one page is written with no loop)
 #[inline(always)]
-pub fn push_part(pages: &mut ArrayVec<PageNo, MAX_BATCH>, part: (PageNo, Order))
-    requires room { length pages.old.items + 2 ^ part.1 ≤ MAX_BATCH }
-    requires within { part.0 + 2 ^ part.1 ≤ BASE_LIMIT + MAX_PAGES }
-    ensures { pages.new.items ≡ pages.old.items ++ range_with_len part.0 (2 ^ part.1) }
+pub fn put_part(pages: &mut [PageNo], at: usize, first: PageNo, order: Order)
+    requires room { at + 2 ^ order ≤ length pages.old }
+    requires within { first + 2 ^ order ≤ BASE_LIMIT + MAX_PAGES }
+    ensures len { length pages.new ≡ length pages.old }
+    ensures pages { take (at + 2 ^ order) pages.new ≡ take at pages.old ++ range_with_len first (2 ^ order) }
 {
-    let (first, order) = part;
     if order.number() == 0 {
-        pages.push(first);
-        return;
+        pages[at] = first;
+    } else {
+        let to = at + order.pages() as usize;
+        put_pages(&mut pages[at..to], first);
     }
-    'pages: for it in 0..order.pages() {
-        pages.push(PageNo::new(first.number() + it));
+}
+
+/// Writes pages in a row over a slice, from this one on.
+// (in line: over a slice of its own the loop reads no pointer and makes no test)
+#[inline(always)]
+fn put_pages(pages: &mut [PageNo], first: PageNo)
+    requires { first + length pages.old ≤ BASE_LIMIT + MAX_PAGES }
+    ensures { pages.new ≡ range_with_len first (length pages.old) }
+{
+    let mut next = first.number();
+    for page in pages.iter_mut() {
+        *page = PageNo::new(next);
+        next += 1;
     }
 }

@@ -1,19 +1,22 @@
-use Rattle.std.proofs.Common.{ℕ, ◌+◌, ◌^◌, ◌≡◌, ◌/◌, min, refl, ◌∙◌, ap, cond, false, set, slice_index, arith}
-use Rattle.std.proofs.lemmas.Bool.{both_ways}
+use Rattle.std.proofs.Common.{ℕ, ◌+◌, ◌^◌, ◌≡◌, ◌<◌, ◌/◌, refl, ◌∙◌, ap, cond, false, length, List, set, slice_index, arith}
 use Rattle.std.proofs.Math.Pow.{pow_mono}
 use Rattle.zp_model.specs.PageblockType.{is_isolate}
-use Rattle.zp_model.specs.Area.{available_blocks, is_isolated, pageblock_pages}
+use Rattle.zp_model.specs.declared.pageblock_type.PageblockType.{PageblockType}
+use Rattle.zp_model.specs.Area.{available_blocks, is_isolated, kind_at, list_number, pageblock_pages}
+use Rattle.zp_model.specs.Block.{IsBuddy}
+use Rattle.zp_model.specs.Rows.{IsOn}
 use Rattle.zp_tree.specs.Blocks.{joined_set}
 use Rattle.zp_area.specs.OneSet.{IsKept}
 use Rattle.zp_area.proofs.AvailableBlocks.{available-length, available_apart, available_buddies, told_joined}
+use Rattle.zp_area.proofs.OneBlock.{head_below}
 use Rattle.zp_area.specs.Blocks.{Blocks, added, block_set}
 use Rattle.zp_area.specs.Chains.{IsJoinable, IsJoinedUp}
 use Rattle.zp_area.specs.KeptSets.{set_of}
 use Rattle.zp_area.proofs.Keeping.{block_of_more, counted_there, read_at}
 use Rattle.zp_area.proofs.Adding.{IsComing, coming_apart, coming_loose, kept_added}
 use Rattle.zp_area.proofs.Splitting.{block_on}
-use Rattle.zp_area.proofs.Growing.{buddy_kind, buddy_starts, buddy_unique, grow_begins, grow_ends, grow_goes, grown_block, grown_coming, grown_kind}
-use Rattle.zp_area.proofs.joins.join_up.Goals.{After-index_mut, After-at-head, After-put_in, else-joins-test, then-joins-test+then-not-is_free}
+use Rattle.zp_area.proofs.Growing.{IsGrowing, buddy_block, buddy_kind, buddy_starts, buddy_unique, grow_begins, grow_ends, grow_goes, grown_block, grown_coming, grown_kind}
+use Rattle.zp_area.proofs.joins.join_up.Goals.{After-index_mut, After-put_in, Start}
 use Rattle.zp_area.proofs.joins.join_up.Goals as goal
 
 coming : (c : After-index_mut) → IsComing c.args.blocks.now.largest (set_of c.args.blocks.now) c.args.at c.args.order
@@ -22,42 +25,64 @@ coming c = record { one = c.requires.kept.one; block = c.requires.block; clear =
 read : (c : After-index_mut) → c.index_mut.result.now ≡ slice_index c.args.blocks.now.free_in.items (c.args.at / 2 ^ c.args.blocks.now.largest)
 read c = read_at c.args.blocks.now.largest _ _ c.args.at c.args.order _ _ c.requires.kept.each c.requires.block c.requires.here c.index_mut.ensures.value
 
+there : (c : Start) → c.args.at / pageblock_pages c.args.blocks.now.largest < length c.args.blocks.now.free_in.items
+there c = counted_there c.args.blocks.now.largest _ _ c.args.at c.args.order c.requires.kept.each c.requires.block
+
 pub overflow_add-index_mut : goal.overflow_add-index_mut
 overflow_add-index_mut c =
     let now = (goal.at.overflow_add-index_mut c).After-index_mut in
     omega (arith, read now, c.pages.ensures.pages, (kept_added (coming now) _ c.requires.kept).fits, pow_mono {i = c.args.blocks.now.largest} {j = 10} (omega arith))
 
+begun : (c : Start) → IsGrowing c.args.blocks.now.largest (set_of c.args.blocks.now) (set_of c.args.blocks.now) c.args.blocks.now.free_in.items c.args.at c.args.order c.args.at c.args.order
+begun c = grow_begins c.args.blocks.now.largest (set_of c.args.blocks.now) _ c.args.at c.args.order c.requires.kept c.requires.block c.requires.clear
+
+-- the free buddy stands on its list
+module _ {m : ℕ} {a b : Blocks} {free_in : List ℕ} {h k g j : ℕ} (x : IsGrowing m a b free_in h k g j) {c d : ℕ} (y : IsJoinable m b g j c d) (t : PageblockType) (typed : t ≡ kind_at m a.kinds h) where
+  listed : (e f : ℕ) → IsBuddy g j e f → (e < length b.rows.states) × IsOn b.rows.lists (list_number j t) e
+  listed e f z =
+      let same : c ≡ e = buddy_unique g j c d e f y.buddy z in
+      let here : (c < length b.rows.states) × IsOn b.rows.lists (list_number j t) c =
+      (head_below m _ c j (buddy_block x y), rw (buddy_kind x y t typed) (block_on m b c j x.kept.one (buddy_starts x y))) in
+      rw same at here
+
+  here : (e f : ℕ) → IsBuddy g j e f → IsJoinable m b g j e f
+  here e f z = let same : c ≡ e = buddy_unique g j c d e f y.buddy z in record { order = y.order; buddy = z; free = rw same at y.free }
+
+pub take_buddy-head-requires-clause-listed : goal.take_buddy-head-requires-clause-listed
+take_buddy-head-requires-clause-listed c = listed (begun (goal.at.take_buddy-head-requires-clause-listed c).Start) c.requires.joined.2 c.args.kind c.requires.typed
+
 pub joins-init : goal.joins-init
 joins-init c =
-    let a : Blocks = set_of c.args.blocks.now in
-    grow_begins c.args.blocks.now.largest a _ c.args.at c.args.order c.requires.kept c.requires.block c.requires.clear
+    let now = (goal.at.joins-init c).Start in
+    let w = here (begun now) c.requires.joined.2 c.args.kind c.requires.typed _ _ c.take_buddy-head.ensures.1 in
+    record {
+      grown = rw (c.take_buddy-head.ensures.2, c.higher-joined.ensures, buddy_kind (begun now) w c.args.kind c.requires.typed) (grow_goes (begun now) w (there now));
+      more = λ e. let y = c.has_free_buddy-joins.ensures.some e in (y.0, y.1, record { order = y.2; buddy = y.3; free = y.4 });
+      last = λ e d f y. c.has_free_buddy-joins.ensures.none e y.order d f y.buddy y.free;
+    }
 
--- the buddy is free, and the smaller of the two heads is the double's
-joinable : (c : After-at-head) → IsJoinable c.args.blocks.now.largest (record (set_of c.args.blocks.now) { rows = c.joins.lists }) c.joins.head c.joins.joined c.buddy-buddy.result c.at-head.result
-joinable c =
-    let e : min c.joins.head c.buddy-buddy.result ≡ c.at-head.result = omega arith in
-    record { order = omega arith; buddy = rw e at c.buddy-buddy.ensures; free = c.is_free.ensures.0 c.if-not-is_free.false }
-
-pub take_out-requires-clause-on : goal.take_out-requires-clause-on
-take_out-requires-clause-on c =
-    let b : Blocks = record (set_of c.args.blocks.now) { rows = c.joins.lists } in
-    let y : IsJoinable c.args.blocks.now.largest b c.joins.head c.joins.joined c.buddy-buddy.result (min c.joins.head c.buddy-buddy.result) = record { order = omega arith; buddy = c.buddy-buddy.ensures; free = c.is_free.ensures.0 c.if-not-is_free.false } in
-    rw (buddy_kind c.joins.invariant y c.args.kind c.requires.typed) (block_on c.args.blocks.now.largest b c.buddy-buddy.result c.joins.joined c.joins.invariant.kept.one (buddy_starts c.joins.invariant y))
+pub take_buddy-head-requires-in-joins-clause-listed : goal.take_buddy-head-requires-in-joins-clause-listed
+take_buddy-head-requires-in-joins-clause-listed c = listed c.joins.invariant.grown (c.joins.invariant.more c.joins-test.true).2 c.args.kind c.requires.typed
 
 pub joins-preserved : goal.joins-preserved
 joins-preserved c =
-    let y = joinable (goal.at.joins-preserved c).After-at-head in
-    rw (c.take_out.ensures, c.higher-joined.ensures, buddy_kind c.joins.invariant y c.args.kind c.requires.typed)
-    (grow_goes c.joins.invariant y (counted_there c.args.blocks.now.largest _ _ c.args.at c.args.order c.requires.kept.each c.requires.block))
+    let now = (goal.at.joins-preserved c).Start in
+    let w = here c.joins.invariant.grown (c.joins.invariant.more c.joins-test.true).2 c.args.kind c.requires.typed _ _ c.take_buddy-head-in-joins.ensures.1 in
+    record {
+      grown = rw (c.take_buddy-head-in-joins.ensures.2, c.higher-joined-in-joins.ensures, buddy_kind c.joins.invariant.grown w c.args.kind c.requires.typed) (grow_goes c.joins.invariant.grown w (there now));
+      more = λ e. let y = c.has_free_buddy-joins-in-joins.ensures.some e in (y.0, y.1, record { order = y.2; buddy = y.3; free = y.4 });
+      last = λ e d f y. c.has_free_buddy-joins-in-joins.ensures.none e y.order d f y.buddy y.free;
+    }
 
 -- the block's pageblock is not isolated, where its type is not
-shown : (c : After-index_mut) → is_isolate c.args.kind ≡ false → is_isolated c.args.blocks.now.largest c.args.blocks.now.kinds.items c.args.at ≡ false
+shown : (c : Start) → is_isolate c.args.kind ≡ false → is_isolated c.args.blocks.now.largest c.args.blocks.now.kinds.items c.args.at ≡ false
 shown c e = rw (← c.requires.typed) e
 
 pub tell_joined-requires-clause-block : goal.tell_joined-requires-clause-block
 tell_joined-requires-clause-block c = λ e.
     let a : Blocks = set_of c.args.blocks.now in
-    rw (c.requires.told, available-length c.args.blocks.now.largest a.kinds (block_set a)) (block_of_more (omega arith) (grown_block c.joins.invariant))
+    let b = grown_block c.joins.invariant.grown in
+    rw (c.requires.told, available-length c.args.blocks.now.largest a.kinds (block_set a)) (block_of_more (omega (arith, b.order)) b)
 
 pub tell_joined-requires-clause-apart : goal.tell_joined-requires-clause-apart
 tell_joined-requires-clause-apart c = λ e.
@@ -67,28 +92,20 @@ tell_joined-requires-clause-apart c = λ e.
 pub tell_joined-requires-clause-buddies : goal.tell_joined-requires-clause-buddies
 tell_joined-requires-clause-buddies c = λ e.
     let a : Blocks = set_of c.args.blocks.now in
-    let now = (goal.at.tell_joined-requires-clause-buddies c).After-index_mut in
-    rw c.requires.told (available_buddies c.args.blocks.now.largest a.kinds (block_set a) c.args.at c.args.order c.joins.joined (grown_block c.joins.invariant).order (shown now e) c.joins.invariant.buddies)
+    rw c.requires.told (available_buddies c.args.blocks.now.largest a.kinds (block_set a) c.args.at c.args.order c.joins.joined (grown_block c.joins.invariant.grown).order (shown (goal.at.tell_joined-requires-clause-buddies c).Start e) c.joins.invariant.grown.buddies)
 
 pub put_in-requires-clause-loose : goal.put_in-requires-clause-loose
-put_in-requires-clause-loose c = coming_loose (grown_coming c.joins.invariant)
+put_in-requires-clause-loose c = coming_loose (grown_coming c.joins.invariant.grown)
 
 -- the loop has ended, as there is no free buddy more
 ended : (c : After-put_in) → IsKept c.args.blocks.now.largest (added c.args.blocks.now.largest (record (set_of c.args.blocks.now) { rows = c.joins.lists }) c.joins.head c.joins.joined) (set c.args.blocks.now.free_in.items (c.args.at / pageblock_pages c.args.blocks.now.largest) (slice_index c.args.blocks.now.free_in.items (c.args.at / pageblock_pages c.args.blocks.now.largest) + 2 ^ c.args.order)) ×
     (joined_set (block_set (set_of c.args.blocks.now)) c.args.at c.args.order c.joins.joined ≡ block_set (added c.args.blocks.now.largest (record (set_of c.args.blocks.now) { rows = c.joins.lists }) c.joins.head c.joins.joined)) ×
     ((e : ℕ) × IsJoinedUp e c.args.blocks.now.largest (set_of c.args.blocks.now) c.args.at c.args.order (added c.args.blocks.now.largest (record (set_of c.args.blocks.now) { rows = c.joins.lists }) c.joins.head c.joins.joined))
-ended c =
-    grow_ends c.joins.invariant
-    (elim c.joins-test.branch [
-      | else-joins-test w ↦ λ e d z. omega (arith, z.order)
-      | then-joins-test+then-not-is_free w ↦ λ e d z.
-          both_ways w.is_free.result w.if-not-is_free.true (w.is_free.ensures.1 (rw (buddy_unique _ _ _ _ _ _ w.buddy-buddy.ensures z.buddy) z.free))
-    ])
-    (counted_there c.args.blocks.now.largest _ _ c.args.at c.args.order c.requires.kept.each c.requires.block)
+ended c = grow_ends c.joins.invariant.grown (c.joins.invariant.last c.joins-test.false) (counted_there c.args.blocks.now.largest _ _ c.args.at c.args.order c.requires.kept.each c.requires.block)
 
 pub returns-clause-kept : goal.returns-clause-kept
 returns-clause-kept c =
-    let k = grown_kind c.joins.invariant c.args.kind c.requires.typed in
+    let k = grown_kind c.joins.invariant.grown c.args.kind c.requires.typed in
     rw (c.put_in.ensures, k, c.requires.here, read (goal.at.returns-clause-kept c).After-index_mut, c.pages.ensures.pages) (ended (goal.at.returns-clause-kept c).After-put_in).0
 
 pub returns-clause-told : goal.returns-clause-told
@@ -96,7 +113,7 @@ returns-clause-told c =
     let a : Blocks = set_of c.args.blocks.now in
     rw c.put_in.ensures
     (c.tell_joined.ensures ∙ ap (λ s. cond (is_isolate c.args.kind) s (joined_set s c.args.at c.args.order c.joins.joined)) c.requires.told
-    ∙ told_joined c.args.blocks.now.largest a.kinds (block_set a) c.args.at c.args.order c.joins.joined c.args.kind c.requires.typed (grown_block c.joins.invariant).order c.joins.invariant.up c.joins.invariant.buddies
+    ∙ told_joined c.args.blocks.now.largest a.kinds (block_set a) c.args.at c.args.order c.joins.joined c.args.kind c.requires.typed (grown_block c.joins.invariant.grown).order c.joins.invariant.grown.up c.joins.invariant.grown.buddies
     ∙ ap (available_blocks c.args.blocks.now.largest a.kinds) (ended (goal.at.returns-clause-told c).After-put_in).1)
 
 pub returns-clause-numbers : goal.returns-clause-numbers
@@ -104,5 +121,5 @@ returns-clause-numbers c = rw (c.requires.here, read (goal.at.returns-clause-num
 
 pub returns-clause-after : goal.returns-clause-after
 returns-clause-after c =
-    let k = grown_kind c.joins.invariant c.args.kind c.requires.typed in
+    let k = grown_kind c.joins.invariant.grown c.args.kind c.requires.typed in
     rw (c.put_in.ensures, k) (ended (goal.at.returns-clause-after c).After-put_in).2

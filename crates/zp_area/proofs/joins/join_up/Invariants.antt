@@ -1,15 +1,20 @@
-use Rattle.std.proofs.Common.{◌-◌}
+use Rattle.std.proofs.Common.{ℕ, ◌≡◌, ◌-◌, true, false}
 use Rattle.zp_area.specs.Blocks.{Blocks}
+use Rattle.zp_area.specs.Chains.{IsJoinable}
 use Rattle.zp_area.specs.KeptSets.{set_of}
 use Rattle.zp_area.proofs.Growing.{IsGrowing}
 use Rattle.zp_area.proofs.joins.join_up.Given as goal
 
--- the block that comes back has grown to the one of order `joined` at `head`
+-- the block that comes back has grown to the one of order `joined` at `head`, and `joins` says whether that has a free buddy
 abbrev pub invariant-joins : goal.invariant-joins
 invariant-joins l =
     let a : Blocks = set_of l.fn.blocks in
     let b : Blocks = record (set_of l.fn.blocks) { rows = l.lists } in
-    IsGrowing l.fn.blocks.largest a b l.fn.blocks.free_in.items l.fn.at l.fn.order l.head l.joined
+    record {
+      grown : IsGrowing l.fn.blocks.largest a b l.fn.blocks.free_in.items l.fn.at l.fn.order l.head l.joined;
+      more : l.joins ≡ true → (c : ℕ) × (d : ℕ) × IsJoinable l.fn.blocks.largest b l.head l.joined c d;
+      last : l.joins ≡ false → (c d : ℕ) → IsJoinable l.fn.blocks.largest b l.head l.joined c d → ⊥;
+    }
 
 abbrev pub decreases-joins : goal.decreases-joins
 decreases-joins l = l.fn.blocks.largest - l.joined

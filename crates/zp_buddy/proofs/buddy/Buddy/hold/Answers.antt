@@ -1,20 +1,13 @@
-use Rattle.std.proofs.Common.{length-set}
 use Rattle.zp_area.proofs.Holding.{IsHolding, noted_set}
 use Rattle.zp_buddy.proofs.ClearByLooks.{one_held}
-use Rattle.zp_buddy.proofs.Settled.{noted_sound}
+use Rattle.zp_buddy.proofs.HeldNotes.{held_noted}
 use Rattle.zp_buddy.proofs.buddy.Buddy.hold.Goals as goal
 
 pub invariant_of-self : goal.invariant_of-self
 invariant_of-self c =
     let a = c.self.inside.area in
-    let x = c.self.invariant in
-    let y : IsHolding c.self.inside.area.largest a c.args.at c.args.state = record { one = one_held c.self.inside.area.largest a _ x; used = rw (← c.self.view_is) at c.requires.used; note = c.requires.note } in
-    let e = noted_set c.self.inside.area.largest a c.args.at c.args.state y in
-    rw c.hold.ensures.after (record {
-      sound = noted_sound c.self.inside.area.largest a c.args.at c.args.state e x.sound;
-      typed = rw (length-set a.rows.states c.args.at c.args.state) x.typed;
-      counted = rw e x.counted;
-    })
+    let y : IsHolding c.self.inside.area.largest a c.args.at c.args.state = record { one = one_held c.self.inside.area.largest a _ c.self.invariant; used = rw (← c.self.view_is) at c.requires.used; note = c.requires.note } in
+    rw c.hold.ensures.after (held_noted a c.self.inside.free c.args.at c.args.state c.self.invariant y)
 
 pub returns-clause-after : goal.returns-clause-after
 returns-clause-after c =

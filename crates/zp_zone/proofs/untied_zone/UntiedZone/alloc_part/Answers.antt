@@ -4,7 +4,7 @@ use Rattle.zp_model.specs.Mark.{is_above}
 use Rattle.zp_model.specs.Zone.{workers_of}
 use Rattle.zp_zone.specs.Kept.{plain_of}
 use Rattle.zp_zone.proofs.BlockSteps.{alloc_below, alloc_none, chosen_none, passes_by}
-use Rattle.zp_zone.proofs.RunFrames.{IsRunOff, frames_run, held_run, part_length, part_off, part_room, run_kept, run_left}
+use Rattle.zp_zone.proofs.RunFrames.{IsRunOff, frames_run, held_run, part_off, part_room, run_kept, run_left}
 use Rattle.zp_zone.proofs.RunSteps.{run_lawful}
 use Rattle.zp_zone.proofs.untied_zone.UntiedZone.alloc_part.Goals as goal
 
@@ -24,11 +24,6 @@ returns-in_default-clause-refused c =
     let above = passes_by f c.self.inside.base c.self.inside.min c.available_pages.result 0 c.args.mark true c.available_pages.ensures (sym test) in
     rw (← c.self.view_is)
     (alloc_none (plain_of f c.self.inside.base c.self.inside.min) c.args.worker 0 c.args.kind c.args.mark above (chosen_none f.area 0 c.args.kind (sym c.in_default.ensures.none.0)))
-
-pub hold_run-requires-clause-run : goal.hold_run-requires-clause-run
-hold_run-requires-clause-run c =
-    let x = c.in-Some.ensures in
-    omega (arith, part_room c.self.inside.buddy c.take_run.new.self c.args.kind (2 ^ c.in-Some.run'.1) c.in-Some.run'.0 c.in-Some.run'.1 c.pages-pages.ensures.framed x.after x.clear, part_length c.self.inside.buddy c.take_run.new.self c.args.kind (2 ^ c.in-Some.run'.1) x.after)
 
 -- the run is out
 off : (c : goal.After-new) → IsRunOff (c.self.inside.buddy).sides c.in-Some.run'.0 (2 ^ c.in-Some.run'.1)

@@ -4,7 +4,7 @@ use Rattle.zp_model.specs.declared.state.State.TheVariants.{Tail}
 use Rattle.zp_model.specs.Block.{head}
 use Rattle.zp_model.specs.Frames.{Frames, IsClear, given}
 use Rattle.zp_model.proofs.Heads.{lt_head}
-use Rattle.zp_buddy.specs.Runs.{noted_run}
+use Rattle.zp_table.specs.Entries.{with_run}
 use Rattle.zp_zone.specs.Kept.{plain_of}
 use Rattle.zp_zone.proofs.BlockSteps.{named}
 use Rattle.zp_zone.proofs.DrainParts.{first_place, run_back, run_clear, run_given, run_kept_back}
@@ -30,15 +30,10 @@ start c =
     c.head-head.ensures
     ∙ ap (λ n. head n c.args.order) (first_place c.args.pages.now c.index-pages-0-2.result c.number-2.result c.self.inside.base c.at-first.result some c.index-pages-0-2.is c.number-2.ensures.same c.at-first.ensures)
 
-pub hold_run-requires-clause-run : goal.hold_run-requires-clause-run
-hold_run-requires-clause-run c =
-    let d = goal.at.hold_run-requires-clause-run c in
-    rw (start d.After-head-head) (omega (arith, (clear d.After-number-2).block.inside, c.pages-pages.ensures.framed.pages))
-
-pub hold_run-requires-clause-used : goal.hold_run-requires-clause-used
-hold_run-requires-clause-used c =
-    let d = goal.at.hold_run-requires-clause-used c in
-    rw (start d.After-head-head) (clear d.After-number-2).free
+pub hold_run-requires-clause-clear : goal.hold_run-requires-clause-clear
+hold_run-requires-clause-clear c =
+    let d = goal.at.hold_run-requires-clause-clear c in
+    rw (start d.After-head-head) (clear d.After-number-2)
 
 pub give-requires : goal.give-requires
 give-requires c =
@@ -50,7 +45,7 @@ left : (c : After-give) (e : c.head-head.result ≡ head (get_or c.args.pages.no
     c.give.new.self ≡ run_given c.self.inside.buddy c.self.inside.base c.args.order c.args.pages.now
 left c e =
     c.give.ensures ∙ ap (λ g. given g c.head-head.result c.args.order) c.hold_run.ensures.after
-    ∙ ap (λ h. let g : Frames = record c.self.inside.buddy { states = noted_run c.self.inside.buddy.states h (2 ^ c.args.order) Tail } in given g h c.args.order) e
+    ∙ ap (λ h. let g : Frames = record c.self.inside.buddy { states = with_run c.self.inside.buddy.states h (2 ^ c.args.order) Tail } in given g h c.args.order) e
 
 pub invariant_of-self : goal.invariant_of-self
 invariant_of-self c =
