@@ -350,10 +350,11 @@ impl FreeArea {
     }
 
     /// The block of this order or more with the least head, outside isolated pageblocks.
-    pub fn lowest(&self, order: Order) -> Option<(PageAt, Order)>
-        ensures answer { result ≡ lowest (choosable self.now.largest self.now) order }
-        ensures found { IfSome result (λ b. Starts (block_set self.now) b.0 b.1 × (order ≤ b.1)) }
-        ensures open { IfSome result (λ b. is_isolated self.now.largest self.now.kinds b.0 ≡ false) }
+    pub fn lowest(&mut self, order: Order) -> Option<(PageAt, Order)>
+        ensures same { self.new ≡ self.old }
+        ensures answer { result ≡ lowest (choosable self.old.largest self.old) order }
+        ensures found { IfSome result (λ b. Starts (block_set self.old) b.0 b.1 × (order ≤ b.1)) }
+        ensures open { IfSome result (λ b. is_isolated self.old.largest self.old.kinds b.0 ≡ false) }
     {
         let mut meter = Meter::new();
         self.blocks.tree.lowest(order, &mut meter)

@@ -143,7 +143,18 @@ impl RankTree {
         ensures { result ≡ slice_index self.now group }
     {
         let mut meter = Meter::new();
-        self.nodes.read(self.first + group, &mut meter)
+        self.read(group, &mut meter)
+    }
+
+    /// The same, counted. One read.
+    #[inline]
+    pub fn read(&self, group: usize, meter: &mut Meter) -> Rank
+        requires group { group < length self.now }
+        requires count { meter.old + 1 < 2 ^ 64 }
+        ensures rank { result ≡ slice_index self.now group }
+        ensures counted { meter.new ≡ meter.old + 1 }
+    {
+        self.nodes.read(self.first + group, meter)
     }
 
     /// Gives a group a rank that is no smaller where it rises, and else no larger.
@@ -170,7 +181,7 @@ impl RankTree {
     /// The first group of this rank or more, and its rank. The meter rises by one for each word of ranks read, one of a row at most.
     pub fn first(&self, rank: Rank, meter: &mut Meter) -> Option<(usize, Rank)>
         requires rank { 0 < rank }
-        requires count { meter.old < 2 ^ 32 }
+        requires count { meter.old ≤ 2 ^ 32 + 1 }
         ensures first { IsFirstRank self.now rank result }
         ensures counted { (d : ℕ) → length self.now ≡ FAN ^ d → meter.new ≤ meter.old + d }
         ensures read { meter.old < meter.new }
