@@ -145,6 +145,30 @@ impl Lists {
         self.table.set(at, entry);
     }
 
+    /// Takes the page in front of a list out of it and notes a state of it: its entry is written once. Nothing stands before it, so
+    /// its back link is not read.
+    // inlined, as a state that the caller knows is packed when it is compiled
+    #[inline(always)]
+    pub fn remove_front_noted(&mut self, list: usize, at: PageAt, state: State)
+        requires { front (list_at self.old.lists list) ≡ Some at }
+        ensures after { self.new ≡ with_state (with_list self.old list (without_page at (list_at self.old.lists list))) at state }
+        ensures loose { IsLoose self.new.lists at }
+        ensures others { StandAsBefore at self.old.lists self.new.lists }
+    {
+        let nowhere = Link::none();
+        let ends = &mut self.ends[list];
+        let next = self.table.forward(at);
+        set_back_or_last(&mut self.table, &mut ends.last, next, nowhere);
+        ends.first = next;
+        ends.len -= 1;
+        let entry = PageEntry {
+            state,
+            back: nowhere,
+            forward: nowhere,
+        };
+        self.table.set(at, entry);
+    }
+
     /// Takes the page in front of a list.
     pub fn pop_front(&mut self, list: usize) -> Option<PageAt>
         requires { list < length self.old.lists }
