@@ -2,9 +2,9 @@
 //!
 //! In Linux: `list_add`, `list_add_tail` and `list_del` on `page->lru`.
 ghost use Rattle.std.specs.Prelude.{◌≡◌, ◌<◌, ◌≤◌, ◌+◌, ℕ, true, false, [], ◌∷◌, ◌++◌, length, map, replicate, slice_get, IfOk, IfSome, IsTrue, ◌↔◌, None, Some};
-ghost use Rattle.zp_model.specs.Rows.{Rows, list_at, state_at, IsOn, IsLoose, IsRow, with_list, with_state, without_page, front, rest, after};
+ghost use Rattle.zp_model.specs.Rows.{Rows, list_at, state_at, IsOn, IsLoose, IsRow, with_list, with_state, with_run, without_page, front, rest, after};
 ghost use Rattle.zp_model.specs.declared.constants.TheConstants.{MAX_PAGES};
-ghost use Rattle.zp_table.specs.Entries.{IsUnlinked, with_run};
+ghost use Rattle.zp_table.specs.Entries.{IsUnlinked};
 ghost use Rattle.zp_table.specs.Packed.{packed, told_layout};
 ghost use Rattle.zp_links.specs.Linked.{states_of, At, entry_in, loose_entry};
 ghost use Rattle.zp_links.specs.Moved.{StandAsBefore};

@@ -8,6 +8,7 @@ pub mod Join
 pub mod Covers
 pub mod Settles
 pub mod RowLists
+pub mod Runs
 pub mod TypeNumbers
 pub mod FirstFound
 pub mod MaximalBlocks

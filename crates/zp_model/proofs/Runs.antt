@@ -4,7 +4,7 @@ use Rattle.std.proofs.lemmas.List.{append-nil, drop_all, length-drop, length-rep
 use Rattle.std.proofs.lemmas.List.Edits.{fill_from_more, length-paste, paste_none}
 use Rattle.std.proofs.lemmas.Slice.{put_mid-paste}
 use Rattle.std.proofs.Math.Seq.{paste}
-use Rattle.zp_table.specs.Entries.{with_run}
+use Rattle.zp_model.specs.Rows.{with_run}
 
 -- one place more
 pub run_more : {X : Type 0} (xs : List X) (h n : ℕ) (x : X) → set (with_run xs h n x) (h + n) x ≡ with_run xs h (n + 1) x
