@@ -23,7 +23,7 @@ ghost use Rattle.zp_buddy.specs.Sound.{IsSound};
 ghost use Rattle.zp_buddy.specs.Choices.{IsFreeBlock, IsTaken, area_in, chosen_of, frames_in};
 ghost use Rattle.zp_buddy.specs.Runs.{IsRunOf};
 
-use crate::choice::{Choice, FreeBlock, foreign_choice, own_block};
+use crate::choice::{Choice, FreeBlock, foreign_choice};
 use crate::split::take_block;
 use zp_area::FreeArea;
 use zp_model::{MigrateType, Order, PageAt};
@@ -75,30 +75,10 @@ pub fn take(area: &mut FreeArea, order: Order, kind: MigrateType) -> Option<Page
     requires { IsSound area.old.largest area.old.rows.states area.old.kinds area.old.rows.lists }
     ensures { IsTaken area.old order kind area.new result }
 {
-    if let Some(block) = own_block(area, order, kind) {
-        let FreeBlock {
-            head,
-            order: found,
-            kind: own,
-        } = block;
-        take_block(area, head, found, own, order);
+    if let Some(head) = area.take_first(order, kind) {
         return Some(head);
     }
     take_foreign(area, order, kind)
-}
-
-/// The largest order, at most that of the block found, of no more pages than are wanted.
-fn run_order(found: Order, most: u32) -> Order
-    requires { 0 < most }
-    ensures within { result ≤ found }
-    ensures fits { 2 ^ result ≤ most }
-{
-    let wanted = 31 - most.leading_zeros();
-    if wanted < u32::from(found.number()) {
-        Order::at(wanted as u8)
-    } else {
-        found
-    }
 }
 
 /// Takes pages in a row off the smallest block of the request's own type: as many as a block has, `most` of them or fewer. Where the type has
@@ -109,15 +89,8 @@ pub fn take_run(area: &mut FreeArea, kind: MigrateType, most: u32) -> Option<(Pa
     requires sound { IsSound area.old.largest area.old.rows.states area.old.kinds area.old.rows.lists }
     ensures { IsRunOf area.old kind most area.new result }
 {
-    if let Some(block) = own_block(area, Order::zero(), kind) {
-        let FreeBlock {
-            head,
-            order: found,
-            kind: own,
-        } = block;
-        let order = run_order(found, most);
-        take_block(area, head, found, own, order);
-        return Some((head, order));
+    if let Some(run) = area.take_first_run(kind, most) {
+        return Some(run);
     }
     let head = take_foreign(area, Order::zero(), kind)?;
     Some((head, Order::zero()))

@@ -18,21 +18,21 @@ returns-else-is_at_least c =
 large : (c : After-has_large) → IsTrue c.has_large.result → HasLarge c.args.high.now (c.args.at / GROUP_PAGES)
 large c on = rw (← c.group_of-group.ensures) (c.has_large.ensures.0 on)
 
-pub returns-then-not-is_at_least : goal.returns-then-not-is_at_least
-returns-then-not-is_at_least c =
-    let rank = c.rank-2.ensures ∙ ap (slice_index c.args.ranks.now) c.group_of-group.ensures in
-    let l = large (goal.at.returns-then-not-is_at_least c).After-has_large c.if-not-has_large.false in
-    unchanged _ _ _ _ _ _ (inr (l, inl (omega (arith, rank, larger _ _ _ _ c.is_at_least-2.ensures.1 c.if-not-is_at_least.true c.of-2.ensures))))
-
-pub evict-requires-clause-near : goal.evict-requires-clause-near
-evict-requires-clause-near c = c.requires.near (λ e. c.if-stale-group.true (e ∙ sym c.group_of-group.ensures))
-
 pub returns-then-stale-group : goal.returns-then-stale-group
 returns-then-stale-group c =
     let l = large (goal.at.returns-then-stale-group c).After-has_large c.if-not-has_large.false in
-    evicted _ _ _ _ _ _ _ _ (omega (arith, c.requires.stale, c.requires.rows)) (λ e. c.if-stale-group.true (e ∙ sym c.group_of-group.ensures)) l (c.evict.ensures.stale ∙ c.group_of-group.ensures) c.evict.ensures.mended
+    unchanged _ _ _ _ _ _ (inr (l, inr (c.if-stale-group.true ∙ c.group_of-group.ensures)))
 
-pub returns-else-stale-group : goal.returns-else-stale-group
-returns-else-stale-group c =
-    let l = large (goal.at.returns-else-stale-group c).After-has_large c.if-not-has_large.false in
-    unchanged _ _ _ _ _ _ (inr (l, inr (c.if-stale-group.false ∙ c.group_of-group.ensures)))
+pub evict-requires-clause-near : goal.evict-requires-clause-near
+evict-requires-clause-near c = c.requires.near (λ e. c.if-stale-group.false (e ∙ sym c.group_of-group.ensures))
+
+pub returns-then-is_at_least-2 : goal.returns-then-is_at_least-2
+returns-then-is_at_least-2 c =
+    let l = large (goal.at.returns-then-is_at_least-2 c).After-has_large c.if-not-has_large.false in
+    evicted _ _ _ _ _ _ _ _ (omega (arith, c.requires.stale, c.requires.rows)) (λ e. c.if-stale-group.false (e ∙ sym c.group_of-group.ensures)) l (c.evict.ensures.stale ∙ c.group_of-group.ensures) c.evict.ensures.mended
+
+pub returns-else-is_at_least-2 : goal.returns-else-is_at_least-2
+returns-else-is_at_least-2 c =
+    let rank = c.rank-2.ensures ∙ ap (slice_index c.args.ranks.now) c.group_of-group.ensures in
+    let l = large (goal.at.returns-else-is_at_least-2 c).After-has_large c.if-not-has_large.false in
+    unchanged _ _ _ _ _ _ (inr (l, inl (omega (arith, rank, larger _ _ _ _ c.is_at_least-2.ensures.1 c.if-is_at_least-2.false c.of-2.ensures))))

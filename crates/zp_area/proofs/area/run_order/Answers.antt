@@ -2,7 +2,7 @@ use Rattle.std.proofs.Common.{ℕ, ◌-◌, ◌≤◌, ◌<◌, ◌^◌, arith}
 use Rattle.std.specs.Int.Count.{count_leading_zeros}
 use Rattle.std.proofs.Math.Nat.{pow-le-pow_right}
 use Rattle.std.proofs.lemmas.Nat.{leading_top}
-use Rattle.zp_buddy.proofs.takes.run_order.Goals as goal
+use Rattle.zp_area.proofs.area.run_order.Goals as goal
 
 -- no order up to the place of the top bit has more pages
 fits : (most k : ℕ) → 0 < most → most < 2 ^ 32 → k ≤ 31 - count_leading_zeros 32 most → 2 ^ k ≤ most

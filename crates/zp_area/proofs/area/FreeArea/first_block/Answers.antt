@@ -4,8 +4,8 @@ use Rattle.zp_model.proofs.FirstFound.{first_none, first_some}
 use Rattle.zp_area.specs.Blocks.{free_list_of}
 use Rattle.zp_area.specs.KeptSets.{set_of}
 use Rattle.zp_area.proofs.Claimable.{list_within}
-use Rattle.zp_area.proofs.area.FreeArea.first_front.Goals.{After-at}
-use Rattle.zp_area.proofs.area.FreeArea.first_front.Goals as goal
+use Rattle.zp_area.proofs.area.FreeArea.first_block.Goals.{After-at}
+use Rattle.zp_area.proofs.area.FreeArea.first_block.Goals as goal
 
 pub orders-init : goal.orders-init
 orders-init c = record { from = omega (arith, c.number-number.ensures.same); most = omega (arith, c.number-number.ensures.within); here = rw c.number-number.ensures.same c.list_of-list.ensures.number; none = λ o p q. absurd (omega (arith, c.number-number.ensures.same)) }

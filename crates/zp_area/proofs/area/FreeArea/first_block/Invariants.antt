@@ -3,7 +3,7 @@ use Rattle.zp_model.specs.declared.constants.TheConstants.{LARGEST_ORDER}
 use Rattle.zp_model.specs.Area.{list_number}
 use Rattle.zp_model.specs.Rows.{front}
 use Rattle.zp_area.specs.Blocks.{free_list_of}
-use Rattle.zp_area.proofs.area.FreeArea.first_front.Given as goal
+use Rattle.zp_area.proofs.area.FreeArea.first_block.Given as goal
 
 -- the lists of the orders before `number` are empty, and `list` is that of `number`
 abbrev pub invariant-orders : goal.invariant-orders
