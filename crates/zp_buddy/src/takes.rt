@@ -89,8 +89,8 @@ pub fn take_run(area: &mut FreeArea, kind: MigrateType, most: u32) -> Option<(Pa
     requires sound { IsSound area.old.largest area.old.rows.states area.old.kinds area.old.rows.lists }
     ensures { IsRunOf area.old kind most area.new result }
 {
-    if let Some(run) = area.take_first_run(kind, most) {
-        return Some(run);
+    if let Some(found) = area.take_first_run(kind, most) {
+        return Some(found);
     }
     let head = take_foreign(area, Order::zero(), kind)?;
     Some((head, Order::zero()))
