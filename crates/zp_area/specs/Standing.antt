@@ -1,5 +1,5 @@
 -- Where a block of the set stands, and what taking the first block of a type leaves. The largest block has order m.
-use Rattle.std.specs.Prelude.{ℕ, ◌≡◌, ◌≤◌, List, Option, Some, true}
+use Rattle.std.specs.Prelude.{ℕ, ◌≡◌, ◌≤◌, Option, Some, true}
 use Rattle.zp_model.specs.declared.pageblock_type.PageblockType.{PageblockType}
 use Rattle.zp_model.specs.BlockSet.{Starts, first_of, orders_from}
 use Rattle.zp_model.specs.Rows.{front, list_at}

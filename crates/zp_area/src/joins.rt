@@ -94,6 +94,6 @@ pub fn join_up(
         joined = joined.higher();
         list += PAGEBLOCK_TYPES;
     }
-    tell_joined(tree, kind, at, order, joined);
     put_in(lists, kind, head, joined);
+    tell_joined(tree, kind, at, order, joined);
 }

@@ -1,4 +1,4 @@
-use Rattle.std.proofs.Common.{◌≡◌, ◌∙◌, min}
+use Rattle.std.proofs.Common.{◌≡◌, min}
 use Rattle.std.specs.Int.Bits.{bit_and}
 use Rattle.zp_model.proofs.Buddies.{common_bits}
 use Rattle.zp_area.proofs.joins.take_buddy.Goals.{After-take_out}
