@@ -8,8 +8,8 @@ use Rattle.zp_model.specs.declared.pageblock_type.PageblockType.{PageblockType}
 use Rattle.zp_model.specs.declared.state.State.TheVariants.{Free, Tail}
 use Rattle.zp_model.specs.Block.{IsBlock}
 use Rattle.zp_model.specs.BlockSet.{Starts}
-use Rattle.zp_model.specs.Rows.{IsOn}
-use Rattle.zp_model.specs.Area.{pageblock_pages, kind_at}
+use Rattle.zp_model.specs.Rows.{IsLoose, IsOn}
+use Rattle.zp_model.specs.Area.{pageblock_pages, kind_at, list_number}
 use Rattle.zp_model.proofs.Heads.{two, aligned_down, number_around}
 use Rattle.zp_model.proofs.TypeNumbers.{list_number_below}
 use Rattle.zp_tree.specs.Blocks.{high_halves, split_set}
@@ -18,9 +18,10 @@ use Rattle.zp_area.specs.NotedBlocks.{free_order}
 use Rattle.zp_area.specs.Blocks.{Blocks, block_set, added, removed, list_of_block}
 use Rattle.zp_area.specs.Chains.{halves_added, split_off}
 use Rattle.zp_area.specs.OneSet.{IsOneSet, IsKept}
+use Rattle.zp_area.proofs.OneBlock.{head_below}
 use Rattle.zp_area.proofs.Listing.{here_from}
 use Rattle.zp_area.proofs.Keeping.{blocks_length}
-use Rattle.zp_area.proofs.Adding.{IsComing, clear_beside, kept_added}
+use Rattle.zp_area.proofs.Adding.{IsComing, clear_beside, coming_loose, kept_added}
 use Rattle.zp_area.proofs.Removing.{clear_removed, kept_removed}
 
 -- the block (h, o) of a is split down to order j: b has the high halves; of the pages of the pageblock the low part is not counted
@@ -67,6 +68,16 @@ module _ {m : ℕ} {a b : Blocks} {free_in : List ℕ} {h k o : ℕ} (j : ℕ) (
   -- so its type is the block's
   pub half_kind : (t : PageblockType) → t ≡ kind_at m a.kinds h → t ≡ kind_at m b.kinds (h + 2 ^ j)
   half_kind t e = rw (half_number, x.kinds) e
+
+  -- it may come to its list
+  pub half_list : (t : PageblockType) → list_number j t < length b.rows.lists
+  half_list t = omega (arith, list_number_below m j t half_coming.block.order, x.kept.one.table)
+
+  pub half_page : h + 2 ^ j < length b.rows.states
+  half_page = head_below _ _ _ _ half_coming.block
+
+  pub half_loose : IsLoose b.rows.lists (h + 2 ^ j)
+  half_loose = coming_loose half_coming
 
   pub split_goes : k ≤ j → h / pageblock_pages m < length free_in → IsSplitting m a (added m b (h + 2 ^ j) j) free_in h k o j
   split_goes le lt =

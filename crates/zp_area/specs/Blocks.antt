@@ -7,9 +7,8 @@ use Rattle.zp_model.specs.declared.pageblock_type.PageblockType.TheVariants.{Mov
 use Rattle.zp_model.specs.declared.state.State.{State}
 use Rattle.zp_model.specs.declared.state.State.TheVariants.{Tail, Free}
 use Rattle.zp_model.specs.BlockSet.{is_order}
-use Rattle.zp_model.specs.Rows.{Rows, list_at, with_list, with_state, without_page, rest}
+use Rattle.zp_model.specs.Rows.{Rows, list_at, with_list, with_state, with_run, without_page, rest}
 use Rattle.zp_model.specs.Area.{list_number, lists_count, kind_at, pageblocks_of}
-use Rattle.zp_table.specs.Entries.{with_run}
 use Rattle.zp_area.specs.NotedBlocks.{blocks_of}
 
 pub record Blocks : Type 0 where

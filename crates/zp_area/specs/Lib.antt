@@ -9,3 +9,4 @@ pub mod Chains
 pub mod Available
 pub mod Claims
 pub mod KeptSets
+pub mod Standing

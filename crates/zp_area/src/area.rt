@@ -16,14 +16,14 @@
 //!
 //! Cost: each split or join is one list operation of a constant number of steps, at most as many as the largest order. `retype` steps over
 //! the pages of one pageblock. Where 64 pageblocks are marked, a change that marks one more looks at another one first.
-ghost use Rattle.std.specs.Prelude.{ℕ, ◌≡◌, None, ◌<◌, ◌≤◌, ◌+◌, ◌^◌, ◌*◌, ◌/◌, ◌↔◌, false, length, slice_index_or, IfOk, Some, IfNone, IfSome, IsTrue};
+ghost use Rattle.std.specs.Prelude.{ℕ, ◌≡◌, None, ◌<◌, ◌≤◌, ◌+◌, ◌^◌, ◌*◌, ◌/◌, ◌↔◌, true, false, length, slice_index_or, IfOk, Some, IfNone, IfSome, IsTrue};
 ghost use Rattle.zp_model.specs.declared.constants.TheConstants.{MAX_PAGES};
 ghost use Rattle.zp_model.specs.declared.pageblock_type.PageblockType.TheVariants.{Movable};
 ghost use Rattle.zp_model.specs.PageblockType.{pageblock_type};
 ghost use Rattle.zp_model.specs.declared.state.State.TheVariants.{Free};
 ghost use Rattle.zp_model.specs.Block.{IsBlock, has, size};
-ghost use Rattle.zp_model.specs.BlockSet.{Starts, cover, first_of, orders_from, lowest, largest_in};
-ghost use Rattle.zp_model.specs.Rows.{IsLoose, IsOn, IsRow, after, front, state_at};
+ghost use Rattle.zp_model.specs.BlockSet.{Starts, cover, lowest, largest_in};
+ghost use Rattle.zp_model.specs.Rows.{IsLoose, IsOn, IsRow, after, front, list_at, state_at};
 ghost use Rattle.zp_model.specs.Described.{IsLinkedAt};
 ghost use Rattle.zp_model.specs.Frames.{IsNote};
 ghost use Rattle.zp_model.specs.Area.{available, is_isolated, kind_at, list_number, lists_count, pageblock_pages, size_in};
@@ -35,11 +35,13 @@ ghost use Rattle.zp_area.specs.Retyped.{retyped};
 ghost use Rattle.zp_area.specs.OneSet.{IsOneSet};
 ghost use Rattle.zp_area.specs.Available.{choosable};
 ghost use Rattle.zp_area.specs.Claims.{IsLargestClaimable, IsOtherType};
+ghost use Rattle.zp_area.specs.Standing.{IsFirstTaken, IsListedBlock, first_head};
 
 use crate::available::{count_isolated, largest_seen, tell_added, tell_type};
 use crate::free_lists::list_of;
 use crate::kept_blocks::KeptBlocks;
 use crate::linked_page::LinkedPage;
+use crate::listed_block::ListedBlock;
 use crate::noting::Noted;
 use crate::retypes::retype;
 use crate::{joins, noting, splits};
@@ -178,47 +180,53 @@ impl FreeArea {
         requires down { to ≤ from }
         ensures { self.new ≡ split_off self.old.largest self.old at from to }
     {
-        if to.number() < from.number() {
-            self.split_down(at, from, to, kind);
+        let block = ListedBlock {
+            head: at,
+            order: from,
+            list: list_of(from, kind.pageblock_type()),
+            is_front: false,
+        };
+        self.take_low(block, to, kind);
+    }
+
+    /// Takes the low part of order `to` of a block out of the set.
+    #[inline(always)]
+    fn take_low(&mut self, block: ListedBlock, to: Order, kind: MigrateType)
+        requires block { IsListedBlock self.old (pageblock_type kind) block }
+        requires down { to ≤ block.order }
+        ensures { self.new ≡ split_off self.old.largest self.old block.head block.order to }
+    {
+        if to.number() < block.order.number() {
+            self.split_down(block, to, kind);
         } else {
-            self.take_whole(at, from, kind);
+            self.take_whole(block, kind);
         }
     }
 
-    /// Takes a block of this order out of the set whole.
+    /// Takes a block out of the set whole.
     #[inline(always)]
-    fn take_whole(&mut self, at: PageAt, order: Order, kind: MigrateType)
-        requires block { Starts (block_set self.old) at order }
-        requires typed { pageblock_type kind ≡ kind_at self.old.largest self.old.kinds at }
-        ensures { self.new ≡ removed self.old.largest self.old at order }
+    fn take_whole(&mut self, block: ListedBlock, kind: MigrateType)
+        requires { IsListedBlock self.old (pageblock_type kind) block }
+        ensures { self.new ≡ removed self.old.largest self.old block.head block.order }
     {
-        let pageblock = self.blocks.largest.pageblock_of(at);
-        splits::take_whole(
-            &mut self.blocks,
-            pageblock,
-            kind.pageblock_type(),
-            at,
-            order,
-        );
+        let pageblock = self.blocks.largest.pageblock_of(block.head);
+        splits::take_whole(&mut self.blocks, pageblock, kind.pageblock_type(), block);
         noting::changed(&mut self.noted, &self.blocks, pageblock);
     }
 
     /// The same of a block that is split.
-    // (out of line: most blocks are taken whole, which is the shorter way)
-    #[inline(never)]
-    fn split_down(&mut self, at: PageAt, from: Order, to: Order, kind: MigrateType)
-        requires block { Starts (block_set self.old) at from }
-        requires typed { pageblock_type kind ≡ kind_at self.old.largest self.old.kinds at }
-        requires down { to < from }
-        ensures { self.new ≡ split_off self.old.largest self.old at from to }
+    #[inline(always)]
+    fn split_down(&mut self, block: ListedBlock, to: Order, kind: MigrateType)
+        requires block { IsListedBlock self.old (pageblock_type kind) block }
+        requires down { to < block.order }
+        ensures { self.new ≡ split_off self.old.largest self.old block.head block.order to }
     {
-        let pageblock = self.blocks.largest.pageblock_of(at);
+        let pageblock = self.blocks.largest.pageblock_of(block.head);
         splits::split_off(
             &mut self.blocks,
             pageblock,
             kind.pageblock_type(),
-            at,
-            from,
+            block,
             to,
         );
         noting::changed(&mut self.noted, &self.blocks, pageblock);
@@ -350,10 +358,11 @@ impl FreeArea {
     }
 
     /// The block of this order or more with the least head, outside isolated pageblocks.
-    pub fn lowest(&self, order: Order) -> Option<(PageAt, Order)>
-        ensures answer { result ≡ lowest (choosable self.now.largest self.now) order }
-        ensures found { IfSome result (λ b. Starts (block_set self.now) b.0 b.1 × (order ≤ b.1)) }
-        ensures open { IfSome result (λ b. is_isolated self.now.largest self.now.kinds b.0 ≡ false) }
+    pub fn lowest(&mut self, order: Order) -> Option<(PageAt, Order)>
+        ensures same { self.new ≡ self.old }
+        ensures answer { result ≡ lowest (choosable self.old.largest self.old) order }
+        ensures found { IfSome result (λ b. Starts (block_set self.old) b.0 b.1 × (order ≤ b.1)) }
+        ensures open { IfSome result (λ b. is_isolated self.old.largest self.old.kinds b.0 ≡ false) }
     {
         let mut meter = Meter::new();
         self.blocks.tree.lowest(order, &mut meter)
@@ -372,13 +381,14 @@ impl FreeArea {
         self.blocks.lists.front(list_of(order, kind))
     }
 
-    /// The head in front of the first list of this type that is not empty, from an order on, and the order of that list.
+    /// The block in front of the first list of this type that is not empty, from an order on: its head, its order and the list's number.
     #[inline(always)]
-    pub fn first_front(&self, order: Order, kind: PageblockType) -> Option<(PageAt, Order)>
-        ensures none { IfNone result (first_of (λ o. front (free_list_of self.now.largest self.now o kind)) (orders_from self.now.largest order) ≡ None) }
-        ensures some { IfSome result (λ b. first_of (λ o. front (free_list_of self.now.largest self.now o kind)) (orders_from self.now.largest order) ≡ Some b.0) }
+    fn first_block(&self, order: Order, kind: PageblockType) -> Option<(PageAt, Order, usize)>
+        ensures none { IfNone result (first_head self.now kind order ≡ None) }
+        ensures some { IfSome result (λ b. first_head self.now kind order ≡ Some b.0) }
         ensures starts { IfSome result (λ b. Starts (block_set self.now) b.0 b.1 × (order ≤ b.1)) }
         ensures typed { IfSome result (λ b. kind ≡ kind_at self.now.largest self.now.kinds b.0) }
+        ensures stands { IfSome result (λ b. (b.2 ≡ list_number b.1 kind) × (front (list_at self.now.rows.lists b.2) ≡ Some b.0)) }
     {
         let largest = self.blocks.largest.number();
         let lists = &self.blocks.lists;
@@ -387,12 +397,51 @@ impl FreeArea {
         let mut list = list_of(order, kind);
         'orders: while number <= largest {
             if let Some(head) = lists.front(list) {
-                return Some((head, Order::at(number)));
+                return Some((head, Order::at(number), list));
             }
             number += 1;
             list += PAGEBLOCK_TYPES;
         }
         None
+    }
+
+    /// Takes the low part of this order of the first block of this type that is large enough, from the smallest order up. Its head, where
+    /// there is such a block.
+    #[inline(always)]
+    pub fn take_first(&mut self, order: Order, kind: MigrateType) -> Option<PageAt>
+        ensures none { IfNone result ((first_head self.old (pageblock_type kind) order ≡ None) × (self.new ≡ self.old)) }
+        ensures some { IfSome result (λ at. (o : ℕ) × IsFirstTaken self.old (pageblock_type kind) order at o order self.new) }
+    {
+        let (head, found, list) = self.first_block(order, kind.pageblock_type())?;
+        let block = ListedBlock {
+            head,
+            order: found,
+            list,
+            is_front: true,
+        };
+        self.take_low(block, order, kind);
+        Some(head)
+    }
+
+    /// Takes pages in a row off the first block of this type: as many as it has, `most` of them or fewer. The first page, and the order of
+    /// the run.
+    #[inline(always)]
+    pub fn take_first_run(&mut self, kind: MigrateType, most: u32) -> Option<(PageAt, Order)>
+        requires { 0 < most }
+        ensures none { IfNone result ((first_head self.old (pageblock_type kind) 0 ≡ None) × (self.new ≡ self.old)) }
+        ensures some { IfSome result (λ r. (o : ℕ) × IsFirstTaken self.old (pageblock_type kind) 0 r.0 o r.1 self.new) }
+        ensures fits { IfSome result (λ r. 2 ^ r.1 ≤ most) }
+    {
+        let (head, found, list) = self.first_block(Order::zero(), kind.pageblock_type())?;
+        let order = run_order(found, most);
+        let block = ListedBlock {
+            head,
+            order: found,
+            list,
+            is_front: true,
+        };
+        self.take_low(block, order, kind);
+        Some((head, order))
     }
 
     /// The head after this one on the list of an order and a type.
@@ -518,5 +567,19 @@ impl FreeArea {
         ensures { result ≡ front (side_list_of self.now.largest self.now list) }
     {
         self.blocks.lists.front(self.blocks.largest.lists() + list)
+    }
+}
+
+/// The largest order, at most that of the block found, of no more pages than are wanted.
+fn run_order(found: Order, most: u32) -> Order
+    requires { 0 < most }
+    ensures within { result ≤ found }
+    ensures fits { 2 ^ result ≤ most }
+{
+    let wanted = 31 - most.leading_zeros();
+    if wanted < u32::from(found.number()) {
+        Order::at(wanted as u8)
+    } else {
+        found
     }
 }

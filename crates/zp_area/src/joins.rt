@@ -14,10 +14,11 @@ ghost use Rattle.zp_area.specs.OneSet.{IsKept};
 ghost use Rattle.zp_area.specs.Available.{choosable};
 
 use crate::available::tell_joined;
+use crate::free_lists::list_of;
 use crate::kept_blocks::KeptBlocks;
 use crate::splits::{put_in, take_out};
 use zp_links::Lists;
-use zp_model::{Largest, Order, PageAt, PageblockType, State};
+use zp_model::{Largest, Order, PAGEBLOCK_TYPES, PageAt, PageblockType, State};
 use zp_tree::OrderTree;
 
 /// Whether a block of this order starts at a page.
@@ -36,16 +37,17 @@ pub fn has_free_buddy(lists: &Lists, largest: Largest, at: PageAt, order: Order)
     order.number() < largest.number() && is_free(lists, at.buddy(order), order)
 }
 
-/// Takes the free buddy of a block off its list, and notes it as free no more: the head of the double of the block.
+/// Takes the free buddy of a block off its list, which has this number, and notes it as free no more: the head of the double of the block.
 #[inline(always)]
-fn take_buddy(lists: &mut Lists, kind: PageblockType, at: PageAt, order: Order) -> PageAt
+fn take_buddy(lists: &mut Lists, list: usize, at: PageAt, order: Order) -> PageAt
     requires aligned { at % 2 ^ order ≡ 0 }
-    requires listed { (c d : ℕ) → IsBuddy at order c d → (c < length lists.old.states) × IsOn lists.old.lists (list_number order kind) c }
-    ensures { (c : ℕ) × IsBuddy at order c result × (lists.new ≡ with_state (taken_off lists.old (list_number order kind) c) c Tail) }
+    requires listed { (c d : ℕ) → IsBuddy at order c d → (c < length lists.old.states) × IsOn lists.old.lists list c }
+    ensures { (c : ℕ) × IsBuddy at order c result × (lists.new ≡ with_state (taken_off lists.old list c) c Tail) }
 {
     let buddy = at.buddy(order);
-    take_out(lists, kind, buddy, order);
-    PageAt::at(at.number().min(buddy.number()))
+    take_out(lists, list, buddy, false);
+    // (the lower of the two has the bits that both have: no compare)
+    PageAt::at(at.number() & buddy.number())
 }
 
 /// Takes a block that has a free buddy into the set, joined with its buddies as long as they are free. Each leaves its list; the head of
@@ -83,14 +85,15 @@ pub fn join_up(
     } = blocks;
     free_in[pageblock] += order.pages();
     // (the first join stands before the loop: most blocks join once, and the loop's counts cost as much again)
-    let mut head = take_buddy(lists, kind, at, order);
+    let mut head = take_buddy(lists, list_of(order, kind), at, order);
     let mut joined = order.higher();
-    let mut joins = has_free_buddy(lists, largest, head, joined);
-    'joins: while joins {
-        head = take_buddy(lists, kind, head, joined);
+    // (counted up, as a product in the loop costs more)
+    let mut list = list_of(joined, kind);
+    'joins: while has_free_buddy(lists, largest, head, joined) {
+        head = take_buddy(lists, list, head, joined);
         joined = joined.higher();
-        joins = has_free_buddy(lists, largest, head, joined);
+        list += PAGEBLOCK_TYPES;
     }
-    tell_joined(tree, kind, at, order, joined);
     put_in(lists, kind, head, joined);
+    tell_joined(tree, kind, at, order, joined);
 }

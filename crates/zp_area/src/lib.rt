@@ -11,6 +11,7 @@ mod free_lists;
 mod joins;
 mod kept_blocks;
 mod linked_page;
+mod listed_block;
 mod noting;
 mod retypes;
 mod splits;

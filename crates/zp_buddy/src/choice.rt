@@ -65,15 +65,6 @@ fn first_front(area: &FreeArea, order: Order, kinds: &[MigrateType]) -> Option<F
     None
 }
 
-/// The smallest block that serves of the request's own type.
-#[inline(always)]
-pub fn own_block(area: &FreeArea, order: Order, kind: MigrateType) -> Option<FreeBlock>
-    ensures { IsFoundAs area.now order (own (area_in area.now.largest area.now) order kind) result }
-{
-    let (head, order) = area.first_front(order, kind.pageblock_type())?;
-    Some(FreeBlock { head, order, kind })
-}
-
 /// The smallest block that serves of another type.
 fn borrowed_block(area: &FreeArea, order: Order, kind: MigrateType) -> Option<FreeBlock>
     ensures { IsFoundAs area.now order (borrow (area_in area.now.largest area.now) order kind) result }

@@ -2,17 +2,18 @@
 //!
 //! Nothing is kept here: the free area has the blocks, and `choice.rt` says which one a request gets. `take` does at most four steps:
 //!
-//! 1. `own_block`: the front of the first list of the request's own type that is not empty, from the request's order upwards.
+//! 1. `FreeArea::take_first`: the front of the first list of the request's own type that is not empty, from the request's order upwards. It
+//!    leaves its list, its high halves come to theirs, and the head of the low run is the answer.
 //! 2. Where there is none, `claimed_block`: the largest block of another type whose pageblock has half of its pages free, where it is large
 //!    enough for the request and for its type. The request claims that pageblock: `FreeArea::retype` gives it the request's type and moves
 //!    its free blocks to the lists of that type.
 //! 3. Where nothing can be claimed, `borrowed_block`: the smallest block of another type that serves. Its pageblock keeps its type.
-//! 4. `FreeArea::split_off`: the block leaves its list, its high halves come to theirs, and `take` returns the head of the low run.
+//! 4. `FreeArea::split_off` takes the block of step 2 or 3, as step 1 does its own.
 //!
-//! Most requests need steps 1 and 4 alone, so steps 2 and 3 stand out of line (`take_foreign`) and take no registers from them. The list
-//! on which the block was found says its pageblock's type. `split_off` gets that type, so it does not read it again.
+//! Most requests need step 1 alone, so the others stand out of line (`take_foreign`) and take no registers from it. The list on which the
+//! block was found says its pageblock's type, and that it stands in front: neither is read again.
 //!
-//! Cost, where m is the zone's largest order: step 1 looks at m + 1 fronts at most, and step 4 splits m times at most. To learn its order a
+//! Cost, where m is the zone's largest order: step 1 looks at m + 1 fronts and splits m times at most. To learn its order a
 //! claim looks at four fronts, and then at 64 pageblocks and 22 counts at most. It then walks the lists of that order alone, to the first
 //! block whose pageblock has pages enough. At orders m and m - 1 that is the front; below them many blocks can stand before it.
 ghost use Rattle.std.specs.Prelude.{◌≡◌, ◌≤◌, ◌<◌, ◌^◌, length, None, Some};
@@ -23,7 +24,7 @@ ghost use Rattle.zp_buddy.specs.Sound.{IsSound};
 ghost use Rattle.zp_buddy.specs.Choices.{IsFreeBlock, IsTaken, area_in, chosen_of, frames_in};
 ghost use Rattle.zp_buddy.specs.Runs.{IsRunOf};
 
-use crate::choice::{Choice, FreeBlock, foreign_choice, own_block};
+use crate::choice::{Choice, FreeBlock, foreign_choice};
 use crate::split::take_block;
 use zp_area::FreeArea;
 use zp_model::{MigrateType, Order, PageAt};
@@ -75,30 +76,10 @@ pub fn take(area: &mut FreeArea, order: Order, kind: MigrateType) -> Option<Page
     requires { IsSound area.old.largest area.old.rows.states area.old.kinds area.old.rows.lists }
     ensures { IsTaken area.old order kind area.new result }
 {
-    if let Some(block) = own_block(area, order, kind) {
-        let FreeBlock {
-            head,
-            order: found,
-            kind: own,
-        } = block;
-        take_block(area, head, found, own, order);
+    if let Some(head) = area.take_first(order, kind) {
         return Some(head);
     }
     take_foreign(area, order, kind)
-}
-
-/// The largest order, at most that of the block found, of no more pages than are wanted.
-fn run_order(found: Order, most: u32) -> Order
-    requires { 0 < most }
-    ensures within { result ≤ found }
-    ensures fits { 2 ^ result ≤ most }
-{
-    let wanted = 31 - most.leading_zeros();
-    if wanted < u32::from(found.number()) {
-        Order::at(wanted as u8)
-    } else {
-        found
-    }
 }
 
 /// Takes pages in a row off the smallest block of the request's own type: as many as a block has, `most` of them or fewer. Where the type has
@@ -109,15 +90,8 @@ pub fn take_run(area: &mut FreeArea, kind: MigrateType, most: u32) -> Option<(Pa
     requires sound { IsSound area.old.largest area.old.rows.states area.old.kinds area.old.rows.lists }
     ensures { IsRunOf area.old kind most area.new result }
 {
-    if let Some(block) = own_block(area, Order::zero(), kind) {
-        let FreeBlock {
-            head,
-            order: found,
-            kind: own,
-        } = block;
-        let order = run_order(found, most);
-        take_block(area, head, found, own, order);
-        return Some((head, order));
+    if let Some(found) = area.take_first_run(kind, most) {
+        return Some(found);
     }
     let head = take_foreign(area, Order::zero(), kind)?;
     Some((head, Order::zero()))

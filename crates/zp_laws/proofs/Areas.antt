@@ -11,7 +11,9 @@ use Rattle.zp_model.specs.Choose.{Chosen}
 use Rattle.zp_model.specs.Frames.{Frames, IsClear, with_area}
 use Rattle.zp_model.specs.Take.{leave, give, retype, taken}
 use Rattle.zp_model.specs.Lawful.{IsListedArea}
+use Rattle.zp_model.specs.Runs.{give_run, leave_run, with_pages, without_pages}
 use Rattle.zp_laws.proofs.Settling.{settle_lists}
+pub use Rattle.zp_model.proofs.RunGiven.{largest_given as largest-give_run, largest_left as largest-leave_run}
 
 module _ (a : Area) (h k : ℕ) where
   pub free-leave : (leave a h k).free ≡ without a.free h k
@@ -45,6 +47,32 @@ module _ (a : Area) (h k : ℕ) where
   pub lists-give : IsListedArea a → IsListedArea (give a h k)
   unfolding give
   lists-give l = settle_lists (record a { free = with_run a.free h k }) l.distinct
+
+-- a run of pages that leaves or comes
+module _ (a : Area) (h n : ℕ) where
+  pub free-leave_run : (leave_run a h n).free ≡ without_pages a.free h n
+  unfolding leave_run settle
+  free-leave_run = refl
+
+  pub kinds-leave_run : (leave_run a h n).kinds ≡ a.kinds
+  unfolding leave_run settle
+  kinds-leave_run = refl
+
+  pub lists-leave_run : IsListedArea a → IsListedArea (leave_run a h n)
+  unfolding leave_run
+  lists-leave_run l = settle_lists (record a { free = without_pages a.free h n }) l.distinct
+
+  pub free-give_run : (give_run a h n).free ≡ with_pages a.free h n
+  unfolding give_run settle
+  free-give_run = refl
+
+  pub kinds-give_run : (give_run a h n).kinds ≡ a.kinds
+  unfolding give_run settle
+  kinds-give_run = refl
+
+  pub lists-give_run : IsListedArea a → IsListedArea (give_run a h n)
+  unfolding give_run
+  lists-give_run l = settle_lists (record a { free = with_pages a.free h n }) l.distinct
 
 module _ (a : Area) (b : ℕ) (t : PageblockType) where
   pub free-retype : (retype a b t).free ≡ a.free

@@ -33,11 +33,11 @@ made_other u e (x ∷ xs) ne = grind (arith, nat_tests, made_other u e xs ne)
 own_other : (u : ℕ) (out : List (Option Holding)) (h : ℕ) (v : Option Holding) → only u v ≡ None → only u (holding_at out h) ≡ None → own u (slice_set out h v) ≡ own u out
 own_other u out h v a b = map-set_same (only u) out h v None (a ∙ sym b)
 
-only_other : (u : ℕ) (x : Holding) → u ≢ x.worker → only u (Some x) ≡ None
+pub only_other : (u : ℕ) (x : Holding) → u ≢ x.worker → only u (Some x) ≡ None
 only_other u x ne = ap (λ b. cond b (Some x) None) (ne_eqb x.worker u (λ e. ne (sym e)))
 
 -- another's block goes out where none was
-own-taken : (u h : ℕ) (out : List (Option Holding)) (x : Holding) → u ≢ x.worker → holding_at out h ≡ None → own u (slice_set out h (Some x)) ≡ own u out
+pub own-taken : (u h : ℕ) (out : List (Option Holding)) (x : Holding) → u ≢ x.worker → holding_at out h ≡ None → own u (slice_set out h (Some x)) ≡ own u out
 own-taken u h out x ne none = own_other u out h (Some x) (only_other u x ne) (ap (only u) none)
 
 -- another's block is out no more

@@ -5,11 +5,11 @@ use Rattle.zp_model.specs.Zone.{Holding, holding_at, is_of}
 use Rattle.zp_model.specs.Run.{is_out}
 use Rattle.zp_model.specs.Books.{Books, Part, only, own, part, has_block}
 
-own-at : (w h : ℕ) (out : List (Option Holding)) → holding_at (own w out) h ≡ only w (holding_at out h)
+pub own-at : (w h : ℕ) (out : List (Option Holding)) → holding_at (own w out) h ≡ only w (holding_at out h)
 own-at w h out = get_or-map (only w) out h None
 
 -- whether a holding is the worker's, its part tells as the zone does
-is_of-only : (w k : ℕ) (o : Option Holding) → is_of w k (only w o) ≡ is_of w k o
+pub is_of-only : (w k : ℕ) (o : Option Holding) → is_of w k (only w o) ≡ is_of w k o
 is_of-only w k o = grind arith
 
 pub has-is_out : (w p k : ℕ) (b : Books) → has_block w (part w b) p k ≡ is_out b.plain w p k

@@ -24,7 +24,7 @@ made_same e (x ∷ xs) = grind (arith, nat_tests, made_same e xs)
 only_same : (x : Holding) → only x.worker (Some x) ≡ Some x
 only_same x = ap (λ b. cond b (Some x) None) (eq-eqb x.worker x.worker refl)
 
-own_set : (x : Holding) (out : List (Option Holding)) (h : ℕ) → own x.worker (slice_set out h (Some x)) ≡ slice_set (own x.worker out) h (Some x)
+pub own_set : (x : Holding) (out : List (Option Holding)) (h : ℕ) → own x.worker (slice_set out h (Some x)) ≡ slice_set (own x.worker out) h (Some x)
 own_set x out h = map-set (only x.worker) out h (Some x) ∙ ap (λ o. slice_set (own x.worker out) h o) (only_same x)
 
 own_gone : (w h : ℕ) (out : List (Option Holding)) → own w (slice_set out h None) ≡ slice_set (own w out) h None

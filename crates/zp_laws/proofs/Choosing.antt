@@ -21,14 +21,14 @@ use Rattle.zp_model.specs.Choose.{Chosen, chosen_at, own, claim, borrow, choose,
 use Rattle.zp_model.specs.Take.{blocks_at_hand, take_low_answer}
 use Rattle.zp_model.specs.Lawful.{IsListedArea}
 use Rattle.zp_model.proofs.Heads.{aligned_down}
-use Rattle.zp_model.proofs.MaximalBlocks.{length-max, max_block}
 use Rattle.zp_model.proofs.Normal.{Filled}
 use Rattle.zp_model.proofs.Pages.{In, is_max-to}
 use Rattle.zp_model.proofs.Covers.{has_below}
 use Rattle.zp_model.proofs.RowLists.{front_stands}
-use Rattle.zp_model.proofs.Settles.{stands_first, stands_later}
 use Rattle.zp_model.proofs.TypeNumbers.{number_below, number_one, list_number_below}
 use Rattle.zp_laws.specs.Found.{IsFound}
+use Rattle.zp_model.proofs.FirstFound.{find-passes}
+pub use Rattle.zp_model.proofs.MaximalBlocks.{max_blocks-to}
 
 or_Some : {Y : Type 0} (o p : Option Y) (y : Y) → option_or o p ≡ Some y → (o ≡ Some y) ⊎ (p ≡ Some y)
 or_Some None p y e = inr e
@@ -50,14 +50,6 @@ first_of-gives at (x ∷ xs) d y e =
     elim (or_Some (at x) (first_of at xs) y e) [
       | inl here ↦ (0, omega arith, here)
       | inr later ↦ let r = first_of-gives at xs d y later in (suc r.0, omega (arith, r.1), r.2)
-    ]
-
-find-passes : (p : ℕ → Bool) (xs : List ℕ) (h : ℕ) → find p xs ≡ Some h → (p h ≡ true) × (stands_in h xs ≡ true)
-find-passes p [] h e = absurd (none-some h e)
-find-passes p (x ∷ xs) h e =
-    elim (cases_Bool (p x)) [
-      | inl hit ↦ let s : x ≡ h = same_Some x h (rw hit at e) in (rw s at hit, rw s (stands_first h xs))
-      | inr miss ↦ let r = find-passes p xs h (rw miss at e) in (r.0, stands_later h x xs r.1)
     ]
 
 -- the orders from k on are from k on, and none is above the largest
@@ -170,14 +162,6 @@ block_if-some test h (Some j) b e =
     elim (cases_Bool (test h j)) [
       | inl t ↦ let s : (h, j) ≡ b = same_Some (h, j) b (rw t at e) in (ap (λ (x : ℕ × ℕ). Some x.1) s, ap (λ (x : ℕ × ℕ). x.0) s, ap (λ (x : ℕ × ℕ). test h x.1) (sym s) ∙ t)
       | inr f ↦ absurd (none-some b (rw f at e))
-    ]
-
--- what the block set of the maximal blocks says of a page
-pub max_blocks-to : (m : ℕ) (u : List Bool) (h j : ℕ) → get_or (max_blocks m u) h None ≡ Some j → is_max m u h j ≡ true
-max_blocks-to m u h j e =
-    elim (cases_lt h (length u)) [
-      | inl lt ↦ (find-passes (is_max m u h) (orders_from m 0) j (sym (max_block m u h lt) ∙ e)).0
-      | inr ge ↦ absurd (none-some j (sym (get_or_past (max_blocks m u) h None (omega (arith, length-max m u))) ∙ e))
     ]
 
 pub length-available_blocks : (m : ℕ) (kinds : List PageblockType) (s : List (Option ℕ)) → length (available_blocks m kinds s) ≡ length s

@@ -91,7 +91,7 @@ choose_none a k t h l e outside x =
     false≢true (sym (front-none (free_list a x.order s) h none) ∙ found_listed a k h l x)
 
 -- a free block outside isolated pageblocks is one of those of which the lowest is looked for
-at_hand_some : (a : Area) (h o : ℕ) → h < length a.free → is_isolated a.largest a.kinds h ≡ false → is_max a.largest a.free h o ≡ true → get_or (blocks_at_hand a) h None ≡ Some o
+pub at_hand_some : (a : Area) (h o : ℕ) → h < length a.free → is_isolated a.largest a.kinds h ≡ false → is_max a.largest a.free h o ≡ true → get_or (blocks_at_hand a) h None ≡ Some o
 at_hand_some a h o lt outside e =
     available_blocks-at a.largest a.kinds (max_blocks a.largest a.free) h ∙ rw outside (max_block_some a.largest a.free h o lt e)
 

@@ -11,7 +11,9 @@ use Rattle.std.proofs.lemmas.List.FromFn.{fill_by_all, get_or-range_with_len, le
 use Rattle.zp_model.specs.Block.{with_run, has, in_run, without, size}
 use Rattle.zp_model.proofs.Normal.{Filled}
 use Rattle.zp_model.proofs.Pages.{In, in_run-to}
-use Rattle.zp_model.proofs.Covers.{has-with, has-without, length-with, length-without}
+use Rattle.zp_model.specs.Runs.{is_within, with_pages, without_pages}
+use Rattle.zp_model.proofs.Covers.{length-with, length-without}
+use Rattle.zp_model.proofs.RunParts.{has-with_pages, has-without_pages, length-with_pages, length-without_pages, with_block, within-to, without_block}
 pub use Rattle.zp_model.proofs.Pages.{in_run-from as in_run-yes}
 
 pub same_tests : (a b : Bool) → (a ≡ true → b ≡ true) → (b ≡ true → a ≡ true) → a ≡ b
@@ -93,19 +95,28 @@ size-range u =
     ap (λ v. count_by (λ b. b) v) (fill_by_all (has u) u (length u) false refl (λ i lt. refl)) ∙ sum-map one_if (has u) (range_with_len 0 (length u))
 
 -- the marks of a set, also past its end, when the pages of a run leave it or come
-pub has-without_any : (u : List Bool) (h k i : ℕ) → has (without u h k) i ≡ (has u i && not (in_run h k i))
-has-without_any u h k i =
+pub has-left_any : (u : List Bool) (h n i : ℕ) → has (without_pages u h n) i ≡ (has u i && not (is_within h n i))
+has-left_any u h n i =
     elim (cases_lt i (length u)) [
-      | inl lt ↦ has-without u h k i lt
-      | inr ge ↦ get_or_past (without u h k) i false (omega (arith, length-without u h k)) ∙ sym (rw (get_or_past u i false ge))
+      | inl lt ↦ has-without_pages u h n i lt
+      | inr ge ↦ get_or_past (without_pages u h n) i false (omega (arith, length-without_pages u h n)) ∙ sym (rw (get_or_past u i false ge))
     ]
 
-pub has-with_any : (u : List Bool) (h k i : ℕ) → h + 2 ^ k ≤ length u → has (with_run u h k) i ≡ (has u i || in_run h k i)
-has-with_any u h k i le =
+pub has-given_any : (u : List Bool) (h n i : ℕ) → h + n ≤ length u → has (with_pages u h n) i ≡ (has u i || is_within h n i)
+has-given_any u h n i le =
     elim (cases_lt i (length u)) [
-      | inl lt ↦ has-with u h k i lt
-      | inr ge ↦ get_or_past (with_run u h k) i false (omega (arith, length-with u h k)) ∙ sym (rw (get_or_past u i false ge, in_run-no h k i (inr (omega arith))))
+      | inl lt ↦ has-with_pages u h n i lt
+      | inr ge ↦
+          let out : is_within h n i ≡ false = false_from_ne_true _ (λ e. let r = within-to h n i e in omega (arith, r.1)) in
+          get_or_past (with_pages u h n) i false (omega (arith, length-with_pages u h n)) ∙ sym (rw (get_or_past u i false ge, out))
     ]
+
+-- the same of a block's pages
+pub has-without_any : (u : List Bool) (h k i : ℕ) → has (without u h k) i ≡ (has u i && not (in_run h k i))
+has-without_any u h k i = ap (λ v. has v i) (without_block u h k) ∙ has-left_any u h (2 ^ k) i
+
+pub has-with_any : (u : List Bool) (h k i : ℕ) → h + 2 ^ k ≤ length u → has (with_run u h k) i ≡ (has u i || in_run h k i)
+has-with_any u h k i le = ap (λ v. has v i) (with_block u h k) ∙ has-given_any u h (2 ^ k) i le
 
 pub same_marks : (u v : List Bool) → length u ≡ length v → ((i : ℕ) → has u i ≡ has v i) → u ≡ v
 same_marks u v l e = ext_get_or false u v l (λ i lt. e i)

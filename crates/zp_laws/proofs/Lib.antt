@@ -22,3 +22,12 @@ pub mod BooksOut
 pub mod BooksOthers
 pub mod BooksOwn
 pub mod BooksShape
+pub mod RunsOut
+pub mod Around
+pub mod KeepingRuns
+pub mod RunsLent
+pub mod RunSteps
+pub mod RunBooks
+pub mod RunPlaces
+pub mod RunsByBlocks
+pub mod RunsOwn

@@ -3,25 +3,27 @@ use Rattle.std.proofs.Common.{ℕ, ◌+◌, ◌-◌, ◌^◌, ◌≡◌, ◌≤�
 use Rattle.std.proofs.lemmas.Bool.{and_parts, and_from, leb-true, le-leb, false≢true}
 use Rattle.zp_model.specs.Block.{has, in_run, without, with_run}
 use Rattle.zp_model.specs.Zone.{PlainZone, pages_of}
+use Rattle.zp_model.specs.Runs.{is_within, with_pages, without_pages}
 use Rattle.zp_model.proofs.Normal.{Filled}
-use Rattle.zp_model.proofs.Pages.{In, in_run-to, in_run-from}
+use Rattle.zp_model.proofs.Pages.{In, in_run-to}
+use Rattle.zp_model.proofs.RunParts.{with_block, within-from, within-to, without_block}
 use Rattle.zp_laws.specs.FreePages.{is_free, IsMove}
-use Rattle.zp_laws.proofs.Counting.{same_tests, has-without_any, has-with_any}
+use Rattle.zp_laws.proofs.Counting.{same_tests, has-left_any, has-given_any}
 
 -- no page
 abbrev pub none : ℕ → Bool
 none p = false
 
 -- a run in absolute pages
-run-absolute : (b h k p : ℕ) → in_run (b + h) k p ≡ (leb b p && in_run h k (p - b))
-run-absolute b h k p =
-    same_tests (in_run (b + h) k p) (leb b p && in_run h k (p - b))
-    (λ e. let r = in_run-to (b + h) k p e in and_from _ _ (le-leb b p (omega (arith, r.0))) (in_run-from h k (p - b) (omega (arith, r.0)) (omega (arith, r.0, r.1))))
+pub run-absolute : (b h n p : ℕ) → is_within (b + h) n p ≡ (leb b p && is_within h n (p - b))
+run-absolute b h n p =
+    same_tests (is_within (b + h) n p) (leb b p && is_within h n (p - b))
+    (λ e. let r = within-to (b + h) n p e in and_from _ _ (le-leb b p (omega (arith, r.0))) (within-from h n (p - b) (omega (arith, r.0)) (omega (arith, r.0, r.1))))
     (λ e.
-    let a = and_parts (leb b p) (in_run h k (p - b)) e in
-    let r = in_run-to h k (p - b) a.1 in
+    let a = and_parts (leb b p) (is_within h n (p - b)) e in
+    let r = within-to h n (p - b) a.1 in
     let le : b ≤ p = leb-true b p a.0 in
-    in_run-from (b + h) k p (omega (arith, r.0)) (omega (arith, r.1)))
+    within-from (b + h) n p (omega (arith, r.0)) (omega (arith, r.1)))
 
 -- a move, with the pages that go and come told in other words
 pub move_by : (y z : PlainZone) (g f c d : ℕ → Bool) → IsMove y z g c → ((p : ℕ) → f p ≡ g p) → ((p : ℕ) → d p ≡ c p) → IsMove y z f d
@@ -42,36 +44,43 @@ move_none y z b f = record {
     parts b = grind arith
 
 -- the pages of a run of free ones leave
-pub move_out : (y z : PlainZone) (h k : ℕ) → z.base ≡ y.base → z.area.free ≡ without y.area.free h k → Filled (In y.area.free) h k → IsMove y z (in_run (y.base + h) k) none
-move_out y z h k b f full = record {
+pub move_out_run : (y z : PlainZone) (h n : ℕ) → z.base ≡ y.base → z.area.free ≡ without_pages y.area.free h n → ((i : ℕ) → is_within h n i ≡ true → In y.area.free i) →
+    IsMove y z (is_within (y.base + h) n) none
+move_out_run y z h n b f full = record {
   went = λ p e.
-      let a = and_parts (leb y.base p) (in_run h k (p - y.base)) (sym (run-absolute y.base h k p) ∙ e) in
-      let r = in_run-to h k (p - y.base) a.1 in
-      and_from _ _ a.0 (full (p - y.base) r.0 r.1);
+      let a = and_parts (leb y.base p) (is_within h n (p - y.base)) (sym (run-absolute y.base h n p) ∙ e) in
+      and_from _ _ a.0 (full (p - y.base) a.1);
   came = λ p e. absurd (false≢true e);
   each = λ p.
-      rw (b, f, has-without_any y.area.free h k (p - y.base), run-absolute y.base h k p)
-      (parts (leb y.base p) (has y.area.free (p - y.base)) (in_run h k (p - y.base)));
+      rw (b, f, has-left_any y.area.free h n (p - y.base), run-absolute y.base h n p)
+      (parts (leb y.base p) (has y.area.free (p - y.base)) (is_within h n (p - y.base)));
 }
   where
     parts : (l f r : Bool) → (l && (f && not r)) ≡ (((l && f) && not (l && r)) || false)
     parts l f r = grind arith
 
+pub move_out : (y z : PlainZone) (h k : ℕ) → z.base ≡ y.base → z.area.free ≡ without y.area.free h k → Filled (In y.area.free) h k → IsMove y z (in_run (y.base + h) k) none
+move_out y z h k b f full = move_out_run y z h (2 ^ k) b (f ∙ without_block y.area.free h k) (λ i e. let r = in_run-to h k i e in full i r.0 r.1)
+
 -- the pages of a run come, of which none was free
-pub move_back : (y z : PlainZone) (h k : ℕ) → z.base ≡ y.base → z.area.free ≡ with_run y.area.free h k → h + 2 ^ k ≤ pages_of y →
-    ((i : ℕ) → in_run h k i ≡ true → has y.area.free i ≡ false) → IsMove y z none (in_run (y.base + h) k)
-move_back y z h k b f le clear = record {
+pub move_back_run : (y z : PlainZone) (h n : ℕ) → z.base ≡ y.base → z.area.free ≡ with_pages y.area.free h n → h + n ≤ pages_of y →
+    ((i : ℕ) → is_within h n i ≡ true → has y.area.free i ≡ false) → IsMove y z none (is_within (y.base + h) n)
+move_back_run y z h n b f le clear = record {
   went = λ p e. absurd (false≢true e);
   came = λ p e.
-      let a = and_parts (leb y.base p) (in_run h k (p - y.base)) (sym (run-absolute y.base h k p) ∙ e) in
+      let a = and_parts (leb y.base p) (is_within h n (p - y.base)) (sym (run-absolute y.base h n p) ∙ e) in
       rw (a.0, clear (p - y.base) a.1);
   each = λ p.
-      rw (b, f, has-with_any y.area.free h k (p - y.base) le, run-absolute y.base h k p)
-      (parts (leb y.base p) (has y.area.free (p - y.base)) (in_run h k (p - y.base)));
+      rw (b, f, has-given_any y.area.free h n (p - y.base) le, run-absolute y.base h n p)
+      (parts (leb y.base p) (has y.area.free (p - y.base)) (is_within h n (p - y.base)));
 }
   where
     parts : (l f r : Bool) → (l && (f || r)) ≡ (((l && f) && not false) || (l && r))
     parts l f r = grind arith
+
+pub move_back : (y z : PlainZone) (h k : ℕ) → z.base ≡ y.base → z.area.free ≡ with_run y.area.free h k → h + 2 ^ k ≤ pages_of y →
+    ((i : ℕ) → in_run h k i ≡ true → has y.area.free i ≡ false) → IsMove y z none (in_run (y.base + h) k)
+move_back y z h k b f le clear = move_back_run y z h (2 ^ k) b (f ∙ with_block y.area.free h k) le clear
 
 -- pages leave, and others leave after them
 pub move_out_out : (x y z : PlainZone) (g f : ℕ → Bool) → IsMove x y g none → IsMove y z f none → IsMove x z (λ p. g p || f p) none

@@ -1,32 +1,21 @@
 -- What settling leaves: each list holds the heads that belong there, each once.
-use Rattle.std.proofs.Common.{ℕ, suc, ◌/◌, zero, ◌≡◌, ◌<◌, ◌==◌, inl, inr, sym, ◌∙◌, arith, Bool, true, List, [], ◌∷◌, ◌++◌, length, replicate, not, ◌&&◌, ◌||◌, ltb}
+use Rattle.std.proofs.Common.{ℕ, suc, zero, ◌≡◌, ◌<◌, ◌==◌, inl, inr, sym, ◌∙◌, arith, Bool, true, List, [], ◌∷◌, ◌++◌, length, replicate, not, ◌&&◌, ◌||◌}
 use Rattle.std.specs.List.{filter, IsDistinct}
-use Rattle.std.proofs.lemmas.Nat.{pow_pos}
-use Rattle.std.proofs.lemmas.Bool.{and_parts, or_cases, lt-ltb, le-ltb, both_ways}
-use Rattle.std.proofs.lemmas.Bool.Decides.{nat_tests}
+use Rattle.std.proofs.lemmas.Bool.{or_cases, le-ltb, both_ways}
 use Rattle.std.proofs.lemmas.List.Folds.{list_any-append}
 use Rattle.std.proofs.lemmas.List.FromFn.{get_or-map-range_with_len, length-map-range_with_len}
 use Rattle.zp_model.specs.declared.pageblock_type.PageblockType.{PageblockType}
 use Rattle.zp_model.specs.declared.pageblock_type.PageblockType.TheVariants.{Movable}
-use Rattle.zp_model.specs.PageblockType.{pageblock_types}
 use Rattle.zp_model.specs.Rows.{list_at, stands_in}
 use Rattle.zp_model.specs.Area.{Area, falling, belongs, settled, settle, opening, lists_count, pageblocks_of}
 use Rattle.zp_model.specs.Lawful.{IsListedArea}
-use Rattle.zp_model.proofs.Pages.{is_max-to}
-use Rattle.zp_model.proofs.Covers.{has_below}
 use Rattle.zp_model.proofs.RowLists.{replicated}
 use Rattle.zp_model.proofs.Settles.{stands_first, stands_later, distinct_first, distinct_more, distinct_rest}
 pub use Rattle.zp_model.proofs.RowLists.{stands_filter as stands-filter, distinct_filter as distinct-filter}
+pub use Rattle.zp_model.proofs.RunLists.{belongs_below, fresh_or_old, stands_falling as stands-falling, stands_settled as held-settled}
 
 pub stands-append : (h : ℕ) (xs ys : List ℕ) → stands_in h (xs ++ ys) ≡ (stands_in h xs || stands_in h ys)
 stands-append h xs ys = list_any-append (λ x. h == x) xs ys
-
-pub stands-falling : (h n : ℕ) → stands_in h (falling n) ≡ ltb h n
-stands-falling h zero = sym (le-ltb h 0 (omega arith))
-stands-falling h (suc n) = rw (stands-falling h n) (next h n)
-  where
-    next : (h n : ℕ) → ((h == n) || ltb h n) ≡ ltb h (suc n)
-    next h n = grind (arith, nat_tests)
 
 pub distinct-falling : (n : ℕ) → IsDistinct (λ x y. x == y) (falling n)
 unfolding IsDistinct
@@ -42,27 +31,7 @@ distinct-append (x ∷ xs) ys d e f =
     distinct_more x (xs ++ ys) (distinct-append xs ys (distinct_rest x xs d) e (λ h s t. f h (stands_later h x xs s) t))
     (λ s. elim (or_cases _ _ (sym (stands-append x xs ys) ∙ s)) [ inl a ↦ distinct_first x xs d a | inr b ↦ f x (stands_first x xs) b ])
 
-pub belongs_below : (m : ℕ) (free : List Bool) (kinds : List PageblockType) (r h : ℕ) → belongs m free kinds r h ≡ true → h < length free
-unfolding belongs
-belongs_below m free kinds r h e =
-    let a = and_parts _ _ e in
-    let x = is_max-to m free h (r / pageblock_types) a.0 in
-    has_below free h (x.inside h (omega arith) (omega (arith, pow_pos (r / pageblock_types))))
-
--- what passes a test is on the old list or not; what is not is among the pages
-pub fresh_or_old : (b s l : Bool) → (b ≡ true → l ≡ true) → (((b && not s) && l) || (b && s)) ≡ b
-fresh_or_old b s l f = grind arith
-
 module _ (m : ℕ) (free : List Bool) (kinds : List PageblockType) (r : ℕ) where
-  -- a settled list holds what belongs on it
-  pub held-settled : (h : ℕ) (old : List ℕ) → stands_in h (settled m free kinds r old) ≡ belongs m free kinds r h
-  unfolding settled
-  held-settled h old =
-      let fresh : ℕ → Bool = λ x. belongs m free kinds r x && not (stands_in x old) in
-      stands-append h (filter fresh (falling (length free))) (filter (belongs m free kinds r) old)
-      ∙ rw (stands-filter fresh h (falling (length free)), stands-filter (belongs m free kinds r) h old, stands-falling h (length free))
-      (fresh_or_old (belongs m free kinds r h) (stands_in h old) (ltb h (length free)) (λ e. lt-ltb h (length free) (belongs_below m free kinds r h e)))
-
   -- a settled list holds nothing twice
   pub distinct-settled : (old : List ℕ) → IsDistinct (λ x y. x == y) old → IsDistinct (λ x y. x == y) (settled m free kinds r old)
   unfolding settled

@@ -4,3 +4,5 @@ pub mod FreePages
 pub mod TakenBack
 pub mod Journals
 pub mod KeptBooks
+pub mod KeptRuns
+pub mod RunsByBlocks

@@ -143,14 +143,15 @@ pub before_has : (xs : List ℕ) (i : ℕ) (P : ℕ → Type 0) → ((k q : ℕ)
 before_has xs zero P h q e = absurd cc
 before_has xs (suc i) P h q e = h i q refl e
 
+-- the page in front of a list is the one at its first place
+pub front_is : (xs : List ℕ) → front xs ≡ slice_get xs 0
+front_is [] = refl
+front_is (x ∷ xs) = refl
+
 -- what stands after a page that stands once
 pub after_is : (xs : List ℕ) (k p : ℕ) → slice_get xs k ≡ Some p → ((j : ℕ) → slice_get xs j ≡ Some p → j ≡ k) → after p xs ≡ slice_get xs (suc k)
 after_is [] k p e once = absurd cc
 after_is (x ∷ xs) zero p e once = let t : (x == p) ≡ true = eq-eqb x p cc in rw t (front_is xs)
-  where
-    front_is : (ys : List ℕ) → front ys ≡ slice_get ys 0
-    front_is [] = refl
-    front_is (y ∷ ys) = refl
 after_is (x ∷ xs) (suc k) p e once =
     let t : (x == p) ≡ false = ne_eqb x p (λ s. let bad : 0 ≡ suc k = once 0 cc in omega arith) in
     rw t (after_is xs k p e (λ j f. let same : suc j ≡ suc k = once (suc j) f in omega arith))

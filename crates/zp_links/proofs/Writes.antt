@@ -5,10 +5,10 @@ use Rattle.std.proofs.lemmas.Option.{slice_get_within}
 use Rattle.std.proofs.lemmas.List.{get_or_default, get_or_past, length-replicate, length-map}
 use Rattle.zp_model.specs.declared.constants.TheConstants.{MAX_PAGES}
 use Rattle.zp_model.specs.declared.state.State.{State}
-use Rattle.zp_model.specs.Rows.{Rows, list_at, with_list, with_state, without_page, IsOn, IsLoose}
+use Rattle.zp_model.specs.Rows.{Rows, list_at, with_list, with_state, with_run, without_page, IsOn, IsLoose}
 use Rattle.zp_model.proofs.RowLists.{replicated}
 use Rattle.zp_table.specs.declared.entry.PageEntry.{PageEntry}
-use Rattle.zp_table.specs.Entries.{entry_at, blank, with_entry_at, with_links_at, with_run, with_state_at, IsUnlinked}
+use Rattle.zp_table.specs.Entries.{entry_at, blank, with_entry_at, with_links_at, with_state_at, IsUnlinked}
 use Rattle.zp_links.specs.declared.ends.Ends.{Ends}
 use Rattle.zp_links.specs.Linked.{states_of, back_at, forward_at, end_if, with_back_of, with_forward_of, spelled, ends_at, no_ends, before, At, IsLinked}
 use Rattle.zp_links.proofs.Places.{put, any_at, nowhere, before_has}

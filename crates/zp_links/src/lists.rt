@@ -2,9 +2,9 @@
 //!
 //! In Linux: `list_add`, `list_add_tail` and `list_del` on `page->lru`.
 ghost use Rattle.std.specs.Prelude.{◌≡◌, ◌<◌, ◌≤◌, ◌+◌, ℕ, true, false, [], ◌∷◌, ◌++◌, length, map, replicate, slice_get, IfOk, IfSome, IsTrue, ◌↔◌, None, Some};
-ghost use Rattle.zp_model.specs.Rows.{Rows, list_at, state_at, IsOn, IsLoose, IsRow, with_list, with_state, without_page, front, rest, after};
+ghost use Rattle.zp_model.specs.Rows.{Rows, list_at, state_at, IsOn, IsLoose, IsRow, with_list, with_state, with_run, without_page, front, rest, after};
 ghost use Rattle.zp_model.specs.declared.constants.TheConstants.{MAX_PAGES};
-ghost use Rattle.zp_table.specs.Entries.{IsUnlinked, with_run};
+ghost use Rattle.zp_table.specs.Entries.{IsUnlinked};
 ghost use Rattle.zp_table.specs.Packed.{packed, told_layout};
 ghost use Rattle.zp_links.specs.Linked.{states_of, At, entry_in, loose_entry};
 ghost use Rattle.zp_links.specs.Moved.{StandAsBefore};
@@ -137,6 +137,30 @@ impl Lists {
     {
         close_gap(&mut self.table, &mut self.ends[list], at);
         let nowhere = Link::none();
+        let entry = PageEntry {
+            state,
+            back: nowhere,
+            forward: nowhere,
+        };
+        self.table.set(at, entry);
+    }
+
+    /// Takes the page in front of a list out of it and notes a state of it: its entry is written once. Nothing stands before it, so
+    /// its back link is not read.
+    // inlined, as a state that the caller knows is packed when it is compiled
+    #[inline(always)]
+    pub fn remove_front_noted(&mut self, list: usize, at: PageAt, state: State)
+        requires { front (list_at self.old.lists list) ≡ Some at }
+        ensures after { self.new ≡ with_state (with_list self.old list (without_page at (list_at self.old.lists list))) at state }
+        ensures loose { IsLoose self.new.lists at }
+        ensures others { StandAsBefore at self.old.lists self.new.lists }
+    {
+        let nowhere = Link::none();
+        let ends = &mut self.ends[list];
+        let next = self.table.forward(at);
+        set_back_or_last(&mut self.table, &mut ends.last, next, nowhere);
+        ends.first = next;
+        ends.len -= 1;
         let entry = PageEntry {
             state,
             back: nowhere,

@@ -23,13 +23,15 @@ fn order_from(rt: &impl Abort, number: u8) -> Order {
 /// Compares the largest order, and for each order asked for the head and the order of the lowest block, and sees how many words are read.
 fn expect_blocks(
     rt: &impl Abort,
-    tree: &OrderTree,
+    tree: &mut OrderTree,
     most_reads: u64,
     largest: u8,
     lowest: &[(u8, Option<(u32, u8)>)],
-) {
+)
+    ensures { tree.new ≡ tree.old }
+{
     assert!(rt; tree.largest().map(Order::number) == Some(largest));
-    for &(least, wanted) in lowest {
+    'orders: for &(least, wanted) in lowest {
         let mut meter = Meter::new();
         let found = tree.lowest(order_from(rt, least), &mut meter);
         let found = found.map(|(at, order)| (at.number(), order.number()));
@@ -61,9 +63,15 @@ fn compare_two_blocks(
     let last = pages - 1;
     let mut tree = OrderTree::new(rt.alloc(), pages)?;
     tree.set(PageAt::at(last), order(0));
-    expect_blocks(rt, &tree, most_reads, 0, &[(0, Some((last, 0))), (1, None)]);
+    expect_blocks(
+        rt,
+        &mut tree,
+        most_reads,
+        0,
+        &[(0, Some((last, 0))), (1, None)],
+    );
     tree.set(PageAt::at(0), order(10));
-    expect_blocks(rt, &tree, most_reads, 10, &[(0, Some((0, 10)))]);
+    expect_blocks(rt, &mut tree, most_reads, 10, &[(0, Some((0, 10)))]);
     let ranges = [
         (pages - 1024, 10, Some(0)),
         (1024, 10, None),
@@ -71,7 +79,7 @@ fn compare_two_blocks(
     ];
     expect_largest_in(rt, &tree, &ranges);
     tree.clear(PageAt::at(0), order(10));
-    expect_blocks(rt, &tree, most_reads, 0, &[(0, Some((last, 0)))]);
+    expect_blocks(rt, &mut tree, most_reads, 0, &[(0, Some((last, 0)))]);
     Ok(())
 }
 

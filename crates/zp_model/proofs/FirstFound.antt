@@ -1,9 +1,12 @@
 -- What is found first over a range of numbers, and what the definitions choose and take by it.
-use Rattle.std.proofs.Common.{ℕ, suc, zero, ◌+◌, ◌≡◌, ◌≤◌, ◌<◌, inl, inr, refl, ◌∙◌, ap, arith, Bool, true, false, [], ◌∷◌, ◌++◌, Option, None, Some}
+use Rattle.std.proofs.Common.{ℕ, suc, zero, ◌+◌, ◌≡◌, ◌≤◌, ◌<◌, inl, inr, refl, ◌∙◌, ap, arith, Bool, true, false, List, [], ◌∷◌, ◌++◌, Option, None, Some}
 use Rattle.std.specs.List.{range_with_len, find}
-use Rattle.std.proofs.lemmas.Bool.{cases_eq, false_from_ne_true}
+use Rattle.std.proofs.lemmas.Bool.{cases_Bool, cases_eq, false_from_ne_true}
 use Rattle.zp_model.specs.declared.migrate_type.MigrateType.{MigrateType}
 use Rattle.zp_model.specs.Area.{Area}
+use Rattle.zp_model.specs.Rows.{stands_in}
+use Rattle.zp_model.proofs.Settles.{stands_first, stands_later}
+use Rattle.std.proofs.lemmas.Option.{none-some, same_Some}
 use Rattle.zp_model.specs.BlockSet.{first_of}
 use Rattle.zp_model.specs.Choose.{choose, own, claim, borrow, chosen_at}
 use Rattle.zp_model.specs.Take.{leave, take_low_answer, take_low_after}
@@ -33,6 +36,15 @@ find_only p a (suc n) k le lt e f = elim (cases_eq a k) [
   | inl same ↦ rw (same, e)
   | inr ne ↦ rw (false_from_ne_true (p a) (λ t. ne (f a t))) (find_only p (a + 1) n k (omega arith) (omega arith) e f)
 ]
+
+-- what is found passes, and is one of the list
+pub find-passes : (p : ℕ → Bool) (xs : List ℕ) (h : ℕ) → find p xs ≡ Some h → (p h ≡ true) × (stands_in h xs ≡ true)
+find-passes p [] h e = absurd (none-some h e)
+find-passes p (x ∷ xs) h e =
+    elim (cases_Bool (p x)) [
+      | inl hit ↦ let s : x ≡ h = same_Some x h (rw hit at e) in (rw s at hit, rw s (stands_first h xs))
+      | inr miss ↦ let r = find-passes p xs h (rw miss at e) in (r.0, stands_later h x xs r.1)
+    ]
 
 -- a block chosen is one of the type's own, else claimed, else borrowed
 module _ (a : Area) where

@@ -8,6 +8,19 @@ pub mod Join
 pub mod Covers
 pub mod Settles
 pub mod RowLists
+pub mod Runs
 pub mod TypeNumbers
 pub mod FirstFound
 pub mod MaximalBlocks
+mod RunRows
+pub mod RunLists
+pub mod RunParts
+pub mod Cuts
+pub mod RunGiven
+pub mod CutMaximal
+pub mod LowestRun
+pub mod Halving
+pub mod BlockLists
+pub mod FreeAround
+pub mod RunBlocks
+pub mod Restating

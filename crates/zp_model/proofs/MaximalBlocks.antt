@@ -1,7 +1,10 @@
 -- Maximal blocks, in the words of the definitions: they are unique, cover each page once, and are what is noted of pages as free.
-use Rattle.std.proofs.Common.{ℕ, ◌+◌, ◌-◌, ◌^◌, ◌≡◌, ◌≤◌, ◌<◌, ◌↔◌, sym, ◌∙◌, arith, true, Bool, List, length, get_or, Some, None}
+use Rattle.std.proofs.Common.{ℕ, ◌+◌, ◌-◌, ◌^◌, ◌≡◌, ◌≤◌, ◌<◌, ◌↔◌, inl, inr, sym, ◌∙◌, arith, true, Bool, List, length, get_or, Some, None}
 use Rattle.std.specs.List.{find}
+use Rattle.std.proofs.lemmas.Bool.{cases_lt}
+use Rattle.std.proofs.lemmas.List.{get_or_past}
 use Rattle.std.proofs.lemmas.Nat.{pow_pos}
+use Rattle.std.proofs.lemmas.Option.{none-some}
 use Rattle.std.proofs.lemmas.List.FromFn.{get_or-map-range_with_len, length-map-range_with_len}
 use Rattle.zp_model.specs.declared.state.State.{State}
 use Rattle.zp_model.specs.declared.state.State.TheVariants.{Tail}
@@ -10,12 +13,12 @@ use Rattle.zp_model.specs.BlockSet.{Starts, cover, max_blocks, orders_from}
 use Rattle.zp_model.specs.Frames.{restate, restated}
 use Rattle.zp_model.specs.Laws.{EachPageInOneBlock, UnjoinedAreMaximal}
 use Rattle.zp_model.specs.Rows.{state_at}
-use Rattle.zp_model.proofs.FirstFound.{find_only}
+use Rattle.zp_model.proofs.FirstFound.{find-passes, find_only}
 use Rattle.zp_model.proofs.Heads.{lt_pow, head_le, lt_head, head_of}
 use Rattle.zp_model.proofs.Normal.{IsNormal, maximal_from, maximal_to}
 use Rattle.zp_model.proofs.Pages.{In, in_run-to, in_run-from, is_max-to, is_max-from}
-use Rattle.zp_model.proofs.Maximal.{maximal-covers, maximal-apart}
-use Rattle.zp_model.proofs.Covers.{cover-to, cover-from}
+use Rattle.zp_model.proofs.Maximal.{max-normal, maximal-covers, maximal-apart}
+use Rattle.zp_model.proofs.Covers.{cover-to, cover-from, has_below}
 
 -- a set of disjoint blocks with no two buddies is the set of the maximal blocks of its pages
 pub max-unique : (m : ℕ) (S : ℕ → ℕ → Type 0) (u : List Bool) → IsNormal m S (In u) → (h k : ℕ) → S h k ↔ (is_max m u h k ≡ true)
@@ -83,3 +86,24 @@ module _ (m : ℕ) (u : List Bool) where
   pub state-restated : (s : List State) (g : ℕ) → g < length s → state_at (restated m u s) g ≡ restate (get_or (max_blocks m u) g None) (state_at s g)
   unfolding restated
   state-restated s g lt = get_or-map-range_with_len (λ h. restate (get_or (max_blocks m u) h None) (state_at s h)) 0 (length s) g g Tail lt (omega arith)
+
+-- what the block set of the maximal blocks says of a page
+pub max_blocks-to : (m : ℕ) (u : List Bool) (h j : ℕ) → get_or (max_blocks m u) h None ≡ Some j → is_max m u h j ≡ true
+max_blocks-to m u h j e =
+    elim (cases_lt h (length u)) [
+      | inl lt ↦ (find-passes (is_max m u h) (orders_from m 0) j (sym (max_block m u h lt) ∙ e)).0
+      | inr ge ↦ absurd (none-some j (sym (get_or_past (max_blocks m u) h None (omega (arith, length-max m u))) ∙ e))
+    ]
+
+-- so it is disjoint and unjoined, and has the set's pages
+pub max_blocks-normal : (m : ℕ) (u : List Bool) → IsNormal m (Starts (max_blocks m u)) (In u)
+max_blocks-normal m u =
+    let z = max-normal m u in
+    record {
+      order = λ h k s. z.order h k (max_blocks-to m u h k s);
+      aligned = λ h k s. z.aligned h k (max_blocks-to m u h k s);
+      apart = λ h k g j i s t. z.apart h k g j i (max_blocks-to m u h k s) (max_blocks-to m u g j t);
+      unjoined = λ h k lt al s t. z.unjoined h k lt al (max_blocks-to m u h k s) (max_blocks-to m u (h + 2 ^ k) k t);
+      covers = λ i e. let c = z.covers i e in (c.0, max_block_some m u (head i c.0) c.0 (has_below u (head i c.0) (max_has m u (head i c.0) c.0 c.1)) c.1);
+      inside = λ h k s. z.inside h k (max_blocks-to m u h k s);
+    }

@@ -1,5 +1,5 @@
 -- What settling leaves of one list, where the list that is left holds what belongs.
-use Rattle.std.proofs.Common.{ℕ, suc, zero, ◌/◌, ◌≡◌, ◌<◌, ◌==◌, ◌⊎◌, inl, inr, refl, ap, arith, Bool, true, false, List, [], ◌∷◌, length, not, ◌&&◌, Option}
+use Rattle.std.proofs.Common.{ℕ, suc, zero, ◌/◌, ◌≡◌, ◌<◌, ◌==◌, ◌⊎◌, inl, inr, refl, ap, arith, Bool, true, false, List, [], ◌∷◌, length, not, ◌&&◌, cond, Option}
 use Rattle.std.specs.List.{filter, IsDistinct, AllByRecursion}
 use Rattle.std.proofs.Math.Bool.{or-true}
 use Rattle.std.proofs.lemmas.Nat.{pow_pos}
@@ -23,16 +23,21 @@ stands_later h x xs e = rw e (or-true (h == x))
 pub stands_cases : (h x : ℕ) (xs : List ℕ) → stands_in h (x ∷ xs) ≡ true → (h ≡ x) ⊎ (stands_in h xs ≡ true)
 stands_cases h x xs e = elim (or_cases _ _ e) [ inl a ↦ inl (eqb-true h x a) | inr b ↦ inr b ]
 
+-- tests that agree at each page of a list keep the same pages of it
+pub filter_same : (p q : ℕ → Bool) (xs : List ℕ) → ((x : ℕ) → stands_in x xs ≡ true → p x ≡ q x) → filter p xs ≡ filter q xs
+filter_same p q [] f = refl
+filter_same p q (x ∷ xs) f = rw (f x (stands_first x xs)) (ap (λ ys. cond (q x) (x ∷ ys) ys) (filter_same p q xs (λ y e. f y (stands_later y x xs e))))
+
 pub filter_all : (p : ℕ → Bool) (xs : List ℕ) → ((x : ℕ) → stands_in x xs ≡ true → p x ≡ true) → filter p xs ≡ xs
 filter_all p [] f = refl
 filter_all p (x ∷ xs) f =
     rw (f x (stands_first x xs)) (ap (λ ys. x ∷ ys) (filter_all p xs (λ y e. f y (stands_later y x xs e))))
 
-falling_none : (p : ℕ → Bool) (n : ℕ) → ((x : ℕ) → x < n → p x ≡ false) → filter p (falling n) ≡ []
+pub falling_none : (p : ℕ → Bool) (n : ℕ) → ((x : ℕ) → x < n → p x ≡ false) → filter p (falling n) ≡ []
 falling_none p zero f = refl
 falling_none p (suc n) f = rw (f n (omega arith)) (falling_none p n (λ x lt. f x (omega arith)))
 
-falling_one : (p : ℕ → Bool) (n g : ℕ) → g < n → p g ≡ true → ((x : ℕ) → p x ≡ true → x ≡ g) → filter p (falling n) ≡ g ∷ []
+pub falling_one : (p : ℕ → Bool) (n g : ℕ) → g < n → p g ≡ true → ((x : ℕ) → p x ≡ true → x ≡ g) → filter p (falling n) ≡ g ∷ []
 falling_one p zero g lt e f = absurd (omega arith)
 falling_one p (suc n) g lt e f =
     elim (cases_eq n g) [

@@ -19,4 +19,6 @@ pub mod Run
 pub mod Books
 pub mod Lawful
 pub mod Described
+pub mod Runs
 pub mod Laws
+pub mod RunLaws

@@ -1,5 +1,5 @@
 -- A row of lists of pages in which no page stands twice, in one list or in two, with what is noted of each page.
-use Rattle.std.specs.Prelude.{ℕ, ◌≡◌, ◌<◌, ◌==◌, Bool, true, false, not, List, [], ◌∷◌, slice_index_or, slice_set, filter, Option, None, Some, cond}
+use Rattle.std.specs.Prelude.{ℕ, zero, suc, ◌+◌, ◌≡◌, ◌<◌, ◌==◌, Bool, true, false, not, List, [], ◌∷◌, slice_index_or, slice_set, filter, Option, None, Some, cond}
 use Rattle.std.specs.List.{list_any, IsDistinct}
 use Rattle.zp_model.specs.declared.state.State.{State}
 use Rattle.zp_model.specs.declared.state.State.TheVariants.{Tail}
@@ -41,6 +41,11 @@ with_list w r xs = record w { lists = slice_set w.lists r xs }
 -- the row with another note of page p
 abbrev pub with_state : Rows → ℕ → State → Rows
 with_state w p s = record w { states = slice_set w.states p s }
+
+-- a list, as what is noted of each page or a table, with the same value at so many places from h on
+abbrev pub with_run : {X : Type 0} → List X → ℕ → ℕ → X → List X
+with_run xs h zero x = xs
+with_run xs h (suc n) x = with_run (slice_set xs h x) (h + 1) n x
 
 -- a list without a page
 abbrev pub without_page : ℕ → List ℕ → List ℕ

@@ -1,6 +1,8 @@
 //! Entries of a journal: what a worker asked of a zone, and the reply.
 ghost use Rattle.std.specs.Prelude.{◌≡◌, ◌≤◌, ◌↔◌, length, IsSome, IfSome, IsTrue, false};
 ghost use Rattle.zp_model.specs.declared.constants.TheConstants.{LONGEST_LIST};
+ghost use Rattle.zp_model.specs.declared.request.Request.TheVariants as request;
+ghost use Rattle.zp_model.specs.declared.request.Reply.TheVariants as reply;
 ghost use Rattle.zp_model.specs.Entries.{HasOneList, answered_of, asked_of, entry_of_parts, has_pages, pages_of};
 
 use crate::{Block, Mark, MigrateType, Order, PageList, PageNo, Refused, Reply, Request, Worker};
@@ -91,6 +93,37 @@ impl Entry {
         self.asked = asked_of(request);
         self.answered = answered_of(reply);
         set_pages(&mut self.pages, request, reply);
+    }
+
+    /// Becomes the entry of a worker's drain of these pages, which are copied once.
+    #[inline(always)]
+    pub fn set_drain(&mut self, worker: Worker, kind: MigrateType, pages: &[PageNo])
+        requires { length pages.now ≤ LONGEST_LIST }
+        ensures { self.new ≡ record { worker = worker; request = request.Drain kind pages.now; reply = reply.Drained } }
+    {
+        self.worker = worker;
+        self.asked = Asked::Drain(kind);
+        self.answered = Answered::Drained;
+        self.pages.set(pages);
+    }
+
+    /// Becomes the entry of a worker's refill that got these pages, which are copied once.
+    #[inline(always)]
+    pub fn set_refill(
+        &mut self,
+        worker: Worker,
+        kind: MigrateType,
+        mark: Mark,
+        count: u8,
+        pages: &[PageNo],
+    )
+        requires { length pages.now ≤ LONGEST_LIST }
+        ensures { self.new ≡ record { worker = worker; request = request.Refill kind mark count; reply = reply.Pages pages.now } }
+    {
+        self.worker = worker;
+        self.asked = Asked::Refill(kind, mark, count);
+        self.answered = Answered::Pages;
+        self.pages.set(pages);
     }
 
     /// Becomes the same as another entry.

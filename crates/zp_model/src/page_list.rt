@@ -56,6 +56,11 @@ impl PageList {
         requires { length pages.now ≤ LONGEST_LIST }
         ensures { self.new ≡ pages.now }
     {
+        // most lists are as long as the one before: no place of it is cleared
+        if self.pages.len() == pages.len() {
+            self.pages.as_mut_slice().copy_from_slice(pages);
+            return;
+        }
         self.pages.clear();
         let Ok(()) = self.pages.try_extend_from_slice(pages) else {
             unreachable!()

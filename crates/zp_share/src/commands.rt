@@ -84,8 +84,42 @@ fn alloc_in<Z: Zones>(
         return zones.alloc_block(share, zone, order, kind, mark);
     }
     if share.cached_len(zone, kind) == 0 {
-        zones.fill(share, zone, kind, mark)?;
+        return alloc_filled(share, zones, zone, order, kind, mark);
     }
+    // the list has a page
+    share.take_cached(zone, kind).ok_or(Refused::NoBlock)
+}
+
+/// A page of a list that is empty and is filled first. Out of line, so that `alloc` has no way on which a list is filled or not, and
+/// sees once whether it has a page.
+#[cold]
+#[inline(never)]
+fn alloc_filled<Z: Zones>(
+    share: &mut Share,
+    zones: &mut Z,
+    zone: usize,
+    order: Order,
+    kind: MigrateType,
+    mark: Mark,
+) -> Result<PageNo, Refused>
+    requires fits { IsShareOf (Z.keys zones.old) share.old }
+    requires zone { zone < length share.old.zones }
+    requires listed { is_listed (plain share.old) order ≡ true }
+    requires empty { length (cached_of (share_at share.old zone) kind) ≡ 0 }
+    requires share { IsShare (share_at share.old zone) }
+    ensures keys { Z.keys zones.new ≡ Z.keys zones.old }
+    ensures fits { IsShareOf (Z.keys zones.new) share.new }
+    ensures same { IsSameShare share.old share.new }
+    ensures lent { IfOk result (λ page. IsTrue (is_lent (share_at share.new zone) page order)) }
+    ensures only { IfErr result IsAllocRefusal }
+    ensures asked { IsAskedFor order kind mark zone result share.old share.new }
+    ensures read { CoversOwn (Z.covers zones.old) (Z.covers zones.new) share.old share.new }
+    ensures full { result ≡ Err JournalFull → Z.ended zones.new zone share.new }
+    ensures told { (rows : List NamedZone) → Z.told zones.old ≡ Some rows → IsDone (alloc_in (world rows share.old) zone order kind mark) result (Z.told zones.new) share.new }
+{
+    // the order is named for the clauses alone
+    let _ = order;
+    zones.fill(share, zone, kind, mark)?;
     // what is filled has got a page
     share.take_cached(zone, kind).ok_or(Refused::NoBlock)
 }

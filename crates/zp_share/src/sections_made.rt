@@ -7,7 +7,7 @@ ghost use Rattle.zp_model.specs.declared.request.Request.TheVariants as request;
 ghost use Rattle.zp_model.specs.declared.request.Reply.TheVariants as reply;
 
 use std::marker::Model;
-use zp_model::{Entry, Mark, MigrateType, PageList, PageNo, Reply, Request, Worker};
+use zp_model::{Entry, Mark, MigrateType, PageNo, Reply, Request, Worker};
 
 /// The number of sections after which none can be counted.
 pub const LAST_SECTION: u64 = u64::MAX;
@@ -78,8 +78,8 @@ impl SectionsMade {
         requires within { length pages.now ≤ LONGEST_LIST }
         ensures { self.new ≡ record { made = self.old.made + 1; last = Some (record { worker = worker; request = request.Drain kind pages.now; reply = reply.Drained }) } }
     {
-        let request = Request::Drain(kind, PageList::of(pages));
-        self.add(worker, &request, &Reply::Drained);
+        self.made += 1;
+        self.last.set_drain(worker, kind, pages);
     }
 
     /// One section more, in which a worker asked for so many pages for this type, each held to this mark, and got these.
@@ -96,7 +96,7 @@ impl SectionsMade {
         requires within { length pages.now ≤ LONGEST_LIST }
         ensures { self.new ≡ record { made = self.old.made + 1; last = Some (record { worker = worker; request = request.Refill kind mark count; reply = reply.Pages pages.now }) } }
     {
-        let request = Request::Refill(kind, mark, count);
-        self.add(worker, &request, &Reply::Pages(PageList::of(pages)));
+        self.made += 1;
+        self.last.set_refill(worker, kind, mark, count, pages);
     }
 }

@@ -53,3 +53,19 @@ last_published z cs h p =
 -- what a reader took of the first of them is counts after so many entries
 pub taken_published : (z : ZoneState) (seen cs : List Counts) (r : Reading) → IsPublished z cs → IsPrefix seen cs → IsReadingOf seen r → IsCountsOf z r
 taken_published z seen cs r p before taken = p.each r.place r.counts (reading_kept seen cs r before taken)
+
+-- of a zone of which nothing was asked its counts are published
+pub published_opening : (z : ZoneState) (cs : List Counts) → IsHistory z.plain z.entries → z.entries ≡ [] → cs ≡ zone_counts z ∷ [] → IsPublished z cs
+published_opening z cs h none one =
+    let many : length cs ≡ length z.entries + 1 = omega (arith, ap length none, ap length one) in
+    record {
+      many = many;
+      each = λ i c at.
+          let inside : i < length cs = slice_get_within cs i c at in
+          let here : i ≡ 0 = omega (arith, inside, ap length one) in
+          let own : c ≡ zone_counts z = sym (get_or_from_slice_get cs i c c at) ∙ ap (λ k. get_or cs k c) here ∙ ap (λ l. get_or l 0 c) one in
+          own
+          ∙ sym
+          (ap (λ l. let y : PlainZone = run (opening_of z.plain) l in counts_of y.area.largest y.area.free) (take_all i z.entries (omega (arith, ap length none)))
+          ∙ ap (λ (y : PlainZone). counts_of y.area.largest y.area.free) h.run);
+    }

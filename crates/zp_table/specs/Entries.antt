@@ -1,5 +1,5 @@
 -- A table of page entries, and what each set leaves of it.
-use Rattle.std.specs.Prelude.{ℕ, zero, suc, ◌+◌, ◌≡◌, ◌<◌, List, length, Option, None, slice_index_or, slice_set}
+use Rattle.std.specs.Prelude.{ℕ, ◌≡◌, ◌<◌, List, length, Option, None, slice_index_or, slice_set}
 use Rattle.zp_model.specs.declared.state.State.{State}
 use Rattle.zp_model.specs.declared.state.State.TheVariants.{Tail}
 use Rattle.zp_table.specs.declared.entry.PageEntry.{PageEntry}
@@ -18,11 +18,6 @@ IsUnlinked t = (p : ℕ) → p < length t → ((entry_at t p).back ≡ None) × 
 -- the table with another entry of page p
 abbrev pub with_entry_at : List PageEntry → ℕ → PageEntry → List PageEntry
 with_entry_at t p e = slice_set t p e
-
--- a list, as a table or what is noted of each page, with the same value at so many places from h on
-abbrev pub with_run : {X : Type 0} → List X → ℕ → ℕ → X → List X
-with_run xs h zero x = xs
-with_run xs h (suc n) x = with_run (slice_set xs h x) (h + 1) n x
 
 -- the table with another state, or other links, in the entry of page p
 abbrev pub with_state_at : List PageEntry → ℕ → State → List PageEntry

@@ -71,7 +71,7 @@ impl PackedEntry {
     {
         let state = field(self.word, STATE_AT, STATE_BITS);
         // each part is read before the match, so that no branch is taken for it
-        let order = Order::new(field(state, ORDER_AT, ORDER_BITS) as u8).unwrap_or(Order::zero());
+        let order = Order::at(field(state, ORDER_AT, ORDER_BITS) as u8);
         let migrate_type = match field(state, TYPE_AT, TYPE_BITS) {
             0 => MigrateType::Unmovable,
             1 => MigrateType::Reclaimable,

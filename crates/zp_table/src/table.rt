@@ -3,7 +3,8 @@
 //! In Linux: `mem_map`, an array of `struct page`.
 ghost use Rattle.std.specs.Prelude.{◌≡◌, ◌<◌, ◌≤◌, ◌+◌, ◌↔◌, length, replicate, IfOk, IsTrue};
 ghost use Rattle.zp_model.specs.declared.constants.TheConstants.{MAX_PAGES};
-ghost use Rattle.zp_table.specs.Entries.{blank, entry_at, IsUnlinked, with_entry_at, with_run, with_state_at, with_links_at, with_back_at, with_forward_at};
+ghost use Rattle.zp_model.specs.Rows.{with_run};
+ghost use Rattle.zp_table.specs.Entries.{blank, entry_at, IsUnlinked, with_entry_at, with_state_at, with_links_at, with_back_at, with_forward_at};
 ghost use Rattle.zp_table.specs.Packed.{packed, told_layout};
 
 use crate::entry::PageEntry;

@@ -1,17 +1,16 @@
 -- The bits of a chain of buddies: as the table of a word's nodes has them, cut at a level, and put into a word or taken out of it.
-use Rattle.std.proofs.Common.{ℕ, zero, suc, ◌+◌, ◌-◌, ◌*◌, ◌/◌, ◌%◌, ◌^◌, ◌≡◌, ◌≤◌, ◌<◌, Bool, true, eqb, eqb-true, inl, inr, refl, sym, ◌∙◌, ap, arith, slice_index, bit_and, bit_or, bit_xor, w64}
+use Rattle.std.proofs.Common.{ℕ, zero, suc, ◌+◌, ◌-◌, ◌/◌, ◌%◌, ◌^◌, ◌≡◌, ◌≤◌, ◌<◌, Bool, true, eqb, eqb-true, inl, inr, refl, sym, ◌∙◌, ap, arith, slice_index, bit_and, bit_or, bit_xor, w64}
 use Rattle.std.specs.Int.{bit_at, bit_not}
 use Rattle.std.proofs.lemmas.Bool.{cases_lt, cases_eq, agree_below_at}
-use Rattle.std.proofs.lemmas.Nat.{pow-add, pow_pos, shr-shr, shr_split, shr_below}
+use Rattle.std.proofs.lemmas.Nat.{shr-shr, shr_split, shr_below}
 use Rattle.std.proofs.lemmas.Nat.Bits.{bit_at_and, bit_at_or, bit_at_not, bit_at_xor, bit_at-lt, bit_at-zero}
-use Rattle.std.proofs.Math.Nat.{mul-div_cancel}
 use Rattle.std.proofs.Math.Pow.{pow_mono}
 use Rattle.zp_model.proofs.Heads.{two, aligned_down}
 use Rattle.zp_tree.specs.declared.buddies.TheConstants.{BUDDIES}
 use Rattle.zp_tree.specs.declared.constants.TheConstants.{PLACES, WORD_LEVELS}
 use Rattle.zp_tree.specs.Blocks.{buddy}
 use Rattle.zp_tree.specs.Words.{node, IsPlace, IsMarked, IsChain, IsHalved, IsUnpaired}
-use Rattle.zp_tree.proofs.Nodes.{node_is, node_within, place_lt}
+use Rattle.zp_tree.proofs.Nodes.{node_is, node_within}
 use Rattle.zp_tree.proofs.WordBits.{set_bit, set_marks, set_keeps_none}
 use Rattle.zp_tree.proofs.BuddyPlaces.{buddy_place, buddy_node, place_inside}
 

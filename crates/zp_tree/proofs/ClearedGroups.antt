@@ -108,9 +108,9 @@ changed_group m s g x = record {
   larger = λ i o more. (λ st. (group-starts s g i o st).1, λ st. absurd (omega (arith, more, (x.block i o st).order)));
 }
 
-pub group_tree : (m pages : ℕ) (ls hs rs ms gs ts : List ℕ) (s : List (Option ℕ)) (g : ℕ) → IsTreeOf m pages ls hs rs s → g < length rs → IsGroupCleared ls hs ms gs g → ts ≡ slice_set rs g 0 →
-    IsTreeOf m pages ms gs ts (without_group s g)
-group_tree m pages ls hs rs ms gs ts s g t room r e =
+pub group_tree : (m pages : ℕ) (ls hs rs ms gs ts : List ℕ) (x : ℕ) (s : List (Option ℕ)) (g : ℕ) → IsTreeOf m pages ls hs rs x s → g < length rs → IsGroupCleared ls hs ms gs g → ts ≡ slice_set rs g 0 →
+    IsTreeOf m pages ms gs ts x (without_group s g)
+group_tree m pages ls hs rs ms gs ts x s g t room r e =
     let none : IsRankIn (without_group s g) g 0 = record { most = λ i k at st. absurd ((group-starts s g i k st).0 at); some = λ k f. absurd (omega arith) } in
-    rw e (another m pages ls hs rs ms gs (slice_set rs g 0) s (without_group s g) t r.words r.size (length-set rs g 0) (group-length s g) (group_block_set m s g t.set) (marked_group ls hs ms gs s g t.marked r)
-    (ranks_set rs s (without_group s g) g m 0 t.ranked (changed_group m s g t.set) room none))
+    rw e (another m pages ls hs rs ms gs (slice_set rs g 0) x x s (without_group s g) t r.words r.size (length-set rs g 0) (group-length s g) (group_block_set m s g t.set) (marked_group ls hs ms gs s g t.marked r) t.stale
+    (ranks_set rs s (without_group s g) g m x 0 t.ranked (changed_group m s g t.set) room (inl none)))

@@ -2,7 +2,7 @@
 use Rattle.std.proofs.Common.{ℕ, ◌+◌, ◌-◌, ◌*◌, ◌/◌, ◌≡◌, ◌≤◌, ◌<◌, inl, inr, arith, List, Option, Some, None}
 use Rattle.std.proofs.lemmas.Bool.{cases_lt}
 use Rattle.zp_tree.specs.declared.constants.TheConstants.{PLACES, WORD_LEVELS, GROUP_PAGES}
-use Rattle.zp_tree.specs.Marks.{IsWords, HasHigh, IsRankOf, IsFirstMark, IsFirstLow, IsFirstHigh, words_before}
+use Rattle.zp_tree.specs.Marks.{IsWords, HasHigh, IsNearRank, IsRankBound, IsFirstMark, IsFirstLow, IsFirstHigh, words_before}
 use Rattle.zp_tree.proofs.Places.{high_place}
 use Rattle.zp_tree.proofs.GroupBlocks.{mark_high, mark_low, is_high, is_low}
 
@@ -53,11 +53,17 @@ first_not_small ls hs g k n (Some b) x lt f e s = (
 )
 
 -- so many words at most are read
-pub few_reads : (ls hs : List ℕ) (g k r n a b c : ℕ) (q : Option (ℕ × ℕ)) → IsRankOf ls hs g r → k < WORD_LEVELS → IsFirstHigh hs g k q → n ≡ words_before q → b ≤ a + 1 → (r ≤ WORD_LEVELS → b ≡ a) → c ≤ b + n → c ≤ a + PLACES
-few_reads ls hs g k r n a b c None x lt f e one none le = elim (cases_lt WORD_LEVELS r) [
+pub few_reads : (ls hs : List ℕ) (g k r n a b c : ℕ) (q : Option (ℕ × ℕ)) → IsNearRank ls hs g r → k < WORD_LEVELS → IsFirstHigh hs g k q → n ≡ words_before q → b ≤ a + 1 → (r ≤ WORD_LEVELS → b ≡ a) → c ≤ b + n → c ≤ a + PLACES
+few_reads ls hs g k r n a b c None (inl x) lt f e one none le = elim (cases_lt WORD_LEVELS r) [
   | inl more ↦
       let s = x.some (r - 1) (omega arith) in
       absurd (omega (arith, f s.0 (r - 1) (is_high ls hs s.0 (r - 1) s.1 (omega arith)) s.2))
   | inr few ↦ omega (arith, none few, e, le)
 ]
+few_reads ls hs g k r n a b c None (inr x) lt f e one none le = let h = x.1 in absurd (omega (arith, f h.0 h.1 h.2 h.3, h.2.order))
 few_reads ls hs g k r n a b c (Some h) x lt f e one none le = omega (arith, e, le, one)
+
+-- a rank that is kept bounds the blocks of its group
+pub near_bound : (ls hs : List ℕ) (g r : ℕ) → IsNearRank ls hs g r → IsRankBound ls hs g r
+near_bound ls hs g r (inl x) = x.most
+near_bound ls hs g r (inr x) = x.0

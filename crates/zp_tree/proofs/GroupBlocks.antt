@@ -1,11 +1,12 @@
 -- The blocks of a group by its words.
-use Rattle.std.proofs.Common.{ℕ, ◌+◌, ◌-◌, ◌*◌, ◌/◌, ◌%◌, ◌^◌, ◌≡◌, ◌≤◌, ◌<◌, inl, inr, refl, sym, ◌∙◌, ap, arith, List, length, slice_index, Some, None}
+use Rattle.std.proofs.Common.{ℕ, ◌+◌, ◌-◌, ◌*◌, ◌/◌, ◌%◌, ◌^◌, ◌≡◌, ◌≤◌, ◌<◌, ◌↔◌, inl, inr, refl, sym, ◌∙◌, ap, arith, IsTrue, List, length, slice_index, Option, Some, None}
+use Rattle.std.specs.Option.{is_some}
 use Rattle.std.specs.Int.{bit_at}
-use Rattle.std.proofs.lemmas.Bool.{cases_lt}
+use Rattle.std.proofs.lemmas.Bool.{cases_lt, false≢true}
 use Rattle.std.proofs.lemmas.Nat.{mod-pow-add}
 use Rattle.zp_tree.specs.declared.constants.TheConstants.{PLACES, WORD_LEVELS, GROUP_PAGES}
 use Rattle.zp_tree.specs.Words.{node, IsPlace, Has, IsLargestIn, IsUnion}
-use Rattle.zp_tree.specs.Marks.{IsLowAlone, IsWords, HasMark, HasLow, HasHigh, IsRankOf}
+use Rattle.zp_tree.specs.Marks.{IsLowAlone, IsWords, HasMark, HasLow, HasHigh, HasLarge, IsRankOf}
 use Rattle.zp_tree.proofs.Nodes.{place_room}
 use Rattle.zp_tree.proofs.Places.{low_mark, high_mark, low_place, high_place, mod_pow}
 use Rattle.zp_tree.proofs.SplitMarks.{words_of}
@@ -119,6 +120,24 @@ none_high ls hs g i k none h at = elim (cases_lt k WORD_LEVELS) [
       let z : Has (slice_index hs g) (i / PLACES % PLACES) (k - WORD_LEVELS) = rw (← at) y in
       absurd (none (i / PLACES % PLACES) (k - WORD_LEVELS) z (omega arith) (omega (arith, place_room _ _ y.place)))
 ]
+
+-- whether a block stands in the high word, by its largest level
+pub none_large : (hs : List ℕ) (g : ℕ) → IsLargestIn (slice_index hs g) 0 WORD_LEVELS None → HasLarge hs g → ⊥
+none_large hs g none l =
+    let y = high_has hs l.0 l.1 l.2 in
+    let z : Has (slice_index hs g) (l.0 / PLACES % PLACES) (l.1 - WORD_LEVELS) = rw (← l.3) y in
+    none (l.0 / PLACES % PLACES) (l.1 - WORD_LEVELS) z (omega arith) (omega (arith, place_room _ _ y.place))
+
+pub some_large : (hs : List ℕ) (g j : ℕ) → g < length hs → IsLargestIn (slice_index hs g) 0 WORD_LEVELS (Some j) → HasLarge hs g
+some_large hs g j room m =
+    let b = m.0 in
+    let i = GROUP_PAGES * g + PLACES * b.0 in
+    let h = high_of hs g b.0 j i (j + WORD_LEVELS) room b.1 refl refl in
+    (i, j + WORD_LEVELS, h.0, h.1)
+
+pub large_told : (hs : List ℕ) (g : ℕ) (q : Option ℕ) → g < length hs → IsLargestIn (slice_index hs g) 0 WORD_LEVELS q → IsTrue (is_some q) ↔ HasLarge hs g
+large_told hs g None room m = (λ e. absurd (false≢true e), λ l. absurd (none_large hs g m l))
+large_told hs g (Some j) room m = (λ _. some_large hs g j room m, λ _. refl)
 
 -- a small block of the group is in the union of its low words
 small_in : (ls hs : List ℕ) (g v i k : ℕ) → IsWords ls hs → IsUnion ls (PLACES * g) PLACES v → HasMark ls hs i k → i / GROUP_PAGES ≡ g → k < WORD_LEVELS → Has v (i % PLACES) k

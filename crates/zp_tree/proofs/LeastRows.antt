@@ -1,5 +1,5 @@
 -- How many rows of ranks stand over some pages, and how many words are read with them.
-use Rattle.std.proofs.Common.{ℕ, suc, zero, ◌+◌, ◌-◌, ◌*◌, ◌/◌, ◌^◌, ◌≡◌, ◌≤◌, ◌<◌, inl, inr, sym, ◌∙◌, ap, arith, Bool, true, leb}
+use Rattle.std.proofs.Common.{ℕ, suc, zero, ◌+◌, ◌-◌, ◌*◌, ◌/◌, ◌^◌, ◌≡◌, ◌≤◌, ◌<◌, ◌⊎◌, inl, inr, sym, ◌∙◌, ap, arith, Bool, true, leb}
 use Rattle.std.proofs.Math.Nat.{pow-suc, pow-le-pow_right}
 use Rattle.std.proofs.lemmas.Bool.{both_ways, cases_Bool, leb-true, le-leb}
 use Rattle.std.proofs.lemmas.Nat.{pow-add}
@@ -62,11 +62,12 @@ rows_room n =
     let last : n ≤ GROUP_PAGES * FAN ^ (1 + n) = omega (arith, row_large n, eight_of n, ap (λ d. FAN ^ d) e) in
     leb-true n _ (least_passes (λ d. leb n (GROUP_PAGES * FAN ^ d)) 1 n (le-leb n (GROUP_PAGES * FAN ^ (1 + n)) last))
 
--- the shortest row with room for the groups of some pages
-pub least_row : (n g r : ℕ) → IsLeastRow g r → n ≤ GROUP_PAGES * g → GROUP_PAGES * g < n + GROUP_PAGES → r ≡ FAN ^ rows_of n
+-- the shortest row with room for the groups of some pages, or for one group
+pub least_row : (n g r : ℕ) → IsLeastRow g r → n ≤ GROUP_PAGES * g → (g ≡ 1) ⊎ (GROUP_PAGES * g < n + GROUP_PAGES) → r ≡ FAN ^ rows_of n
 least_row n g r x room whole =
     let most : rows_of n ≤ x.d = rows_enough n x.d x.below (omega (arith, room, x.room)) in
-    let least : x.d ≤ rows_of n = x.least (rows_of n) (rows_some n) (omega (arith, whole, rows_room n)) in
+    let fits : g ≤ FAN ^ rows_of n = elim whole [ inl one ↦ omega (arith, one, row_large (rows_of n)) | inr y ↦ omega (arith, y, rows_room n) ] in
+    let least : x.d ≤ rows_of n = x.least (rows_of n) (rows_some n) fits in
     let same : x.d ≡ rows_of n = omega arith in
     x.row ∙ ap (λ d. FAN ^ d) same
 

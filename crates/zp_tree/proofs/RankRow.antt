@@ -1,5 +1,5 @@
 -- The last row of a tree of ranks.
-use Rattle.std.proofs.Common.{ℕ, suc, zero, ◌+◌, ◌-◌, ◌*◌, ◌^◌, ◌≡◌, ◌≤◌, ◌<◌, inl, inr, refl, sym, ◌∙◌, ap, arith, drop, List, length, replicate, slice_index, Some, None}
+use Rattle.std.proofs.Common.{ℕ, suc, zero, ◌+◌, ◌-◌, ◌*◌, ◌/◌, ◌^◌, ◌≡◌, ◌≤◌, ◌<◌, inl, inr, refl, sym, ◌∙◌, ap, arith, drop, List, length, replicate, slice_index, Some, None}
 use Rattle.std.proofs.lemmas.Bool.{cases_lt}
 use Rattle.std.proofs.lemmas.List.{get_or-drop, get_or_past, length-drop, length-replicate}
 use Rattle.zp_model.proofs.RowLists.{replicated}
@@ -11,12 +11,31 @@ use Rattle.zp_tree.proofs.RankWays.{IsOnWay, above, last_below, last_some, last_
 row_length : (d : ℕ) (ns : List ℕ) → IsRanked d ns → length (drop (FAN ^ d) ns) ≡ FAN ^ d
 row_length d ns r = omega (arith, length-drop (FAN ^ d) ns, r.size)
 
--- its length tells how many rows there are
-pub row_told : (d e f : ℕ) (ns rs : List ℕ) → IsRanked d ns → f ≡ FAN ^ d → drop f ns ≡ rs → length rs ≡ FAN ^ e → d ≡ e
-row_told d e f ns rs r first view long = row_number d e (omega (arith, first, ap length view, length-drop f ns, r.size, long))
+-- the row is half of the nodes, and what is seen of them
+pub row_half : (d : ℕ) (ns : List ℕ) → IsRanked d ns → length ns / 2 ≡ FAN ^ d
+row_half d ns r = omega (arith, r.size)
+
+pub row_seen : (d : ℕ) (ns rs : List ℕ) → IsRanked d ns → drop (length ns / 2) ns ≡ rs → drop (FAN ^ d) ns ≡ rs
+row_seen d ns rs r view = ap (λ n. drop n ns) (sym (row_half d ns r)) ∙ view
+
+pub row_size : (d : ℕ) (ns rs : List ℕ) → IsRanked d ns → drop (length ns / 2) ns ≡ rs → length rs ≡ FAN ^ d
+row_size d ns rs r view = ap length (sym (row_seen d ns rs r view)) ∙ row_length d ns r
 
 row_read : (d g : ℕ) (ns : List ℕ) → slice_index (drop (FAN ^ d) ns) g ≡ slice_index ns (FAN ^ d + g)
 row_read d g ns = get_or-drop (FAN ^ d) ns g 0
+
+-- the node of a group, and the rank there
+pub group_row : (d n g : ℕ) (ns rs : List ℕ) → IsRanked d ns → drop (length ns / 2) ns ≡ rs → n ≡ length rs → g < length rs → IsInRow d (n + g)
+group_row d n g ns rs r view e lt = let size = row_size d ns rs r view in last_row d (n + g) g (omega (arith, e, size)) (omega (arith, lt, size))
+
+pub group_read : (d n g : ℕ) (ns rs : List ℕ) → IsRanked d ns → drop (length ns / 2) ns ≡ rs → n ≡ length rs → slice_index ns (n + g) ≡ slice_index rs g
+group_read d n g ns rs r view e =
+    let at : n ≡ FAN ^ d = e ∙ row_size d ns rs r view in
+    ap (λ k. slice_index ns (k + g)) at ∙ sym (row_read d g ns) ∙ ap (λ qs. slice_index qs g) (row_seen d ns rs r view)
+
+-- its length tells how many rows there are
+pub row_told : (d e : ℕ) (ns rs : List ℕ) → IsRanked d ns → drop (length ns / 2) ns ≡ rs → length rs ≡ FAN ^ e → d ≡ e
+row_told d e ns rs r view long = row_number d e (sym (row_size d ns rs r view) ∙ long)
 
 pub root_top : (d : ℕ) (ns : List ℕ) → IsRanked d ns → IsTopRank (drop (FAN ^ d) ns) (slice_index ns 1)
 root_top d ns r =

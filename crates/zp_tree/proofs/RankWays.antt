@@ -1,8 +1,7 @@
 -- The ways between the nodes of a tree of ranks and its last row.
-use Rattle.std.proofs.Common.{ℕ, suc, zero, ◌+◌, ◌-◌, ◌*◌, ◌/◌, ◌^◌, ◌≡◌, ◌≤◌, ◌<◌, ◌⊎◌, inl, inr, refl, subst, ◌∙◌, ap, arith, List, drop, length, slice_index, Some, None}
+use Rattle.std.proofs.Common.{ℕ, suc, zero, ◌+◌, ◌-◌, ◌*◌, ◌/◌, ◌^◌, ◌≡◌, ◌≤◌, ◌<◌, ◌⊎◌, inl, inr, refl, subst, ◌∙◌, ap, arith, List, slice_index, Some, None}
 use Rattle.std.proofs.lemmas.Bool.{cases_lt, cases_eq}
-use Rattle.std.proofs.lemmas.List.{length-drop}
-use Rattle.zp_tree.specs.declared.constants.TheConstants.{FAN, MOST_GROUPS}
+use Rattle.zp_tree.specs.declared.constants.TheConstants.{FAN}
 use Rattle.zp_tree.specs.RankRows.{IsInRow, IsRanked, IsFirstOfEight}
 use Rattle.zp_tree.proofs.RankNodes.{eight_of, row_grows, above_in, below_in, best_most, best_some, held, root_row, not_root}
 
@@ -102,13 +101,6 @@ row_above i x at lt =
 -- the nodes of the last row
 pub last_row : (d x g : ℕ) → x ≡ FAN ^ d + g → g < FAN ^ d → IsInRow d x
 last_row d x g e lt = record { from = omega arith; to = omega arith }
-
-pub group_row : (d f g : ℕ) (ns : List ℕ) → IsRanked d ns → f ≡ FAN ^ d → g < length (drop f ns) → IsInRow d (f + g)
-group_row d f g ns r e lt = last_row d (f + g) g (omega (arith, e)) (omega (arith, lt, e, length-drop f ns, r.size))
-
--- there are few nodes
-pub few_nodes : (d x : ℕ) → FAN ^ d ≤ FAN * MOST_GROUPS → IsInRow d x → x < 2 * (FAN * MOST_GROUPS)
-few_nodes d x few at = omega (arith, at.to)
 
 -- a node that is no rank stands above the last row, and the others in it
 pub row_short : (d j x : ℕ) → IsInRow j x → j ≤ d → x < FAN ^ d → j < d

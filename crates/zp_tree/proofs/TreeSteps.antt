@@ -9,7 +9,7 @@ use Rattle.zp_model.specs.BlockSet.{Starts}
 use Rattle.zp_model.proofs.Heads.{number_around}
 use Rattle.zp_tree.specs.declared.constants.TheConstants.{GROUP_ORDER, GROUP_PAGES}
 use Rattle.zp_tree.specs.Blocks.{IsBlockSet, IsApart, buddy, with_block, without_block, without_buddies, split_set, joined_set}
-use Rattle.zp_tree.specs.Marks.{IsWords, IsInGroups, IsRemarked, IsSplitUp, IsJoinedUp, IsLowered, IsRankBound, IsRankOf}
+use Rattle.zp_tree.specs.Marks.{IsWords, IsRemarked, IsSplitUp, IsJoinedUp, IsLowered, IsNearRank, IsRankBound, IsRankOf}
 use Rattle.zp_tree.specs.Spelled.{IsTreeOf}
 use Rattle.zp_tree.proofs.Apart.{set-starts, clear-starts}
 use Rattle.zp_tree.proofs.BlockSets.{same_page}
@@ -17,23 +17,24 @@ use Rattle.zp_tree.proofs.ChangedSets.{none_in, set_block_set, clear_block_set, 
 use Rattle.zp_tree.proofs.MarkedSets.{IsMarkedBy, marked_set, marked_clear, marked_split, marked_joined, half_or_not}
 use Rattle.zp_tree.proofs.BuddyPlaces.{buddy_around, head_around}
 use Rattle.zp_tree.proofs.JoinedSets.{IsJoining, IsFreed, freed, joined_block_set}
-use Rattle.zp_tree.proofs.Ranked.{IsRankedBy, IsChangedIn, rank_bound, ranks_raised, ranks_lowered}
+use Rattle.zp_tree.proofs.Ranked.{IsRankedBy, IsInside, IsChangedIn, near_rank, other_group, rank_bound, ranks_raised, ranks_lowered}
 use Rattle.zp_tree.proofs.Spelling.{block_in_groups}
 
 -- a tree of another set over as many pages
-pub another : (m pages : ℕ) (ls hs rs ms gs ts : List ℕ) (s r : List (Option ℕ)) → IsTreeOf m pages ls hs rs s → IsWords ms gs → length gs ≡ length hs → length ts ≡ length rs → length r ≡ length s → IsBlockSet m r → IsMarkedBy ms gs r → IsRankedBy ts r →
-    IsTreeOf m pages ms gs ts r
-another m pages ls hs rs ms gs ts s r t w n o l x y z = record {
+pub another : (m pages : ℕ) (ls hs rs ms gs ts : List ℕ) (x v : ℕ) (s r : List (Option ℕ)) → IsTreeOf m pages ls hs rs x s → IsWords ms gs → length gs ≡ length hs → length ts ≡ length rs → length r ≡ length s → IsBlockSet m r → IsMarkedBy ms gs r → v < length hs →
+    IsRankedBy ts v r → IsTreeOf m pages ms gs ts v r
+another m pages ls hs rs ms gs ts x v s r t w n o l b y lt z = record {
   orders = t.orders;
   bounds = t.bounds;
   groups = omega (arith, t.groups, n);
   room = omega (arith, t.room, n);
   pages_of = l ∙ t.pages_of;
-  set = x;
+  set = b;
   words = w;
   marked = y;
   rows = omega (arith, t.rows, n, o);
   row = o ∙ t.row;
+  stale = omega (arith, lt, n);
   ranked = z;
 }
 
@@ -60,39 +61,59 @@ changed_clear s p k lt st = record {
   larger = λ i o more. (λ y. (clear-starts s p i o lt y).1, λ y. get_or-set_other s p i None None (λ e. let f = same_Some k o (sym st ∙ rw e at y) in omega (arith, f)) ∙ y);
 }
 
-pub set_tree : (m pages : ℕ) (ls hs rs ms gs ts : List ℕ) (s : List (Option ℕ)) (p k : ℕ) → IsTreeOf m pages ls hs rs s → IsBlock m (length s) p k → IsApart s p k → IsRemarked ls hs ms gs p k 1 →
-    ts ≡ slice_set rs (p / GROUP_PAGES) (max (k + 1) (slice_index rs (p / GROUP_PAGES))) → IsTreeOf m pages ms gs ts (with_block s p k)
-set_tree m pages ls hs rs ms gs ts s p k t b a r e =
+pub set_tree : (m pages : ℕ) (ls hs rs ms gs ts : List ℕ) (x : ℕ) (s : List (Option ℕ)) (p k : ℕ) → IsTreeOf m pages ls hs rs x s → IsBlock m (length s) p k → IsApart s p k → IsRemarked ls hs ms gs p k 1 →
+    ts ≡ slice_set rs (p / GROUP_PAGES) (max (k + 1) (slice_index rs (p / GROUP_PAGES))) → IsTreeOf m pages ms gs ts x (with_block s p k)
+set_tree m pages ls hs rs ms gs ts x s p k t b a r e =
     let pos = pow_pos k in
     let lt : p < length s = omega (arith, b.inside) in
     let none : (j : ℕ) → Starts s p j → ⊥ = λ j. none_starts m s p k p j t.set a (omega arith) (omega arith) in
     let g = p / GROUP_PAGES in
     let room : g < length rs = omega (arith, lt, t.room, t.rows, t.pages_of) in
-    rw e (another m pages ls hs rs ms gs (slice_set rs g (max (k + 1) (slice_index rs g))) s (with_block s p k) t r.words r.size (length-set rs g _) (length-set s p (Some k)) (set_block_set m s p k t.set b a)
-    (marked_set ls hs ms gs s p k t.marked r lt none) (ranks_raised rs s (with_block s p k) g p k t.ranked (changed_set s p k lt none) refl room (get_or-set_same s p (Some k) None lt)))
+    rw e (another m pages ls hs rs ms gs (slice_set rs g (max (k + 1) (slice_index rs g))) x x s (with_block s p k) t r.words r.size (length-set rs g _) (length-set s p (Some k)) (set_block_set m s p k t.set b a)
+    (marked_set ls hs ms gs s p k t.marked r lt none) t.stale (ranks_raised rs s (with_block s p k) g p k x t.ranked (changed_set s p k lt none) refl room (get_or-set_same s p (Some k) None lt)))
 
-pub clear_tree : (m pages : ℕ) (ls hs rs ms gs ts : List ℕ) (s : List (Option ℕ)) (p k : ℕ) → IsTreeOf m pages ls hs rs s → Starts s p k → IsRemarked ls hs ms gs p k 0 → IsLowered ms gs rs ts (p / GROUP_PAGES) k →
-    IsTreeOf m pages ms gs ts (without_block s p)
-clear_tree m pages ls hs rs ms gs ts s p k t st r l =
-    let b = t.set.block p k st in
-    let lt : p < length s = omega (arith, b.inside, pow_pos k) in
-    let g = p / GROUP_PAGES in
-    let room : g < length rs = omega (arith, lt, t.room, t.rows, t.pages_of) in
-    let c = without_block s p in
-    let marked = marked_clear ls hs ms gs s p k t.marked r lt st in
-    let inside : (i o : ℕ) → Starts c i o → IsInGroups gs i o = λ i o y. rw r.size (block_in_groups m pages ls hs rs s i o t (clear-starts s p i o lt y).1) in
-    another m pages ls hs rs ms gs ts s c t r.words r.size (ap length l.after ∙ length-set rs g l.rank) (length-set s p None) (clear_block_set m s p k t.set st) marked
-    (ranks_lowered ms gs rs ts s c g k t.ranked (changed_clear s p k lt st) room marked inside l)
+-- a block that went was in a group of the zone
+group_of_block : (m pages : ℕ) (ls hs rs : List ℕ) (x : ℕ) (s : List (Option ℕ)) (p k : ℕ) → IsTreeOf m pages ls hs rs x s → Starts s p k → p / GROUP_PAGES < length hs
+group_of_block m pages ls hs rs x s p k t st = omega (arith, (t.set.block p k st).inside, pow_pos k, t.room, t.pages_of)
 
--- what a block that was cleared leaves of its group has no rank above the group's
-pub clear_bound : (m pages : ℕ) (ls hs rs ms gs : List ℕ) (s : List (Option ℕ)) (p k : ℕ) → IsTreeOf m pages ls hs rs s → Starts s p k → IsRemarked ls hs ms gs p k 0 → IsRankBound ms gs (p / GROUP_PAGES) (slice_index rs (p / GROUP_PAGES))
-clear_bound m pages ls hs rs ms gs s p k t st r =
+-- the tree after a block went, by what is left
+lowered_tree : (m pages : ℕ) (ls hs rs ms gs ts : List ℕ) (x y : ℕ) (s r : List (Option ℕ)) (p k : ℕ) → IsTreeOf m pages ls hs rs x s → Starts s p k → IsWords ms gs → length gs ≡ length hs → length r ≡ length s → IsBlockSet m r → IsMarkedBy ms gs r → IsInside gs r →
+    IsChangedIn s r (p / GROUP_PAGES) k → IsLowered ms gs rs ts x y (p / GROUP_PAGES) k → IsTreeOf m pages ms gs ts y r
+lowered_tree m pages ls hs rs ms gs ts x y s r p k t st w n len b marked inside c l =
+    let lt : y < length hs = elim l.stale [ inl e ↦ omega (arith, e, t.stale) | inr e ↦ omega (arith, e, group_of_block m pages ls hs rs x s p k t st) ] in
+    another m pages ls hs rs ms gs ts x y s r t w n l.size len b marked lt (ranks_lowered ms gs rs ts s r x y p k t.ranked c st marked inside l)
+
+-- what is left of the ranks' groups when a block went: no block of its group has a rank above the one that is kept, and if another group is
+-- the stale one, its rank is no worse
+pub record IsLeft (ms gs rs : List ℕ) (x p : ℕ) : Type 0 where
+  pub down : IsRankBound ms gs (p / GROUP_PAGES) (slice_index rs (p / GROUP_PAGES))
+  pub near : x ≢ p / GROUP_PAGES → IsNearRank ms gs x (slice_index rs x)
+
+left : (m pages : ℕ) (ls hs rs ms gs : List ℕ) (x : ℕ) (s r : List (Option ℕ)) (p k : ℕ) → IsTreeOf m pages ls hs rs x s → Starts s p k → IsMarkedBy ms gs r → IsInside gs r → IsChangedIn s r (p / GROUP_PAGES) k → IsLeft ms gs rs x p
+left m pages ls hs rs ms gs x s r p k t st marked inside c = record {
+  down = rank_bound ms gs rs s r x p k t.ranked c st marked;
+  near = λ ne. near_rank ms gs r x x (slice_index rs x) marked inside (other_group s r (p / GROUP_PAGES) k x x (slice_index rs x) c ne (t.ranked x));
+}
+
+cleared_inside : (m pages : ℕ) (ls hs rs ms gs : List ℕ) (x : ℕ) (s : List (Option ℕ)) (p k : ℕ) → IsTreeOf m pages ls hs rs x s → Starts s p k → IsRemarked ls hs ms gs p k 0 → IsInside gs (without_block s p)
+cleared_inside m pages ls hs rs ms gs x s p k t st r i o y =
     let lt : p < length s = omega (arith, (t.set.block p k st).inside, pow_pos k) in
-    rank_bound ms gs rs s (without_block s p) p k t.ranked (changed_clear s p k lt st) st (marked_clear ls hs ms gs s p k t.marked r lt st)
+    rw r.size (block_in_groups m pages ls hs rs x s i o t (clear-starts s p i o lt y).1)
+
+pub clear_tree : (m pages : ℕ) (ls hs rs ms gs ts : List ℕ) (x y : ℕ) (s : List (Option ℕ)) (p k : ℕ) → IsTreeOf m pages ls hs rs x s → Starts s p k → IsRemarked ls hs ms gs p k 0 → IsLowered ms gs rs ts x y (p / GROUP_PAGES) k →
+    IsTreeOf m pages ms gs ts y (without_block s p)
+clear_tree m pages ls hs rs ms gs ts x y s p k t st r l =
+    let lt : p < length s = omega (arith, (t.set.block p k st).inside, pow_pos k) in
+    lowered_tree m pages ls hs rs ms gs ts x y s (without_block s p) p k t st r.words r.size (length-set s p None) (clear_block_set m s p k t.set st) (marked_clear ls hs ms gs s p k t.marked r lt st) (cleared_inside m pages ls hs rs ms gs x s p k t st r) (changed_clear s p k lt st) l
+
+pub clear_left : (m pages : ℕ) (ls hs rs ms gs : List ℕ) (x : ℕ) (s : List (Option ℕ)) (p k : ℕ) → IsTreeOf m pages ls hs rs x s → Starts s p k → IsRemarked ls hs ms gs p k 0 → IsLeft ms gs rs x p
+clear_left m pages ls hs rs ms gs x s p k t st r =
+    let lt : p < length s = omega (arith, (t.set.block p k st).inside, pow_pos k) in
+    left m pages ls hs rs ms gs x s (without_block s p) p k t st (marked_clear ls hs ms gs s p k t.marked r lt st) (cleared_inside m pages ls hs rs ms gs x s p k t st r) (changed_clear s p k lt st)
 
 -- a group that was one block has none after it was cleared
-pub emptied : (m pages : ℕ) (ls hs rs ms gs : List ℕ) (s : List (Option ℕ)) (p k : ℕ) → IsTreeOf m pages ls hs rs s → Starts s p k → IsRemarked ls hs ms gs p k 0 → 2 ^ k ≡ GROUP_PAGES → IsRankOf ms gs (p / GROUP_PAGES) 0
-emptied m pages ls hs rs ms gs s p k t st r whole =
+pub emptied : (m pages : ℕ) (ls hs rs ms gs : List ℕ) (x : ℕ) (s : List (Option ℕ)) (p k : ℕ) → IsTreeOf m pages ls hs rs x s → Starts s p k → IsRemarked ls hs ms gs p k 0 → 2 ^ k ≡ GROUP_PAGES → IsRankOf ms gs (p / GROUP_PAGES) 0
+emptied m pages ls hs rs ms gs x s p k t st r whole =
     let b = t.set.block p k st in
     let lt : p < length s = omega (arith, b.inside, whole) in
     let al : p % GROUP_PAGES ≡ 0 = ap (λ n. p % n) (sym whole) ∙ b.aligned in
@@ -154,34 +175,28 @@ changed_split m s p f t x few st le = record {
     rest i none ne = halves_other c p t d i none ∙ get_or-set_other s p i None None ne
 
 -- a block of a set after one was split is new and lies in it, or was there
-split_in_groups : (m pages : ℕ) (ls hs rs : List ℕ) (s : List (Option ℕ)) (p f t i o : ℕ) → IsTreeOf m pages ls hs rs s → Starts s p f → t ≤ f → Starts (split_set s p f t) i o → IsInGroups hs i o
-split_in_groups m pages ls hs rs s p f t i o x st le y =
+split_inside : (m pages : ℕ) (ls hs rs ms gs : List ℕ) (v : ℕ) (s : List (Option ℕ)) (p f t : ℕ) → IsTreeOf m pages ls hs rs v s → Starts s p f → t ≤ f → length gs ≡ length hs → IsInside gs (split_set s p f t)
+split_inside m pages ls hs rs ms gs v s p f t x st le size i o y =
     let b = (split_block_set m s p f t x.set st le).block i o y in
     let n = halves_length (without_block s p) p t (f - t) in
-    record { order = omega (arith, b.order, x.orders); aligned = b.aligned; inside = omega (arith, b.inside, n, length-set s p None, x.room, x.pages_of) }
+    record { order = omega (arith, b.order, x.orders); aligned = b.aligned; inside = omega (arith, b.inside, n, length-set s p None, x.room, x.pages_of, size) }
 
 -- the bits after a block was split
-split_marked : (m pages : ℕ) (ls hs rs ms gs : List ℕ) (s : List (Option ℕ)) (p f t : ℕ) → IsTreeOf m pages ls hs rs s → Starts s p f → t ≤ f → IsSplitUp ls hs ms gs p f t → IsMarkedBy ms gs (split_set s p f t)
-split_marked m pages ls hs rs ms gs s p f t x st le r =
+split_marked : (m pages : ℕ) (ls hs rs ms gs : List ℕ) (v : ℕ) (s : List (Option ℕ)) (p f t : ℕ) → IsTreeOf m pages ls hs rs v s → Starts s p f → t ≤ f → IsSplitUp ls hs ms gs p f t → IsMarkedBy ms gs (split_set s p f t)
+split_marked m pages ls hs rs ms gs v s p f t x st le r =
     let free : (j o : ℕ) → t ≤ j → j < f → Starts s (p + 2 ^ j) o → ⊥ = λ j o lo hi. free_inside m s p f (p + 2 ^ j) o x.set st (omega (arith, pow_pos j)) (omega (arith, pow_below j f hi)) in
     marked_split ls hs ms gs s p f t x.marked r (x.set.block p f st).inside le st free
 
--- what a block that was split leaves of its group has no rank above the group's
-pub split_bound : (m pages : ℕ) (ls hs rs ms gs : List ℕ) (s : List (Option ℕ)) (p f t : ℕ) → IsTreeOf m pages ls hs rs s → Starts s p f → t ≤ f → IsSplitUp ls hs ms gs p f t → IsRankBound ms gs (p / GROUP_PAGES) (slice_index rs (p / GROUP_PAGES))
-split_bound m pages ls hs rs ms gs s p f t x st le r = rank_bound ms gs rs s (split_set s p f t) p f x.ranked (changed_split m s p f t x.set x.orders st le) st (split_marked m pages ls hs rs ms gs s p f t x st le r)
+pub split_left : (m pages : ℕ) (ls hs rs ms gs : List ℕ) (v : ℕ) (s : List (Option ℕ)) (p f t : ℕ) → IsTreeOf m pages ls hs rs v s → Starts s p f → t ≤ f → IsSplitUp ls hs ms gs p f t → IsLeft ms gs rs v p
+split_left m pages ls hs rs ms gs v s p f t x st le r =
+    left m pages ls hs rs ms gs v s (split_set s p f t) p f x st (split_marked m pages ls hs rs ms gs v s p f t x st le r) (split_inside m pages ls hs rs ms gs v s p f t x st le r.size) (changed_split m s p f t x.set x.orders st le)
 
-pub split_tree : (m pages : ℕ) (ls hs rs ms gs ts : List ℕ) (s : List (Option ℕ)) (p f t : ℕ) → IsTreeOf m pages ls hs rs s → Starts s p f → t ≤ f → IsSplitUp ls hs ms gs p f t → IsLowered ms gs rs ts (p / GROUP_PAGES) f →
-    IsTreeOf m pages ms gs ts (split_set s p f t)
-split_tree m pages ls hs rs ms gs ts s p f t x st le r l =
-    let b = x.set.block p f st in
-    let lt : p < length s = omega (arith, b.inside, pow_pos f) in
-    let g = p / GROUP_PAGES in
-    let room : g < length rs = omega (arith, lt, x.room, x.rows, x.pages_of) in
-    let c = split_set s p f t in
-    let marked = split_marked m pages ls hs rs ms gs s p f t x st le r in
-    let inside : (i o : ℕ) → Starts c i o → IsInGroups gs i o = λ i o y. rw r.size (split_in_groups m pages ls hs rs s p f t i o x st le y) in
-    another m pages ls hs rs ms gs ts s c x r.words r.size (ap length l.after ∙ length-set rs g l.rank) (halves_length (without_block s p) p t (f - t) ∙ length-set s p None) (split_block_set m s p f t x.set st le) marked
-    (ranks_lowered ms gs rs ts s c g f x.ranked (changed_split m s p f t x.set x.orders st le) room marked inside l)
+pub split_tree : (m pages : ℕ) (ls hs rs ms gs ts : List ℕ) (v w : ℕ) (s : List (Option ℕ)) (p f t : ℕ) → IsTreeOf m pages ls hs rs v s → Starts s p f → t ≤ f → IsSplitUp ls hs ms gs p f t → IsLowered ms gs rs ts v w (p / GROUP_PAGES) f →
+    IsTreeOf m pages ms gs ts w (split_set s p f t)
+split_tree m pages ls hs rs ms gs ts v w s p f t x st le r l =
+    let n = halves_length (without_block s p) p t (f - t) ∙ length-set s p None in
+    lowered_tree m pages ls hs rs ms gs ts v w s (split_set s p f t) p f x st r.words r.size n (split_block_set m s p f t x.set st le) (split_marked m pages ls hs rs ms gs v s p f t x st le r) (split_inside m pages ls hs rs ms gs v s p f t x st le r.size)
+    (changed_split m s p f t x.set x.orders st le) l
 
 -- the buddies of a run lie in the group around it, as the block does that they make
 changed_joined : (m : ℕ) (s : List (Option ℕ)) (p f t : ℕ) → m ≤ GROUP_ORDER → IsJoining m s p f t → IsChangedIn s (joined_set s p f t) (p / GROUP_PAGES) t
@@ -226,9 +241,9 @@ changed_joined m s p f t few x = record {
     order : (l : ℕ) → f ≤ l → l < t → (o : ℕ) → Starts s (buddy p l) o → l ≡ o
     order l lo hi o y = same_Some l o (sym (x.buddies l lo hi) ∙ y)
 
-pub join_tree : (m pages : ℕ) (ls hs rs ms gs ts : List ℕ) (s : List (Option ℕ)) (p f t : ℕ) → IsTreeOf m pages ls hs rs s → IsJoining m s p f t → IsJoinedUp ls hs ms gs p f t →
-    ts ≡ slice_set rs (p / GROUP_PAGES) (max (t + 1) (slice_index rs (p / GROUP_PAGES))) → IsTreeOf m pages ms gs ts (joined_set s p f t)
-join_tree m pages ls hs rs ms gs ts s p f t x w r e =
+pub join_tree : (m pages : ℕ) (ls hs rs ms gs ts : List ℕ) (v : ℕ) (s : List (Option ℕ)) (p f t : ℕ) → IsTreeOf m pages ls hs rs v s → IsJoining m s p f t → IsJoinedUp ls hs ms gs p f t →
+    ts ≡ slice_set rs (p / GROUP_PAGES) (max (t + 1) (slice_index rs (p / GROUP_PAGES))) → IsTreeOf m pages ms gs ts v (joined_set s p f t)
+join_tree m pages ls hs rs ms gs ts v s p f t x w r e =
     let h = head p t in
     let g = p / GROUP_PAGES in
     let c = without_buddies s p f (t - f) in
@@ -238,6 +253,6 @@ join_tree m pages ls hs rs ms gs ts s p f t x w r e =
     let group : h / GROUP_PAGES ≡ g = head_around p t GROUP_ORDER (omega (arith, w.block.order, x.orders)) in
     let room : g < length rs = omega (arith, group, in_zone, x.room, x.rows, x.pages_of) in
     let here : Starts d h t = get_or-set_same c h (Some t) None (omega (arith, in_zone, a.size)) in
-    let v = max (t + 1) (slice_index rs g) in
-    let ranked : IsRankedBy (slice_set rs g v) d = ranks_raised rs s d g h t x.ranked (changed_joined m s p f t x.orders w) group room here in
-    rw e (another m pages ls hs rs ms gs (slice_set rs g v) s d x r.words r.size (length-set rs g v) (length-set c h (Some t) ∙ a.size) (joined_block_set m s p f t w) (marked_joined m ls hs ms gs s p f t x.marked r w) ranked)
+    let q = max (t + 1) (slice_index rs g) in
+    let ranked : IsRankedBy (slice_set rs g q) v d = ranks_raised rs s d g h t v x.ranked (changed_joined m s p f t x.orders w) group room here in
+    rw e (another m pages ls hs rs ms gs (slice_set rs g q) v v s d x r.words r.size (length-set rs g q) (length-set c h (Some t) ∙ a.size) (joined_block_set m s p f t w) (marked_joined m ls hs ms gs s p f t x.marked r w) x.stale ranked)

@@ -89,6 +89,14 @@ pub record IsRankOf (ls hs : List ℕ) (g r : ℕ) : Type 0 where
 abbrev pub IsRankBound : List ℕ → List ℕ → ℕ → ℕ → Type 0
 IsRankBound ls hs g r = (i k : ℕ) → HasMark ls hs i k → i / GROUP_PAGES ≡ g → k < r
 
+-- a block of group g stands in its high word
+abbrev pub HasLarge : List ℕ → ℕ → Type 0
+HasLarge hs g = (i : ℕ) × (k : ℕ) × HasHigh hs i k × (i / GROUP_PAGES ≡ g)
+
+-- r is the rank of the blocks of group g, or a larger one where a block stands in its high word
+abbrev pub IsNearRank : List ℕ → List ℕ → ℕ → ℕ → Type 0
+IsNearRank ls hs g r = IsRankOf ls hs g r ⊎ (IsRankBound ls hs g r × HasLarge hs g)
+
 -- the first block of order k or more of group g
 abbrev pub IsFirstMark : List ℕ → List ℕ → ℕ → ℕ → Option (ℕ × ℕ) → Type 0
 IsFirstMark ls hs g k None = (i o : ℕ) → HasMark ls hs i o → i / GROUP_PAGES ≡ g → o < k
@@ -131,8 +139,19 @@ pub record IsReranked (ls hs rs ts : List ℕ) (g : ℕ) : Type 0 where
   pub after : ts ≡ slice_set rs g rank
   pub is : IsRankOf ls hs g rank
 
--- the ranks after a block of order k of group g was cleared: where it was one of the largest, the group's rank is what its words tell
-pub record IsLowered (ls hs rs ts : List ℕ) (g k : ℕ) : Type 0 where
-  pub rank : ℕ
-  pub after : ts ≡ slice_set rs g rank
-  pub is : ((k + 1 < slice_index rs g) × (rank ≡ slice_index rs g)) ⊎ IsRankOf ls hs g rank
+-- the ranks serve a search for blocks of order k or more, though that of group x may have been too large: it was reckoned anew, or k is at
+-- most 5. A group whose rank is too large has a block of order 5 or more
+abbrev pub IsFit : List ℕ → List ℕ → List ℕ → List ℕ → ℕ → ℕ → Type 0
+IsFit ls hs rs ts x k = ((k ≤ WORD_LEVELS) × (ts ≡ rs)) ⊎ IsReranked ls hs rs ts x
+
+-- r is still a rank to keep for group g, of which a block of order k was cleared: a larger block is left, or y, the stale group, is g. Where
+-- k is 5 or more, so that the block stood in the high word, one is left there
+abbrev pub CanStay : List ℕ → ℕ → ℕ → ℕ → ℕ → Type 0
+CanStay hs y g k r = ((k < WORD_LEVELS) × (k + 1 < r)) ⊎ (HasLarge hs g × ((k + 1 < r) ⊎ (y ≡ g)))
+
+-- the ranks after a block of order k of group g was cleared, and the stale group y, which was x: each rank is what the words tell, or as it
+-- was, where it can stay and no stale one is lost sight of
+pub record IsLowered (ls hs rs ts : List ℕ) (x y g k : ℕ) : Type 0 where
+  pub size : length ts ≡ length rs
+  pub stale : (y ≡ x) ⊎ (y ≡ g)
+  pub ranks : (h : ℕ) → IsRankOf ls hs h (slice_index ts h) ⊎ ((slice_index ts h ≡ slice_index rs h) × (h ≡ x → y ≡ x) × (h ≡ g → CanStay hs y g k (slice_index rs g)))

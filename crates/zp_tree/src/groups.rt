@@ -1,8 +1,8 @@
 //! What the words of one group say of its blocks.
-ghost use Rattle.std.specs.Prelude.{◌≡◌, ◌<◌, ◌≤◌, ◌^◌, ◌+◌, ◌*◌, ◌/◌, ℕ, length, IfSome, IsTrue};
+ghost use Rattle.std.specs.Prelude.{◌≡◌, ◌<◌, ◌≤◌, ◌^◌, ◌+◌, ◌*◌, ◌/◌, ◌↔◌, ℕ, length, IfSome, IsTrue};
 ghost use Rattle.zp_model.specs.declared.constants.TheConstants.{LARGEST_ORDER};
 ghost use Rattle.zp_tree.specs.declared.constants.TheConstants.{PLACES, WORD_LEVELS, GROUP_PAGES, MOST_GROUPS};
-ghost use Rattle.zp_tree.specs.Marks.{IsLowAlone, IsWords, IsInGroups, HasHigh, HasLow, IsRankOf, IsFirstMark, IsFirstLow, IsFirstHigh, words_before, order_at, IsLargestMark};
+ghost use Rattle.zp_tree.specs.Marks.{IsLowAlone, IsWords, IsInGroups, HasHigh, HasLarge, HasLow, IsNearRank, IsRankOf, IsFirstMark, IsFirstLow, IsFirstHigh, words_before, order_at, IsLargestMark};
 
 use crate::constants::{GROUP_PAGES, PLACES, WORD_LEVELS};
 use crate::meter::Meter;
@@ -35,6 +35,16 @@ pub fn rank_of(low: &Metered<Word>, high: &Metered<Word>, group: usize) -> Rank
         Some(level) => Rank::of_number(level),
         None => Rank::none(),
     }
+}
+
+/// Whether a block of the group stands in its high word.
+#[inline]
+pub fn has_large(high: &Metered<Word>, group: usize) -> bool
+    requires { group < length high.now }
+    ensures { IsTrue result ↔ HasLarge high.now group }
+{
+    let mut meter = Meter::new();
+    high.read(group, &mut meter).largest().is_some()
 }
 
 /// Whether the low word around a page has a block of this order and none above. Where it does, the page's group has a block of the order.
@@ -113,7 +123,8 @@ fn words_before(block: &Option<(PageAt, Order)>) -> u32
     }
 }
 
-/// The first block of this order or more of a group with blocks of this rank. At most as many words are read as it has low ones.
+/// The first block of this order or more of a group with blocks of this rank, or nearly. At most as many words are read as it has low ones,
+/// and for order 5 or more one.
 pub fn first_of(
     low: &Metered<Word>,
     high: &Metered<Word>,
@@ -125,10 +136,11 @@ pub fn first_of(
     requires words { IsWords low.now high.now }
     requires group { group < length high.now }
     requires few { length high.now ≤ MOST_GROUPS }
-    requires rank { IsRankOf low.now high.now group rank }
+    requires rank { IsNearRank low.now high.now group rank }
     requires count { meter.old < 2 ^ 32 + 2 ^ 31 }
     ensures first { IsFirstMark low.now high.now group order result }
     ensures counted { meter.new ≤ meter.old + PLACES }
+    ensures large { WORD_LEVELS ≤ order → meter.new ≤ meter.old + 1 }
     ensures read { meter.old ≤ meter.new }
 {
     let found = first_high(high, group, rank, order, meter);

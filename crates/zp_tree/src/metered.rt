@@ -32,6 +32,14 @@ impl<T: Copy + Drop> Metered<T> {
         Ok(Metered { nodes })
     }
 
+    /// How many nodes there are.
+    #[inline(always)]
+    pub fn len(&self) -> usize
+        ensures { result ≡ length self.now }
+    {
+        self.nodes.len()
+    }
+
     /// The node at a place. One read.
     #[inline(always)]
     pub fn read(&self, at: usize, meter: &mut Meter) -> T

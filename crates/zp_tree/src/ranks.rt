@@ -1,5 +1,5 @@
 //! The ranks of groups, and a tree over them.
-ghost use Rattle.std.specs.Prelude.{◌≡◌, ◌≤◌, ◌<◌, ◌+◌, ◌^◌, ℕ, true, false, IfOk, length, slice_index, slice_set};
+ghost use Rattle.std.specs.Prelude.{◌≡◌, ◌≤◌, ◌<◌, ◌+◌, ◌*◌, ◌^◌, ℕ, true, false, IfOk, length, slice_index, slice_set};
 ghost use Rattle.zp_tree.specs.declared.constants.TheConstants.{FAN, MOST_GROUPS};
 ghost use Rattle.zp_tree.specs.RankRows.{best_from, IsFirstAmong, IsFirstOfEight, IsFirstRank, IsTopRank, IsLeastRow, IsOpen, IsRaised, IsMended};
 
@@ -16,21 +16,20 @@ const ROOT: usize = 1;
 /// The ranks of groups, side by side as one row of a tree. Contracts see the row.
 #[derive(Drop)]
 pub struct RankTree {
-    /// How many ranks the row has, and the node of the first.
-    first: usize,
+    /// The ranks are the second half. The first has the nodes above them, from node 1 on.
     nodes: Metered<Rank>,
 }
 
 impl Model for RankTree {
-    ghost use Rattle.std.specs.Prelude.{ℕ, List, drop, ◌≡◌, ◌≤◌, ◌<◌, ◌*◌, ◌^◌};
+    ghost use Rattle.std.specs.Prelude.{ℕ, List, drop, length, ◌≤◌, ◌<◌, ◌*◌, ◌/◌, ◌^◌};
     ghost use Rattle.zp_tree.specs.declared.constants.TheConstants.{FAN, MOST_GROUPS};
     ghost use Rattle.zp_tree.specs.RankRows.{IsRanked};
 
     ghost Value = { List ℕ };
 
-    ghost view = { λ t. drop t.first t.nodes };
+    ghost view = { λ t. drop (length t.nodes / 2) t.nodes };
 
-    ghost invariant = { λ t. (d : ℕ) × (0 < d) × (FAN ^ d ≤ FAN * MOST_GROUPS) × (t.first ≡ FAN ^ d) × IsRanked d t.nodes };
+    ghost invariant = { λ t. (d : ℕ) × (0 < d) × (FAN ^ d ≤ FAN * MOST_GROUPS) × IsRanked d t.nodes };
 }
 
 /// The largest of the ranks that stand side by side from a node on. They are one read.
@@ -133,7 +132,16 @@ impl RankTree {
             first *= FAN;
         }
         let nodes = Metered::new(alloc, Rank::none(), 2 * first)?;
-        Ok(RankTree { first, nodes })
+        Ok(RankTree { nodes })
+    }
+
+    /// How many ranks the row has, and the node of the first: half of the nodes.
+    #[inline]
+    fn row(&self) -> usize
+        ensures row { result ≡ length self.now }
+        ensures few { result ≤ FAN * MOST_GROUPS }
+    {
+        self.nodes.len() / 2
     }
 
     /// The rank of a group.
@@ -143,7 +151,18 @@ impl RankTree {
         ensures { result ≡ slice_index self.now group }
     {
         let mut meter = Meter::new();
-        self.nodes.read(self.first + group, &mut meter)
+        self.read(group, &mut meter)
+    }
+
+    /// The same, counted. One read.
+    #[inline]
+    pub fn read(&self, group: usize, meter: &mut Meter) -> Rank
+        requires group { group < length self.now }
+        requires count { meter.old + 1 < 2 ^ 64 }
+        ensures rank { result ≡ slice_index self.now group }
+        ensures counted { meter.new ≡ meter.old + 1 }
+    {
+        self.nodes.read(self.row() + group, meter)
     }
 
     /// Gives a group a rank that is no smaller where it rises, and else no larger.
@@ -154,7 +173,7 @@ impl RankTree {
         requires down { rises ≡ false → rank ≤ slice_index self.old group }
         ensures { self.new ≡ slice_set self.old group rank }
     {
-        let node = self.first + group;
+        let node = self.row() + group;
         self.nodes.write(node, rank);
         settle(&mut self.nodes, node, rank, rises);
     }
@@ -170,16 +189,17 @@ impl RankTree {
     /// The first group of this rank or more, and its rank. The meter rises by one for each word of ranks read, one of a row at most.
     pub fn first(&self, rank: Rank, meter: &mut Meter) -> Option<(usize, Rank)>
         requires rank { 0 < rank }
-        requires count { meter.old < 2 ^ 32 }
+        requires count { meter.old ≤ 2 ^ 32 + 1 }
         ensures first { IsFirstRank self.now rank result }
         ensures counted { (d : ℕ) → length self.now ≡ FAN ^ d → meter.new ≤ meter.old + d }
         ensures read { meter.old < meter.new }
     {
+        let row = self.row();
         let mut node = ROOT;
         let mut held = Rank::none();
-        'rows: while node < self.first {
+        'rows: while node < row {
             (node, held) = first_of_eight(&self.nodes, FAN * node, rank, meter)?;
         }
-        Some((node - self.first, held))
+        Some((node - row, held))
     }
 }

@@ -13,7 +13,7 @@ use Rattle.zp_model.specs.Area.{Area}
 use Rattle.zp_model.specs.Block.{has, head}
 use Rattle.zp_model.specs.Frames.{Frames, IsClear, IsFramed, given, with_area}
 use Rattle.zp_model.specs.Lawful.{IsLawful}
-use Rattle.zp_model.specs.Rows.{state_at}
+use Rattle.zp_model.specs.Rows.{state_at, with_run}
 use Rattle.zp_model.specs.Run.{is_distinct, is_out}
 use Rattle.zp_model.specs.Step.{drained, freed}
 use Rattle.zp_model.specs.Take.{give}
@@ -21,14 +21,13 @@ use Rattle.zp_model.specs.Zone.{PlainZone, Holding, holding_at, posted_pages}
 use Rattle.zp_model.proofs.Heads.{head_aligned, head_le, lt_head, number_same}
 use Rattle.zp_model.proofs.MaximalBlocks.{length-restated, max_has}
 use Rattle.zp_model.proofs.Pages.{in_run-to}
+use Rattle.zp_model.proofs.Runs.{length-run}
 use Rattle.zp_laws.proofs.Areas.{free-give}
 use Rattle.zp_laws.proofs.Counting.{has-with_any}
 use Rattle.zp_laws.proofs.Held.{IsHolding, out-to, out_held}
 use Rattle.zp_laws.proofs.StaysOut.{freed-kept, none_left_at}
 use Rattle.zp_laws.proofs.Steps.{freed_lawful}
-use Rattle.zp_table.specs.Entries.{with_run}
 use Rattle.zp_buddy.specs.Runs.{gives, turned_pages}
-use Rattle.zp_table.proofs.Runs.{length-run}
 use Rattle.zp_buddy.proofs.TurnedRuns.{get_or-turned, gives_turned, length-turned, turned_back, turned_in, turned_number}
 use Rattle.zp_zone.specs.Kept.{holding_of, plain_of, IsKept, IsPostedAside}
 use Rattle.zp_zone.specs.NamedZone.{AreOut, NamedZone}

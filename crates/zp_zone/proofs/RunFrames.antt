@@ -9,15 +9,15 @@ use Rattle.zp_model.specs.Block.{has}
 use Rattle.zp_model.specs.Choose.{Chosen, choose}
 use Rattle.zp_model.specs.Frames.{Frames, IsClear, IsFramed, with_area, restated}
 use Rattle.zp_model.specs.Lawful.{IsLawful}
+use Rattle.zp_model.specs.Rows.{with_run}
 use Rattle.zp_model.specs.Take.{take_after, taken}
 use Rattle.zp_model.specs.Zone.{PlainZone, Holding, posted_pages}
 use Rattle.zp_model.proofs.Covers.{length-without}
 use Rattle.zp_model.proofs.MaximalBlocks.{length-restated}
+use Rattle.zp_model.proofs.Runs.{length-run}
 use Rattle.zp_laws.proofs.Areas.{free-taken}
 use Rattle.zp_laws.proofs.Counting.{has-without_any}
-use Rattle.zp_table.specs.Entries.{with_run}
 use Rattle.zp_buddy.specs.Runs.{pages_left}
-use Rattle.zp_table.proofs.Runs.{length-run}
 use Rattle.zp_zone.specs.Kept.{holding_of, plain_of, IsKept, IsPostedAside, is_posted_to}
 use Rattle.zp_zone.specs.Runs.{page_out, run_out}
 use Rattle.zp_zone.proofs.BlockSteps.{IsAsked, not_out}

@@ -1,7 +1,7 @@
 //! Pages that are allocated and freed several at a time, without seats. Each call is one step of the plain zone.
 //!
 //! In Linux: `rmqueue_bulk` and `free_pcppages_bulk`.
-ghost use Rattle.std.specs.Prelude.{◌≡◌, ◌<◌, ◌≤◌, All, IfOk, IsTrue, length};
+ghost use Rattle.std.specs.Prelude.{◌≡◌, ◌<◌, ◌≤◌, ◌^◌, All, IfOk, IsTrue, drop, length};
 ghost use Rattle.zp_model.specs.declared.request.Request.TheVariants as request;
 ghost use Rattle.zp_model.specs.Step.{step};
 ghost use Rattle.zp_model.specs.Run.{is_distinct};
@@ -11,7 +11,7 @@ ghost use Rattle.zp_zone.specs.NamedZone.{KeepsOut, KeepsOutBeside, IsFresh, Are
 use super::UntiedZone;
 use super::parts::put_part;
 use arrayvec::ArrayVec;
-use zp_model::{MAX_BATCH, Mark, MigrateType, PageNo, Refused, Worker};
+use zp_model::{MAX_BATCH, Mark, MigrateType, Order, PageNo, Refused, Worker};
 
 impl UntiedZone {
     /// Up to `count` pages for this type, each held to this mark, in the order taken. Refused 10 or 11 where none is got; a
@@ -75,7 +75,21 @@ impl UntiedZone {
         'parts: while !rest.is_empty() {
             let order = self.part_order(worker, rest);
             self.free_part(worker, rest, order);
-            rest = &rest[order.pages() as usize..];
+            rest = past_part(rest, order);
         }
+    }
+}
+
+/// What is left of a drain behind its first part, which has this order.
+// (most pages stand alone, and are passed with no power of two)
+#[inline(always)]
+fn past_part(pages: &[PageNo], order: Order) -> &[PageNo]
+    requires { 2 ^ order ≤ length pages.now }
+    ensures { result.now ≡ drop (2 ^ order) pages.now }
+{
+    if order.number() == 0 {
+        &pages[1..]
+    } else {
+        &pages[order.pages() as usize..]
     }
 }

@@ -49,29 +49,30 @@ module _ {m : ℕ} {a b : Blocks} {free_in : List ℕ} {h k g j : ℕ} (x : IsGr
   here e f z = let same : c ≡ e = buddy_unique g j c d e f y.buddy z in record { order = y.order; buddy = z; free = rw same at y.free }
 
 pub take_buddy-head-requires-clause-listed : goal.take_buddy-head-requires-clause-listed
-take_buddy-head-requires-clause-listed c = listed (begun (goal.at.take_buddy-head-requires-clause-listed c).Start) c.requires.joined.2 c.args.kind c.requires.typed
+take_buddy-head-requires-clause-listed c = rw c.list_of.ensures.number (listed (begun (goal.at.take_buddy-head-requires-clause-listed c).Start) c.requires.joined.2 c.args.kind c.requires.typed)
 
 pub joins-init : goal.joins-init
 joins-init c =
     let now = (goal.at.joins-init c).Start in
     let w = here (begun now) c.requires.joined.2 c.args.kind c.requires.typed _ _ c.take_buddy-head.ensures.1 in
     record {
-      grown = rw (c.take_buddy-head.ensures.2, c.higher-joined.ensures, buddy_kind (begun now) w c.args.kind c.requires.typed) (grow_goes (begun now) w (there now));
-      more = λ e. let y = c.has_free_buddy-joins.ensures.some e in (y.0, y.1, record { order = y.2; buddy = y.3; free = y.4 });
-      last = λ e d f y. c.has_free_buddy-joins.ensures.none e y.order d f y.buddy y.free;
+      grown = rw (c.take_buddy-head.ensures.2, c.list_of.ensures.number, c.higher-joined.ensures, buddy_kind (begun now) w c.args.kind c.requires.typed) (grow_goes (begun now) w (there now));
+      list = c.list_of-list.ensures.number;
     }
 
 pub take_buddy-head-requires-in-joins-clause-listed : goal.take_buddy-head-requires-in-joins-clause-listed
-take_buddy-head-requires-in-joins-clause-listed c = listed c.joins.invariant.grown (c.joins.invariant.more c.joins-test.true).2 c.args.kind c.requires.typed
+take_buddy-head-requires-in-joins-clause-listed c =
+    let y = c.has_free_buddy.ensures.some c.joins-test.true in
+    rw c.joins.invariant.list (listed c.joins.invariant.grown (record { order = y.2; buddy = y.3; free = y.4 }) c.args.kind c.requires.typed)
 
 pub joins-preserved : goal.joins-preserved
 joins-preserved c =
     let now = (goal.at.joins-preserved c).Start in
-    let w = here c.joins.invariant.grown (c.joins.invariant.more c.joins-test.true).2 c.args.kind c.requires.typed _ _ c.take_buddy-head-in-joins.ensures.1 in
+    let y = c.has_free_buddy.ensures.some c.joins-test.true in
+    let w = here c.joins.invariant.grown (record { order = y.2; buddy = y.3; free = y.4 }) c.args.kind c.requires.typed _ _ c.take_buddy-head-in-joins.ensures.1 in
     record {
-      grown = rw (c.take_buddy-head-in-joins.ensures.2, c.higher-joined-in-joins.ensures, buddy_kind c.joins.invariant.grown w c.args.kind c.requires.typed) (grow_goes c.joins.invariant.grown w (there now));
-      more = λ e. let y = c.has_free_buddy-joins-in-joins.ensures.some e in (y.0, y.1, record { order = y.2; buddy = y.3; free = y.4 });
-      last = λ e d f y. c.has_free_buddy-joins-in-joins.ensures.none e y.order d f y.buddy y.free;
+      grown = rw (c.take_buddy-head-in-joins.ensures.2, c.joins.invariant.list, c.higher-joined-in-joins.ensures, buddy_kind c.joins.invariant.grown w c.args.kind c.requires.typed) (grow_goes c.joins.invariant.grown w (there now));
+      list = omega (arith, c.joins.invariant.list, c.higher-joined-in-joins.ensures);
     }
 
 -- the block's pageblock is not isolated, where its type is not
@@ -101,7 +102,7 @@ put_in-requires-clause-loose c = coming_loose (grown_coming c.joins.invariant.gr
 ended : (c : After-put_in) → IsKept c.args.blocks.now.largest (added c.args.blocks.now.largest (record (set_of c.args.blocks.now) { rows = c.joins.lists }) c.joins.head c.joins.joined) (set c.args.blocks.now.free_in.items (c.args.at / pageblock_pages c.args.blocks.now.largest) (slice_index c.args.blocks.now.free_in.items (c.args.at / pageblock_pages c.args.blocks.now.largest) + 2 ^ c.args.order)) ×
     (joined_set (block_set (set_of c.args.blocks.now)) c.args.at c.args.order c.joins.joined ≡ block_set (added c.args.blocks.now.largest (record (set_of c.args.blocks.now) { rows = c.joins.lists }) c.joins.head c.joins.joined)) ×
     ((e : ℕ) × IsJoinedUp e c.args.blocks.now.largest (set_of c.args.blocks.now) c.args.at c.args.order (added c.args.blocks.now.largest (record (set_of c.args.blocks.now) { rows = c.joins.lists }) c.joins.head c.joins.joined))
-ended c = grow_ends c.joins.invariant.grown (c.joins.invariant.last c.joins-test.false) (counted_there c.args.blocks.now.largest _ _ c.args.at c.args.order c.requires.kept.each c.requires.block)
+ended c = grow_ends c.joins.invariant.grown (λ e f y. c.has_free_buddy.ensures.none c.joins-test.false y.order e f y.buddy y.free) (counted_there c.args.blocks.now.largest _ _ c.args.at c.args.order c.requires.kept.each c.requires.block)
 
 pub returns-clause-kept : goal.returns-clause-kept
 returns-clause-kept c =

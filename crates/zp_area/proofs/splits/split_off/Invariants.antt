@@ -10,7 +10,7 @@ abbrev pub invariant-halves : goal.invariant-halves
 invariant-halves l =
     let a : Blocks = set_of l.fn.blocks in
     let b : Blocks = record (set_of l.fn.blocks) { rows = l.lists } in
-    record { split : IsSplitting l.fn.blocks.largest a b l.free_in.items l.at l.to l.fn.from l.order; pages : l.pages ≡ 2 ^ l.order; list : l.list ≡ list_number l.order l.fn.kind }
+    record { split : IsSplitting l.fn.blocks.largest a b l.free_in.items l.at l.to l.fn.block.order l.order; pages : l.pages ≡ 2 ^ l.order; list : l.list ≡ list_number l.order l.fn.kind }
 
 abbrev pub decreases-halves : goal.decreases-halves
 decreases-halves l = l.order

@@ -1,23 +1,35 @@
-use Rattle.std.proofs.Common.{false, ap, length, refl}
+use Rattle.std.proofs.Common.{false, refl, sym, ◌∙◌}
 use Rattle.zp_model.specs.Choose.{choose}
 use Rattle.zp_model.specs.Take.{taken}
 use Rattle.zp_buddy.specs.declared.choice.Choice.{Choice}
+use Rattle.zp_buddy.proofs.Choosing.{own_fronts}
+use Rattle.zp_buddy.proofs.FirstTaken.{first_left, first_own}
 use Rattle.zp_buddy.proofs.takes.take.Goals as goal
 
 pub returns-in-Some : goal.returns-in-Some
 unfolding choose taken
 returns-in-Some c =
-    let x = c.in-Some.ensures in
-    let chosen : Choice = record { block = c.in-Some.block; claims = false } in (
+    let f = c.in-Some.ensures.some in
+    let x = f.1 in
+    let y = first_left c.args.kind x c.requires in
+    let chosen : Choice = record { block = record { head = c.in-Some.head; order = f.0; kind = c.args.kind }; claims = false } in (
       chosen,
       refl,
       record {
-        chosen = rw x.0 refl;
-        block = x.1;
-        largest = c.take_block.ensures.largest;
-        sound = c.take_block.ensures.sound;
-        pages = c.take_block.ensures.pages;
-        typed = ap length c.take_block.ensures.kinds;
-        after = c.take_block.ensures.after;
+        chosen = rw (first_own c.args.kind x) refl;
+        block = record { enough = x.enough; starts = x.starts; typed = x.typed };
+        largest = y.largest;
+        sound = y.sound;
+        pages = y.pages;
+        typed = y.typed;
+        after = y.after;
       },
     )
+
+pub take_foreign-requires-clause-own : goal.take_foreign-requires-clause-own
+take_foreign-requires-clause-own c =
+    let none = c.in_default.ensures.none in
+    rw none.1 (sym (own_fronts c.args.area.now.largest c.args.area.now c.args.order c.args.kind) ∙ none.0)
+
+pub returns : goal.returns
+returns c = rw (← c.in_default.ensures.none.1) c.take_foreign.ensures

@@ -1,12 +1,12 @@
 use Rattle.std.proofs.Common.{◌≤◌, ◌+◌, arith}
 use Rattle.zp_tree.specs.declared.constants.TheConstants.{PLACES}
 use Rattle.zp_tree.proofs.GroupBlocks.{mark_high}
-use Rattle.zp_tree.proofs.FirstBlocks.{first_large, first_small, first_not_small, few_reads}
+use Rattle.zp_tree.proofs.FirstBlocks.{first_large, first_small, first_not_small, few_reads, near_bound}
 use Rattle.zp_tree.proofs.groups.first_of.Goals.{After-first_low}
 use Rattle.zp_tree.proofs.groups.first_of.Goals as goal
 
 pub first_high-found-requires-clause-rank : goal.first_high-found-requires-clause-rank
-first_high-found-requires-clause-rank c i o h at = c.requires.rank.most i o (mark_high c.args.low.now c.args.high.now i o h) at
+first_high-found-requires-clause-rank c i o h at = near_bound _ _ _ _ c.requires.rank i o (mark_high c.args.low.now c.args.high.now i o h) at
 
 pub returns-then-number-ge-WORD_LEVELS-clause-first : goal.returns-then-number-ge-WORD_LEVELS-clause-first
 returns-then-number-ge-WORD_LEVELS-clause-first c = first_large _ _ _ _ _ (omega arith) c.first_high-found.ensures.first

@@ -1,10 +1,8 @@
-use Rattle.std.proofs.Common.{ℕ, ◌/◌, ◌%◌, ◌≡◌, ◌<◌, ◌∙◌, ap, arith, slice_index}
+use Rattle.std.proofs.Common.{◌/◌, ◌%◌, ◌≡◌, ◌<◌, ◌∙◌, ap, arith, slice_index}
 use Rattle.zp_model.specs.Block.{head}
 use Rattle.zp_tree.specs.declared.constants.TheConstants.{PLACES, WORD_LEVELS}
 use Rattle.zp_tree.specs.Words.{IsMarked, IsUnpaired}
 use Rattle.zp_tree.specs.Marks.{IsJoinedUp}
-use Rattle.zp_tree.proofs.Places.{low_place}
-use Rattle.zp_tree.proofs.BuddyPlaces.{head_around}
 use Rattle.zp_tree.proofs.JoinMarks.{low_joined, low_head, join_on}
 use Rattle.zp_tree.proofs.marks.join_marks.Goals as goal
 

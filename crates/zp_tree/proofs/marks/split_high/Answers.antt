@@ -1,4 +1,4 @@
-use Rattle.std.proofs.Common.{ℕ, ◌-◌, ◌/◌, ◌%◌, ◌≡◌, ◌≤◌, ◌∙◌, ap, arith, slice_index}
+use Rattle.std.proofs.Common.{◌-◌, ◌/◌, ◌%◌, ◌≡◌, ◌≤◌, ◌∙◌, ap, arith, slice_index}
 use Rattle.zp_tree.specs.declared.constants.TheConstants.{PLACES, WORD_LEVELS, GROUP_PAGES}
 use Rattle.zp_tree.specs.Words.{IsMarked, IsHalved}
 use Rattle.zp_tree.proofs.Places.{high_place}

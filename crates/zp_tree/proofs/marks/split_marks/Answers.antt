@@ -1,8 +1,8 @@
-use Rattle.std.proofs.Common.{ℕ, ◌-◌, ◌/◌, ◌%◌, ◌≡◌, ◌≤◌, ◌<◌, ◌∙◌, ap, arith, max, slice_index, slice_set}
-use Rattle.zp_tree.specs.declared.constants.TheConstants.{PLACES, WORD_LEVELS, GROUP_PAGES}
+use Rattle.std.proofs.Common.{◌/◌, ◌%◌, ◌≡◌, ◌<◌, ◌∙◌, ap, arith, slice_index}
+use Rattle.zp_tree.specs.declared.constants.TheConstants.{PLACES, WORD_LEVELS}
 use Rattle.zp_tree.specs.Words.{IsMarked, IsHalved}
 use Rattle.zp_tree.specs.Marks.{IsSplitUp}
-use Rattle.zp_tree.proofs.Places.{low_place, high_place}
+use Rattle.zp_tree.proofs.Places.{low_place}
 use Rattle.zp_tree.proofs.SplitMarks.{low_split, split_on}
 use Rattle.zp_tree.proofs.marks.split_marks.Goals as goal
 

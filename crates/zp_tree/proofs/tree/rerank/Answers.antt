@@ -1,17 +1,13 @@
-use Rattle.std.proofs.Common.{ℕ, suc, zero, ◌/◌, ◌≡◌, ◌≤◌, ◌<◌, arith, sym, slice_index, List}
+use Rattle.std.proofs.Common.{◌/◌, ◌≡◌, ◌<◌, arith, sym, slice_index}
 use Rattle.std.proofs.lemmas.List.{set-get_or}
 use Rattle.zp_tree.specs.declared.constants.TheConstants.{GROUP_PAGES}
-use Rattle.zp_tree.specs.Marks.{HasMark, IsRankOf, IsRankBound}
+use Rattle.zp_tree.specs.Marks.{HasMark}
 use Rattle.zp_tree.proofs.GroupBlocks.{mark_low}
+use Rattle.zp_tree.proofs.Mended.{within_bound}
 use Rattle.zp_tree.proofs.tree.rerank.Goals as goal
 
--- the rank of a group is within its bound
-within : (ls hs : List ℕ) (g q r : ℕ) → IsRankOf ls hs g r → IsRankBound ls hs g q → r ≤ q
-within ls hs g q zero x b = omega arith
-within ls hs g q (suc k) x b = let w = x.some k (omega arith) in omega (arith, b w.0 k w.1 w.2)
-
 pub put-requires-clause-down : goal.put-requires-clause-down
-put-requires-clause-down c _ = rw c.group_of-group.ensures (within _ _ _ _ _ (rw c.group_of-group.ensures at c.rank_of.ensures) c.requires.down)
+put-requires-clause-down c _ = rw c.group_of-group.ensures (within_bound _ _ _ _ _ (rw c.group_of-group.ensures at c.rank_of.ensures) c.requires.down)
 
 -- a block of the order is left in the page's low word
 pub returns-then-has_in_word : goal.returns-then-has_in_word
@@ -23,7 +19,7 @@ returns-then-has_in_word c =
     record {
       rank = slice_index c.args.ranks.now (c.args.at / GROUP_PAGES);
       after = sym (set-get_or c.args.ranks.now (c.args.at / GROUP_PAGES) 0);
-      is = record { most = c.requires.down; some = λ k same. let e : c.args.order ≡ k = omega (arith, c.requires.largest) in (w.0, rw (← e) mark, group) };
+      is = record { most = c.requires.down; some = λ k same. let e : c.args.order ≡ k = omega (arith, c.requires.largest w.1.order) in (w.0, rw (← e) mark, group) };
     }
 
 pub returns : goal.returns

@@ -13,11 +13,11 @@ use Rattle.zp_area.proofs.OnePageblock.{changed_split}
 use Rattle.zp_area.proofs.area.FreeArea.split_down.Goals.{After-pageblock_of-pageblock}
 use Rattle.zp_area.proofs.area.FreeArea.split_down.Goals as goal
 
-starts : (c : After-pageblock_of-pageblock) → Starts (block_set (set_of c.self.inside.blocks)) c.args.at c.args.from
-starts c = rw (← c.self.view_is) at c.requires.block
+starts : (c : After-pageblock_of-pageblock) → Starts (block_set (set_of c.self.inside.blocks)) c.args.block.head c.args.block.order
+starts c = rw (← c.self.view_is) at c.requires.block.starts
 
 there : (c : After-pageblock_of-pageblock) → c.pageblock_of-pageblock.result < length c.self.inside.blocks.kinds.items
-there c = rw c.pageblock_of-pageblock.ensures (started_there c.self.inside.blocks.largest (set_of c.self.inside.blocks) c.args.at c.args.from c.self.invariant.kept.one (starts c))
+there c = rw c.pageblock_of-pageblock.ensures (started_there c.self.inside.blocks.largest (set_of c.self.inside.blocks) c.args.block.head c.args.block.order c.self.invariant.kept.one (starts c))
 
 pub changed-requires-clause-pageblocks : goal.changed-requires-clause-pageblocks
 changed-requires-clause-pageblocks c = rw (c.split_off.ensures.stays.0, c.split_off.ensures.stays.1) (λ b lt. pageblock_kept c.self.inside.blocks.largest b _ _ _ c.split_off.ensures.kept c.split_off.ensures.told lt)
@@ -29,14 +29,14 @@ pub changed-requires-clause-others : goal.changed-requires-clause-others
 changed-requires-clause-others c =
     let a : Blocks = set_of c.self.inside.blocks in
     rw (c.split_off.ensures.stays.0, c.split_off.ensures.stays.1) (others_stand c.self.inside.blocks.largest c.pageblock_of-pageblock.result _ _ _ _ _ _ _ _ _ _ _ c.self.invariant c.split_off.ensures.kept c.split_off.ensures.told
-    (rw c.split_off.ensures.after (changed_split c.self.inside.blocks.largest c.pageblock_of-pageblock.result a c.args.at c.args.from c.args.to c.self.invariant.kept.one (starts (goal.at.changed-requires-clause-others c).After-pageblock_of-pageblock) (omega arith) (sym c.pageblock_of-pageblock.ensures))))
+    (rw c.split_off.ensures.after (changed_split c.self.inside.blocks.largest c.pageblock_of-pageblock.result a c.args.block.head c.args.block.order c.args.to c.self.invariant.kept.one (starts (goal.at.changed-requires-clause-others c).After-pageblock_of-pageblock) (omega arith) (sym c.pageblock_of-pageblock.ensures))))
 
 -- the pageblock is not isolated, as it has a migrate type
-kind : (c : After-pageblock_of-pageblock) → pageblock_type c.args.kind ≡ kind_at c.self.inside.blocks.largest c.self.inside.blocks.kinds.items c.args.at
-kind c = rw (← c.self.view_is) at c.requires.typed
+kind : (c : After-pageblock_of-pageblock) → pageblock_type c.args.kind ≡ kind_at c.self.inside.blocks.largest c.self.inside.blocks.kinds.items c.args.block.head
+kind c = rw (← c.self.view_is) at c.requires.block.typed
 
-pub split_off-requires-clause-typed : goal.split_off-requires-clause-typed
-split_off-requires-clause-typed c = c.pageblock_type.ensures ∙ kind (goal.at.split_off-requires-clause-typed c).After-pageblock_of-pageblock
+pub split_off-requires-clause-block : goal.split_off-requires-clause-block
+split_off-requires-clause-block c = rw c.pageblock_type.ensures (rw (← c.self.view_is) at c.requires.block)
 
 pub split_off-requires-clause-open : goal.split_off-requires-clause-open
 split_off-requires-clause-open c = ap is_isolate c.pageblock_type.ensures ∙ asked-not_isolate c.args.kind
@@ -44,7 +44,7 @@ split_off-requires-clause-open c = ap is_isolate c.pageblock_type.ensures ∙ as
 pub invariant_of-self : goal.invariant_of-self
 invariant_of-self c =
     let before = (goal.at.invariant_of-self c).After-pageblock_of-pageblock in
-    let shown : is_isolate (kind_at c.self.inside.blocks.largest c.self.inside.blocks.kinds.items c.args.at) ≡ false = ap is_isolate (sym (kind before)) ∙ asked-not_isolate c.args.kind in
+    let shown : is_isolate (kind_at c.self.inside.blocks.largest c.self.inside.blocks.kinds.items c.args.block.head) ≡ false = ap is_isolate (sym (kind before)) ∙ asked-not_isolate c.args.kind in
     let same = ap (λ q. is_isolate (slice_index_or c.self.inside.blocks.kinds.items q Movable)) c.pageblock_of-pageblock.ensures ∙ shown in
     rw (c.split_off.ensures.stays.0, c.split_off.ensures.stays.1) (indexed_anew c.self.inside.blocks.largest _ _ _ _ _ _ _ c.split_off.ensures.kept c.split_off.ensures.told
     (c.self.invariant.apart ∙ sym (ap (isolated_sum c.self.inside.blocks.kinds.items) c.split_off.ensures.numbers ∙ sum_open c.self.inside.blocks.kinds.items c.self.inside.blocks.free_in.items c.pageblock_of-pageblock.result _ same)) (rw (c.split_off.ensures.stays.0, c.split_off.ensures.stays.1) at c.changed.ensures))

@@ -1,6 +1,5 @@
 use Rattle.std.proofs.Common.{arith}
-use Rattle.zp_model.specs.Rows.{Rows}
-use Rattle.zp_table.specs.Entries.{with_run}
+use Rattle.zp_model.specs.Rows.{Rows, with_run}
 use Rattle.zp_links.proofs.Writes.{Spell, noted_run, pages_in}
 use Rattle.zp_links.proofs.lists.Lists.set_run.Goals.{After-set_run}
 use Rattle.zp_links.proofs.lists.Lists.set_run.Goals as goal

@@ -1,6 +1,6 @@
 use Rattle.std.proofs.Common.{◌+◌, ◌-◌, ◌≤◌, ◌∙◌, ap, arith, length, replicate}
-use Rattle.zp_table.specs.Entries.{with_run}
-use Rattle.zp_table.proofs.Runs.{run_written}
+use Rattle.zp_model.specs.Rows.{with_run}
+use Rattle.zp_model.proofs.Runs.{run_written}
 use Rattle.zp_table.proofs.table.PageTable.set_run.Goals as goal
 
 pub returns : goal.returns

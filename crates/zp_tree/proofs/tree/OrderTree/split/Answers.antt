@@ -4,28 +4,34 @@ use Rattle.zp_tree.specs.Blocks.{split_set}
 use Rattle.zp_tree.specs.Marks.{IsSplitUp}
 use Rattle.zp_tree.specs.Spelled.{IsTreeOf}
 use Rattle.zp_tree.proofs.Spelling.{tree_in, spelled_is, spelled_tree, block_in_groups}
-use Rattle.zp_tree.proofs.TreeSteps.{split_bound, split_tree}
-use Rattle.zp_tree.proofs.tree.OrderTree.split.Goals.{After-lower_rank}
+use Rattle.zp_tree.proofs.TreeSteps.{IsLeft, split_left, split_tree}
+use Rattle.zp_tree.proofs.tree.OrderTree.split.Goals.{After-split_marks, After-lower_rank}
 use Rattle.zp_tree.proofs.tree.OrderTree.split.Goals as goal
 
 pub split_marks-requires-clause-inside : goal.split_marks-requires-clause-inside
 split_marks-requires-clause-inside c =
-    block_in_groups _ _ _ _ _ _ _ _ (tree_in LARGEST_ORDER _ _ _ _ _ c.self.view_is c.self.invariant) c.requires.block
+    block_in_groups _ _ _ _ _ _ _ _ _ (tree_in LARGEST_ORDER _ _ _ _ _ _ c.self.view_is c.self.invariant) c.requires.block
+
+rest : (c : After-split_marks) → IsLeft c.split_marks.new.low c.split_marks.new.high c.self.inside.ranks c.self.inside.stale c.args.at
+rest c =
+    let t = tree_in LARGEST_ORDER _ _ _ _ _ _ c.self.view_is c.self.invariant in
+    let r : IsSplitUp c.self.inside.low c.self.inside.high c.split_marks.new.low c.split_marks.new.high c.args.at c.args.from c.args.to = c.split_marks.ensures in
+    split_left _ _ _ _ _ _ _ _ _ _ _ _ t c.requires.block (omega (arith, c.requires.down)) r
 
 pub lower_rank-requires-clause-down : goal.lower_rank-requires-clause-down
-lower_rank-requires-clause-down c =
-    let t = tree_in LARGEST_ORDER _ _ _ _ _ c.self.view_is c.self.invariant in
-    let r : IsSplitUp c.self.inside.low c.self.inside.high c.split_marks.new.low c.split_marks.new.high c.args.at c.args.from c.args.to = c.split_marks.ensures in
-    split_bound _ _ _ _ _ _ _ _ _ _ _ t c.requires.block (omega (arith, c.requires.down)) r
+lower_rank-requires-clause-down c = (rest (goal.at.lower_rank-requires-clause-down c).After-split_marks).down
 
-after : (c : After-lower_rank) → IsTreeOf LARGEST_ORDER c.self.inside.pages c.split_marks.new.low c.split_marks.new.high c.lower_rank.new.ranks (split_set c.args.self.now c.args.at c.args.from c.args.to)
+pub lower_rank-requires-clause-near : goal.lower_rank-requires-clause-near
+lower_rank-requires-clause-near c = (rest (goal.at.lower_rank-requires-clause-near c).After-split_marks).near
+
+after : (c : After-lower_rank) → IsTreeOf LARGEST_ORDER c.self.inside.pages c.split_marks.new.low c.split_marks.new.high c.lower_rank.new.ranks c.lower_rank.new.stale (split_set c.args.self.now c.args.at c.args.from c.args.to)
 after c =
-    let t = tree_in LARGEST_ORDER _ _ _ _ _ c.self.view_is c.self.invariant in
+    let t = tree_in LARGEST_ORDER _ _ _ _ _ _ c.self.view_is c.self.invariant in
     let r : IsSplitUp c.self.inside.low c.self.inside.high c.split_marks.new.low c.split_marks.new.high c.args.at c.args.from c.args.to = c.split_marks.ensures in
-    split_tree _ _ _ _ _ _ _ _ _ _ _ _ t c.requires.block (omega (arith, c.requires.down)) r c.lower_rank.ensures
+    split_tree _ _ _ _ _ _ _ _ _ _ _ _ _ _ t c.requires.block (omega (arith, c.requires.down)) r c.lower_rank.ensures
 
 pub invariant_of-self : goal.invariant_of-self
-invariant_of-self c = spelled_tree _ _ _ _ _ _ (after (goal.at.invariant_of-self c).After-lower_rank)
+invariant_of-self c = spelled_tree _ _ _ _ _ _ _ (after (goal.at.invariant_of-self c).After-lower_rank)
 
 pub returns : goal.returns
-returns c = spelled_is _ _ _ _ _ _ (after (goal.at.returns c).After-lower_rank)
+returns c = spelled_is _ _ _ _ _ _ _ (after (goal.at.returns c).After-lower_rank)

@@ -1,6 +1,6 @@
-use Rattle.std.proofs.Common.{◌≡◌, ◌-◌, arith, ap, sym, ◌∙◌, ◌^◌, drop, take, length, length-drop}
+use Rattle.std.proofs.Common.{◌≡◌, arith, ap, sym, ◌∙◌, ◌^◌, take, length, length-drop}
 use Rattle.std.proofs.lemmas.Bool.{eqb-true}
-use Rattle.std.proofs.lemmas.List.{take_all}
+use Rattle.std.proofs.lemmas.Nat.{pow_pos}
 use Rattle.zp_model.specs.Step.{drained}
 use Rattle.zp_zone.specs.NamedZone.{NamedZone}
 use Rattle.zp_zone.proofs.DrainParts.{all_back, drained_posted, left_part}
@@ -12,17 +12,19 @@ pub parts-preserved : goal.parts-preserved
 parts-preserved c =
     let i = c.parts.invariant in
     let after = c.free_part.ensures.after in
-    let pages = c.parts.rest.now in
-    let n = c.pages.result in
-    let rest = take_all (length pages - n) (drop n pages) (omega (arith, length-drop n pages)) ∙ ap (λ k. drop k pages) c.pages.ensures.pages in
     let plain = ap (λ (z : NamedZone). z.plain) after in
-    let x = left_part _ _ _ _ _ _ _ _ i.left i.lawful plain rest in
+    let x = left_part _ _ _ _ _ _ _ _ i.left i.lawful plain c.past_part-rest.ensures in
     record {
       name = ap (λ (z : NamedZone). z.name) after ∙ i.name;
       left = x.0;
       lawful = x.1;
-      worker = rw (plain, drained_posted (take (2 ^ c.part_order-order.result) pages) c.parts.self.plain) i.worker;
+      worker = rw (plain, drained_posted (take (2 ^ c.part_order-order.result) c.parts.rest.now) c.parts.self.plain) i.worker;
     }
+
+pub parts-smaller : goal.parts-smaller
+parts-smaller c =
+    let k = c.part_order-order.result in
+    omega (arith, ap length c.past_part-rest.ensures, length-drop (2 ^ k) c.parts.rest.now, pow_pos k, c.part_order-order.ensures.room)
 
 -- at the end no page is left
 done : (c : After-parts) → c.parts.self.plain ≡ drained c.args.self.now.plain c.args.pages.now

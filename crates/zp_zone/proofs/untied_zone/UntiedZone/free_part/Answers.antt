@@ -3,8 +3,8 @@ use Rattle.std.proofs.lemmas.Nat.{pow_pos}
 use Rattle.zp_model.specs.declared.state.State.TheVariants.{Tail}
 use Rattle.zp_model.specs.Block.{head}
 use Rattle.zp_model.specs.Frames.{Frames, IsClear, given}
+use Rattle.zp_model.specs.Rows.{with_run}
 use Rattle.zp_model.proofs.Heads.{lt_head}
-use Rattle.zp_table.specs.Entries.{with_run}
 use Rattle.zp_zone.specs.Kept.{plain_of}
 use Rattle.zp_zone.proofs.BlockSteps.{named}
 use Rattle.zp_zone.proofs.DrainParts.{first_place, run_back, run_clear, run_given, run_kept_back}
