@@ -1,5 +1,5 @@
 //! Workers in threads over one zone whose journal is cut when it is nearly full; the pieces are replayed at the end.
-ghost use Rattle.std.specs.Prelude.{◌≡◌, ◌++◌, ◌∷◌, [], IfSome, List, Some};
+ghost use Rattle.std.specs.Prelude.{◌≡◌, ◌++◌, ◌∷◌, [], ◌↔◌, IfSome, IsTrue, List, Some};
 ghost use Rattle.zp_model.specs.Info.{counts_of};
 ghost use Rattle.zp_model.specs.Zone.{zone_opening};
 ghost use Rattle.zp_journal.specs.Pieces.{AreAdjoining, IsReplayedWhole, entries_of};
@@ -99,6 +99,13 @@ fn work<J: Naming + Send + Sync, R: Threads + Wait + Sync>(
     }
 }
 
+/// Whether the zone has these counts.
+fn has_counts(zone: &Zone, counts: Counts) -> bool
+    ensures { IsTrue result ↔ (counts_of zone.now.plain.area.largest zone.now.plain.area.free ≡ counts) }
+{
+    zone.counts() == counts
+}
+
 /// The zone, where there is one and it has these counts.
 fn with_counts(zone: Option<Zone>, counts: Counts) -> Option<Zone>
     ensures same { IfSome result (λ z. zone ≡ Some z) }
@@ -106,7 +113,7 @@ fn with_counts(zone: Option<Zone>, counts: Counts) -> Option<Zone>
     ensures counts { IfSome result (λ z. counts_of z.plain.area.largest z.plain.area.free ≡ counts) }
 {
     let zone = zone?;
-    if zone.counts() == counts {
+    if has_counts(&zone, counts) {
         Some(zone)
     } else {
         None

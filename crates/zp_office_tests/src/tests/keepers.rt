@@ -129,16 +129,20 @@ fn have_worked(desks: &[Desk], zone: &Zone) -> bool {
 /// The workers run over a zone that keeps nothing. None where something could not be made.
 fn run_without_journal<R: Sync + Threads + Wait>(rt: &R, alloc: Global) -> Option<Ran<NoJournal>> {
     let (zone, desks) = opened_one(alloc)?;
-    let opened = OpenedZone::without_journal(alloc, zone, u64::from(SECTIONS)).ok()?;
-    run_over(rt, alloc, opened, desks).ok()
+    match OpenedZone::without_journal(alloc, zone, u64::from(SECTIONS)) {
+        Ok(opened) => run_over(rt, alloc, opened, desks).ok(),
+        Err(_) => None,
+    }
 }
 
 /// The same over one with a journal that their sections just fit into, cut by nobody.
 fn run_with_pieces<R: Sync + Threads + Wait>(rt: &R, alloc: Global) -> Option<Ran<CutJournal>> {
     let journal = Journal::new(alloc, SECTIONS).ok()?;
     let (zone, desks) = opened_one(alloc)?;
-    let opened = OpenedZone::with_pieces(alloc, zone, journal, u64::MAX).ok()?;
-    run_over(rt, alloc, opened, desks).ok()
+    match OpenedZone::with_pieces(alloc, zone, journal, u64::MAX) {
+        Ok(opened) => run_over(rt, alloc, opened, desks).ok(),
+        Err(_) => None,
+    }
 }
 
 #[test]

@@ -51,9 +51,11 @@ pub(super) fn opened_with_lists(
     if capacity > LONGEST_JOURNAL {
         return None;
     }
-    let (zone, seats) = Zone::new(alloc, config(), 1).ok()?;
-    match Share::new(alloc, seats, lists) {
-        Ok(share) => opened_beside(alloc, zone, share, capacity),
+    match Zone::new(alloc, config(), 1) {
+        Ok((zone, seats)) => match Share::new(alloc, seats, lists) {
+            Ok(share) => opened_beside(alloc, zone, share, capacity),
+            Err(_) => None,
+        },
         Err(_) => None,
     }
 }
