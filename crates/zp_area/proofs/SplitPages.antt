@@ -1,5 +1,5 @@
 -- A block of which so many pages leave: what is left of it, part by part.
-use Rattle.std.proofs.Common.{ℕ, suc, zero, ◌+◌, ◌-◌, ◌/◌, ◌%◌, ◌^◌, ◌≡◌, ◌≤◌, ◌<◌, cond, ltb, true, false, inl, inr, refl, sym, ◌∙◌, ap, subst, arith, List, [], length, set, get_or, get_or-set_same, length-set, Option, None, Some}
+use Rattle.std.proofs.Common.{ℕ, suc, zero, ◌+◌, ◌-◌, ◌/◌, ◌%◌, ◌^◌, ◌≡◌, ◌≤◌, ◌<◌, ltb, true, false, inl, inr, refl, sym, ◌∙◌, ap, subst, arith, List, length, set, get_or, get_or-set_same, length-set, Option, None, Some}
 use Rattle.std.specs.List.{slice_index}
 use Rattle.std.proofs.Math.Nat.{add-mod_right, pow-le-pow_right}
 use Rattle.std.proofs.lemmas.Nat.{pow_pos}

@@ -1,8 +1,6 @@
 -- A block that is split: what is kept beside the lists, half by half.
-use Rattle.std.proofs.Common.{ℕ, suc, zero, ◌+◌, ◌-◌, ◌/◌, ◌^◌, ◌≡◌, ◌≤◌, ◌<◌, inl, refl, sym, ◌∙◌, ap, arith, List, length, set, get_or-set_same, length-set}
+use Rattle.std.proofs.Common.{ℕ, suc, zero, ◌+◌, ◌-◌, ◌/◌, ◌^◌, ◌≡◌, ◌≤◌, ◌<◌, refl, sym, ◌∙◌, ap, arith, List, length, set, get_or-set_same, length-set}
 use Rattle.std.specs.List.{slice_index}
-use Rattle.std.proofs.Math.Nat.{add-mod_right}
-use Rattle.std.proofs.lemmas.Nat.{pow_pos}
 use Rattle.std.proofs.lemmas.List.{map-set, set-set}
 use Rattle.zp_model.specs.declared.pageblock_type.PageblockType.{PageblockType}
 use Rattle.zp_model.specs.declared.state.State.TheVariants.{Free, Tail}
@@ -10,7 +8,7 @@ use Rattle.zp_model.specs.Block.{IsBlock}
 use Rattle.zp_model.specs.BlockSet.{Starts}
 use Rattle.zp_model.specs.Rows.{IsLoose, IsOn}
 use Rattle.zp_model.specs.Area.{pageblock_pages, kind_at, list_number}
-use Rattle.zp_model.proofs.Heads.{two, aligned_down, number_around}
+use Rattle.zp_model.proofs.Heads.{two}
 use Rattle.zp_model.proofs.TypeNumbers.{list_number_below}
 use Rattle.zp_tree.specs.Blocks.{high_halves, split_set}
 use Rattle.zp_area.specs.Given.{IsClearRun}
@@ -18,7 +16,6 @@ use Rattle.zp_area.specs.NotedBlocks.{free_order}
 use Rattle.zp_area.specs.Blocks.{Blocks, block_set, added, removed, list_of_block}
 use Rattle.zp_area.specs.Chains.{halves_added, split_off}
 use Rattle.zp_area.specs.OneSet.{IsOneSet, IsKept}
-use Rattle.zp_area.proofs.OneBlock.{head_below}
 use Rattle.zp_area.proofs.Listing.{here_from}
 use Rattle.zp_area.proofs.Keeping.{blocks_length}
 use Rattle.zp_area.proofs.Adding.{IsComing, coming_loose, kept_added}

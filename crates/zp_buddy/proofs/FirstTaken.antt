@@ -1,5 +1,5 @@
 -- The first block of a type is taken, its high halves stay, or its lowest pages are: what is left is what a take of its low part, or of these pages, leaves.
-use Rattle.std.proofs.Common.{ℕ, ◌-◌, ◌^◌, ◌≡◌, ◌≤◌, ◌<◌, ◌∙◌, arith, sym, Some}
+use Rattle.std.proofs.Common.{ℕ, ◌-◌, ◌≡◌, ◌<◌, ◌∙◌, arith, sym, Some}
 use Rattle.std.proofs.lemmas.Nat.{pow_pos}
 use Rattle.zp_model.specs.declared.migrate_type.MigrateType.{MigrateType}
 use Rattle.zp_model.specs.PageblockType.{pageblock_type}

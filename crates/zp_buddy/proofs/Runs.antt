@@ -1,20 +1,16 @@
 -- Pages that are taken one by one off a block: they rise, and leave what the run of them leaves. Of a run the lower half goes first, and what is chosen then is the
 -- higher one.
-use Rattle.std.proofs.Common.{ℕ, suc, zero, ◌+◌, ◌-◌, ◌/◌, ◌^◌, ◌≡◌, ◌≤◌, ◌<◌, ◌↔◌, inl, inr, refl, sym, ◌∙◌, ap, arith, Bool, true, false, not, ◌&&◌, List, [], ◌∷◌, ◌++◌, length, map, leb, ltb, min, slice_index_or, unwrap_or, get_or-take, length-take-le, Option, Some, None}
+use Rattle.std.proofs.Common.{ℕ, suc, zero, ◌+◌, ◌-◌, ◌/◌, ◌^◌, ◌≡◌, ◌≤◌, ◌<◌, ◌↔◌, inl, inr, refl, sym, ◌∙◌, ap, arith, Bool, true, false, not, ◌&&◌, List, [], ◌∷◌, ◌++◌, length, min, slice_index_or, unwrap_or, get_or-take, length-take-le, Option, Some, None}
 use Rattle.std.specs.List.{filter, range_with_len}
 use Rattle.std.specs.Option.{option_or}
-use Rattle.std.proofs.lemmas.Bool.{and_parts, and_from, cases_eq, cases_lt, eqb-true, eq-eqb, false≢true, not-true, both_ways, false_from_ne_true}
+use Rattle.std.proofs.lemmas.Bool.{and_parts, and_from, cases_eq, cases_lt, eqb-true, eq-eqb, false≢true}
 use Rattle.std.proofs.lemmas.Nat.{pow_pos}
 use Rattle.std.proofs.Math.Nat.{pow-le-pow_right}
-use Rattle.std.proofs.lemmas.Bool.Decides.{nat_tests}
 use Rattle.std.proofs.lemmas.Option.{none-some}
-use Rattle.std.proofs.lemmas.List.{ext_get_or}
-use Rattle.std.proofs.lemmas.List.Elements.{filter-append}
-use Rattle.std.proofs.lemmas.List.FromFn.{get_or-map-range_with_len, length-map-range_with_len}
 use Rattle.zp_model.specs.declared.migrate_type.MigrateType.{MigrateType}
 use Rattle.zp_model.specs.declared.pageblock_type.PageblockType.{PageblockType}
 use Rattle.zp_model.specs.PageblockType.{pageblock_types, pageblock_type, pageblock_type_number}
-use Rattle.zp_model.specs.Block.{has, is_max, in_run, without}
+use Rattle.zp_model.specs.Block.{is_max, without}
 use Rattle.zp_model.specs.BlockSet.{first_of}
 use Rattle.zp_model.specs.Rows.{front, list_at, stands_in}
 use Rattle.zp_model.specs.Area.{Area, belongs, falling, free_list, kind_at, list_number, lists_count, settle, settled}
@@ -37,9 +33,7 @@ use Rattle.zp_model.proofs.Split.{AfterSplit, High, split-normal}
 use Rattle.zp_model.proofs.TypeNumbers.{list_number_below, number_one}
 use Rattle.zp_laws.proofs.Areas.{free-leave_run, free-taken, lists-leave}
 use Rattle.zp_laws.proofs.Choosing.{list_order, list_type}
-use Rattle.zp_laws.proofs.Counting.{has-without_any, same_marks, same_tests}
-use Rattle.zp_laws.proofs.Settling.{held-settled}
-use Rattle.zp_area.proofs.Filters.{filter_same, filter_twice}
+use Rattle.zp_laws.proofs.Counting.{same_tests}
 use Rattle.zp_model.specs.BlockSet.{Starts, cover}
 use Rattle.zp_model.specs.Frames.{Frames, with_area}
 use Rattle.zp_area.specs.Blocks.{Blocks, block_set}

@@ -1,22 +1,21 @@
 -- A block of which so many pages leave the free area: what is left of it comes back, and is as the definition of a leaving says.
-use Rattle.std.proofs.Common.{ℕ, suc, zero, ◌+◌, ◌-◌, ◌^◌, ◌≡◌, ◌≤◌, ◌<◌, ◌==◌, ◌⊎◌, inl, inr, refl, sym, ◌∙◌, ap, subst, arith, Bool, true, false, not, cond, ltb, List, [], ◌∷◌, drop, length, set, get_or, get_or-set_same, get_or-set_other, length-set, Option, None, Some}
-use Rattle.std.specs.List.{filter}
+use Rattle.std.proofs.Common.{ℕ, suc, zero, ◌+◌, ◌-◌, ◌^◌, ◌≡◌, ◌≤◌, ◌<◌, ◌==◌, ◌⊎◌, inl, inr, refl, sym, ◌∙◌, ap, subst, arith, false, not, List, [], ◌∷◌, drop, length, set, get_or, get_or-set_same, get_or-set_other, length-set, Option, None, Some}
 use Rattle.std.proofs.lemmas.Nat.{pow_pos}
 use Rattle.std.proofs.lemmas.Bool.{cases_eq, cases_lt, eq-eqb, ne_eqb, both_ways}
 use Rattle.std.proofs.lemmas.List.{get_or_past, length-map, map-set, set-get_or, set-set}
 use Rattle.zp_model.specs.declared.state.State.{State}
 use Rattle.zp_model.specs.declared.state.State.TheVariants.{Free, Tail}
 use Rattle.zp_model.specs.Area.{Area, kind_at, lists_count}
-use Rattle.zp_model.specs.BlockSet.{Starts, cover}
+use Rattle.zp_model.specs.BlockSet.{Starts}
 use Rattle.zp_model.specs.Frames.{Frames, restated}
-use Rattle.zp_model.specs.Rows.{IsLoose, list_at, state_at, stands_in, without_page}
+use Rattle.zp_model.specs.Rows.{list_at, state_at, stands_in, without_page}
 use Rattle.zp_model.specs.Runs.{leave_run}
 use Rattle.zp_model.proofs.RunGiven.{leave_block, leave_more, listed}
 use Rattle.zp_model.proofs.Settles.{filter_all}
 use Rattle.zp_model.proofs.TypeNumbers.{list_number_below}
 use Rattle.zp_area.specs.Blocks.{Blocks, block_set, added, list_of_block, removed}
 use Rattle.zp_area.specs.Chains.{halves_added, pages_split_off, rest_added, split_off}
-use Rattle.zp_area.specs.NotedBlocks.{blocks_of, free_order}
+use Rattle.zp_area.specs.NotedBlocks.{free_order}
 use Rattle.zp_area.specs.OneSet.{IsOneSet}
 use Rattle.zp_area.proofs.Adding.{IsComing, added_starts, coming_loose, coming_new}
 use Rattle.zp_area.proofs.Halves.{halves_coming, high_coming}
@@ -24,7 +23,7 @@ use Rattle.zp_area.proofs.NotedBlocks.{starts-to}
 use Rattle.zp_area.proofs.OneBlock.{new_none}
 use Rattle.zp_area.proofs.SameLargest.{largest-halves}
 use Rattle.zp_area.proofs.SplitPages.{halves-last, no_block, removed_coming, rest_high, rest_low, rest_none}
-use Rattle.zp_buddy.specs.Choices.{area_in, frames_in}
+use Rattle.zp_buddy.specs.Choices.{area_in}
 use Rattle.zp_buddy.specs.Sound.{IsSound}
 use Rattle.zp_buddy.proofs.Runs.{IsLeftAs, sound_listed}
 use Rattle.zp_buddy.proofs.Settled.{IsRestated, restated_all, restated_same, starts_block}

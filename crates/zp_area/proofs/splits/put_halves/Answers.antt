@@ -1,5 +1,4 @@
 use Rattle.std.proofs.Common.{suc, ◌≡◌, ◌+◌, ◌-◌, ◌^◌, refl, sym, ◌∙◌, ap, arith}
-use Rattle.zp_model.specs.Area.{list_number}
 use Rattle.zp_model.proofs.Heads.{two}
 use Rattle.zp_area.specs.Blocks.{Blocks, added}
 use Rattle.zp_area.specs.Chains.{halves_added}

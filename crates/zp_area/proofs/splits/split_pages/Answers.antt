@@ -1,4 +1,4 @@
-use Rattle.std.proofs.Common.{ℕ, ◌≡◌, ◌<◌, ◌≤◌, ◌+◌, ◌-◌, ◌/◌, length, refl, sym, ◌∙◌, ap, slice_index, arith}
+use Rattle.std.proofs.Common.{ℕ, ◌≡◌, ◌<◌, ◌+◌, ◌-◌, ◌/◌, length, refl, sym, ◌∙◌, ap, slice_index, arith}
 use Rattle.zp_model.specs.Block.{IsBlock}
 use Rattle.zp_model.specs.Area.{pageblock_pages}
 use Rattle.zp_area.specs.Available.{choosable}
