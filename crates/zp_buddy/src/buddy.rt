@@ -11,7 +11,7 @@ ghost use Rattle.zp_model.specs.declared.pageblock_type.PageblockType.TheVariant
 ghost use Rattle.zp_model.specs.BlockSet.{largest_in, max_blocks};
 ghost use Rattle.zp_model.specs.Area.{available, list_number, free_list, kind_at, pageblock_pages, pageblocks_of, size_in};
 ghost use Rattle.zp_model.specs.Take.{retype, take_answer, take_after, take_low_answer, take_low_after};
-ghost use Rattle.zp_buddy.specs.Runs.{pages_taken, pages_left, run_pages};
+ghost use Rattle.zp_buddy.specs.Runs.{AreClear, pages_taken, pages_left, run_length, run_pages};
 
 use crate::clear::{is_block, is_clear_run};
 use crate::join::join;
@@ -79,22 +79,24 @@ impl Buddy {
     }
 
     /// Takes pages in a row for this type, as many as a block has, `most` of them or fewer: those that so many requests for one page, one
-    /// after another, would take. The first of them, and the order of the run.
+    /// after another, would take. The first of them, and how many.
     // (in line: a refill calls it for each part)
     #[inline(always)]
-    pub fn take_run(&mut self, kind: MigrateType, most: u32) -> Option<(PageAt, Order)>
+    pub fn take_run(&mut self, kind: MigrateType, most: u32) -> Option<(PageAt, u32)>
         requires { 0 < most }
         ensures none { IfNone result ((take_answer self.old.area 0 kind ≡ None) × (self.new ≡ self.old)) }
-        ensures most { IfSome result (λ r. 2 ^ r.1 ≤ most) }
-        ensures answers { IfSome result (λ r. pages_taken self.old.area kind (2 ^ r.1) ≡ run_pages r.0 (2 ^ r.1)) }
-        ensures after { IfSome result (λ r. self.new ≡ with_area self.old (pages_left self.old.area kind (2 ^ r.1))) }
+        ensures count { IfSome result (λ r. r.1 ≡ run_length self.old.area kind most) }
+        ensures answers { IfSome result (λ r. pages_taken self.old.area kind r.1 ≡ run_pages r.0 r.1) }
+        ensures after { IfSome result (λ r. self.new ≡ with_area self.old (pages_left self.old.area kind r.1)) }
 
         // What the calls after it can rest on.
-        ensures clear { IfSome result (λ r. IsClear self.new r.0 r.1) }
+        ensures some { IfSome result (λ r. 0 < r.1) }
+        ensures most { IfSome result (λ r. r.1 ≤ most) }
+        ensures clear { IfSome result (λ r. AreClear self.new r.0 r.1) }
         ensures kept { (h k : ℕ) → IsClear self.old h k → IsClear self.new h k }
     {
         let run = take_run(&mut self.area, kind, most)?;
-        self.free -= run.1.pages();
+        self.free -= run.1;
         Some(run)
     }
 
@@ -160,20 +162,20 @@ impl Buddy {
         self.area.hold(at, state);
     }
 
-    /// Notes this of each page of a clear run.
-    // (in line: a run of one page is noted with no loop)
+    /// Notes this of so many clear pages in a row.
+    // (in line: a single page is noted with no loop)
     #[inline(always)]
-    pub fn hold_run(&mut self, at: PageAt, order: Order, state: &State)
-        requires clear { IsClear self.old at order }
+    pub fn hold_run(&mut self, at: PageAt, pages: u32, state: &State)
+        requires clear { AreClear self.old at pages }
         requires note { IsNote state.now }
-        ensures after { self.new ≡ record self.old { states = with_run self.old.states at (2 ^ order) state.now } }
+        ensures after { self.new ≡ record self.old { states = with_run self.old.states at pages state.now } }
     {
         // a clause of this call says that each page has a note
         let _pages = self.pages();
-        if order.number() == 0 {
+        if pages == 1 {
             self.hold(at, *state);
         } else {
-            self.area.hold_run(at, order, *state);
+            self.area.hold_run(at, pages, *state);
         }
     }
 

@@ -37,18 +37,17 @@ impl UntiedZone {
         ensures fresh { IfOk result (λ pages. All (IsFresh self.old.plain) pages.items) }
         ensures kept { KeepsOut self.old.plain self.new.plain }
     {
-        let (first, order) = self.alloc_part(worker, kind, mark, u32::from(count))?;
+        let (first, taken) = self.alloc_part(worker, kind, mark, u32::from(count))?;
         let mut pages = [PageNo::new(0); MAX_BATCH];
-        put_part(&mut pages, 0, first, order);
-        let mut got = order.pages();
+        put_part(&mut pages, 0, first, taken);
+        let mut got = taken;
         'parts: while got < u32::from(count) {
             let wanted = u32::from(count) - got;
             let Ok(part) = self.alloc_part(worker, kind, mark, wanted) else {
                 break;
             };
-            let (next, order) = part;
-            put_part(&mut pages, got as usize, next, order);
-            let more = order.pages();
+            let (next, more) = part;
+            put_part(&mut pages, got as usize, next, more);
             got += more;
         }
         let mut batch = ArrayVec::from(pages);
