@@ -14,3 +14,5 @@ pub mod FirstTaken
 pub mod GiveRuns
 pub mod TurnedRuns
 pub mod HeldNotes
+pub mod TakenBehind
+pub mod FallingRuns
