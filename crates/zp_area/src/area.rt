@@ -28,7 +28,7 @@ ghost use Rattle.zp_model.specs.Described.{IsLinkedAt};
 ghost use Rattle.zp_model.specs.Frames.{IsNote};
 ghost use Rattle.zp_model.specs.Area.{available, is_isolated, kind_at, list_number, lists_count, pageblock_pages, size_in};
 ghost use Rattle.zp_tree.specs.Blocks.{IsBeside};
-ghost use Rattle.zp_area.specs.Given.{IsClearRun};
+ghost use Rattle.zp_area.specs.Given.{AreClearPages, IsClearRun};
 ghost use Rattle.zp_area.specs.Blocks.{block_set, count_of, free_list_of, free_lists, side_list_of, no_blocks, added, removed, noted, noted_run, side_pushed, side_popped};
 ghost use Rattle.zp_area.specs.Chains.{IsJoinable, split_off, IsJoinedUp};
 ghost use Rattle.zp_area.specs.Retyped.{retyped};
@@ -503,15 +503,15 @@ impl FreeArea {
         self.blocks.lists.set_state(at, state);
     }
 
-    /// Notes this of each page of a clear run. Such pages are on no list, so that each entry is written whole.
+    /// Notes this of so many clear pages in a row. Such pages are on no list, so that each entry is written whole.
     #[inline(always)]
-    pub fn hold_run(&mut self, at: PageAt, order: Order, state: State)
-        requires run { at + 2 ^ order ≤ length self.old.rows.states }
-        requires clear { IsClearRun self.old.largest self.old.rows.states self.old.rows.lists at order }
+    pub fn hold_run(&mut self, at: PageAt, pages: u32, state: State)
+        requires run { at + pages ≤ length self.old.rows.states }
+        requires clear { AreClearPages self.old.largest self.old.rows.states self.old.rows.lists at pages }
         requires note { IsNote state }
-        ensures { self.new ≡ noted_run self.old at (2 ^ order) state }
+        ensures { self.new ≡ noted_run self.old at pages state }
     {
-        self.blocks.lists.set_run(at, order.pages(), state);
+        self.blocks.lists.set_run(at, pages, state);
     }
 
     /// What is noted of a page.

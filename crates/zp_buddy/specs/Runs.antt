@@ -1,15 +1,22 @@
 -- Pages that are taken, or given back, one after another.
-use Rattle.std.specs.Prelude.{ℕ, suc, zero, ◌+◌, ◌^◌, ◌≡◌, ◌≤◌, List, [], ◌∷◌, ◌++◌, length, bit_xor, Option, None, Some}
+use Rattle.std.specs.Prelude.{ℕ, suc, zero, ◌+◌, ◌^◌, ◌≡◌, ◌≤◌, ◌<◌, false, List, [], ◌∷◌, ◌++◌, length, bit_xor, Option, None, Some}
 use Rattle.zp_model.specs.declared.migrate_type.MigrateType.{MigrateType}
 use Rattle.zp_model.specs.Area.{Area}
-use Rattle.zp_model.specs.Block.{without}
+use Rattle.zp_model.specs.Block.{has, without}
 use Rattle.zp_model.specs.BlockSet.{Starts, cover}
 use Rattle.zp_model.specs.Choose.{choose}
-use Rattle.zp_model.specs.Frames.{with_area}
+use Rattle.zp_model.specs.Frames.{Frames, with_area}
+use Rattle.zp_model.specs.Rows.{list_at, stands_in}
 use Rattle.zp_area.specs.Blocks.{Blocks, block_set}
 use Rattle.zp_buddy.specs.Choices.{area_in, frames_in}
 use Rattle.zp_buddy.specs.Sound.{IsSound}
 use Rattle.zp_model.specs.Take.{give, take_answer, take_after}
+
+-- the n pages from h on are pages of the zone, none of them free or on a further list
+pub record AreClear (f : Frames) (h n : ℕ) : Type 0 where
+  pub inside : h + n ≤ length f.area.free
+  pub free : (i : ℕ) → h ≤ i → i < h + n → has f.area.free i ≡ false
+  pub aside : (r i : ℕ) → h ≤ i → i < h + n → stands_in i (list_at f.sides r) ≡ false
 
 -- what so many requests for a page of type t are answered, one after another
 abbrev pub pages_taken : Area → MigrateType → ℕ → List (Option ℕ)

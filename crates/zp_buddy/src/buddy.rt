@@ -11,7 +11,7 @@ ghost use Rattle.zp_model.specs.declared.pageblock_type.PageblockType.TheVariant
 ghost use Rattle.zp_model.specs.BlockSet.{largest_in, max_blocks};
 ghost use Rattle.zp_model.specs.Area.{available, list_number, free_list, kind_at, pageblock_pages, pageblocks_of, size_in};
 ghost use Rattle.zp_model.specs.Take.{retype, take_answer, take_after, take_low_answer, take_low_after};
-ghost use Rattle.zp_buddy.specs.Runs.{pages_taken, pages_left, run_pages};
+ghost use Rattle.zp_buddy.specs.Runs.{AreClear, pages_taken, pages_left, run_pages};
 
 use crate::clear::{is_block, is_clear_run};
 use crate::join::join;
@@ -160,20 +160,20 @@ impl Buddy {
         self.area.hold(at, state);
     }
 
-    /// Notes this of each page of a clear run.
-    // (in line: a run of one page is noted with no loop)
+    /// Notes this of so many clear pages in a row.
+    // (in line: a single page is noted with no loop)
     #[inline(always)]
-    pub fn hold_run(&mut self, at: PageAt, order: Order, state: &State)
-        requires clear { IsClear self.old at order }
+    pub fn hold_run(&mut self, at: PageAt, pages: u32, state: &State)
+        requires clear { AreClear self.old at pages }
         requires note { IsNote state.now }
-        ensures after { self.new ≡ record self.old { states = with_run self.old.states at (2 ^ order) state.now } }
+        ensures after { self.new ≡ record self.old { states = with_run self.old.states at pages state.now } }
     {
         // a clause of this call says that each page has a note
         let _pages = self.pages();
-        if order.number() == 0 {
+        if pages == 1 {
             self.hold(at, *state);
         } else {
-            self.area.hold_run(at, order, *state);
+            self.area.hold_run(at, pages, *state);
         }
     }
 

@@ -107,7 +107,7 @@ impl Pair {
         let state = State::Out(Order::zero(), kind, Worker::first());
         // a clause of this call says that the run lies in the zone
         let _pages = self.buddy.pages();
-        self.buddy.hold_run(head, order, &state);
+        self.buddy.hold_run(head, order.pages(), &state);
         for it in 0..order.pages() {
             let page = self
                 .plain
@@ -124,7 +124,7 @@ impl Pair {
         assert!(rt; self.buddy.is_clear(head, order));
         // a clause of this call says that the run lies in the zone
         let _pages = self.buddy.pages();
-        self.buddy.hold_run(head, order, &State::Tail);
+        self.buddy.hold_run(head, order.pages(), &State::Tail);
         assert!(rt; self.buddy.is_clear(head, order));
         self.buddy.give(head, order);
         let (step, turn) = places;

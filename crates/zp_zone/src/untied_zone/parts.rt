@@ -52,7 +52,7 @@ impl UntiedZone {
         };
         let (head, order) = run;
         let state = State::Out(Order::zero(), kind, worker);
-        self.buddy.hold_run(head, order, &state);
+        self.buddy.hold_run(head, order.pages(), &state);
         Ok((PageNo::new(self.base + head.number()), order))
     }
 
@@ -92,7 +92,7 @@ impl UntiedZone {
         let _pages = self.buddy.pages();
         let first = PageAt::at(pages[0].number() - self.base);
         let head = first.head(order);
-        self.buddy.hold_run(head, order, &State::Tail);
+        self.buddy.hold_run(head, order.pages(), &State::Tail);
         self.buddy.give(head, order);
     }
 }

@@ -30,7 +30,12 @@ off : (c : goal.After-new) → IsRunOff (c.self.inside.buddy).sides c.in-Some.ru
 off c = part_off c.self.inside.buddy c.take_run.new.self c.args.kind (2 ^ c.in-Some.run'.1) c.in-Some.run'.0 c.in-Some.run'.1 c.in-Some.ensures.after c.in-Some.ensures.clear
 
 held : (c : goal.After-new) → c.hold_run.new.self ≡ frames_run c.self.inside.buddy c.args.worker c.args.kind c.in-Some.run'.0 (2 ^ c.in-Some.run'.1)
-held c = held_run c.self.inside.buddy c.take_run.new.self c.hold_run.new.self c.args.worker c.args.kind c.in-Some.run'.0 (2 ^ c.in-Some.run'.1) c.zero.result c.in-Some.ensures.after c.zero.ensures c.hold_run.ensures.after
+held c = held_run c.self.inside.buddy c.take_run.new.self c.hold_run.new.self c.args.worker c.args.kind c.in-Some.run'.0 (2 ^ c.in-Some.run'.1) c.zero.result c.in-Some.ensures.after c.zero.ensures (rw c.pages.ensures.pages at c.hold_run.ensures.after)
+
+pub hold_run-requires-clause-clear : goal.hold_run-requires-clause-clear
+hold_run-requires-clause-clear c =
+    let x = c.in-Some.ensures.clear in
+    rw c.pages.ensures.pages (record { inside = x.block.inside; free = x.free; aside = x.aside })
 
 pub invariant_of-self-2 : goal.invariant_of-self-2
 invariant_of-self-2 c =
