@@ -16,3 +16,5 @@ pub mod TurnedRuns
 pub mod HeldNotes
 pub mod TakenBehind
 pub mod FallingRuns
+pub mod LastOrders
+pub mod GivingAs

@@ -1,15 +1,15 @@
 -- A block that comes back with a free buddy behind it: where the buddy leaves first, the double of the block comes back in its place.
-use Rattle.std.proofs.Common.{ℕ, ◌+◌, ◌-◌, ◌/◌, ◌%◌, ◌^◌, ◌≡◌, ◌≤◌, ◌<◌, inl, inr, sym, ◌∙◌, ap, arith, Bool, false, List, length}
+use Rattle.std.proofs.Common.{ℕ, ◌+◌, ◌-◌, ◌/◌, ◌%◌, ◌^◌, ◌≡◌, ◌≤◌, ◌<◌, inl, inr, sym, ◌∙◌, ap, arith, Bool, List, length}
 use Rattle.std.proofs.lemmas.Bool.{and_parts, and_from, both_ways, cases_lt}
 use Rattle.std.proofs.lemmas.Nat.{pow_pos}
 use Rattle.zp_model.specs.PageblockType.{pageblock_types}
-use Rattle.zp_model.specs.Block.{has, head, with_run, without}
+use Rattle.zp_model.specs.Block.{head, with_run, without}
 use Rattle.zp_model.specs.Rows.{list_at, stands_in}
-use Rattle.zp_model.specs.Area.{Area, belongs, settle, settled}
+use Rattle.zp_model.specs.Area.{Area, belongs, settle}
 use Rattle.zp_model.specs.Take.{give, leave}
 use Rattle.zp_model.specs.Lawful.{IsListedArea}
 use Rattle.zp_model.proofs.Covers.{has_below, length-with, length-without, same_pages, with-decides, without-decides}
-use Rattle.zp_model.proofs.Heads.{two, aligned_down, head_aligned, head_head, head_le, head_of, head_room, head_self, lt_head}
+use Rattle.zp_model.proofs.Heads.{two, head_aligned, head_head, head_le, head_of, head_room, lt_head}
 use Rattle.zp_model.proofs.Maximal.{Max, maximal-apart}
 use Rattle.zp_model.proofs.Normal.{Filled}
 use Rattle.zp_model.proofs.Pages.{In, is_max-to, is_max-from}
