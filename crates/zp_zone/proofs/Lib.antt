@@ -6,6 +6,7 @@ pub mod RefillSteps
 pub mod RunSteps
 pub mod RunFrames
 pub mod DrainSteps
+pub mod RunsBack
 pub mod DrainParts
 pub mod PostSteps
 pub mod Tied
