@@ -13,3 +13,4 @@ pub mod Tied
 pub mod NewSeats
 pub mod BlockSteps
 pub mod RetypeSteps
+pub mod FallingDrains
