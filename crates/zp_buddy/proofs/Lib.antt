@@ -15,3 +15,7 @@ pub mod FirstTaken
 pub mod GiveRuns
 pub mod TurnedRuns
 pub mod HeldNotes
+pub mod TakenBehind
+pub mod FallingRuns
+pub mod LastOrders
+pub mod GivingAs

@@ -11,9 +11,11 @@ ghost use Rattle.zp_model.specs.declared.pageblock_type.PageblockType.TheVariant
 ghost use Rattle.zp_model.specs.BlockSet.{largest_in, max_blocks};
 ghost use Rattle.zp_model.specs.Area.{available, list_number, free_list, kind_at, pageblock_pages, pageblocks_of, size_in};
 ghost use Rattle.zp_model.specs.Take.{retype, take_answer, take_after, take_low_answer, take_low_after};
-ghost use Rattle.zp_buddy.specs.Runs.{AreClear, pages_taken, pages_left, run_length, run_pages};
+ghost use Rattle.zp_buddy.specs.FallingRuns.{AreTails, falling_run};
+ghost use Rattle.zp_buddy.specs.Runs.{AreClear, gives, pages_taken, pages_left, run_length, run_pages};
 
 use crate::clear::{is_block, is_clear_run};
+use crate::falling::give_falling;
 use crate::join::join;
 use crate::opening::add_all_pages;
 use crate::split::take_block;
@@ -133,6 +135,16 @@ impl Buddy {
     {
         join(&mut self.area, at, order);
         self.free += order.pages();
+    }
+
+    /// Frees pages in a row, of which nothing is noted, as they would be one after another, the highest first.
+    pub fn give_run(&mut self, at: PageAt, pages: u32)
+        requires clear { AreClear self.old at pages }
+        requires tails { AreTails self.old at (at + pages) }
+        ensures { self.new ≡ with_area self.old (gives self.old.area (falling_run at pages)) }
+    {
+        give_falling(&mut self.area, at, pages);
+        self.free += pages;
     }
 
     /// The order of the largest block.

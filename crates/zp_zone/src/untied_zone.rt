@@ -15,6 +15,7 @@ ghost use Rattle.zp_zone.specs.Making.{wanted, AreBounds, IsGoodWithin, IsWhyWit
 
 mod batches;
 mod blocks;
+mod falling;
 mod pageblocks;
 mod parts;
 mod turned;

@@ -9,6 +9,7 @@ ghost use Rattle.zp_model.specs.Zone.{workers_of};
 ghost use Rattle.zp_zone.specs.NamedZone.{KeepsOut, KeepsOutBeside, IsFresh, AreOut, pages_reply};
 
 use super::UntiedZone;
+use super::falling::is_falling;
 use super::parts::put_part;
 use arrayvec::ArrayVec;
 use zp_model::{MAX_BATCH, Mark, MigrateType, Order, PageNo, Refused, Worker};
@@ -70,6 +71,10 @@ impl UntiedZone {
         let _ = kind;
         // a clause of this call says that the zone is lawful
         self.lawful();
+        if is_falling(pages) {
+            self.free_falling(worker, pages);
+            return;
+        }
         let mut rest = pages;
         'parts: while !rest.is_empty() {
             let order = self.part_order(worker, rest);

@@ -3,7 +3,8 @@
 //! A refill gets its pages one after another. While the request's type has a block of its own, the pages of that block are the next ones, the
 //! lowest first: of a block of 16 pages the second take finds page 1, the third page 2, and so on, as what a split leaves is the smallest
 //! block. So one split serves for them all. Pages of a block come back by one join, too, as what is free at last, and in which order the
-//! lists have it, does not depend on the order of the pages. Linux takes and frees each page by itself.
+//! lists have it, does not depend on the order of the pages. Where all pages of a drain are those of a run, the highest first, they come back
+//! as a run. Linux takes and frees each page by itself.
 ghost use Rattle.std.specs.Prelude.{ℕ, ◌≡◌, ◌<◌, ◌≤◌, ◌+◌, ◌-◌, ◌^◌, ◌++◌, length, take, slice_index_or, true, false, IfErr, IfOk, IsTrue};
 ghost use Rattle.std.specs.List.{range_with_len};
 ghost use Rattle.zp_model.specs.Zone.{workers_of};
@@ -11,7 +12,7 @@ ghost use Rattle.zp_model.specs.Mark.{is_above};
 ghost use Rattle.zp_model.specs.Step.{alloc, drained, refuse};
 ghost use Rattle.zp_model.specs.Run.{is_distinct};
 ghost use Rattle.zp_zone.specs.NamedZone.{AreOut};
-ghost use Rattle.zp_zone.specs.Runs.{AreTurned, IsRunGot};
+ghost use Rattle.zp_zone.specs.Runs.{AreFalling, AreTurned, IsRunGot};
 
 use super::UntiedZone;
 use super::turned::turned_order;
@@ -95,6 +96,27 @@ impl UntiedZone {
         let head = first.head(order);
         self.buddy.hold_run(head, order.pages(), &State::Tail);
         self.buddy.give(head, order);
+    }
+
+    /// Frees the pages of a drain, each a block of order 0, where they are those of a run, the highest first: they come back as its last
+    /// blocks.
+    #[inline(never)]
+    pub fn free_falling(&mut self, worker: Worker, pages: &[PageNo])
+        requires worker { worker < workers_of self.old.plain }
+        requires out { AreOut self.old.plain worker pages.now }
+        requires distinct { IsTrue (is_distinct pages.now) }
+        requires some { 0 < length pages.now }
+        requires falling { AreFalling pages.now }
+        ensures after { self.new ≡ record self.old { plain = drained self.old.plain pages.now } }
+    {
+        // a clause of this call says that what is noted as free is free, which the next calls rest on
+        let _pages = self.buddy.pages();
+        // the worker is named for the condition alone
+        let _ = worker;
+        let count = pages.len();
+        let first = PageAt::at(pages[count - 1].number() - self.base);
+        self.buddy.hold_run(first, count as u32, &State::Tail);
+        self.buddy.give_run(first, count as u32);
     }
 }
 
