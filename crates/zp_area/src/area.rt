@@ -316,6 +316,16 @@ impl FreeArea {
         unmovable + reclaimable + movable + isolated
     }
 
+    /// How many blocks of an order stand in pageblocks of a type: those on the list of both.
+    pub fn count_of_type(&self, order: Order, kind: PageblockType) -> u32
+        ensures { result ≡ length (free_list_of self.now.largest self.now order kind) }
+    {
+        if order.number() > self.blocks.largest.number() {
+            return 0;
+        }
+        self.blocks.lists.len(list_of(order, kind))
+    }
+
     /// How many pages of a pageblock are in blocks.
     pub fn free_in(&self, pageblock: usize) -> u32
         requires { pageblock < length self.now.kinds }
