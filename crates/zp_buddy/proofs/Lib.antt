@@ -10,6 +10,7 @@ pub mod Claiming
 pub mod SideLists
 pub mod ClearByLooks
 pub mod Runs
+pub mod CountedByType
 pub mod FirstTaken
 pub mod GiveRuns
 pub mod TurnedRuns

@@ -4,7 +4,7 @@
 ghost use Rattle.std.specs.Prelude.{ℕ, ◌≡◌, ◌<◌, ◌≤◌, ◌+◌, ◌++◌, ◌∷◌, [], ◌^◌, ◌*◌, ◌↔◌, false, length, map, slice_get, slice_index_or, slice_set, IfNone, IfOk, IfSome, IsTrue, None};
 ghost use Rattle.std.specs.List.{range_with_len};
 ghost use Rattle.zp_model.specs.Block.{has, in_run, size};
-ghost use Rattle.zp_model.specs.Info.{blocks_of_type, counts_by_type, counts_of, pageblocks_of_type};
+ghost use Rattle.zp_model.specs.Info.{blocks_of_type, counts_by_type, counts_of};
 ghost use Rattle.zp_model.specs.Rows.{IsLoose, IsOn, after, front, list_at, rest, state_at, with_run};
 ghost use Rattle.zp_model.specs.Described.{IsLinkedAt};
 ghost use Rattle.zp_model.specs.Frames.{frames_opening, with_area, IsNote, IsFramed, IsClear, given};
@@ -350,10 +350,10 @@ impl Buddy {
                 self.blocks_of_type(PageblockType::Isolate),
             ],
             pageblocks: [
-                self.pageblocks_of_type(PageblockType::Unmovable),
-                self.pageblocks_of_type(PageblockType::Reclaimable),
-                self.pageblocks_of_type(PageblockType::Movable),
-                self.pageblocks_of_type(PageblockType::Isolate),
+                self.area.pageblocks_of_type(PageblockType::Unmovable),
+                self.area.pageblocks_of_type(PageblockType::Reclaimable),
+                self.area.pageblocks_of_type(PageblockType::Movable),
+                self.area.pageblocks_of_type(PageblockType::Isolate),
             ],
         }
     }
@@ -372,18 +372,5 @@ impl Buddy {
             order = order.higher();
         }
         blocks
-    }
-
-    /// How many pageblocks of a type there are.
-    fn pageblocks_of_type(&self, kind: PageblockType) -> u32
-        ensures { result ≡ pageblocks_of_type self.now.area.kinds kind }
-    {
-        let mut count = 0;
-        'pageblocks: for pageblock in 0..self.pageblocks() {
-            if self.pageblock_type(pageblock) == kind {
-                count += 1;
-            }
-        }
-        count
     }
 }

@@ -25,7 +25,7 @@ unfoldable pub blocks_of_type : ℕ → List Bool → List PageblockType → Pag
 blocks_of_type m free kinds t k = count_by (belongs m free kinds (list_number k t)) (range_with_len 0 (length free))
 
 -- how many pageblocks have this type
-unfoldable pub pageblocks_of_type : List PageblockType → PageblockType → ℕ
+abbrev pub pageblocks_of_type : List PageblockType → PageblockType → ℕ
 pageblocks_of_type kinds t = count_by (λ s. pageblock_type_number s == pageblock_type_number t) kinds
 
 -- the types by their numbers
