@@ -27,6 +27,7 @@ ghost use Rattle.zp_model.specs.BlockSet.{Starts, cover, lowest, largest_in};
 ghost use Rattle.zp_model.specs.Rows.{IsLoose, IsOn, IsRow, after, front, list_at, state_at};
 ghost use Rattle.zp_model.specs.Described.{IsLinkedAt};
 ghost use Rattle.zp_model.specs.Frames.{IsNote};
+ghost use Rattle.zp_model.specs.Info.{pageblocks_of_type};
 ghost use Rattle.zp_model.specs.Area.{available, is_isolated, kind_at, list_number, lists_count, pageblock_pages, size_in};
 ghost use Rattle.zp_tree.specs.Blocks.{IsBeside};
 ghost use Rattle.zp_area.specs.Given.{AreClearPages, IsClearRun};
@@ -39,6 +40,7 @@ ghost use Rattle.zp_area.specs.Claims.{IsLargestClaimable, IsOtherType};
 ghost use Rattle.zp_area.specs.Standing.{AreFirstTaken, IsFirstTaken, IsListedBlock, first_head};
 
 use crate::available::{count_isolated, largest_seen, tell_added, tell_type};
+use crate::counting::pageblocks_of_type;
 use crate::free_lists::list_of;
 use crate::kept_blocks::KeptBlocks;
 use crate::linked_page::LinkedPage;
@@ -333,6 +335,25 @@ impl FreeArea {
             .lists
             .len(list_of(order, PageblockType::Isolate));
         unmovable + reclaimable + movable + isolated
+    }
+
+    /// How many blocks of an order stand in pageblocks of a type: those on the list of both.
+    pub fn count_of_type(&self, order: Order, kind: PageblockType) -> u32
+        ensures { result ≡ length (free_list_of self.now.largest self.now order kind) }
+    {
+        if order.number() > self.blocks.largest.number() {
+            return 0;
+        }
+        self.blocks.lists.len(list_of(order, kind))
+    }
+
+    /// How many pageblocks have a type.
+    pub fn pageblocks_of_type(&self, kind: PageblockType) -> u32
+        ensures { result ≡ pageblocks_of_type self.now.kinds kind }
+    {
+        // a clause of this call says how many pageblocks there can be
+        let _pages = self.pages();
+        pageblocks_of_type(self.blocks.kinds.as_slice(), kind)
     }
 
     /// How many pages of a pageblock are in blocks.

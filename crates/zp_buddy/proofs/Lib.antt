@@ -11,6 +11,7 @@ pub mod SideLists
 pub mod ClearByLooks
 pub mod Runs
 pub mod SplitPages
+pub mod CountedByType
 pub mod FirstTaken
 pub mod GiveRuns
 pub mod TurnedRuns

@@ -1,9 +1,10 @@
 //! The buddy allocator of one zone.
 //!
 //! In Linux: the `free_area` of a `struct zone`, `__rmqueue` and `__free_one_page`.
-ghost use Rattle.std.specs.Prelude.{ℕ, ◌≡◌, ◌<◌, ◌≤◌, ◌+◌, ◌++◌, ◌∷◌, [], ◌^◌, ◌*◌, ◌↔◌, false, length, slice_get, slice_index_or, slice_set, IfNone, IfOk, IfSome, IsTrue, None};
+ghost use Rattle.std.specs.Prelude.{ℕ, ◌≡◌, ◌<◌, ◌≤◌, ◌+◌, ◌++◌, ◌∷◌, [], ◌^◌, ◌*◌, ◌↔◌, false, length, map, slice_get, slice_index_or, slice_set, IfNone, IfOk, IfSome, IsTrue, None};
+ghost use Rattle.std.specs.List.{range_with_len};
 ghost use Rattle.zp_model.specs.Block.{has, in_run, size};
-ghost use Rattle.zp_model.specs.Info.{counts_of};
+ghost use Rattle.zp_model.specs.Info.{blocks_of_type, counts_by_type, counts_of};
 ghost use Rattle.zp_model.specs.Rows.{IsLoose, IsOn, after, front, list_at, rest, state_at, with_run};
 ghost use Rattle.zp_model.specs.Described.{IsLinkedAt};
 ghost use Rattle.zp_model.specs.Frames.{frames_opening, with_area, IsNote, IsFramed, IsClear, given};
@@ -24,7 +25,8 @@ use std::alloc::{AllocError, Global};
 use std::marker::Model;
 use zp_area::{FreeArea, LinkedPage};
 use zp_model::{
-    Counts, Largest, MAX_PAGES, MigrateType, ORDERS, Order, PageAt, PageblockType, State,
+    Counts, CountsByType, Largest, MAX_PAGES, MigrateType, ORDERS, Order, PageAt, PageblockType,
+    State,
 };
 
 /// The free blocks of a zone, what is noted of its other pages, and further lists of those pages. Contracts see the plain
@@ -348,5 +350,41 @@ impl Buddy {
             order = order.higher();
         }
         counts
+    }
+
+    /// How many free blocks of each order there are in the pageblocks of each type, and how many pageblocks of each type.
+    pub fn counts_by_type(&self) -> CountsByType
+        ensures { result ≡ counts_by_type self.now.area.largest self.now.area.free self.now.area.kinds }
+    {
+        CountsByType {
+            free: [
+                self.blocks_of_type(PageblockType::Unmovable),
+                self.blocks_of_type(PageblockType::Reclaimable),
+                self.blocks_of_type(PageblockType::Movable),
+                self.blocks_of_type(PageblockType::Isolate),
+            ],
+            pageblocks: [
+                self.area.pageblocks_of_type(PageblockType::Unmovable),
+                self.area.pageblocks_of_type(PageblockType::Reclaimable),
+                self.area.pageblocks_of_type(PageblockType::Movable),
+                self.area.pageblocks_of_type(PageblockType::Isolate),
+            ],
+        }
+    }
+
+    /// How many free blocks of each order there are in the pageblocks of a type.
+    fn blocks_of_type(&self, kind: PageblockType) -> [u32; ORDERS]
+        ensures { result ≡ map (blocks_of_type self.now.area.largest self.now.area.free self.now.area.kinds kind) (range_with_len 0 ORDERS) }
+    {
+        let mut blocks = [0; ORDERS];
+        let mut order = Order::zero();
+        'orders: loop {
+            blocks[order.index()] = self.area.count_of_type(order, kind);
+            if order == self.area.largest().order() {
+                break;
+            }
+            order = order.higher();
+        }
+        blocks
     }
 }
