@@ -231,9 +231,9 @@ module _ (m : ℕ) (b c : Blocks) (h d k : ℕ) (x : IsSound m b.rows.states b.k
         with_decides i = (
           λ e. (with-decides u at k i (omega (arith, has_below (with_run u at k) i e, length-with u at k))).0 e,
           λ w. elim w [
-              | inl old ↦ (with-decides u at k i (has_below u i old)).1 (inl old)
-              | inr new ↦ (with-decides u at k i (omega (arith, new.1, room))).1 (inr new)
-            ],
+            | inl old ↦ (with-decides u at k i (has_below u i old)).1 (inl old)
+            | inr new ↦ (with-decides u at k i (omega (arith, new.1, room))).1 (inr new)
+          ],
         )
 
     pub last_comes : IsGivingAs m b c h d at
