@@ -1,5 +1,5 @@
-//! Trials of the buddy allocator beside the plain one, which runs the definitions: the same requests of both, with every result
-//! compared. It has tests alone.
+//! Trials of the buddy allocator and of zones beside the plain allocator, which runs the definitions: the same requests of both, with every
+//! result compared. It has tests alone.
 #![tactic(auto)]
 
 #[cfg(test)]
@@ -12,3 +12,5 @@ mod random;
 mod scattered;
 #[cfg(test)]
 mod worked;
+#[cfg(test)]
+mod zones;
