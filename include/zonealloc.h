@@ -29,7 +29,7 @@ typedef struct zone_row { uint32_t live; unsigned char *at; } zone_row_t;
 typedef struct zone_worker { uint32_t live; unsigned char *at; } zone_worker_t;
 #define ZONE_NONE { 0, NULL }
 
-enum { ZONE_ZONES = 64, ZONE_WORKERS = 32, ZONE_ORDERS = 11, ZONE_TYPES = 3, ZONE_INFO_LINE = 160 };
+enum { ZONE_ZONES = 64, ZONE_WORKERS = 32, ZONE_ORDERS = 11, ZONE_TYPES = 3, ZONE_PAGEBLOCK_TYPES = 4, ZONE_INFO_LINE = 160 };
 
 /* Migrate types; of a pageblock also ZONE_TYPE_ISOLATED. */
 enum { ZONE_TYPE_UNMOVABLE = 0, ZONE_TYPE_RECLAIMABLE = 1, ZONE_TYPE_MOVABLE = 2, ZONE_TYPE_ISOLATED = 3 };
@@ -71,6 +71,8 @@ enum {
  * its name of 1 to 8 letters and digits. (Eight letters leave no room for the zero of a string: { 'H', 'i', .. } then.) */
 typedef struct zone_spec { uint32_t base, pages, min, largest, name_len; uint8_t name[8]; } zone_spec_t;
 typedef struct zone_counts { uint32_t by_order[ZONE_ORDERS]; uint32_t free, posted, level; } zone_counts_t;
+/* Free blocks by the number of their pageblock's type and by order, and pageblocks by the number of their type: what /proc/pagetypeinfo has. */
+typedef struct zone_types { uint32_t free[ZONE_PAGEBLOCK_TYPES][ZONE_ORDERS], pageblocks[ZONE_PAGEBLOCK_TYPES]; } zone_types_t;
 typedef struct zone_page { uint32_t state, order, type, worker; } zone_page_t;   /* what the state does not have is 0 */
 typedef struct zone_pageblock { uint32_t type, free, largest; } zone_pageblock_t; /* largest 11: none of its pages is free */
 typedef struct zone_totals { uint32_t free, posted, cached, lent; } zone_totals_t;
@@ -229,6 +231,11 @@ uint32_t zonealloc_drain_all(zone_worker_t *worker, uint32_t zone);
  *   ZONE_BAD_ARGUMENT      the row has no such zone
  *   ZONE_BUSY              another is in the zone */
 uint32_t zonealloc_counts(zone_worker_t *worker, uint32_t zone, zone_counts_t *counts);
+/* ZONE. Free blocks by their pageblock's type and their order, and pageblocks by their type. It looks at each pageblock.
+ *   ZONE_BAD_HANDLE        nothing is in the handle
+ *   ZONE_BAD_ARGUMENT      the row has no such zone
+ *   ZONE_BUSY              another is in the zone */
+uint32_t zonealloc_counts_by_type(zone_worker_t *worker, uint32_t zone, zone_types_t *types);
 /* ZONE. The info line with its line feed, and no zero: as much as there is room for, and its whole length.
  *   ZONE_BAD_HANDLE        nothing is in the handle
  *   ZONE_BAD_ARGUMENT      the row has no such zone

@@ -1,5 +1,6 @@
 -- What a C program is told of a zone, by numbers (this profile).
 use Rattle.std.specs.Prelude.{ℕ, ◌≡◌, ◌≤◌, ◌⊎◌, List, ◌++◌, take, drop, length, Option, None, Some}
+use Rattle.zp_model.specs.declared.counts.CountsByType.{CountsByType}
 use Rattle.zp_model.specs.declared.mark.Level.{Level}
 use Rattle.zp_model.specs.declared.mark.Level.TheVariants as level
 use Rattle.zp_model.specs.declared.state.State.{State}
@@ -10,9 +11,10 @@ use Rattle.zp_zone.specs.declared.page.ZonePage.{ZonePage}
 use Rattle.zp_zone.specs.declared.pageblock.Pageblock.{Pageblock}
 use Rattle.zp_zone.specs.Seats.{ZoneState}
 use Rattle.zp_gate.specs.declared.question.ZoneTold.{ZoneTold}
-use Rattle.zp_gate.specs.Readings.{HasPage, HasPageblock, IsThen, TellsLine, TellsPage, TellsPageblock, TellsZone}
+use Rattle.zp_gate.specs.Readings.{HasPage, HasPageblock, IsThen, TellsLine, TellsPage, TellsPageblock, TellsTypes, TellsZone}
 use Rattle.zp_gate.specs.GatedWorkers.{HasZone, WorkerState, gated_at, worker_share}
 use Rattle.zonealloc.specs.declared.told.ZoneCounts.{ZoneCounts}
+use Rattle.zonealloc.specs.declared.told.ZoneTypes.{ZoneTypes}
 use Rattle.zonealloc.specs.declared.told.PageTold.{PageTold}
 use Rattle.zonealloc.specs.declared.told.PageblockTold.{PageblockTold}
 
@@ -24,6 +26,9 @@ level_number level.High = 3
 
 abbrev pub counts_told : ZoneTold → ZoneCounts
 counts_told t = record { by_order = t.counts.by_order; free = t.counts.free; posted = t.posted; level = level_number t.level }
+
+abbrev pub types_told : CountsByType → ZoneTypes
+types_told t = record { free = t.free; pageblocks = t.pageblocks }
 
 -- a page's entry: what the state does not have is 0
 abbrev pub page_told : State → PageTold
@@ -52,6 +57,9 @@ IsToldAt i P v = IsThen (gated_at v i).key (worker_share v i) P
 
 abbrev pub TellsCounts : ℕ → WorkerState → ZoneCounts → Type 0
 TellsCounts i v c = (t : ZoneTold) × (c ≡ counts_told t) × IsToldAt i (TellsZone t) v
+
+abbrev pub TellsTypesAt : ℕ → WorkerState → ZoneTypes → Type 0
+TellsTypesAt i v c = (t : CountsByType) × (c ≡ types_told t) × IsToldAt i (TellsTypes t) v
 
 abbrev pub TellsPageAt : ℕ → ℕ → WorkerState → PageTold → Type 0
 TellsPageAt i p v e = (x : ZonePage) × (e ≡ page_told x.state) × IsToldAt i (TellsPage p (Some x)) v

@@ -1,10 +1,10 @@
 //! What C reads of a zone, by numbers.
 ghost use Rattle.std.specs.Prelude.{◌≡◌};
 ghost use Rattle.zp_model.specs.MigrateType.{type_number};
-ghost use Rattle.zonealloc.specs.Readings.{counts_told, page_told, pageblock_told};
+ghost use Rattle.zonealloc.specs.Readings.{counts_told, page_told, pageblock_told, types_told};
 
 use zp_gate::ZoneTold;
-use zp_model::{Level, MigrateType, ORDERS, Order, State, Worker};
+use zp_model::{CountsByType, Level, MigrateType, ORDERS, Order, PAGEBLOCK_TYPES, State, Worker};
 use zp_zone::Pageblock;
 
 /// How many free blocks of each order, how many free and posted pages, and the highest mark that the free pages are above.
@@ -15,6 +15,14 @@ pub struct ZoneCounts {
     pub free: u32,
     pub posted: u32,
     pub level: u32,
+}
+
+/// How many free blocks of each order there are in the pageblocks of each type, by the type's number, and how many pageblocks of each type.
+#[repr(C)]
+#[derive(Drop)]
+pub struct ZoneTypes {
+    pub free: [[u32; ORDERS]; PAGEBLOCK_TYPES],
+    pub pageblocks: [u32; PAGEBLOCK_TYPES],
 }
 
 /// What is noted of a page: the state's number, its order, its type and its worker.
@@ -54,6 +62,16 @@ pub fn counts_told(told: &ZoneTold) -> ZoneCounts
             Level::Low => 2,
             Level::High => 3,
         },
+    }
+}
+
+/// What a zone tells of its types.
+pub fn types_told(told: &CountsByType) -> ZoneTypes
+    ensures { result ≡ types_told told.now }
+{
+    ZoneTypes {
+        free: told.free,
+        pageblocks: told.pageblocks,
     }
 }
 

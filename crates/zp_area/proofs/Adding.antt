@@ -94,7 +94,7 @@ module _ {m : ℕ} {a : Blocks} {h k : ℕ} (x : IsComing m a h k) where
         | inr ne ↦ rw (get_or-set_other a.rows.lists q r (h ∷ list_at a.rows.lists q) [] ne) (listed_with_other h k lt (x.one.listed r below) none ne)
       ]
 
-  one_added : IsOneSet m (added m a h k)
+  pub one_added : IsOneSet m (added m a h k)
   one_added = record {
     pages = rw (length-set a.rows.states h (Free k)) x.one.pages;
     table = rw (length-set a.rows.lists (list_of_block m a h k) (h ∷ list_at a.rows.lists (list_of_block m a h k))) x.one.table;

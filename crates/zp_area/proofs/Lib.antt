@@ -9,6 +9,7 @@ pub mod IsolatedPages
 pub mod Keeping
 pub mod Adding
 pub mod Removing
+pub mod Halves
 pub mod Splitting
 pub mod CountedLists
 pub mod Growing
@@ -23,6 +24,7 @@ pub mod LargestSeen
 pub mod SameLargest
 pub mod Scattered
 pub mod OnePageblock
+pub mod SplitPages
 pub mod Indexing
 pub mod NotedClaims
 pub mod Claimable

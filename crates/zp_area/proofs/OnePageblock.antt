@@ -16,10 +16,10 @@ use Rattle.zp_area.specs.OneSet.{IsOneSet}
 use Rattle.zp_area.specs.Retyped.{retyped}
 use Rattle.zp_area.proofs.Scattered.{IsChangedIn}
 
-changed_not : (m b : ℕ) (a : Blocks) → IsChangedIn m b a a
+pub changed_not : (m b : ℕ) (a : Blocks) → IsChangedIn m b a a
 changed_not m b a = record { typed = refl; kinds = λ c ne. refl; heads = λ h ne. refl }
 
-changed_again : (m b : ℕ) (a y z : Blocks) → IsChangedIn m b a y → IsChangedIn m b y z → IsChangedIn m b a z
+pub changed_again : (m b : ℕ) (a y z : Blocks) → IsChangedIn m b a y → IsChangedIn m b y z → IsChangedIn m b a z
 changed_again m b a y z p q = record {
   typed = q.typed ∙ p.typed;
   kinds = λ c ne. q.kinds c ne ∙ p.kinds c ne;

@@ -50,7 +50,7 @@ module _ (m : ℕ) (a : Blocks) (h k : ℕ) (x : IsOneSet m a) (st : Starts (blo
         | inr ne ↦ rw (get_or-set_other a.rows.lists q r hs [] ne) (listed_without_other h k lt (x.listed r below) (λ j. one_at (block_set a) h k j st) ne)
       ]
 
-  one_removed : IsOneSet m (removed m a h k)
+  pub one_removed : IsOneSet m (removed m a h k)
   one_removed =
       let q : ℕ = list_of_block m a h k in
       let hs : List ℕ = without_page h (list_at a.rows.lists q) in

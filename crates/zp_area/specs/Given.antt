@@ -11,6 +11,10 @@ use Rattle.zp_area.specs.NotedBlocks.{blocks_of}
 abbrev pub IsClearPage : ℕ → List State → List (List ℕ) → ℕ → Type 0
 IsClearPage m states lists i = (has (cover (blocks_of states)) i ≡ false) × ((r : ℕ) → stands_in i (list_at (drop (lists_count m) lists) r) ≡ false)
 
--- that of each page of a run
+-- that of each of n pages from h on
+abbrev pub AreClearPages : ℕ → List State → List (List ℕ) → ℕ → ℕ → Type 0
+AreClearPages m states lists h n = (i : ℕ) → h ≤ i → i < h + n → IsClearPage m states lists i
+
+-- that of each page of a run of order k
 abbrev pub IsClearRun : ℕ → List State → List (List ℕ) → ℕ → ℕ → Type 0
-IsClearRun m states lists h k = (i : ℕ) → h ≤ i → i < h + 2 ^ k → IsClearPage m states lists i
+IsClearRun m states lists h k = AreClearPages m states lists h (2 ^ k)

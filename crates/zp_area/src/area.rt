@@ -10,9 +10,10 @@
 //! The invariant says that all of these are of one set of blocks, those noted as free. Which blocks they are is the concern of `zp_buddy`.
 //!
 //! `split_off` takes the head off its list, writes the tree once, puts each high half in front of its list, lowers `free_in` once, and
-//! marks the pageblock as changed. `join_up` raises `free_in`, takes each free buddy off its list, writes the tree when the block has
-//! grown, puts its head in front of its list, and marks the pageblock. Most blocks are taken whole or have no free buddy, and go a way
-//! without a loop.
+//! marks the pageblock as changed. `take_first_pages` splits for each power of two of its pages, the largest first: the half that is left
+//! between two of them goes on no list, and `free_in` is lowered and the pageblock marked once for all. `join_up` raises `free_in`, takes each
+//! free buddy off its list, writes the tree when the block has grown, puts its head in front of its list, and marks the pageblock. Most blocks
+//! are taken whole or have no free buddy, and go a way without a loop.
 //!
 //! Cost: each split or join is one list operation of a constant number of steps, at most as many as the largest order. `retype` steps over
 //! the pages of one pageblock. Where 64 pageblocks are marked, a change that marks one more looks at another one first.
@@ -26,18 +27,20 @@ ghost use Rattle.zp_model.specs.BlockSet.{Starts, cover, lowest, largest_in};
 ghost use Rattle.zp_model.specs.Rows.{IsLoose, IsOn, IsRow, after, front, list_at, state_at};
 ghost use Rattle.zp_model.specs.Described.{IsLinkedAt};
 ghost use Rattle.zp_model.specs.Frames.{IsNote};
+ghost use Rattle.zp_model.specs.Info.{pageblocks_of_type};
 ghost use Rattle.zp_model.specs.Area.{available, is_isolated, kind_at, list_number, lists_count, pageblock_pages, size_in};
 ghost use Rattle.zp_tree.specs.Blocks.{IsBeside};
-ghost use Rattle.zp_area.specs.Given.{IsClearRun};
+ghost use Rattle.zp_area.specs.Given.{AreClearPages, IsClearRun};
 ghost use Rattle.zp_area.specs.Blocks.{block_set, count_of, free_list_of, free_lists, side_list_of, no_blocks, added, removed, noted, noted_run, side_pushed, side_popped};
-ghost use Rattle.zp_area.specs.Chains.{IsJoinable, split_off, IsJoinedUp};
+ghost use Rattle.zp_area.specs.Chains.{IsJoinable, pages_split_off, split_off, IsJoinedUp};
 ghost use Rattle.zp_area.specs.Retyped.{retyped};
 ghost use Rattle.zp_area.specs.OneSet.{IsOneSet};
 ghost use Rattle.zp_area.specs.Available.{choosable};
 ghost use Rattle.zp_area.specs.Claims.{IsLargestClaimable, IsOtherType};
-ghost use Rattle.zp_area.specs.Standing.{IsFirstTaken, IsListedBlock, first_head};
+ghost use Rattle.zp_area.specs.Standing.{AreFirstTaken, IsFirstTaken, IsListedBlock, first_head};
 
 use crate::available::{count_isolated, largest_seen, tell_added, tell_type};
+use crate::counting::pageblocks_of_type;
 use crate::free_lists::list_of;
 use crate::kept_blocks::KeptBlocks;
 use crate::linked_page::LinkedPage;
@@ -232,6 +235,24 @@ impl FreeArea {
         noting::changed(&mut self.noted, &self.blocks, pageblock);
     }
 
+    /// Takes so many pages, fewer than it has, off a block.
+    #[inline(always)]
+    fn take_pages(&mut self, block: ListedBlock, pages: u32, kind: MigrateType)
+        requires block { IsListedBlock self.old (pageblock_type kind) block }
+        requires less { pages < 2 ^ block.order }
+        ensures { self.new ≡ pages_split_off self.old.largest self.old block.head block.order pages }
+    {
+        let pageblock = self.blocks.largest.pageblock_of(block.head);
+        splits::split_pages(
+            &mut self.blocks,
+            pageblock,
+            kind.pageblock_type(),
+            block,
+            pages,
+        );
+        noting::changed(&mut self.noted, &self.blocks, pageblock);
+    }
+
     /// Takes a block into the set, joined with its buddies as long as they are in the set: each leaves it, and what the block has
     /// grown to comes.
     #[inline(always)]
@@ -314,6 +335,25 @@ impl FreeArea {
             .lists
             .len(list_of(order, PageblockType::Isolate));
         unmovable + reclaimable + movable + isolated
+    }
+
+    /// How many blocks of an order stand in pageblocks of a type: those on the list of both.
+    pub fn count_of_type(&self, order: Order, kind: PageblockType) -> u32
+        ensures { result ≡ length (free_list_of self.now.largest self.now order kind) }
+    {
+        if order.number() > self.blocks.largest.number() {
+            return 0;
+        }
+        self.blocks.lists.len(list_of(order, kind))
+    }
+
+    /// How many pageblocks have a type.
+    pub fn pageblocks_of_type(&self, kind: PageblockType) -> u32
+        ensures { result ≡ pageblocks_of_type self.now.kinds kind }
+    {
+        // a clause of this call says how many pageblocks there can be
+        let _pages = self.pages();
+        pageblocks_of_type(self.blocks.kinds.as_slice(), kind)
     }
 
     /// How many pages of a pageblock are in blocks.
@@ -423,25 +463,26 @@ impl FreeArea {
         Some(head)
     }
 
-    /// Takes pages in a row off the first block of this type: as many as it has, `most` of them or fewer. The first page, and the order of
-    /// the run.
+    /// Takes pages in a row off the first block of this type: as many as it has, `most` of them or fewer. The first of them, and how many.
     #[inline(always)]
-    pub fn take_first_run(&mut self, kind: MigrateType, most: u32) -> Option<(PageAt, Order)>
-        requires { 0 < most }
+    pub fn take_first_pages(&mut self, kind: MigrateType, most: u32) -> Option<(PageAt, u32)>
         ensures none { IfNone result ((first_head self.old (pageblock_type kind) 0 ≡ None) × (self.new ≡ self.old)) }
-        ensures some { IfSome result (λ r. (o : ℕ) × IsFirstTaken self.old (pageblock_type kind) 0 r.0 o r.1 self.new) }
-        ensures fits { IfSome result (λ r. 2 ^ r.1 ≤ most) }
+        ensures some { IfSome result (λ r. (o : ℕ) × AreFirstTaken self.old (pageblock_type kind) most r.0 o r.1 self.new) }
     {
         let (head, found, list) = self.first_block(Order::zero(), kind.pageblock_type())?;
-        let order = run_order(found, most);
         let block = ListedBlock {
             head,
             order: found,
             list,
             is_front: true,
         };
-        self.take_low(block, order, kind);
-        Some((head, order))
+        let whole = found.pages();
+        if most < whole {
+            self.take_pages(block, most, kind);
+            return Some((head, most));
+        }
+        self.take_whole(block, kind);
+        Some((head, whole))
     }
 
     /// The head after this one on the list of an order and a type.
@@ -503,15 +544,15 @@ impl FreeArea {
         self.blocks.lists.set_state(at, state);
     }
 
-    /// Notes this of each page of a clear run. Such pages are on no list, so that each entry is written whole.
+    /// Notes this of so many clear pages in a row. Such pages are on no list, so that each entry is written whole.
     #[inline(always)]
-    pub fn hold_run(&mut self, at: PageAt, order: Order, state: State)
-        requires run { at + 2 ^ order ≤ length self.old.rows.states }
-        requires clear { IsClearRun self.old.largest self.old.rows.states self.old.rows.lists at order }
+    pub fn hold_run(&mut self, at: PageAt, pages: u32, state: State)
+        requires run { at + pages ≤ length self.old.rows.states }
+        requires clear { AreClearPages self.old.largest self.old.rows.states self.old.rows.lists at pages }
         requires note { IsNote state }
-        ensures { self.new ≡ noted_run self.old at (2 ^ order) state }
+        ensures { self.new ≡ noted_run self.old at pages state }
     {
-        self.blocks.lists.set_run(at, order.pages(), state);
+        self.blocks.lists.set_run(at, pages, state);
     }
 
     /// What is noted of a page.
@@ -567,19 +608,5 @@ impl FreeArea {
         ensures { result ≡ front (side_list_of self.now.largest self.now list) }
     {
         self.blocks.lists.front(self.blocks.largest.lists() + list)
-    }
-}
-
-/// The largest order, at most that of the block found, of no more pages than are wanted.
-fn run_order(found: Order, most: u32) -> Order
-    requires { 0 < most }
-    ensures within { result ≤ found }
-    ensures fits { 2 ^ result ≤ most }
-{
-    let wanted = 31 - most.leading_zeros();
-    if wanted < u32::from(found.number()) {
-        Order::at(wanted as u8)
-    } else {
-        found
     }
 }

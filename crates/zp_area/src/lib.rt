@@ -7,6 +7,7 @@
 
 mod area;
 mod available;
+mod counting;
 mod free_lists;
 mod joins;
 mod kept_blocks;

@@ -1,14 +1,17 @@
 //! Splitting a block of the set, as one change of what is kept beside the lists.
 //!
 //! In Linux: `del_page_from_free_list` and `expand`.
-ghost use Rattle.std.specs.Prelude.{◌≡◌, ◌<◌, ◌+◌, ◌-◌, ◌/◌, ◌^◌, true, false, Some, length, slice_index, slice_set};
+ghost use Rattle.std.specs.Prelude.{◌≡◌, ◌≤◌, ◌<◌, ◌+◌, ◌-◌, ◌/◌, ◌^◌, true, false, Some, length, slice_index, slice_set};
+ghost use Rattle.zp_model.specs.declared.constants.TheConstants.{LARGEST_ORDER};
 ghost use Rattle.zp_model.specs.declared.state.State.TheVariants.{Free, Tail};
 ghost use Rattle.zp_model.specs.Rows.{IsLoose, IsOn, front, list_at, with_state};
-ghost use Rattle.zp_model.specs.Area.{list_number, pageblock_pages};
+ghost use Rattle.zp_model.specs.Area.{kind_at, list_number, pageblock_pages};
+ghost use Rattle.zp_model.specs.Block.{IsBlock};
 ghost use Rattle.zp_area.specs.Blocks.{put_in_front, removed, taken_off};
-ghost use Rattle.zp_area.specs.Chains.{split_off};
+ghost use Rattle.zp_area.specs.Chains.{halves_added, pages_split_off, split_off};
+ghost use Rattle.zp_area.specs.Given.{IsClearRun};
 ghost use Rattle.zp_area.specs.KeptSets.{set_of};
-ghost use Rattle.zp_area.specs.OneSet.{IsKept};
+ghost use Rattle.zp_area.specs.OneSet.{IsKept, IsOneSet};
 ghost use Rattle.zp_area.specs.Available.{choosable};
 ghost use Rattle.zp_area.specs.Standing.{IsListedBlock};
 ghost use Rattle.zp_model.specs.PageblockType.{is_isolate};
@@ -140,4 +143,93 @@ pub fn split_off(
         put_half(lists, list, at, order, pages);
     }
     free_in[pageblock] -= to.pages();
+}
+
+/// Puts the high halves of a block that is in no set in front of their lists, those of the orders above `to`, the largest first. The number
+/// of the list of order `to`.
+#[inline(always)]
+fn put_halves(
+    blocks: &mut KeptBlocks,
+    kind: PageblockType,
+    list: usize,
+    at: PageAt,
+    from: Order,
+    to: Order,
+) -> usize
+    requires one { IsOneSet blocks.old.largest (set_of blocks.old) }
+    requires block { IsBlock blocks.old.largest (length blocks.old.lists.states) at from }
+    requires clear { IsClearRun blocks.old.largest blocks.old.lists.states blocks.old.lists.lists at from }
+    requires list { list ≡ list_number from kind }
+    requires typed { kind ≡ kind_at blocks.old.largest blocks.old.kinds.items at }
+    requires down { to < from }
+    ensures list { result ≡ list_number to kind }
+    ensures after { blocks.new ≡ record blocks.old { lists = (halves_added blocks.old.largest (set_of blocks.old) at (to + 1) (from - (to + 1))).rows } }
+{
+    // the type is named for the conditions alone
+    let _ = kind;
+    let KeptBlocks { lists, .. } = blocks;
+    let mut order = from.lower();
+    let mut pages = order.pages();
+    let mut list = list - PAGEBLOCK_TYPES;
+    'halves: while to.number() < order.number() {
+        put_half(lists, list, at, order, pages);
+        order = order.lower();
+        pages /= 2;
+        list -= PAGEBLOCK_TYPES;
+    }
+    list
+}
+
+/// The greatest order of a block that has no more pages than these.
+#[inline(always)]
+fn order_within(pages: u32) -> Order
+    requires some { 0 < pages }
+    requires few { pages < 2 ^ (LARGEST_ORDER + 1) }
+    ensures within { 2 ^ result ≤ pages }
+    ensures greatest { pages < 2 ^ (result + 1) }
+{
+    Order::at((31 - pages.leading_zeros()) as u8)
+}
+
+/// Takes so many pages, fewer than it has, off a block, in a pageblock of this type, which is not isolated. What is left of it comes into the
+/// set. The pages leave in parts, the largest first: the last half that a part leaves is the block of the next one, and stands on no list
+/// in between.
+#[inline(always)]
+pub fn split_pages(
+    blocks: &mut KeptBlocks,
+    pageblock: usize,
+    kind: PageblockType,
+    block: ListedBlock,
+    pages: u32,
+)
+    requires kept { IsKept blocks.old.largest (set_of blocks.old) blocks.old.free_in.items }
+    requires here { pageblock ≡ block.head / pageblock_pages blocks.old.largest }
+    requires block { IsListedBlock (set_of blocks.old) kind block }
+    requires open { is_isolate kind ≡ false }
+    requires told { blocks.old.tree ≡ choosable blocks.old.largest (set_of blocks.old) }
+    requires less { pages < 2 ^ block.order }
+    ensures kept { IsKept blocks.old.largest (record (set_of blocks.old) { rows = blocks.new.lists }) blocks.new.free_in.items }
+    ensures told { blocks.new.tree ≡ choosable blocks.old.largest (record (set_of blocks.old) { rows = blocks.new.lists }) }
+    ensures stays { (blocks.new.largest ≡ blocks.old.largest) × (blocks.new.kinds ≡ blocks.old.kinds) }
+    ensures numbers { blocks.new.free_in.items ≡ slice_set blocks.old.free_in.items pageblock (slice_index blocks.old.free_in.items pageblock - pages) }
+    ensures after { record (set_of blocks.old) { rows = blocks.new.lists } ≡ pages_split_off blocks.old.largest (set_of blocks.old) block.head block.order pages }
+{
+    // a clause of this call says how many pages a block can have
+    let _pages = block.order.pages();
+    take_out(&mut blocks.lists, block.list, block.head, block.is_front);
+    let mut at = block.head;
+    let mut order = block.order;
+    let mut list = block.list;
+    let mut left = pages;
+    'parts: while left > 0 {
+        let to = order_within(left);
+        blocks.tree.split(at, order, to);
+        list = put_halves(blocks, kind, list, at, order, to);
+        let part = to.pages();
+        at = PageAt::at(at.number() + part);
+        left -= part;
+        order = to;
+    }
+    blocks.lists.push_front_noted(list, at, State::Free(order));
+    blocks.free_in[pageblock] -= pages;
 }

@@ -1,5 +1,5 @@
 -- What a sound area says in the frames that callers see: what is noted as free, how many blocks of an order there are, which blocks are clear.
-use Rattle.std.proofs.Common.{ℕ, suc, ◌+◌, ◌≡◌, ◌↔◌, ◌∙◌, refl, sym, ap, arith, Bool, List, [], ◌∷◌, length, get_or, Option, None}
+use Rattle.std.proofs.Common.{ℕ, suc, ◌+◌, ◌≡◌, ◌≤◌, ◌↔◌, ◌∙◌, refl, sym, ap, arith, Bool, List, [], ◌∷◌, length, get_or, Option, None}
 use Rattle.std.specs.List.{range_with_len, count_by}
 use Rattle.std.proofs.lemmas.Bool.{false_from_ne_true}
 use Rattle.std.proofs.lemmas.List.{get_or-drop}
@@ -13,10 +13,11 @@ use Rattle.zp_model.proofs.Covers.{length-cover}
 use Rattle.zp_model.proofs.MaximalBlocks.{max-unique}
 use Rattle.zp_laws.proofs.Counting.{one_if}
 use Rattle.zp_area.specs.Blocks.{Blocks, block_set, count_of}
-use Rattle.zp_area.specs.Given.{IsClearRun}
+use Rattle.zp_area.specs.Given.{AreClearPages, IsClearRun}
 use Rattle.zp_area.proofs.NotedBlocks.{starts-to, starts-from}
 use Rattle.zp_buddy.specs.Choices.{frames_in}
 use Rattle.zp_buddy.specs.Held.{IsHeld}
+use Rattle.zp_buddy.specs.Runs.{AreClear}
 use Rattle.zp_buddy.specs.Sound.{IsSound}
 use Rattle.zp_buddy.proofs.Claiming.{starts_maximal}
 use Rattle.zp_buddy.proofs.Settled.{length-pages}
@@ -53,3 +54,7 @@ clear_is m a h k = (
   λ x. (rw (length-pages a.rows.states) at x.block, λ i p q. (x.free i p q, λ r. x.aside r i p q)),
   λ y. record { block = rw (length-pages a.rows.states) y.0; free = λ i p q. (y.1 i p q).0; aside = λ r i p q. (y.1 i p q).1 r },
 )
+
+-- and which pages in a row
+pub are_clear_is : (m : ℕ) (a : Blocks) (h n : ℕ) → AreClear (frames_in m a) h n → (h + n ≤ length a.rows.states) × AreClearPages m a.rows.states a.rows.lists h n
+are_clear_is m a h n x = (rw (length-pages a.rows.states) at x.inside, λ i p q. (x.free i p q, λ r. x.aside r i p q))

@@ -68,9 +68,9 @@ smaller_max m u v g j le f x =
     let y = is_max-to m v g j x in
     is_max-from m u g j (record { order = y.order; aligned = y.aligned; inside = f; alone = λ lt d. y.alone lt (λ i a b. le i (d i a b)) })
 
--- of a run that has come, a block that is maximal then has all pages or none
-module _ (m : ℕ) (u v : List Bool) (h k : ℕ) (aligned : h % 2 ^ k ≡ 0) (order : k ≤ m) (filled : Filled (In v) h k) (only : (i : ℕ) → In v i → In u i ⊎ ((h ≤ i) × (i < h + 2 ^ k))) where
-  round : (g j i : ℕ) → Max m v g j → g ≤ i → i < g + 2 ^ j → h ≤ i → i < h + 2 ^ k → (g ≤ h) × (h + 2 ^ k ≤ g + 2 ^ j)
+-- of an aligned run of a set, a maximal block has all pages or none
+module _ (m : ℕ) (v : List Bool) (h k : ℕ) (aligned : h % 2 ^ k ≡ 0) (order : k ≤ m) (filled : Filled (In v) h k) where
+  pub round : (g j i : ℕ) → Max m v g j → g ≤ i → i < g + 2 ^ j → h ≤ i → i < h + 2 ^ k → (g ≤ h) × (h + 2 ^ k ≤ g + 2 ^ j)
   round g j i x a b c d =
       let z = run_in_block m (Max m v) (In v) (max-normal m v) k order h aligned filled in
       let n = head h z.0 in
@@ -148,7 +148,7 @@ module _ (m : ℕ) (f : List Bool) (kinds : List PageblockType) (h k x y : ℕ) 
       let pos : 0 < 2 ^ k = pow_pos k in
       let gos : 0 < 2 ^ j = pow_pos j in
       let apart : (i : ℕ) → g ≤ i → i < g + 2 ^ j → h ≤ i → i < h + 2 ^ (k + 1) → ⊥ = λ i lo hi a c.
-      let z = round m f whole h (k + 1) aligned order filled_whole whole-to g j i q lo hi a c in
+      let z = round m whole h (k + 1) aligned order filled_whole g j i q lo hi a c in
       let there : In half y = (is_max-to m half g j p).inside y (omega (arith, z.0, b.2)) (omega (arith, z.1, b.3)) in
       elim (half-to y there) [
         | inl old ↦ both_ways (has f y) (clear y b.2 (omega (arith, b.3))) old

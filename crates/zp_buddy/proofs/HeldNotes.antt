@@ -1,9 +1,9 @@
 -- Notes of pages that are not free, and what they leave of a buddy allocator's fields.
-use Rattle.std.proofs.Common.{ℕ, ◌^◌, ◌≡◌, ◌∙◌, refl, length-set}
+use Rattle.std.proofs.Common.{ℕ, ◌≡◌, ◌∙◌, refl, length-set}
 use Rattle.zp_model.specs.declared.state.State.{State}
 use Rattle.zp_model.specs.Frames.{IsNote}
 use Rattle.zp_area.specs.Blocks.{Blocks, block_set, noted, noted_run}
-use Rattle.zp_area.specs.Given.{IsClearRun}
+use Rattle.zp_area.specs.Given.{AreClearPages}
 use Rattle.zp_area.proofs.Holding.{IsHolding, by_pages, noted_set}
 use Rattle.zp_buddy.specs.Held.{IsHeld}
 use Rattle.zp_buddy.proofs.ClearByLooks.{one_held}
@@ -18,11 +18,11 @@ held_noted a free h s x y =
       counted = rw e x.counted;
     }
 
--- the same of a clear run
-module _ (a : Blocks) (free h k : ℕ) (s : State) (x : IsHeld a.largest a free) (clear : IsClearRun a.largest a.rows.states a.rows.lists h k) (note : IsNote s) where
-  pub held_run : IsHeld a.largest (noted_run a h (2 ^ k) s) free
-  held_run = by_pages (λ b. IsHeld b.largest b free) s note (λ b g y z. held_noted b free g s y z) (2 ^ k) a h x (one_held a.largest a free x) (λ i lo hi. (clear i lo hi).0)
+-- the same of clear pages in a row
+module _ (a : Blocks) (free h n : ℕ) (s : State) (x : IsHeld a.largest a free) (clear : AreClearPages a.largest a.rows.states a.rows.lists h n) (note : IsNote s) where
+  pub held_run : IsHeld a.largest (noted_run a h n s) free
+  held_run = by_pages (λ b. IsHeld b.largest b free) s note (λ b g y z. held_noted b free g s y z) n a h x (one_held a.largest a free x) (λ i lo hi. (clear i lo hi).0)
 
   -- the blocks stay
-  pub run_set : block_set (noted_run a h (2 ^ k) s) ≡ block_set a
-  run_set = by_pages (λ b. block_set b ≡ block_set a) s note (λ b g e z. noted_set b.largest b g s z ∙ e) (2 ^ k) a h refl (one_held a.largest a free x) (λ i lo hi. (clear i lo hi).0)
+  pub run_set : block_set (noted_run a h n s) ≡ block_set a
+  run_set = by_pages (λ b. block_set b ≡ block_set a) s note (λ b g e z. noted_set b.largest b g s z ∙ e) n a h refl (one_held a.largest a free x) (λ i lo hi. (clear i lo hi).0)

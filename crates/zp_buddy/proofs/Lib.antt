@@ -10,7 +10,13 @@ pub mod Claiming
 pub mod SideLists
 pub mod ClearByLooks
 pub mod Runs
+pub mod SplitPages
+pub mod CountedByType
 pub mod FirstTaken
 pub mod GiveRuns
 pub mod TurnedRuns
 pub mod HeldNotes
+pub mod TakenBehind
+pub mod FallingRuns
+pub mod LastOrders
+pub mod GivingAs

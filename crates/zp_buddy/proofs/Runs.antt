@@ -1,24 +1,21 @@
 -- Pages that are taken one by one off a block: they rise, and leave what the run of them leaves. Of a run the lower half goes first, and what is chosen then is the
 -- higher one.
-use Rattle.std.proofs.Common.{ℕ, suc, zero, ◌+◌, ◌-◌, ◌/◌, ◌^◌, ◌≡◌, ◌≤◌, ◌<◌, ◌↔◌, inl, inr, refl, sym, ◌∙◌, ap, arith, Bool, true, false, not, ◌&&◌, List, [], ◌∷◌, ◌++◌, length, map, leb, ltb, get_or-take, length-take-le, Option, Some, None}
+use Rattle.std.proofs.Common.{ℕ, suc, zero, ◌+◌, ◌-◌, ◌/◌, ◌^◌, ◌≡◌, ◌≤◌, ◌<◌, ◌↔◌, inl, inr, refl, sym, ◌∙◌, ap, arith, Bool, true, false, not, ◌&&◌, List, [], ◌∷◌, ◌++◌, length, min, slice_index_or, unwrap_or, get_or-take, length-take-le, Option, Some, None}
 use Rattle.std.specs.List.{filter, range_with_len}
 use Rattle.std.specs.Option.{option_or}
-use Rattle.std.proofs.lemmas.Bool.{and_parts, and_from, cases_eq, eqb-true, eq-eqb, false≢true, not-true, both_ways, false_from_ne_true}
+use Rattle.std.proofs.lemmas.Bool.{and_parts, and_from, cases_eq, cases_lt, eqb-true, eq-eqb, false≢true}
 use Rattle.std.proofs.lemmas.Nat.{pow_pos}
 use Rattle.std.proofs.Math.Nat.{pow-le-pow_right}
-use Rattle.std.proofs.lemmas.Bool.Decides.{nat_tests}
 use Rattle.std.proofs.lemmas.Option.{none-some}
-use Rattle.std.proofs.lemmas.List.{ext_get_or}
-use Rattle.std.proofs.lemmas.List.Elements.{filter-append}
-use Rattle.std.proofs.lemmas.List.FromFn.{get_or-map-range_with_len, length-map-range_with_len}
 use Rattle.zp_model.specs.declared.migrate_type.MigrateType.{MigrateType}
 use Rattle.zp_model.specs.declared.pageblock_type.PageblockType.{PageblockType}
 use Rattle.zp_model.specs.PageblockType.{pageblock_types, pageblock_type, pageblock_type_number}
-use Rattle.zp_model.specs.Block.{has, is_max, in_run, without}
+use Rattle.zp_model.specs.Block.{is_max, without}
 use Rattle.zp_model.specs.BlockSet.{first_of}
 use Rattle.zp_model.specs.Rows.{front, list_at, stands_in}
 use Rattle.zp_model.specs.Area.{Area, belongs, falling, free_list, kind_at, list_number, lists_count, settle, settled}
 use Rattle.zp_model.specs.Choose.{own}
+use Rattle.zp_model.specs.Runs.{leave_run}
 use Rattle.zp_model.specs.Take.{leave, taken, take_answer, take_after}
 use Rattle.zp_model.specs.Lawful.{IsListedArea}
 use Rattle.zp_model.proofs.Covers.{has_below, length-without, without-decides}
@@ -29,21 +26,21 @@ use Rattle.zp_model.proofs.MaximalBlocks.{max-unique, one_order}
 use Rattle.zp_model.proofs.Normal.{IsNormal}
 use Rattle.zp_model.proofs.Pages.{In, is_max-to}
 use Rattle.zp_model.proofs.RowLists.{front_stands}
+use Rattle.zp_model.proofs.RunGiven.{leave_block, leave_more, listed}
+use Rattle.zp_model.proofs.RunParts.{without_block}
 use Rattle.zp_model.proofs.Settles.{belongs-to, belongs-from, stands_first}
 use Rattle.zp_model.proofs.Split.{AfterSplit, High, split-normal}
 use Rattle.zp_model.proofs.TypeNumbers.{list_number_below, number_one}
-use Rattle.zp_laws.proofs.Areas.{free-leave, free-taken, lists-leave}
+use Rattle.zp_laws.proofs.Areas.{free-leave_run, free-taken, lists-leave}
 use Rattle.zp_laws.proofs.Choosing.{list_order, list_type}
-use Rattle.zp_laws.proofs.Counting.{has-without_any, same_marks, same_tests}
-use Rattle.zp_laws.proofs.Settling.{held-settled}
-use Rattle.zp_area.proofs.Filters.{filter_same, filter_twice}
+use Rattle.zp_laws.proofs.Counting.{same_tests}
 use Rattle.zp_model.specs.BlockSet.{Starts, cover}
 use Rattle.zp_model.specs.Frames.{Frames, with_area}
 use Rattle.zp_area.specs.Blocks.{Blocks, block_set}
 use Rattle.zp_buddy.specs.Choices.{IsTaken, area_in, chosen_of, frames_in}
 use Rattle.zp_buddy.specs.Sound.{IsSound}
-use Rattle.zp_buddy.specs.Runs.{IsRunTaking, pages_taken, pages_left, run_pages}
-use Rattle.zp_buddy.proofs.Settled.{kind_inside}
+use Rattle.zp_buddy.specs.Runs.{IsRunTaking, pages_of_first, pages_taken, pages_left, run_pages}
+use Rattle.zp_buddy.proofs.Settled.{kind_inside, set_maximal}
 
 -- the maximal blocks once the low run of one of them has left
 pub max_split : (m : ℕ) (u : List Bool) (h o k : ℕ) → Max m u h o → k ≤ o → (g j : ℕ) → AfterSplit (Max m u) h k o g j ↔ Max m (without u h k) g j
@@ -61,47 +58,10 @@ max_split m u h o k s le g j = max-unique m (AfterSplit (Max m u) h k o) (withou
           inside = λ g j y i a b. let w = z.inside g j y i a b in (without-decides u h k i (has_below u i w.0)).1 w;
         }
 
-no_falling : (p : ℕ → Bool) (n : ℕ) → ((x : ℕ) → x < n → p x ≡ false) → filter p (falling n) ≡ []
-no_falling p zero f = refl
-no_falling p (suc n) f = rw (f n (omega arith)) (no_falling p n (λ x lt. f x (omega arith)))
-
 pub settled_parts : (m : ℕ) (u : List Bool) (kinds : List PageblockType) (r : ℕ) (old : List ℕ) →
     settled m u kinds r old ≡ filter (λ g. belongs m u kinds r g && not (stands_in g old)) (falling (length u)) ++ filter (belongs m u kinds r) old
 unfolding settled
 settled_parts m u kinds r old = refl
-
--- settling twice is settling once, where what belongs at last belonged in between
-pub settled_twice : (m : ℕ) (u v : List Bool) (kinds : List PageblockType) (r : ℕ) (old : List ℕ) → length u ≡ length v →
-    ((g : ℕ) → belongs m v kinds r g ≡ true → belongs m u kinds r g ≡ true) →
-    settled m v kinds r (settled m u kinds r old) ≡ settled m v kinds r old
-settled_twice m u v kinds r old len more = go (settled m u kinds r old) (λ g. held-settled m u kinds r g old) (settled_parts m u kinds r old)
-  where
-    both : (p q s : Bool) → (q ≡ true → p ≡ true) → ((p && not s) && q) ≡ (q && not s)
-    both p q s f = grind arith
-
-    all : (p q : Bool) → (q ≡ true → p ≡ true) → (p && q) ≡ q
-    all p q f = grind arith
-
-    go : (mid : List ℕ) → ((g : ℕ) → stands_in g mid ≡ belongs m u kinds r g) →
-        mid ≡ filter (λ g. belongs m u kinds r g && not (stands_in g old)) (falling (length u)) ++ filter (belongs m u kinds r) old →
-        settled m v kinds r mid ≡ settled m v kinds r old
-    go mid held is =
-        let p : ℕ → Bool = belongs m u kinds r in
-        let q : ℕ → Bool = belongs m v kinds r in
-        let none : filter (λ g. q g && not (stands_in g mid)) (falling (length v)) ≡ [] = no_falling (λ g. q g && not (stands_in g mid)) (length v) (λ g lt. false_from_ne_true _ (λ e.
-        let w = and_parts _ _ e in
-        both_ways (stands_in g mid) (not-true _ w.1) (held g ∙ more g w.0))) in
-        let new : filter q (filter (λ g. p g && not (stands_in g old)) (falling (length u))) ≡ filter (λ g. q g && not (stands_in g old)) (falling (length v)) =
-        filter_twice q (λ g. p g && not (stands_in g old)) (falling (length u))
-        ∙ filter_same (λ g. (p g && not (stands_in g old)) && q g) (λ g. q g && not (stands_in g old)) (falling (length u)) (λ g on. both (p g) (q g) (stands_in g old) (more g))
-        ∙ ap (λ n. filter (λ g. q g && not (stands_in g old)) (falling n)) len in
-        let stays : filter q (filter p old) ≡ filter q old = filter_twice q p old ∙ filter_same (λ g. p g && q g) q old (λ g on. all (p g) (q g) (more g)) in
-        settled_parts m v kinds r mid
-        ∙ ap (λ xs. xs ++ filter q mid) none
-        ∙ ap (filter q) is
-        ∙ filter-append q (filter (λ g. p g && not (stands_in g old)) (falling (length u))) (filter p old)
-        ∙ (λ i. new i ++ stays i)
-        ∙ sym (settled_parts m v kinds r old)
 
 -- what belongs on the list of an order and a type
 pub belongs_at : (m : ℕ) (u : List Bool) (kinds : List PageblockType) (j g : ℕ) (t : PageblockType) → belongs m u kinds (list_number j t) g ≡ true →
@@ -117,56 +77,6 @@ pub belongs_of : (m : ℕ) (u : List Bool) (kinds : List PageblockType) (j g : �
 unfolding belongs
 belongs_of m u kinds j g t x e =
     and_from _ _ (ap (is_max m u g) (list_order j t) ∙ x) (eq-eqb _ _ (ap pageblock_type_number e ∙ sym (list_type j t)))
-
--- on each list belongs less where more has left
-belongs_less : (m : ℕ) (u : List Bool) (kinds : List PageblockType) (r h o k g : ℕ) → Max m u h o → k < o →
-    belongs m (without u h (k + 1)) kinds r g ≡ true → belongs m (without u h k) kinds r g ≡ true
-unfolding belongs
-belongs_less m u kinds r h o k g s lt e =
-    let p = and_parts _ _ e in
-    let j : ℕ = r / pageblock_types in
-    let x : AfterSplit (Max m u) h (k + 1) o g j = (max_split m u h o (k + 1) s (omega arith) g j).1 p.0 in
-    let y : AfterSplit (Max m u) h k o g j = elim x [ inl w ↦ inl w | inr w ↦ inr (omega (arith, w.0), w.1, w.2) ] in
-    and_from _ _ ((max_split m u h o k s (omega arith) g j).0 y) p.1
-
--- a page is off a run where it is off its halves
-halves : (b : Bool) (h n i : ℕ) → ((b && not (leb h i && ltb i (h + n))) && not (leb (h + n) i && ltb i (h + n + n))) ≡ (b && not (leb h i && ltb i (h + (n + n))))
-halves b h n i = grind (arith, nat_tests)
-
-off_halves : (b : Bool) (h k i : ℕ) → ((b && not (in_run h k i)) && not (in_run (h + 2 ^ k) k i)) ≡ (b && not (in_run h (k + 1) i))
-off_halves b h k i = halves b h (2 ^ k) i ∙ ap (λ n. b && not (leb h i && ltb i (h + n))) (sym (two k))
-
--- the pages without a run are those without its halves
-without_halves : (u : List Bool) (h k : ℕ) → without (without u h k) (h + 2 ^ k) k ≡ without u h (k + 1)
-without_halves u h k =
-    same_marks (without (without u h k) (h + 2 ^ k) k) (without u h (k + 1)) (length-without (without u h k) (h + 2 ^ k) k ∙ length-without u h k ∙ sym (length-without u h (k + 1))) (λ i.
-    has-without_any (without u h k) (h + 2 ^ k) k i ∙ ap (λ b. b && not (in_run (h + 2 ^ k) k i)) (has-without_any u h k i) ∙ off_halves (has u i) h k i ∙ sym (has-without_any u h (k + 1) i))
-
--- a run that leaves in two halves, the lower one first
-pub leave_halves : (a : Area) (h o k : ℕ) → Max a.largest a.free h o → k < o → leave (leave a h k) (h + 2 ^ k) k ≡ leave a h (k + 1)
-unfolding leave settle
-leave_halves a h o k s lt =
-    let m : ℕ = a.largest in
-    let n : ℕ = lists_count m in
-    let u : List Bool = without a.free h k in
-    let v : List Bool = without a.free h (k + 1) in
-    let first : ℕ → List ℕ = λ r. settled m u a.kinds r (list_at a.lists r) in
-    let free : without u (h + 2 ^ k) k ≡ v = without_halves a.free h k in
-    let two_steps : ℕ → List ℕ = λ r. settled m (without u (h + 2 ^ k) k) a.kinds r (list_at (map first (range_with_len 0 n)) r) in
-    let one_step : ℕ → List ℕ = λ r. settled m v a.kinds r (list_at a.lists r) in
-    let len : length u ≡ length v = length-without a.free h k ∙ sym (length-without a.free h (k + 1)) in
-    let lists : map two_steps (range_with_len 0 n) ≡ map one_step (range_with_len 0 n) = ext_get_or [] (map two_steps (range_with_len 0 n)) (map one_step (range_with_len 0 n))
-    (length-map-range_with_len two_steps 0 n ∙ sym (length-map-range_with_len one_step 0 n)) (λ r below.
-    let lt : r < n = omega (arith, length-map-range_with_len two_steps 0 n) in
-    get_or-map-range_with_len two_steps 0 n r r [] lt (omega arith)
-    ∙ ap (λ w. settled m w a.kinds r (list_at (map first (range_with_len 0 n)) r)) free
-    ∙ ap (settled m v a.kinds r) (get_or-map-range_with_len first 0 n r r [] lt (omega arith))
-    ∙ settled_twice m u v a.kinds r (list_at a.lists r) len (λ g e. belongs_less m a.free a.kinds r h o k g s lt' e)
-    ∙ sym (get_or-map-range_with_len one_step 0 n r r [] lt (omega arith))) in
-    λ i. record { largest = m; free = free i; kinds = a.kinds; lists = lists i }
-  where
-    lt' : k < o
-    lt' = lt
 
 -- block (h, o) is in front of the first list of type t that is not empty
 pub record IsOwn (a : Area) (t : MigrateType) (h o : ℕ) : Type 0 where
@@ -277,28 +187,36 @@ own_one : (a : Area) (t : MigrateType) (h o : ℕ) → IsOwn a t h o → (pages_
 unfolding take_answer take_after taken
 own_one a t h o x = let c = choose_own a 0 h t (own_from a t h o x) in (rw c refl, rw c refl)
 
--- so many pages as the low run of order k of such a block has are its pages, and leave what the run leaves
-pub own_run : (k : ℕ) (a : Area) (t : MigrateType) (h o : ℕ) → IsListedArea a → IsOwn a t h o → k ≤ o →
-    (pages_taken a t (2 ^ k) ≡ run_pages h (2 ^ k)) × (pages_left a t (2 ^ k) ≡ leave a h k)
-own_run zero a t h o l x le = own_one a t h o x
-own_run (suc k) a t h o l x le =
-    let b : Area = leave a h k in
-    let n : ℕ = 2 ^ k in
-    let low = own_run k a t h o l x (omega arith) in
-    let high = own_run k b t (h + n) k (lists-leave a h k l) (own_between a t h o l x k (omega arith)) (omega arith) in
-    let e : 2 ^ suc k ≡ n + n = omega arith in
-    let s : suc k ≡ k + 1 = omega arith in (
-      ap (pages_taken a t) e ∙ taken-plus a t n n ∙ (λ i. low.0 i ++ pages_taken (low.1 i) t n) ∙ ap (λ ps. run_pages h n ++ ps) high.0 ∙ sym (run-plus h n n) ∙ ap (run_pages h) (sym e),
-      ap (pages_left a t) e ∙ left-plus a t n n ∙ ap (λ q. pages_left q t n) low.1 ∙ high.1 ∙ leave_halves a h o k (own_block a t h o l x).0 (omega arith) ∙ ap (leave a h) (sym s),
-    )
+-- so many pages, no more than the low run of order k of such a block has, are its lowest pages, and leave what the run of them leaves
+pub own_pages : (k : ℕ) (a : Area) (t : MigrateType) (h o n : ℕ) → IsListedArea a → IsOwn a t h o → k ≤ o → 0 < n → n ≤ 2 ^ k →
+    (pages_taken a t n ≡ run_pages h n) × (pages_left a t n ≡ leave_run a h n)
+own_pages zero a t h o n l x le some few =
+    let one : n ≡ 1 = omega arith in
+    let y = own_one a t h o x in
+    rw one (y.0, y.1 ∙ leave_block a h 0)
+own_pages (suc k) a t h o n l x le some few = elim (cases_lt (2 ^ k) n) [
+  | inr low ↦ own_pages k a t h o n l x (omega arith) some low
+  | inl high ↦
+      let b : Area = leave a h k in
+      let c : ℕ = 2 ^ k in
+      let d : ℕ = n - 2 ^ k in
+      let first = own_pages k a t h o (2 ^ k) l x (omega arith) (pow_pos k) (omega arith) in
+      let left : pages_left a t c ≡ b = first.1 ∙ sym (leave_block a h k) in
+      let double : 2 ^ suc k ≡ 2 ^ k + 2 ^ k = omega arith in
+      let rest = own_pages k b t (h + 2 ^ k) k (n - 2 ^ k) (lists-leave a h k l) (own_between a t h o l x k (omega arith)) (omega arith) (omega arith) (omega arith) in
+      let e : n ≡ c + d = omega arith in (
+        ap (pages_taken a t) e ∙ taken-plus a t c d ∙ (λ i. first.0 i ++ pages_taken (left i) t d) ∙ ap (λ ps. run_pages h c ++ ps) rest.0 ∙ sym (run-plus h c d) ∙ ap (run_pages h) (sym e),
+        ap (pages_left a t) e ∙ left-plus a t c d ∙ ap (λ q. pages_left q t d) left ∙ rest.1 ∙ ap (λ q. leave_run q (h + 2 ^ k) d) (leave_block a h k) ∙ leave_more a h c d (listed a l) ∙ ap (leave_run a h) (sym e),
+      )
+]
 
--- the low run (h, k) of a block has left a, which leaves n
-pub record IsLeftAs (a : Blocks) (h k : ℕ) (n : Blocks) : Type 0 where
-  pub largest : n.largest ≡ a.largest
-  pub sound : IsSound a.largest n.rows.states n.kinds n.rows.lists
-  pub pages : length n.rows.states ≡ length a.rows.states
-  pub typed : length n.kinds ≡ length a.kinds
-  pub after : frames_in a.largest n ≡ with_area (frames_in a.largest a) (leave (area_in a.largest a) h k)
+-- the n pages from h on have left a, which leaves y
+pub record IsLeftAs (a : Blocks) (h n : ℕ) (y : Blocks) : Type 0 where
+  pub largest : y.largest ≡ a.largest
+  pub sound : IsSound a.largest y.rows.states y.kinds y.rows.lists
+  pub pages : length y.rows.states ≡ length a.rows.states
+  pub typed : length y.kinds ≡ length a.kinds
+  pub after : frames_in a.largest y ≡ with_area (frames_in a.largest a) (leave_run (area_in a.largest a) h n)
 
 -- the lists of a sound area hold what belongs there
 pub sound_listed : (m : ℕ) (a : Blocks) → IsSound m a.rows.states a.kinds a.rows.lists → IsListedArea (area_in m a)
@@ -310,45 +228,53 @@ sound_listed m a x = record {
       (same_tests _ _ (λ on. belongs-from m (block_set a) a.kinds r h x.normal ((x.listed r lt).to h on)) (λ b. (x.listed r lt).from h (belongs-to m (block_set a) a.kinds r h x.normal b)));
 }
 
--- the low run of the block of the type's own that is chosen has left
-pub run_own : (a n : Blocks) (t : MigrateType) (most h found k : ℕ) → IsSound a.largest a.rows.states a.kinds a.rows.lists → own (area_in a.largest a) 0 t ≡ Some h →
-    Starts (block_set a) h found → k ≤ found → 2 ^ k ≤ most → IsLeftAs a h k n → IsRunTaking a t most n h k
-run_own a n t most h found k x e st le within y =
+-- the lowest pages of the block of the type's own that is chosen have left
+pub run_own : (a y : Blocks) (t : MigrateType) (most h found n : ℕ) → IsSound a.largest a.rows.states a.kinds a.rows.lists → own (area_in a.largest a) 0 t ≡ Some h →
+    Starts (block_set a) h found → 0 < most → n ≡ min most (2 ^ found) → IsLeftAs a h n y → IsRunTaking a t most y h n
+run_own a y t most h found n x e st wanted count z =
     let b : Area = area_in a.largest a in
     let l = sound_listed a.largest a x in
     let w = own_least b t h e in
     let here : Max a.largest (cover (block_set a)) h found = (max-unique a.largest (Starts (block_set a)) (cover (block_set a)) x.normal h found).0 st in
+    let some : 0 < n = omega (arith, count, pow_pos found) in
+    let enough : n ≤ 2 ^ found = omega (arith, count) in
+    let pages : pages_of_first b (Some h) ≡ 2 ^ found = ap (λ s. 2 ^ unwrap_or (slice_index_or s h None) 0) (sym (set_maximal a.largest (block_set a) x.normal)) ∙ ap (λ o. 2 ^ unwrap_or o 0) st in
     let same : w.0 ≡ found = one_order a.largest (cover (block_set a)) h found w.0 here (own_block b t h w.0 l w.1).0 in
-    let r = own_run k b t h w.0 l w.1 (omega arith) in
+    let r = own_pages w.0 b t h w.0 n l w.1 (omega arith) some (rw same enough) in
     record {
-      within = within;
+      count = count ∙ ap (min most) (sym pages ∙ ap (pages_of_first b) (sym e));
+      some = some;
+      within = omega (arith, count);
       answers = r.0;
       order = found;
-      enough = le;
+      enough = enough;
       starts = st;
-      largest = y.largest;
-      sound = y.sound;
-      pages = y.pages;
-      typed = y.typed;
-      left = ap (λ (f : Frames). f.area.free) y.after ∙ free-leave b h k;
-      after = y.after ∙ ap (with_area (frames_in a.largest a)) (sym r.1);
+      largest = z.largest;
+      sound = z.sound;
+      pages = z.pages;
+      typed = z.typed;
+      left = ap (λ (f : Frames). f.area.free) z.after ∙ free-leave_run b h n;
+      after = z.after ∙ ap (with_area (frames_in a.largest a)) (sym r.1);
     }
 
 -- one page of another type's block was taken
-pub run_one : (a n : Blocks) (t : MigrateType) (most h : ℕ) → 0 < most → IsTaken a 0 t n (Some h) → IsRunTaking a t most n h 0
+pub run_one : (a y : Blocks) (t : MigrateType) (most h : ℕ) → 0 < most → own (area_in a.largest a) 0 t ≡ None → IsTaken a 0 t y (Some h) → IsRunTaking a t most y h 1
 unfolding take_answer take_after
-run_one a n t most h some y =
-    let x = y.2 in
+run_one a y t most h some none z =
+    let x = z.2 in
+    let one : 1 ≡ min most 1 = omega (arith, some) in
     record {
+      count = one ∙ ap (λ o. min most (pages_of_first (area_in a.largest a) o)) (sym none);
+      some = omega arith;
       within = omega arith;
-      answers = rw (x.chosen, y.1) refl;
-      order = y.0.block.order;
-      enough = omega arith;
-      starts = rw y.1 x.block.starts;
+      answers = rw (x.chosen, z.1) refl;
+      order = z.0.block.order;
+      enough = pow_pos z.0.block.order;
+      starts = rw z.1 x.block.starts;
       largest = x.largest;
       sound = x.sound;
       pages = x.pages;
       typed = x.typed;
-      left = ap (λ (f : Frames). f.area.free) x.after ∙ free-taken (area_in a.largest a) 0 t (chosen_of y.0) ∙ ap (λ g. without (cover (block_set a)) g 0) (sym y.1);
+      left = ap (λ (f : Frames). f.area.free) x.after ∙ free-taken (area_in a.largest a) 0 t (chosen_of z.0) ∙ ap (λ g. without (cover (block_set a)) g 0) (sym z.1) ∙ without_block (cover (block_set a)) h 0;
       after = rw x.chosen x.after;
     }

@@ -1,5 +1,6 @@
 -- Taking whole: what is left, and which blocks may come back then.
-use Rattle.std.proofs.Common.{ℕ, ◌+◌, ◌/◌, ◌^◌, ◌≡◌, ◌≤◌, ◌<◌, refl, sym, ◌∙◌, ap, arith, Bool, true, false, List, [], drop, length, Some}
+use Rattle.std.proofs.Common.{ℕ, ◌+◌, ◌/◌, ◌^◌, ◌≡◌, ◌≤◌, ◌<◌, ◌&&◌, inl, inr, refl, sym, ◌∙◌, ap, arith, Bool, true, false, not, List, [], drop, length, Some}
+use Rattle.std.specs.List.{count_by, range_with_len}
 use Rattle.std.proofs.lemmas.Bool.{false_from_ne_true}
 use Rattle.std.proofs.lemmas.Nat.{pow_pos}
 use Rattle.std.proofs.lemmas.List.{get_or-drop}
@@ -10,21 +11,22 @@ use Rattle.zp_model.specs.declared.pageblock_type.PageblockType.{PageblockType}
 use Rattle.zp_model.specs.declared.pageblock_type.PageblockType.TheVariants as of
 use Rattle.zp_model.specs.PageblockType.{is_isolate, noted_type, pageblock_type}
 use Rattle.zp_model.specs.declared.state.State.{State}
-use Rattle.zp_model.specs.Block.{has, size, without}
+use Rattle.zp_model.specs.Block.{has, size}
 use Rattle.zp_model.specs.BlockSet.{Starts, cover, lowest}
 use Rattle.zp_model.specs.Area.{available_blocks, lists_count, pageblock_pages}
 use Rattle.zp_model.specs.Frames.{Frames, IsClear, with_area}
+use Rattle.zp_model.specs.Runs.{is_within, without_pages}
 use Rattle.zp_model.specs.Take.{leave, retype, taken, blocks_at_hand}
-use Rattle.zp_model.proofs.Covers.{length-without}
 use Rattle.zp_model.proofs.Heads.{aligned_down}
-use Rattle.zp_model.proofs.Normal.{Filled}
 use Rattle.zp_model.proofs.Pages.{In}
+use Rattle.zp_model.proofs.RunParts.{length-without_pages, within-from, within-to, without_block}
 use Rattle.zp_laws.proofs.Areas.{free-taken, free-leave}
-use Rattle.zp_laws.proofs.Counting.{in_run-yes, size-without, has-without_any}
+use Rattle.zp_laws.proofs.Counting.{count-run, counts-add, has-left_any, one_if, size-range}
 use Rattle.zp_area.specs.Available.{choosable}
 use Rattle.zp_area.specs.Blocks.{Blocks, block_set}
 use Rattle.zp_buddy.specs.Choices.{area_in, frames_in, chosen_of, IsFreeBlock}
 use Rattle.zp_buddy.specs.Held.{IsHeld}
+use Rattle.zp_buddy.specs.Runs.{AreClear, IsRunTaking}
 use Rattle.zp_buddy.specs.Sound.{IsSound}
 use Rattle.zp_buddy.specs.declared.choice.Choice.{Choice}
 use Rattle.zp_buddy.proofs.Settled.{length-pages, restated_all, restated_same, set_maximal, starts_block}
@@ -49,70 +51,87 @@ noted_back of.Reclaimable e = refl
 noted_back of.Movable e = refl
 noted_back of.Isolate e = absurd cc
 
--- the low run (h, k) of a block (h, o) has left an area with so many free pages
-pub record IsRunTaken (m : ℕ) (a : Blocks) (free h o k : ℕ) (n : Blocks) : Type 0 where
+-- the n lowest pages of a block (h, o) have left an area with so many free pages
+pub record IsRunTaken (m : ℕ) (a : Blocks) (free h o n : ℕ) (y : Blocks) : Type 0 where
   pub held : IsHeld m a free
   pub starts : Starts (block_set a) h o
-  pub enough : k ≤ o
-  pub left : cover (block_set n) ≡ without (cover (block_set a)) h k
-  pub sides : drop (lists_count m) n.rows.lists ≡ drop (lists_count m) a.rows.lists
+  pub enough : n ≤ 2 ^ o
+  pub left : cover (block_set y) ≡ without_pages (cover (block_set a)) h n
+  pub sides : drop (lists_count m) y.rows.lists ≡ drop (lists_count m) a.rows.lists
 
-pub run_taken : {m : ℕ} {a : Blocks} {free k : ℕ} (n : Blocks) (t : MigrateType) (c : Choice) → IsHeld m a free → IsFreeBlock a k c.block →
-    frames_in m n ≡ with_area (frames_in m a) (taken (frames_in m a).area k t (Some (chosen_of c))) → IsRunTaken m a free c.block.head c.block.order k n
-run_taken {m} {a} {free} {k} n t c x y e = record {
+pub run_taken : {m : ℕ} {a : Blocks} {free k : ℕ} (y : Blocks) (t : MigrateType) (c : Choice) → IsHeld m a free → IsFreeBlock a k c.block →
+    frames_in m y ≡ with_area (frames_in m a) (taken (frames_in m a).area k t (Some (chosen_of c))) → IsRunTaken m a free c.block.head c.block.order (2 ^ k) y
+run_taken {m} {a} {free} {k} y t c x b e = record {
   held = x;
-  starts = y.starts;
-  enough = y.enough;
-  left = ap (λ (f : Frames). f.area.free) e ∙ free-taken (area_in m a) k t (chosen_of c);
+  starts = b.starts;
+  enough = pow-le-pow_right (omega arith) b.enough;
+  left = ap (λ (f : Frames). f.area.free) e ∙ free-taken (area_in m a) k t (chosen_of c) ∙ without_block (cover (block_set a)) c.block.head k;
   sides = ap (λ (f : Frames). f.sides) e;
 }
 
-pub run_left : {m : ℕ} {a : Blocks} {free : ℕ} (n : Blocks) (h o k : ℕ) → IsHeld m a free → Starts (block_set a) h o → k ≤ o →
-    frames_in m n ≡ with_area (frames_in m a) (leave (frames_in m a).area h k) → IsRunTaken m a free h o k n
-run_left {m} {a} {free} n h o k x y le e = record {
+pub run_left : {m : ℕ} {a : Blocks} {free : ℕ} (y : Blocks) (h o k : ℕ) → IsHeld m a free → Starts (block_set a) h o → k ≤ o →
+    frames_in m y ≡ with_area (frames_in m a) (leave (frames_in m a).area h k) → IsRunTaken m a free h o (2 ^ k) y
+run_left {m} {a} {free} y h o k x st le e = record {
   held = x;
-  starts = y;
-  enough = le;
-  left = ap (λ (f : Frames). f.area.free) e ∙ free-leave (area_in m a) h k;
+  starts = st;
+  enough = pow-le-pow_right (omega arith) le;
+  left = ap (λ (f : Frames). f.area.free) e ∙ free-leave (area_in m a) h k ∙ without_block (cover (block_set a)) h k;
   sides = ap (λ (f : Frames). f.sides) e;
 }
 
-module _ {m : ℕ} {a : Blocks} {free h o k : ℕ} {n : Blocks} (x : IsRunTaken m a free h o k n) where
-  filled : Filled (In (cover (block_set a))) h k
-  filled i lo hi =
-      let p : 2 ^ k ≤ 2 ^ o = pow-le-pow_right (omega arith) x.enough in
-      x.held.sound.normal.inside h o x.starts i lo (omega arith)
+pub run_off : {a y : Blocks} {free most h n : ℕ} {t : MigrateType} → IsHeld a.largest a free → (x : IsRunTaking a t most y h n) → IsRunTaken a.largest a free h x.order n y
+run_off held x = record { held = held; starts = x.starts; enough = x.enough; left = x.left; sides = ap (λ (f : Frames). f.sides) x.after }
 
-  run_inside : h + 2 ^ k ≤ length (cover (block_set a))
-  run_inside =
-      let p : 2 ^ k ≤ 2 ^ o = pow-le-pow_right (omega arith) x.enough in
-      omega (arith, (starts_block m a h o x.held.sound x.starts).inside, length-pages a.rows.states)
+-- the pages of a run of the set leave it
+size-left : (u : List Bool) (h n : ℕ) → h + n ≤ length u → ((i : ℕ) → h ≤ i → i < h + n → In u i) → size u ≡ size (without_pages u h n) + n
+size-left u h n le f =
+    let v : List Bool = without_pages u h n in
+    let e : count_by (has u) (range_with_len 0 (length u)) ≡ count_by (has v) (range_with_len 0 (length u)) + count_by (is_within h n) (range_with_len 0 (length u)) =
+    counts-add (has u) (has v) (is_within h n) 0 (length u) (λ i lo hi. rw (has-left_any u h n i) (parts (has u i) (is_within h n i) (λ on. let r = within-to h n i on in f i r.0 r.1))) in
+    let c = count-run (is_within h n) h n 0 (length u) (within-from h n) (λ i w. false_from_ne_true _ (λ on. let r = within-to h n i on in elim w [ inl x ↦ omega (arith, r.0) | inr x ↦ omega (arith, r.1) ])) in
+    let all : size v ≡ count_by (has v) (range_with_len 0 (length u)) = size-range v ∙ ap (λ m. count_by (has v) (range_with_len 0 m)) (length-without_pages u h n) in
+    omega (arith, e, c, all, size-range u)
+  where
+    parts : (u r : Bool) → (r ≡ true → u ≡ true) → one_if u ≡ one_if (u && not r) + one_if r
+    parts u r f = grind arith
+
+module _ {m : ℕ} {a : Blocks} {free h o n : ℕ} {y : Blocks} (x : IsRunTaken m a free h o n y) where
+  filled : (i : ℕ) → h ≤ i → i < h + n → In (cover (block_set a)) i
+  filled i lo hi = x.held.sound.normal.inside h o x.starts i lo (omega (arith, x.enough))
+
+  run_inside : h + n ≤ length (cover (block_set a))
+  run_inside = omega (arith, (starts_block m a h o x.held.sound x.starts).inside, length-pages a.rows.states, x.enough)
 
   -- the free pages are so many less
-  pub fewer : free ≡ size (cover (block_set n)) + 2 ^ k
-  fewer = x.held.counted ∙ size-without (cover (block_set a)) h k run_inside filled ∙ ap (λ u. size u + 2 ^ k) (sym x.left)
+  pub fewer : free ≡ size (cover (block_set y)) + n
+  fewer = x.held.counted ∙ size-left (cover (block_set a)) h n run_inside filled ∙ ap (λ u. size u + n) (sym x.left)
 
-  length-left : length (cover (block_set n)) ≡ length (cover (block_set a))
-  length-left = ap length x.left ∙ length-without (cover (block_set a)) h k
+  length-left : length (cover (block_set y)) ≡ length (cover (block_set a))
+  length-left = ap length x.left ∙ length-without_pages (cover (block_set a)) h n
 
-  -- the run may come back
-  pub may_return : IsClear (frames_in m n) h k
-  may_return =
-      let block = starts_block m a h o x.held.sound x.starts in
-      record {
-        block = record { order = omega (arith, block.order, x.enough); aligned = aligned_down k o h x.enough block.aligned; inside = rw length-left run_inside };
-        free = λ i lo hi. rw x.left (has-without_any (cover (block_set a)) h k i ∙ rw (in_run-yes h k i lo hi) (and-false _));
-        aside = λ r i lo hi. rw x.sides (false_from_ne_true _ (λ on.
-            x.held.sound.aside (lists_count m + r) i (omega arith) (rw (get_or-drop (lists_count m) a.rows.lists r []) at on) (filled i lo hi)));
-      }
-
-  -- and so may each block that might before
-  pub still_may : (g j : ℕ) → IsClear (frames_in m a) g j → IsClear (frames_in m n) g j
-  still_may g j y = record {
-    block = rw length-left y.block;
-    free = λ i lo hi. rw x.left (has-without_any (cover (block_set a)) h k i ∙ rw (y.free i lo hi) refl);
-    aside = λ r i lo hi. rw x.sides (y.aside r i lo hi);
+  -- the pages are clear
+  pub are_clear : AreClear (frames_in m y) h n
+  are_clear = record {
+    inside = rw length-left run_inside;
+    free = λ i lo hi. rw x.left (has-left_any (cover (block_set a)) h n i ∙ rw (within-from h n i lo hi) (and-false _));
+    aside = λ r i lo hi. rw x.sides (false_from_ne_true _ (λ on.
+        x.held.sound.aside (lists_count m + r) i (omega arith) (rw (get_or-drop (lists_count m) a.rows.lists r []) at on) (filled i lo hi)));
   }
+
+  -- and each block that might come back before still may
+  pub still_may : (g j : ℕ) → IsClear (frames_in m a) g j → IsClear (frames_in m y) g j
+  still_may g j c = record {
+    block = rw length-left c.block;
+    free = λ i lo hi. rw x.left (has-left_any (cover (block_set a)) h n i ∙ rw (c.free i lo hi) refl);
+    aside = λ r i lo hi. rw x.sides (c.aside r i lo hi);
+  }
+
+-- a run with as many pages as a block may come back as one
+pub may_return : {m : ℕ} {a : Blocks} {free h o : ℕ} {y : Blocks} (k : ℕ) → k ≤ o → IsRunTaken m a free h o (2 ^ k) y → IsClear (frames_in m y) h k
+may_return {m} {a} {free} {h} {o} k le x =
+    let block = starts_block m a h o x.held.sound x.starts in
+    let c = are_clear x in
+    record { block = record { order = omega (arith, block.order, le); aligned = aligned_down k o h le block.aligned; inside = c.inside }; free = c.free; aside = c.aside }
 
 -- the head of a block that may come back
 pub clear_head : (m : ℕ) (n : Blocks) (h k : ℕ) → IsClear (frames_in m n) h k → (h < length n.rows.states) × (has (cover (block_set n)) h ≡ false)

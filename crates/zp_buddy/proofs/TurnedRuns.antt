@@ -71,7 +71,7 @@ turned_half p j =
       | inr e ↦ let h = double (omega (arith, e.1)) (omega (arith, e.1, two j, pow_pos j)) in inr (e.1 ∙ ap (λ n. n + w) (sym h), same ∙ e.0 ∙ sym h)
     ]
 
-gives-append : (a : Area) (xs ys : List ℕ) → gives a (xs ++ ys) ≡ gives (gives a xs) ys
+pub gives-append : (a : Area) (xs ys : List ℕ) → gives a (xs ++ ys) ≡ gives (gives a xs) ys
 gives-append a [] ys = refl
 gives-append a (x ∷ xs) ys = gives-append (give a x 0) xs ys
 

@@ -3,3 +3,4 @@ pub mod Opened
 pub mod Choices
 pub mod Held
 pub mod Runs
+pub mod FallingRuns

@@ -1,9 +1,10 @@
 //! The buddy allocator of one zone.
 //!
 //! In Linux: the `free_area` of a `struct zone`, `__rmqueue` and `__free_one_page`.
-ghost use Rattle.std.specs.Prelude.{ℕ, ◌≡◌, ◌<◌, ◌≤◌, ◌+◌, ◌++◌, ◌∷◌, [], ◌^◌, ◌*◌, ◌↔◌, false, length, slice_get, slice_index_or, slice_set, IfNone, IfOk, IfSome, IsTrue, None};
+ghost use Rattle.std.specs.Prelude.{ℕ, ◌≡◌, ◌<◌, ◌≤◌, ◌+◌, ◌++◌, ◌∷◌, [], ◌^◌, ◌*◌, ◌↔◌, false, length, map, slice_get, slice_index_or, slice_set, IfNone, IfOk, IfSome, IsTrue, None};
+ghost use Rattle.std.specs.List.{range_with_len};
 ghost use Rattle.zp_model.specs.Block.{has, in_run, size};
-ghost use Rattle.zp_model.specs.Info.{counts_of};
+ghost use Rattle.zp_model.specs.Info.{blocks_of_type, counts_by_type, counts_of};
 ghost use Rattle.zp_model.specs.Rows.{IsLoose, IsOn, after, front, list_at, rest, state_at, with_run};
 ghost use Rattle.zp_model.specs.Described.{IsLinkedAt};
 ghost use Rattle.zp_model.specs.Frames.{frames_opening, with_area, IsNote, IsFramed, IsClear, given};
@@ -11,9 +12,11 @@ ghost use Rattle.zp_model.specs.declared.pageblock_type.PageblockType.TheVariant
 ghost use Rattle.zp_model.specs.BlockSet.{largest_in, max_blocks};
 ghost use Rattle.zp_model.specs.Area.{available, list_number, free_list, kind_at, pageblock_pages, pageblocks_of, size_in};
 ghost use Rattle.zp_model.specs.Take.{retype, take_answer, take_after, take_low_answer, take_low_after};
-ghost use Rattle.zp_buddy.specs.Runs.{pages_taken, pages_left, run_pages};
+ghost use Rattle.zp_buddy.specs.FallingRuns.{AreTails, falling_run};
+ghost use Rattle.zp_buddy.specs.Runs.{AreClear, gives, pages_taken, pages_left, run_length, run_pages};
 
 use crate::clear::{is_block, is_clear_run};
+use crate::falling::give_falling;
 use crate::join::join;
 use crate::opening::add_all_pages;
 use crate::split::take_block;
@@ -22,7 +25,8 @@ use std::alloc::{AllocError, Global};
 use std::marker::Model;
 use zp_area::{FreeArea, LinkedPage};
 use zp_model::{
-    Counts, Largest, MAX_PAGES, MigrateType, ORDERS, Order, PageAt, PageblockType, State,
+    Counts, CountsByType, Largest, MAX_PAGES, MigrateType, ORDERS, Order, PageAt, PageblockType,
+    State,
 };
 
 /// The free blocks of a zone, what is noted of its other pages, and further lists of those pages. Contracts see the plain
@@ -79,22 +83,24 @@ impl Buddy {
     }
 
     /// Takes pages in a row for this type, as many as a block has, `most` of them or fewer: those that so many requests for one page, one
-    /// after another, would take. The first of them, and the order of the run.
+    /// after another, would take. The first of them, and how many.
     // (in line: a refill calls it for each part)
     #[inline(always)]
-    pub fn take_run(&mut self, kind: MigrateType, most: u32) -> Option<(PageAt, Order)>
+    pub fn take_run(&mut self, kind: MigrateType, most: u32) -> Option<(PageAt, u32)>
         requires { 0 < most }
         ensures none { IfNone result ((take_answer self.old.area 0 kind ≡ None) × (self.new ≡ self.old)) }
-        ensures most { IfSome result (λ r. 2 ^ r.1 ≤ most) }
-        ensures answers { IfSome result (λ r. pages_taken self.old.area kind (2 ^ r.1) ≡ run_pages r.0 (2 ^ r.1)) }
-        ensures after { IfSome result (λ r. self.new ≡ with_area self.old (pages_left self.old.area kind (2 ^ r.1))) }
+        ensures count { IfSome result (λ r. r.1 ≡ run_length self.old.area kind most) }
+        ensures answers { IfSome result (λ r. pages_taken self.old.area kind r.1 ≡ run_pages r.0 r.1) }
+        ensures after { IfSome result (λ r. self.new ≡ with_area self.old (pages_left self.old.area kind r.1)) }
 
         // What the calls after it can rest on.
-        ensures clear { IfSome result (λ r. IsClear self.new r.0 r.1) }
+        ensures some { IfSome result (λ r. 0 < r.1) }
+        ensures most { IfSome result (λ r. r.1 ≤ most) }
+        ensures clear { IfSome result (λ r. AreClear self.new r.0 r.1) }
         ensures kept { (h k : ℕ) → IsClear self.old h k → IsClear self.new h k }
     {
         let run = take_run(&mut self.area, kind, most)?;
-        self.free -= run.1.pages();
+        self.free -= run.1;
         Some(run)
     }
 
@@ -133,6 +139,16 @@ impl Buddy {
         self.free += order.pages();
     }
 
+    /// Frees pages in a row, of which nothing is noted, as they would be one after another, the highest first.
+    pub fn give_run(&mut self, at: PageAt, pages: u32)
+        requires clear { AreClear self.old at pages }
+        requires tails { AreTails self.old at (at + pages) }
+        ensures { self.new ≡ with_area self.old (gives self.old.area (falling_run at pages)) }
+    {
+        give_falling(&mut self.area, at, pages);
+        self.free += pages;
+    }
+
     /// The order of the largest block.
     pub fn largest(&self) -> Largest
         ensures { result ≡ self.now.area.largest }
@@ -160,20 +176,20 @@ impl Buddy {
         self.area.hold(at, state);
     }
 
-    /// Notes this of each page of a clear run.
-    // (in line: a run of one page is noted with no loop)
+    /// Notes this of so many clear pages in a row.
+    // (in line: a single page is noted with no loop)
     #[inline(always)]
-    pub fn hold_run(&mut self, at: PageAt, order: Order, state: &State)
-        requires clear { IsClear self.old at order }
+    pub fn hold_run(&mut self, at: PageAt, pages: u32, state: &State)
+        requires clear { AreClear self.old at pages }
         requires note { IsNote state.now }
-        ensures after { self.new ≡ record self.old { states = with_run self.old.states at (2 ^ order) state.now } }
+        ensures after { self.new ≡ record self.old { states = with_run self.old.states at pages state.now } }
     {
         // a clause of this call says that each page has a note
         let _pages = self.pages();
-        if order.number() == 0 {
+        if pages == 1 {
             self.hold(at, *state);
         } else {
-            self.area.hold_run(at, order, *state);
+            self.area.hold_run(at, pages, *state);
         }
     }
 
@@ -334,5 +350,41 @@ impl Buddy {
             order = order.higher();
         }
         counts
+    }
+
+    /// How many free blocks of each order there are in the pageblocks of each type, and how many pageblocks of each type.
+    pub fn counts_by_type(&self) -> CountsByType
+        ensures { result ≡ counts_by_type self.now.area.largest self.now.area.free self.now.area.kinds }
+    {
+        CountsByType {
+            free: [
+                self.blocks_of_type(PageblockType::Unmovable),
+                self.blocks_of_type(PageblockType::Reclaimable),
+                self.blocks_of_type(PageblockType::Movable),
+                self.blocks_of_type(PageblockType::Isolate),
+            ],
+            pageblocks: [
+                self.area.pageblocks_of_type(PageblockType::Unmovable),
+                self.area.pageblocks_of_type(PageblockType::Reclaimable),
+                self.area.pageblocks_of_type(PageblockType::Movable),
+                self.area.pageblocks_of_type(PageblockType::Isolate),
+            ],
+        }
+    }
+
+    /// How many free blocks of each order there are in the pageblocks of a type.
+    fn blocks_of_type(&self, kind: PageblockType) -> [u32; ORDERS]
+        ensures { result ≡ map (blocks_of_type self.now.area.largest self.now.area.free self.now.area.kinds kind) (range_with_len 0 ORDERS) }
+    {
+        let mut blocks = [0; ORDERS];
+        let mut order = Order::zero();
+        'orders: loop {
+            blocks[order.index()] = self.area.count_of_type(order, kind);
+            if order == self.area.largest().order() {
+                break;
+            }
+            order = order.higher();
+        }
+        blocks
     }
 }

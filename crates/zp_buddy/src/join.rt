@@ -13,6 +13,7 @@ use zp_area::FreeArea;
 use zp_model::{Order, PageAt, State};
 
 /// Joins a block that comes back with its free buddies as far as that goes, and adds the joined block.
+#[inline(always)]
 pub fn join(area: &mut FreeArea, at: PageAt, order: Order)
     requires sound { IsSound area.old.largest area.old.rows.states area.old.kinds area.old.rows.lists }
     requires clear { IsClear (frames_in area.old.largest area.old) at order }

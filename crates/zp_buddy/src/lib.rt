@@ -4,6 +4,7 @@
 mod buddy;
 mod choice;
 mod clear;
+mod falling;
 mod join;
 mod opening;
 mod split;

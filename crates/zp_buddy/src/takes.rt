@@ -83,16 +83,18 @@ pub fn take(area: &mut FreeArea, order: Order, kind: MigrateType) -> Option<Page
 }
 
 /// Takes pages in a row off the smallest block of the request's own type: as many as a block has, `most` of them or fewer. Where the type has
-/// no block, one page as `take` does. The first page, and the order of the run.
+/// no block, one page as `take` does. The first page, and how many.
 #[inline(always)]
-pub fn take_run(area: &mut FreeArea, kind: MigrateType, most: u32) -> Option<(PageAt, Order)>
+pub fn take_run(area: &mut FreeArea, kind: MigrateType, most: u32) -> Option<(PageAt, u32)>
     requires some { 0 < most }
     requires sound { IsSound area.old.largest area.old.rows.states area.old.kinds area.old.rows.lists }
     ensures { IsRunOf area.old kind most area.new result }
 {
-    if let Some(found) = area.take_first_run(kind, most) {
+    // a clause of this call says that all that is kept is of one set of blocks
+    let _pages = area.pages();
+    if let Some(found) = area.take_first_pages(kind, most) {
         return Some(found);
     }
     let head = take_foreign(area, Order::zero(), kind)?;
-    Some((head, Order::zero()))
+    Some((head, 1))
 }

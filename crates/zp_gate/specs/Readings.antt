@@ -1,7 +1,8 @@
 -- What is told of the zone behind a lock, as it is at one moment (this profile).
 use Rattle.std.specs.Prelude.{ℕ, ◌≡◌, ◌<◌, ◌≤◌, ◌+◌, ◌↔◌, List, Option, IsSome, IfSome}
 use Rattle.zp_model.specs.Area.{pageblocks_of}
-use Rattle.zp_model.specs.Info.{counts_of, info_line}
+use Rattle.zp_model.specs.declared.counts.CountsByType.{CountsByType}
+use Rattle.zp_model.specs.Info.{counts_by_type, counts_of, info_line}
 use Rattle.zp_model.specs.Mark.{level_of}
 use Rattle.zp_model.specs.Run.{IsHistory}
 use Rattle.zp_model.specs.Zone.{pages_of, posted_pages}
@@ -47,10 +48,15 @@ TellsPage p e z = (IsSome e ↔ IsPageOf z.plain p) × IfSome e (λ (e : ZonePag
 abbrev pub TellsPageblock : ℕ → Option Pageblock → ZoneState → Type 0
 TellsPageblock n e z = (IsSome e ↔ (n < pageblocks_of z.plain.area.largest (pages_of z.plain))) × IfSome e (IsPageblockOf z.plain n)
 
+-- its free blocks by their pageblock's type and their order, and its pageblocks by their type
+abbrev pub TellsTypes : CountsByType → ZoneState → Type 0
+TellsTypes t z = t ≡ counts_by_type z.plain.area.largest z.plain.area.free z.plain.area.kinds
+
 -- the answer is one to this question, and so of the zone
 abbrev pub Tells : Question → Answer → ZoneState → Type 0
 Tells Question.Zone (Answer.Zone t) z = TellsZone t z
 Tells Question.Line (Answer.Line line) z = TellsLine line z
 Tells (Question.Page p) (Answer.Page e) z = TellsPage p e z
 Tells (Question.Pageblock n) (Answer.Pageblock e) z = TellsPageblock n e z
+Tells Question.Types (Answer.Types t) z = TellsTypes t z
 Tells q a z = ⊥

@@ -233,6 +233,7 @@ fn told(zone: &Zone, question: Question) -> Answer
         }
         Question::Page(page) => Answer::Page(zone.entry(page)),
         Question::Pageblock(pageblock) => Answer::Pageblock(zone.pageblock(pageblock)),
+        Question::Types => Answer::Types(zone.counts_by_type()),
     }
 }
 

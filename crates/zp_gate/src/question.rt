@@ -1,6 +1,6 @@
 //! What a zone is asked to report of itself, and what it returns.
 use zp_info::{INFO_LINE, TextBuffer};
-use zp_model::{Counts, Level, PageNo};
+use zp_model::{Counts, CountsByType, Level, PageNo};
 use zp_zone::{Pageblock, ZonePage};
 
 /// How many free blocks of each order and free pages a zone has, its level, and its posted pages, all at one moment.
@@ -21,6 +21,8 @@ pub enum Question {
     Page(PageNo),
     /// The pageblock of this number.
     Pageblock(u32),
+    /// Free blocks and pageblocks by type.
+    Types,
 }
 
 /// What it reports: of a page or a pageblock that it does not have, nothing.
@@ -30,4 +32,5 @@ pub enum Answer {
     Line(TextBuffer<INFO_LINE>),
     Page(Option<ZonePage>),
     Pageblock(Option<Pageblock>),
+    Types(CountsByType),
 }

@@ -18,6 +18,7 @@ pub mod Replaying
 pub mod Histories
 pub mod StaysOut
 pub mod AddingUp
+pub mod CountedByType
 pub mod BooksOut
 pub mod BooksOthers
 pub mod BooksOwn

@@ -246,8 +246,8 @@ fn set_pages(pages: &mut PageList, request: &Request, reply: &Reply)
     ensures { pages.new ≡ pages_of request.now reply.now pages.old }
 {
     if let Request::Drain(_, given) = request {
-        pages.set(given.as_slice());
+        pages.replace(given.as_slice());
     } else if let Reply::Pages(got) = reply {
-        pages.set(got.as_slice());
+        pages.replace(got.as_slice());
     }
 }

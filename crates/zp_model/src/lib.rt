@@ -30,7 +30,7 @@ pub use constants::{
     MAX_BATCH, MAX_PAGES, MAX_WORKERS, MAX_ZONES, NAME_PLACES, NARROW_BASE_LIMIT, NARROW_PAGES,
     NUMBER_PLACES, ORDERS, PAGEBLOCK_TYPES, TRACE_ZONES, TYPES,
 };
-pub use counts::Counts;
+pub use counts::{Counts, CountsByType};
 pub use entry::{Answered, Asked, Entry};
 pub use largest::Largest;
 pub use mark::{Level, Mark};

@@ -61,6 +61,16 @@ impl PageList {
             self.pages.as_mut_slice().copy_from_slice(pages);
             return;
         }
+        self.replace(pages);
+    }
+
+    /// The same, whatever it had.
+    // (for requests of any kind, most of which have no list: no test of the length comes in line with them)
+    #[inline(always)]
+    pub fn replace(&mut self, pages: &[PageNo])
+        requires { length pages.now ≤ LONGEST_LIST }
+        ensures { self.new ≡ pages.now }
+    {
         self.pages.clear();
         let Ok(()) = self.pages.try_extend_from_slice(pages) else {
             unreachable!()

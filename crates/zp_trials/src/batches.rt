@@ -1,10 +1,10 @@
 //! Runs of pages that are taken and given back as one, beside the same pages one by one.
 
-use crate::pair::{Pair, new_pair};
+use crate::pair::{Pair, new_pair, order_of, page_of};
 use std::alloc::{AllocError, AllocGlobal};
 use std::process::Abort;
 use std::test::Fail;
-use zp_model::{LARGEST_ORDER, MigrateType, Order, PageAt};
+use zp_model::{LARGEST_ORDER, MAX_PAGES, MigrateType, PageAt};
 
 const UNMOVABLE: MigrateType = MigrateType::Unmovable;
 
@@ -41,7 +41,7 @@ const PLACES: [Places; 6] = [(1, 0), (1, 1023), (1, 5), (3, 0), (5, 6), (13, 9)]
 fn take_runs(
     rt: &(impl Abort + AllocGlobal),
     pair: &mut Pair,
-) -> Result<Vec<(PageAt, Order)>, AllocError> {
+) -> Result<Vec<(PageAt, u32)>, AllocError> {
     let mut taken = Vec::new(rt.alloc());
     for (kind, most) in WANTED {
         if let Some(run) = pair.take_run(rt, kind, most) {
@@ -50,6 +50,21 @@ fn take_runs(
         pair.compare(rt);
     }
     Ok(taken)
+}
+
+/// Frees the pages of a run in blocks, the largest first.
+fn give_blocks(rt: &impl Abort, pair: &mut Pair, run: (PageAt, u32), places: Places) {
+    let (head, count) = run;
+    let mut at = head.number();
+    for step in 0..=LARGEST_ORDER {
+        let order = order_of(rt, LARGEST_ORDER - step);
+        if count / order.pages() % 2 == 1 {
+            pair.give_run(rt, page_of(rt, at), order, places);
+            pair.compare(rt);
+            assert!(rt; at < MAX_PAGES);
+            at += order.pages();
+        }
+    }
 }
 
 /// Takes runs from a new zone of so many pages, and gives them back.
@@ -61,11 +76,10 @@ fn compare_runs(
     let mut pair = new_pair(rt, largest, pages)?;
     let taken = take_runs(rt, &mut pair)?;
     let mut places = PLACES.iter().cycle();
-    for (head, order) in taken {
+    for run in taken {
         if let Some(places) = places.next() {
-            pair.give_run(rt, head, order, *places);
+            give_blocks(rt, &mut pair, run, *places);
         }
-        pair.compare(rt);
     }
     Ok(())
 }

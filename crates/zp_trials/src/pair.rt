@@ -98,17 +98,17 @@ impl Pair {
         rt: &impl Abort,
         kind: MigrateType,
         most: u32,
-    ) -> Option<(PageAt, Order)> {
+    ) -> Option<(PageAt, u32)> {
         let Some(run) = self.buddy.take_run(kind, most.max(1)) else {
             assert!(rt; self.plain.take(Order::zero(), kind).is_none());
             return None;
         };
-        let (head, order) = run;
+        let (head, count) = run;
         let state = State::Out(Order::zero(), kind, Worker::first());
-        // a clause of this call says that the run lies in the zone
+        // a clause of this call says how many pages there can be
         let _pages = self.buddy.pages();
-        self.buddy.hold_run(head, order, &state);
-        for it in 0..order.pages() {
+        self.buddy.hold_run(head, count, &state);
+        for it in 0..count {
             let page = self
                 .plain
                 .take(Order::zero(), kind)
@@ -124,7 +124,7 @@ impl Pair {
         assert!(rt; self.buddy.is_clear(head, order));
         // a clause of this call says that the run lies in the zone
         let _pages = self.buddy.pages();
-        self.buddy.hold_run(head, order, &State::Tail);
+        self.buddy.hold_run(head, order.pages(), &State::Tail);
         assert!(rt; self.buddy.is_clear(head, order));
         self.buddy.give(head, order);
         let (step, turn) = places;

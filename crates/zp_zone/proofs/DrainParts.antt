@@ -11,7 +11,7 @@ use Rattle.zp_model.specs.declared.state.State.{State}
 use Rattle.zp_model.specs.declared.state.State.TheVariants.{Tail, Free}
 use Rattle.zp_model.specs.Area.{Area}
 use Rattle.zp_model.specs.Block.{has, head}
-use Rattle.zp_model.specs.Frames.{Frames, IsClear, IsFramed, given, with_area}
+use Rattle.zp_model.specs.Frames.{Frames, IsClear, given, with_area}
 use Rattle.zp_model.specs.Lawful.{IsLawful}
 use Rattle.zp_model.specs.Rows.{state_at, with_run}
 use Rattle.zp_model.specs.Run.{is_distinct, is_out}
@@ -27,7 +27,7 @@ use Rattle.zp_laws.proofs.Counting.{has-with_any}
 use Rattle.zp_laws.proofs.Held.{IsHolding, out-to, out_held}
 use Rattle.zp_laws.proofs.StaysOut.{freed-kept, none_left_at}
 use Rattle.zp_laws.proofs.Steps.{freed_lawful}
-use Rattle.zp_buddy.specs.Runs.{gives, turned_pages}
+use Rattle.zp_buddy.specs.Runs.{AreClear, gives, turned_pages}
 use Rattle.zp_buddy.proofs.TurnedRuns.{get_or-turned, gives_turned, length-turned, turned_back, turned_in, turned_number}
 use Rattle.zp_zone.specs.Kept.{holding_of, plain_of, IsKept, IsPostedAside}
 use Rattle.zp_zone.specs.NamedZone.{AreOut, NamedZone}
@@ -35,7 +35,8 @@ use Rattle.zp_zone.specs.Runs.{AreTurned}
 use Rattle.zp_zone.proofs.BlockSteps.{IsAsked, held_clear, named, not_out}
 use Rattle.zp_zone.proofs.DrainSteps.{IsLeft, left_next}
 use Rattle.zp_zone.proofs.Noted.{IsBeside, aside_restated, kept_by, pages_same, plain-with_area}
-use Rattle.zp_zone.proofs.RunFrames.{IsRunOff, aside_noted_run, out_run, plain-noted_run}
+use Rattle.zp_zone.proofs.RunFrames.{out_run}
+use Rattle.zp_zone.proofs.RunsBack.{IsWithin, back, cases_run, kept_back, note_at, plain_back}
 
 -- what is out, but for what is out at these places
 abbrev pub cleared : List (Option Holding) → List ℕ → List (Option Holding)
@@ -43,7 +44,7 @@ cleared out [] = out
 cleared out (h ∷ hs) = cleared (set out h None) hs
 
 -- what pages given back leave
-drained_is : (hs : List ℕ) (z : PlainZone) → drained z (map (λ h. z.base + h) hs) ≡ record z { area = gives z.area hs; out = cleared z.out hs }
+pub drained_is : (hs : List ℕ) (z : PlainZone) → drained z (map (λ h. z.base + h) hs) ≡ record z { area = gives z.area hs; out = cleared z.out hs }
 drained_is [] z = refl
 drained_is (h ∷ hs) z =
     let place : z.base + h - z.base ≡ h = omega arith in
@@ -78,16 +79,6 @@ length-cleared : (hs : List ℕ) (out : List (Option Holding)) → length (clear
 length-cleared [] out = refl
 length-cleared (h ∷ hs) out = length-cleared hs (set out h None) ∙ length-set out h None
 
--- the pages of a run from h on
-abbrev IsWithin : ℕ → ℕ → ℕ → Type 0
-IsWithin h n i = (h ≤ i) × (i < h + n)
-
-cases_run : (h n i : ℕ) → IsWithin h n i ⊎ (IsWithin h n i → ⊥)
-cases_run h n i = elim (cases_lt i h) [
-  | inl below ↦ inr (λ r. omega (arith, below, r.0))
-  | inr from ↦ elim (cases_lt i (h + n)) [ inl lt ↦ inl (from, lt) | inr past ↦ inr (λ r. omega (arith, past, r.1)) ]
-]
-
 run_is_none : (n : ℕ) (out : List (Option Holding)) (h : ℕ) → out_run out h n None ≡ cleared out (range_with_len h n)
 run_is_none zero out h = refl
 run_is_none (suc n) out h = run_is_none n (set out h None) (h + 1)
@@ -117,18 +108,6 @@ cleared_run out p j =
           o (omega (arith, head_le i j), omega (arith, lt_head i j)))))
     ])
 
--- what is noted of the pages of a run, and of the others
-noted_off : (n : ℕ) (s : List State) (h i : ℕ) (v : State) → (IsWithin h n i → ⊥) → state_at (with_run s h n v) i ≡ state_at s i
-noted_off zero s h i v off = refl
-noted_off (suc n) s h i v off = noted_off n (set s h v) (h + 1) i v (λ r. off (omega (arith, r.0), omega (arith, r.1))) ∙ get_or-set_other s h i v Tail (λ e. off (omega arith, omega arith))
-
-noted_at : (n : ℕ) (s : List State) (h i : ℕ) (v : State) → IsWithin h n i → i < length s → state_at (with_run s h n v) i ≡ v
-noted_at zero s h i v r lt = absurd (omega (arith, r.0, r.1))
-noted_at (suc n) s h i v r lt = elim (cases_eq i h) [
-  | inl same ↦ noted_off n (set s h v) (h + 1) i v (λ q. omega (arith, q.0)) ∙ rw same (let below : h < length s = omega arith in get_or-set_same s h v Tail below)
-  | inr ne ↦ noted_at n (set s h v) (h + 1) i v (omega (arith, r.0), omega (arith, r.1)) (omega (arith, length-set s h v))
-]
-
 -- so many pages of the run around page p are out to worker w, each as a block of order 0
 module _ (f : Frames) (base min w p j : ℕ) (x : IsAsked f base min) (order : j ≤ f.area.largest)
     (out : (i : ℕ) → head p j ≤ i → i < head p j + 2 ^ j → IsHolding (plain_of f base min) w i 0) where
@@ -146,35 +125,17 @@ module _ (f : Frames) (base min w p j : ℕ) (x : IsAsked f base min) (order : j
         aside = λ r i lo hi. (held_clear f base min w i 0 x (out i lo hi)).aside r i (omega arith) (omega arith);
       }
 
-  off : IsRunOff f.sides run (2 ^ j)
-  off i lo hi r = part_clear.aside r i lo hi
+  pages_clear : AreClear f run (2 ^ j)
+  pages_clear = record { inside = part_clear.block.inside; free = part_clear.free; aside = part_clear.aside }
 
   -- nothing is noted of its pages any more
   abbrev noted : Frames
   noted = record f { states = with_run f.states run (2 ^ j) Tail }
 
-  note_at : (i : ℕ) → IsWithin run (2 ^ j) i → state_at noted.states i ≡ Tail
-  note_at i r = noted_at (2 ^ j) f.states run i Tail r (omega (arith, r.1, part_clear.block.inside, x.framed.pages))
-
-  note_off : (i : ℕ) → (IsWithin run (2 ^ j) i → ⊥) → state_at noted.states i ≡ state_at f.states i
-  note_off i r = noted_off (2 ^ j) f.states run i Tail r
-
-  again : set noted.states run Tail ≡ noted.states
-  again = ap (set noted.states run) (sym (note_at run (omega arith, omega (arith, pow_pos j)))) ∙ set-get_or noted.states run Tail
-
-  noted_framed : IsFramed noted
-  noted_framed = record {
-    pages = x.framed.pages ∙ sym (length-run f.states run (2 ^ j) Tail);
-    typed = rw (length-run f.states run (2 ^ j) Tail) x.framed.typed;
-    noted = λ g k. elim (cases_run run (2 ^ j) g) [
-      | inl r ↦ (
-        λ e. absurd (let tail : Tail ≡ Free k = sym (note_at g r) ∙ e in cc),
-        λ m. absurd (both_ways _ (part_clear.free g r.0 r.1) (max_has f.area.largest f.area.free g k m)),
-      )
-      | inr o ↦ rw (note_off g o) (x.framed.noted g k)
-    ];
-    beside = x.framed.beside;
-  }
+  again : given noted run j ≡ with_area noted (give f.area run j)
+  again =
+      let here : state_at noted.states run ≡ Tail = note_at f base min run (2 ^ j) x pages_clear run (omega arith, omega (arith, pow_pos j)) in
+      ap (λ s. with_area (record noted { states = s }) (give f.area run j)) (ap (set noted.states run) (sym here) ∙ set-get_or noted.states run Tail)
 
   back_marks : (i : ℕ) → has (give f.area run j).free i ≡ true → (has f.area.free i ≡ true) ⊎ IsWithin run (2 ^ j) i
   back_marks i e = elim (or_cases _ _ (sym (has-with_any f.area.free run j i part_clear.block.inside) ∙ (rw (free-give f.area run j) at e))) [
@@ -182,42 +143,21 @@ module _ (f : Frames) (base min w p j : ℕ) (x : IsAsked f base min) (order : j
     | inr new ↦ inr (in_run-to run j i new)
   ]
 
-  back_beside : IsBeside f.sides (give f.area run j).free
-  back_beside r q e = false_from_ne_true _ (λ u. elim (back_marks q u) [
-    | inl was ↦ both_ways _ (x.framed.beside r q e) was
-    | inr here ↦ both_ways _ (part_clear.aside r q here.0 here.1) e
-  ])
-
-  -- no page that comes back heads a block out
-  back_heads : (g : ℕ) → has (give f.area run j).free g ≡ true → holding_of (state_at noted.states g) ≡ None
-  back_heads g e = elim (cases_run run (2 ^ j) g) [
-    | inl r ↦ ap holding_of (note_at g r)
-    | inr o ↦ ap holding_of (note_off g o) ∙ elim (back_marks g e) [ inl was ↦ not_out f base min g x was | inr r ↦ absurd (o r) ]
-  ]
-
   abbrev turned : List ℕ
   turned = map (λ h. base + h) (turned_pages p j)
 
-  pub part_back : plain_of (given noted run j) base min ≡ drained (plain_of f base min) turned
-  part_back =
+  drained_back : back f base min run (2 ^ j) x pages_clear (give f.area run j) back_marks ≡ drained (plain_of f base min) turned
+  drained_back =
       let z : PlainZone = plain_of f base min in
-      let b = part_clear.block in
-      let area : give f.area run j ≡ gives f.area (turned_pages p j) = sym (gives_turned j f.area p x.lawful.lists order b.inside part_clear.free) in
-      ap (λ s. plain_of (with_area (record noted { states = s }) (give f.area run j)) base min) again
-      ∙ plain-with_area noted (give f.area run j) base min noted_framed back_heads back_beside
-      ∙ ap (λ (y : PlainZone). let q : PlainZone = record y { area = give f.area run j } in q) (plain-noted_run (2 ^ j) f base min run Tail off)
-      ∙ (λ i. record z { area = area i; out = cleared_run z.out p j i })
-      ∙ sym (drained_is (turned_pages p j) z)
+      let area : give f.area run j ≡ gives f.area (turned_pages p j) = sym (gives_turned j f.area p x.lawful.lists order part_clear.block.inside part_clear.free) in
+      (λ i. record z { area = area i; out = cleared_run z.out p j i }) ∙ sym (drained_is (turned_pages p j) z)
+
+  pub part_back : plain_of (given noted run j) base min ≡ drained (plain_of f base min) turned
+  part_back = ap (λ g. plain_of g base min) again ∙ plain_back f base min run (2 ^ j) x pages_clear (give f.area run j) back_marks ∙ drained_back
 
   pub part_kept : {count : ℕ} → (name : List ℕ) → IsKept name f base min count → IsLawful (drained (plain_of f base min) turned) → IsKept name (given noted run j) base min count
   part_kept {count} name y lawful =
-      let z : PlainZone = plain_of f base min in
-      let a : Area = give f.area run j in
-      let s : List State = set noted.states run Tail in
-      let aside : IsPostedAside f.sides s = let P : List State → Type 0 = λ q. IsPostedAside f.sides q in subst P (sym again) (aside_noted_run (2 ^ j) f.sides f.states run Tail y.aside off (λ v. refl)) in
-      kept_by name f (given noted run j) base min count y (length-restated a.largest a.free s ∙ length-set noted.states run Tail ∙ length-run f.states run (2 ^ j) Tail) refl
-      (aside_restated a.largest f.sides a.free s aside back_beside)
-      (y.counted ∙ pages_same z (drained z turned) (sym (drained_posted turned z)) ∙ ap posted_pages (sym part_back)) (rw part_back lawful)
+      rw again (kept_back f base min run (2 ^ j) x pages_clear (give f.area run j) back_marks name y (rw drained_back lawful))
 
 -- what the code knows of the first pages of a drain
 pub part_out : (z : PlainZone) (w : ℕ) (pages : List ℕ) (p j : ℕ) → AreOut z w pages → 2 ^ j ≤ length pages → AreTurned z.base pages p j →

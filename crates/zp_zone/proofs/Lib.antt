@@ -6,9 +6,11 @@ pub mod RefillSteps
 pub mod RunSteps
 pub mod RunFrames
 pub mod DrainSteps
+pub mod RunsBack
 pub mod DrainParts
 pub mod PostSteps
 pub mod Tied
 pub mod NewSeats
 pub mod BlockSteps
 pub mod RetypeSteps
+pub mod FallingDrains

@@ -1,5 +1,5 @@
 -- What a zone's fields become when pages in a row go out, as the plain zone that they leave.
-use Rattle.std.proofs.Common.{ℕ, suc, zero, ◌+◌, ◌^◌, ◌≡◌, ◌≤◌, ◌<◌, refl, sym, ◌∙◌, ap, arith, true, false, set, List, length, Option, Some, None}
+use Rattle.std.proofs.Common.{ℕ, suc, zero, ◌+◌, ◌≡◌, ◌≤◌, ◌<◌, refl, sym, ◌∙◌, ap, arith, true, false, set, List, length, Option, Some, None}
 use Rattle.std.proofs.lemmas.Bool.{and_parts, both_ways, false_from_ne_true}
 use Rattle.zp_model.specs.declared.migrate_type.MigrateType.{MigrateType}
 use Rattle.zp_model.specs.declared.state.State.{State}
@@ -7,7 +7,7 @@ use Rattle.zp_model.specs.declared.state.State.TheVariants.{Out}
 use Rattle.zp_model.specs.Area.{Area}
 use Rattle.zp_model.specs.Block.{has}
 use Rattle.zp_model.specs.Choose.{Chosen, choose}
-use Rattle.zp_model.specs.Frames.{Frames, IsClear, IsFramed, with_area, restated}
+use Rattle.zp_model.specs.Frames.{Frames, IsFramed, with_area, restated}
 use Rattle.zp_model.specs.Lawful.{IsLawful}
 use Rattle.zp_model.specs.Rows.{with_run}
 use Rattle.zp_model.specs.Take.{take_after, taken}
@@ -17,7 +17,7 @@ use Rattle.zp_model.proofs.MaximalBlocks.{length-restated}
 use Rattle.zp_model.proofs.Runs.{length-run}
 use Rattle.zp_laws.proofs.Areas.{free-taken}
 use Rattle.zp_laws.proofs.Counting.{has-without_any}
-use Rattle.zp_buddy.specs.Runs.{pages_left}
+use Rattle.zp_buddy.specs.Runs.{AreClear, pages_left}
 use Rattle.zp_zone.specs.Kept.{holding_of, plain_of, IsKept, IsPostedAside, is_posted_to}
 use Rattle.zp_zone.specs.Runs.{page_out, run_out}
 use Rattle.zp_zone.proofs.BlockSteps.{IsAsked, not_out}
@@ -75,15 +75,15 @@ unfolding take_after
 left_length zero a t = refl
 left_length (suc n) a t = left_length n (take_after a 0 t) t ∙ as_long a t (choose a 0 t)
 
--- a clear run in what is left lies in the zone, and none of its pages stands on a further list
-pub part_room : (f g : Frames) (t : MigrateType) (n h k : ℕ) → IsFramed f → g ≡ with_area f (pages_left f.area t n) → IsClear g h k → h + 2 ^ k ≤ length f.states
-part_room f g t n h k x e c = let d = rw e at c in omega (arith, d.block.inside, left_length n f.area t, x.pages)
+-- clear pages in what is left lie in the zone, and none of them stands on a further list
+pub part_room : (f g : Frames) (t : MigrateType) (n h : ℕ) → IsFramed f → g ≡ with_area f (pages_left f.area t n) → AreClear g h n → h + n ≤ length f.states
+part_room f g t n h x e c = let d = rw e at c in omega (arith, d.inside, left_length n f.area t, x.pages)
 
 pub part_length : (f g : Frames) (t : MigrateType) (n : ℕ) → g ≡ with_area f (pages_left f.area t n) → length g.states ≡ length f.states
 part_length f g t n e = ap (λ (q : Frames). length q.states) e ∙ length-restated (pages_left f.area t n).largest (pages_left f.area t n).free f.states
 
-pub part_off : (f g : Frames) (t : MigrateType) (n h k : ℕ) → g ≡ with_area f (pages_left f.area t n) → IsClear g h k → IsRunOff f.sides h (2 ^ k)
-part_off f g t n h k e c i lo hi r = let d = rw e at c in d.aside r i lo hi
+pub part_off : (f g : Frames) (t : MigrateType) (n h : ℕ) → g ≡ with_area f (pages_left f.area t n) → AreClear g h n → IsRunOff f.sides h n
+part_off f g t n h e c i lo hi r = let d = rw e at c in d.aside r i lo hi
 
 -- the frames once so many pages from h on were taken and are noted out
 abbrev pub frames_run : Frames → ℕ → MigrateType → ℕ → ℕ → Frames

@@ -1,5 +1,5 @@
 -- Pages in a row that a worker got, as so many requests for one page, one after another, would have got them; and pages of a block that stand next to each other.
-use Rattle.std.specs.Prelude.{ℕ, suc, zero, ◌+◌, ◌-◌, ◌^◌, ◌≡◌, ◌<◌, true, List, bit_xor, slice_index_or}
+use Rattle.std.specs.Prelude.{ℕ, suc, zero, ◌+◌, ◌-◌, ◌^◌, ◌≡◌, ◌<◌, true, List, length, bit_xor, slice_index_or}
 use Rattle.zp_model.specs.declared.migrate_type.MigrateType.{MigrateType}
 use Rattle.zp_model.specs.declared.mark.Mark.{Mark}
 use Rattle.zp_model.specs.Lawful.{IsLawful}
@@ -31,3 +31,7 @@ pub record IsRunGot (z y : PlainZone) (w : ℕ) (t : MigrateType) (m : Mark) (p 
 -- in an order of halves
 abbrev pub AreTurned : ℕ → List ℕ → ℕ → ℕ → Type 0
 AreTurned base pages place k = (d : ℕ) → d < 2 ^ k → slice_index_or pages d 0 ≡ base + bit_xor place d
+
+-- the pages are those of a run, the highest first
+abbrev pub AreFalling : List ℕ → Type 0
+AreFalling pages = (d : ℕ) → d < length pages → slice_index_or pages d 0 + d ≡ slice_index_or pages 0 0

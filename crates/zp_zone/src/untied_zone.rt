@@ -5,7 +5,7 @@ ghost use Rattle.zp_model.specs.Block.{size};
 ghost use Rattle.zp_model.specs.Zone.{zone_opening, is_of, pages_of, posted_pages};
 ghost use Rattle.zp_zone.specs.Kept.{holding_of};
 ghost use Rattle.zp_model.specs.Mark.{level_of, level_above};
-ghost use Rattle.zp_model.specs.Info.{counts_of};
+ghost use Rattle.zp_model.specs.Info.{counts_by_type, counts_of};
 ghost use Rattle.zp_model.specs.Run.{is_out};
 ghost use Rattle.zp_model.specs.Lawful.{IsLawful};
 ghost use Rattle.zp_model.specs.Naming.{IsName};
@@ -15,6 +15,7 @@ ghost use Rattle.zp_zone.specs.Making.{wanted, AreBounds, IsGoodWithin, IsWhyWit
 
 mod batches;
 mod blocks;
+mod falling;
 mod pageblocks;
 mod parts;
 mod turned;
@@ -26,8 +27,8 @@ use std::alloc::Global;
 use std::marker::Model;
 use zp_buddy::Buddy;
 use zp_model::{
-    BASE_LIMIT, Counts, Largest, Level, MAX_PAGES, Name, Order, PageAt, PageNo, Refused, State,
-    Worker,
+    BASE_LIMIT, Counts, CountsByType, Largest, Level, MAX_PAGES, Name, Order, PageAt, PageNo,
+    Refused, State, Worker,
 };
 
 /// A zone without its seats: whoever calls names the worker. Contracts see its name and the plain zone, which is always
@@ -166,6 +167,13 @@ impl UntiedZone {
         ensures lawful { IsLawful self.now.plain }
     {
         self.buddy.counts()
+    }
+
+    /// How many free blocks of each order there are in the pageblocks of each type, and how many pageblocks of each type.
+    pub fn counts_by_type(&self) -> CountsByType
+        ensures { result ≡ counts_by_type self.now.plain.area.largest self.now.plain.area.free self.now.plain.area.kinds }
+    {
+        self.buddy.counts_by_type()
     }
 
     /// The highest mark that the free pages outside isolated pageblocks are above.

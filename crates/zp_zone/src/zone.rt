@@ -5,7 +5,7 @@ ghost use Rattle.std.specs.Prelude.{◌≡◌, ◌<◌, ◌≤◌, ◌+◌, ◌-
 ghost use Rattle.zp_model.specs.Block.{size};
 ghost use Rattle.zp_model.specs.Zone.{zone_opening, pages_of, posted_pages, workers_of};
 ghost use Rattle.zp_model.specs.Mark.{level_of};
-ghost use Rattle.zp_model.specs.Info.{counts_of};
+ghost use Rattle.zp_model.specs.Info.{counts_by_type, counts_of};
 ghost use Rattle.zp_model.specs.Run.{IsHistory, is_out};
 ghost use Rattle.zp_model.specs.Lawful.{IsLawful};
 ghost use Rattle.zp_model.specs.Naming.{IsName};
@@ -28,7 +28,9 @@ use crate::untied_zone::UntiedZone;
 pub use asking::page_reply;
 use std::alloc::Global;
 use std::marker::Model;
-use zp_model::{Counts, LONGEST_NAME, Largest, Level, MAX_PAGES, Order, PageNo, Refused};
+use zp_model::{
+    Counts, CountsByType, LONGEST_NAME, Largest, Level, MAX_PAGES, Order, PageNo, Refused,
+};
 use zp_tie::Keeper;
 
 /// A zone: pages that workers allocate and free, each by its seat. Contracts see its name, the plain zone, which is always
@@ -189,6 +191,13 @@ impl Zone {
         ensures lawful { IsLawful self.now.plain }
     {
         self.untied.counts()
+    }
+
+    /// How many free blocks of each order there are in the pageblocks of each type, and how many pageblocks of each type.
+    pub fn counts_by_type(&self) -> CountsByType
+        ensures { result ≡ counts_by_type self.now.plain.area.largest self.now.plain.area.free self.now.plain.area.kinds }
+    {
+        self.untied.counts_by_type()
     }
 
     /// Does nothing: each zone is the run of its entries, which are a legal history from its opening.

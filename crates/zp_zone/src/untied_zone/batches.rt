@@ -9,6 +9,7 @@ ghost use Rattle.zp_model.specs.Zone.{workers_of};
 ghost use Rattle.zp_zone.specs.NamedZone.{KeepsOut, KeepsOutBeside, IsFresh, AreOut, pages_reply};
 
 use super::UntiedZone;
+use super::falling::is_falling;
 use super::parts::put_part;
 use arrayvec::ArrayVec;
 use zp_model::{MAX_BATCH, Mark, MigrateType, Order, PageNo, Refused, Worker};
@@ -37,18 +38,17 @@ impl UntiedZone {
         ensures fresh { IfOk result (λ pages. All (IsFresh self.old.plain) pages.items) }
         ensures kept { KeepsOut self.old.plain self.new.plain }
     {
-        let (first, order) = self.alloc_part(worker, kind, mark, u32::from(count))?;
+        let (first, taken) = self.alloc_part(worker, kind, mark, u32::from(count))?;
         let mut pages = [PageNo::new(0); MAX_BATCH];
-        put_part(&mut pages, 0, first, order);
-        let mut got = order.pages();
+        put_part(&mut pages, 0, first, taken);
+        let mut got = taken;
         'parts: while got < u32::from(count) {
             let wanted = u32::from(count) - got;
             let Ok(part) = self.alloc_part(worker, kind, mark, wanted) else {
                 break;
             };
-            let (next, order) = part;
-            put_part(&mut pages, got as usize, next, order);
-            let more = order.pages();
+            let (next, more) = part;
+            put_part(&mut pages, got as usize, next, more);
             got += more;
         }
         let mut batch = ArrayVec::from(pages);
@@ -71,6 +71,10 @@ impl UntiedZone {
         let _ = kind;
         // a clause of this call says that the zone is lawful
         self.lawful();
+        if is_falling(pages) {
+            self.free_falling(worker, pages);
+            return;
+        }
         let mut rest = pages;
         'parts: while !rest.is_empty() {
             let order = self.part_order(worker, rest);

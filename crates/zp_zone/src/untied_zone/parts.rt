@@ -3,7 +3,8 @@
 //! A refill gets its pages one after another. While the request's type has a block of its own, the pages of that block are the next ones, the
 //! lowest first: of a block of 16 pages the second take finds page 1, the third page 2, and so on, as what a split leaves is the smallest
 //! block. So one split serves for them all. Pages of a block come back by one join, too, as what is free at last, and in which order the
-//! lists have it, does not depend on the order of the pages. Linux takes and frees each page by itself.
+//! lists have it, does not depend on the order of the pages. Where all pages of a drain are those of a run, the highest first, they come back
+//! as a run. Linux takes and frees each page by itself.
 ghost use Rattle.std.specs.Prelude.{ℕ, ◌≡◌, ◌<◌, ◌≤◌, ◌+◌, ◌-◌, ◌^◌, ◌++◌, length, take, slice_index_or, true, false, IfErr, IfOk, IsTrue};
 ghost use Rattle.std.specs.List.{range_with_len};
 ghost use Rattle.zp_model.specs.Zone.{workers_of};
@@ -11,7 +12,7 @@ ghost use Rattle.zp_model.specs.Mark.{is_above};
 ghost use Rattle.zp_model.specs.Step.{alloc, drained, refuse};
 ghost use Rattle.zp_model.specs.Run.{is_distinct};
 ghost use Rattle.zp_zone.specs.NamedZone.{AreOut};
-ghost use Rattle.zp_zone.specs.Runs.{AreTurned, IsRunGot};
+ghost use Rattle.zp_zone.specs.Runs.{AreFalling, AreTurned, IsRunGot};
 
 use super::UntiedZone;
 use super::turned::turned_order;
@@ -22,7 +23,7 @@ use zp_model::{
 
 impl UntiedZone {
     /// The next part of a refill that wants so many pages more: pages in a row, each held to this mark and a block of order 0. They are those
-    /// that so many requests for one page, one after another, would get. The first of them, and the order of their run. Refused 10 or 11.
+    /// that so many requests for one page, one after another, would get. The first of them, and how many. Refused 10 or 11.
     // (in line: one call less for each part)
     #[inline(always)]
     pub fn alloc_part(
@@ -31,15 +32,16 @@ impl UntiedZone {
         kind: MigrateType,
         mark: Mark,
         most: u32,
-    ) -> Result<(PageNo, Order), Refused>
+    ) -> Result<(PageNo, u32), Refused>
         requires worker { worker < workers_of self.old.plain }
         requires some { 0 < most }
         ensures refused { IfErr result (λ why. alloc self.old.plain worker 0 kind mark ≡ refuse self.old.plain why) }
         ensures same { IfErr result (λ why. self.new ≡ self.old) }
-        ensures got { IfOk result (λ part. IsRunGot self.old.plain self.new.plain worker kind mark part.0 (2 ^ part.1)) }
+        ensures got { IfOk result (λ part. IsRunGot self.old.plain self.new.plain worker kind mark part.0 part.1) }
+        ensures some { IfOk result (λ part. 0 < part.1) }
         ensures name { IfOk result (λ part. self.new.name ≡ self.old.name) }
-        ensures most { IfOk result (λ part. 2 ^ part.1 ≤ most) }
-        ensures within { IfOk result (λ part. part.0 + 2 ^ part.1 ≤ BASE_LIMIT + MAX_PAGES) }
+        ensures most { IfOk result (λ part. part.1 ≤ most) }
+        ensures within { IfOk result (λ part. part.0 + part.1 ≤ BASE_LIMIT + MAX_PAGES) }
     {
         // a clause of this call says that what is noted as free is free
         let _pages = self.buddy.pages();
@@ -50,10 +52,10 @@ impl UntiedZone {
         let Some(run) = self.buddy.take_run(kind, most.min(room)) else {
             return Err(Refused::NoBlock);
         };
-        let (head, order) = run;
+        let (head, count) = run;
         let state = State::Out(Order::zero(), kind, worker);
-        self.buddy.hold_run(head, order, &state);
-        Ok((PageNo::new(self.base + head.number()), order))
+        self.buddy.hold_run(head, count, &state);
+        Ok((PageNo::new(self.base + head.number()), count))
     }
 
     /// The order of the block whose pages stand first in the slice of a drain: 0 where the first page stands alone.
@@ -92,8 +94,29 @@ impl UntiedZone {
         let _pages = self.buddy.pages();
         let first = PageAt::at(pages[0].number() - self.base);
         let head = first.head(order);
-        self.buddy.hold_run(head, order, &State::Tail);
+        self.buddy.hold_run(head, order.pages(), &State::Tail);
         self.buddy.give(head, order);
+    }
+
+    /// Frees the pages of a drain, each a block of order 0, where they are those of a run, the highest first: they come back as its last
+    /// blocks.
+    #[inline(never)]
+    pub fn free_falling(&mut self, worker: Worker, pages: &[PageNo])
+        requires worker { worker < workers_of self.old.plain }
+        requires out { AreOut self.old.plain worker pages.now }
+        requires distinct { IsTrue (is_distinct pages.now) }
+        requires some { 0 < length pages.now }
+        requires falling { AreFalling pages.now }
+        ensures after { self.new ≡ record self.old { plain = drained self.old.plain pages.now } }
+    {
+        // a clause of this call says that what is noted as free is free, which the next calls rest on
+        let _pages = self.buddy.pages();
+        // the worker is named for the condition alone
+        let _ = worker;
+        let count = pages.len();
+        let first = PageAt::at(pages[count - 1].number() - self.base);
+        self.buddy.hold_run(first, count as u32, &State::Tail);
+        self.buddy.give_run(first, count as u32);
     }
 }
 
@@ -110,19 +133,19 @@ fn room_above(min: u32, free: u32, mark: Mark) -> u32
     }
 }
 
-/// Writes the pages of a part into those of a refill, the first one at this place.
+/// Writes the pages of a part, so many, into those of a refill, the first one at this place.
 // (in line: a part of one page is written with no loop)
 #[inline(always)]
-pub fn put_part(pages: &mut [PageNo], at: usize, first: PageNo, order: Order)
-    requires room { at + 2 ^ order ≤ length pages.old }
-    requires within { first + 2 ^ order ≤ BASE_LIMIT + MAX_PAGES }
+pub fn put_part(pages: &mut [PageNo], at: usize, first: PageNo, count: u32)
+    requires room { at + count ≤ length pages.old }
+    requires within { first + count ≤ BASE_LIMIT + MAX_PAGES }
     ensures len { length pages.new ≡ length pages.old }
-    ensures pages { take (at + 2 ^ order) pages.new ≡ take at pages.old ++ range_with_len first (2 ^ order) }
+    ensures pages { take (at + count) pages.new ≡ take at pages.old ++ range_with_len first count }
 {
-    if order.number() == 0 {
+    if count == 1 {
         pages[at] = first;
     } else {
-        let to = at + order.pages() as usize;
+        let to = at + count as usize;
         put_pages(&mut pages[at..to], first);
     }
 }

@@ -1,9 +1,9 @@
-use Rattle.std.proofs.Common.{false, refl, sym, ◌∙◌}
+use Rattle.std.proofs.Common.{false, ap, length, refl, sym, ◌∙◌}
 use Rattle.zp_model.specs.Choose.{choose}
 use Rattle.zp_model.specs.Take.{taken}
 use Rattle.zp_buddy.specs.declared.choice.Choice.{Choice}
 use Rattle.zp_buddy.proofs.Choosing.{own_fronts}
-use Rattle.zp_buddy.proofs.FirstTaken.{first_left, first_own}
+use Rattle.zp_buddy.proofs.FirstTaken.{first_largest, first_left, first_own}
 use Rattle.zp_buddy.proofs.takes.take.Goals as goal
 
 pub returns-in-Some : goal.returns-in-Some
@@ -18,10 +18,10 @@ returns-in-Some c =
       record {
         chosen = rw (first_own c.args.kind x) refl;
         block = record { enough = x.enough; starts = x.starts; typed = x.typed };
-        largest = y.largest;
+        largest = first_largest c.args.kind x;
         sound = y.sound;
         pages = y.pages;
-        typed = y.typed;
+        typed = ap length y.kinds;
         after = y.after;
       },
     )

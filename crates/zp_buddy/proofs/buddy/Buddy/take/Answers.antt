@@ -1,4 +1,4 @@
-use Rattle.std.proofs.Common.{arith, ap, sym, ◌∙◌}
+use Rattle.std.proofs.Common.{◌^◌, arith, ap, sym, ◌∙◌}
 use Rattle.zp_model.specs.Area.{pageblocks_of}
 use Rattle.zp_model.specs.Take.{taken, take_after, take_answer}
 use Rattle.zp_buddy.proofs.Taking.{IsRunTaken, clear_head, fewer, frames_stay, may_return, run_taken, still_may}
@@ -6,7 +6,7 @@ use Rattle.zp_buddy.proofs.buddy.Buddy.take.Goals.{After-pages}
 use Rattle.zp_buddy.proofs.buddy.Buddy.take.Goals as goal
 
 -- the block that is chosen has left the area
-run : (c : After-pages) → IsRunTaken c.self.inside.area.largest c.self.inside.area c.self.inside.free c.in_ok-head.head c.in_ok-head.ensures.0.block.order c.args.order c.take.new.area
+run : (c : After-pages) → IsRunTaken c.self.inside.area.largest c.self.inside.area c.self.inside.free c.in_ok-head.head c.in_ok-head.ensures.0.block.order (2 ^ c.args.order) c.take.new.area
 run c = let x = c.in_ok-head.ensures in rw x.1 (run_taken c.take.new.area _ x.0 c.self.invariant x.2.block x.2.after)
 
 pub returns-in_err-head-clause-answer : goal.returns-in_err-head-clause-answer
@@ -38,7 +38,7 @@ unfolding take_after
 returns-clause-after c = let x = c.in_ok-head.ensures.2 in rw (← c.self.view_is, x.chosen, x.largest) x.after
 
 pub returns-clause-clear : goal.returns-clause-clear
-returns-clause-clear c = rw c.in_ok-head.ensures.2.largest (may_return (run (goal.at.returns-clause-clear c).After-pages))
+returns-clause-clear c = rw c.in_ok-head.ensures.2.largest (may_return c.args.order c.in_ok-head.ensures.2.block.enough (run (goal.at.returns-clause-clear c).After-pages))
 
 pub returns-clause-kept : goal.returns-clause-kept
 returns-clause-kept c = rw (← c.self.view_is, c.in_ok-head.ensures.2.largest) (still_may (run (goal.at.returns-clause-kept c).After-pages))

@@ -43,7 +43,7 @@ returns-clause-after c =
 
 pub returns-clause-clear : goal.returns-clause-clear
 returns-clause-clear c =
-    rw (c.take_block.ensures.largest, c.in_ok-head.ensures.same) (may_return (run_left c.take_block.new.area c.in_ok-head.head c.in_ok-head.found c.args.order c.self.invariant c.in_ok-head.ensures.found.0 c.in_ok-head.ensures.found.1 (rw c.in_ok-head.ensures.same at c.take_block.ensures.after)))
+    rw (c.take_block.ensures.largest, c.in_ok-head.ensures.same) (may_return c.args.order c.in_ok-head.ensures.found.1 (run_left c.take_block.new.area c.in_ok-head.head c.in_ok-head.found c.args.order c.self.invariant c.in_ok-head.ensures.found.0 c.in_ok-head.ensures.found.1 (rw c.in_ok-head.ensures.same at c.take_block.ensures.after)))
 
 pub returns-clause-kept : goal.returns-clause-kept
 returns-clause-kept c =

@@ -35,3 +35,10 @@ returns-clause-gone c = rw (done c) (drained-gone c.args.self.now.plain c.args.p
 
 pub returns-clause-kept : goal.returns-clause-kept
 returns-clause-kept c = rw (done c) (drained-kept c.args.self.now.plain c.args.worker c.args.pages.now c.requires.out)
+
+-- the pages came back as a run
+pub returns-then-is_falling-clause-gone : goal.returns-then-is_falling-clause-gone
+returns-then-is_falling-clause-gone c = rw c.free_falling.ensures.after (drained-gone c.args.self.now.plain c.args.pages.now)
+
+pub returns-then-is_falling-clause-kept : goal.returns-then-is_falling-clause-kept
+returns-then-is_falling-clause-kept c = rw c.free_falling.ensures.after (drained-kept c.args.self.now.plain c.args.worker c.args.pages.now c.requires.out)

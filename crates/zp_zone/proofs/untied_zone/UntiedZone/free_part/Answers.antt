@@ -33,7 +33,8 @@ start c =
 pub hold_run-requires-clause-clear : goal.hold_run-requires-clause-clear
 hold_run-requires-clause-clear c =
     let d = goal.at.hold_run-requires-clause-clear c in
-    rw (start d.After-head-head) (clear d.After-number-2)
+    let x = clear d.After-number-2 in
+    rw (start d.After-head-head, c.pages.ensures.pages) (record { inside = x.block.inside; free = x.free; aside = x.aside })
 
 pub give-requires : goal.give-requires
 give-requires c =
@@ -45,6 +46,7 @@ left : (c : After-give) (e : c.head-head.result ≡ head (get_or c.args.pages.no
     c.give.new.self ≡ run_given c.self.inside.buddy c.self.inside.base c.args.order c.args.pages.now
 left c e =
     c.give.ensures ∙ ap (λ g. given g c.head-head.result c.args.order) c.hold_run.ensures.after
+    ∙ ap (λ n. let g : Frames = record c.self.inside.buddy { states = with_run c.self.inside.buddy.states c.head-head.result n Tail } in given g c.head-head.result c.args.order) c.pages.ensures.pages
     ∙ ap (λ h. let g : Frames = record c.self.inside.buddy { states = with_run c.self.inside.buddy.states h (2 ^ c.args.order) Tail } in given g h c.args.order) e
 
 pub invariant_of-self : goal.invariant_of-self

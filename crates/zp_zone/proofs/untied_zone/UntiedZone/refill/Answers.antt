@@ -1,5 +1,4 @@
-use Rattle.std.proofs.Common.{ℕ, List, ◌≡◌, ◌<◌, ◌≤◌, ◌+◌, ◌^◌, [], arith, ap, sym, ◌∙◌, length, length-take-le, take}
-use Rattle.std.proofs.lemmas.Nat.{pow_pos}
+use Rattle.std.proofs.Common.{ℕ, List, ◌≡◌, ◌<◌, ◌≤◌, ◌+◌, [], arith, ap, sym, ◌∙◌, length, length-take-le, take}
 use Rattle.std.proofs.lemmas.Result.{err_from_is_err_and}
 use Rattle.zp_model.specs.declared.request.Reply.TheVariants as Reply
 use Rattle.zp_model.specs.Step.{Outcome, refill}
@@ -18,13 +17,13 @@ returns-in_err-first-clause-reply c =
 pub parts-init : goal.parts-init
 parts-init c =
     let a = c.in_ok-first.ensures in
-    let n : c.pages-got.result ≡ 0 + 2 ^ c.in_ok-first.order = omega (arith, c.pages-got.ensures.pages) in
+    let none : 0 + c.in_ok-first.taken ≡ c.in_ok-first.taken = omega arith in
     record {
       name = a.name;
-      got = rw (n, c.put_part.ensures.pages) (got_part _ _ _ _ _ _ _ [] _ _ (got_none c.args.self.now.plain c.args.worker c.args.kind c.args.mark c.args.count) a.got c.requires.worker (omega (arith, a.most, c.from.ensures)));
+      got = rw (← none, c.put_part.ensures.pages) (got_part _ _ _ _ _ _ _ [] _ _ (got_none c.args.self.now.plain c.args.worker c.args.kind c.args.mark c.args.count) a.got c.requires.worker (omega (arith, a.most, c.from.ensures)));
       all = c.put_part.ensures.len;
-      some = omega (arith, n, pow_pos c.in_ok-first.order);
-      most = omega (arith, n, a.most, c.from.ensures);
+      some = a.some;
+      most = omega (arith, a.most, c.from.ensures);
       worker = part_workers _ _ _ _ _ _ _ a.got c.requires.worker;
     }
 
@@ -32,15 +31,14 @@ pub parts-preserved : goal.parts-preserved
 parts-preserved c =
     let i = c.parts.invariant in
     let a = c.in-Ok.ensures in
-    let n : c.parts.got + c.pages-more.result ≡ c.parts.got + 2 ^ c.in-Ok.part.1 = omega (arith, c.pages-more.ensures.pages) in
     let long : length (take c.parts.got c.parts.pages) ≡ c.parts.got = length-take-le c.parts.got c.parts.pages (omega (arith, i.all, i.most, c.requires.batch)) in
-    let room : c.parts.got + 2 ^ c.in-Ok.part.1 ≤ c.args.count = omega (arith, a.most, c.from-in-parts-2.ensures, c.parts-test.true, c.from-in-parts.ensures) in
+    let room : c.parts.got + c.in-Ok.part.1 ≤ c.args.count = omega (arith, a.most, c.from-in-parts-2.ensures, c.parts-test.true, c.from-in-parts.ensures) in
     record {
       name = a.name ∙ i.name;
-      got = rw (n, c.put_part-in-parts.ensures.pages) (got_part _ _ _ _ _ _ _ _ _ _ i.got a.got i.worker (omega (arith, long, room)));
+      got = rw c.put_part-in-parts.ensures.pages (got_part _ _ _ _ _ _ _ _ _ _ i.got a.got i.worker (omega (arith, long, room)));
       all = c.put_part-in-parts.ensures.len ∙ i.all;
-      some = omega (arith, n, i.some);
-      most = omega (arith, n, room);
+      some = omega (arith, i.some);
+      most = omega (arith, room);
       worker = part_workers _ _ _ _ _ _ _ a.got i.worker;
     }
 
