@@ -94,7 +94,7 @@ impl Largest {
     pub const fn pageblock_of(self, at: PageAt) -> usize
         ensures { result ≡ at / pageblock_pages self }
     {
-        at.index() / self.pageblock_pages() as usize
+        (at.number() >> self.number) as usize
     }
 
     /// The free pages that a pageblock has to have for a claim, half of its pages.

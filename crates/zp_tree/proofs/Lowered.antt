@@ -1,8 +1,12 @@
 -- The ranks after a block was cleared.
-use Rattle.std.proofs.Common.{ℕ, ◌≡◌, ◌≢◌, ◌<◌, inl, inr, refl, List, length, slice_index, slice_set}
-use Rattle.std.proofs.lemmas.Bool.{cases_eq}
+use Rattle.std.proofs.Common.{ℕ, ◌+◌, ◌≡◌, ◌≢◌, ◌≤◌, ◌<◌, ◌∙◌, inl, inr, refl, sym, arith, Bool, false, IsTrue, List, length, slice_index, slice_set}
+use Rattle.std.proofs.lemmas.Bool.{cases_eq, cases_lt, false≢true}
 use Rattle.std.proofs.lemmas.List.{get_or-set_same, get_or-set_other, length-set}
 use Rattle.zp_tree.specs.Marks.{CanStay, HasLarge, IsLowered, IsReranked}
+
+-- a rank that a block's own is not at least as large as is larger
+pub larger : (b : Bool) (k v r : ℕ) → (v ≤ r → IsTrue b) → b ≡ false → r ≡ k + 1 → k + 1 < v
+larger b k v r f e same = elim (cases_lt (k + 1) v) [ inl lt ↦ lt | inr ge ↦ absurd (false≢true (sym e ∙ f (omega (arith, same)))) ]
 
 -- the group's rank was reckoned anew
 pub reranked : (ls hs rs ts : List ℕ) (x g k : ℕ) → g < length rs → IsReranked ls hs rs ts g → IsLowered ls hs rs ts x x g k

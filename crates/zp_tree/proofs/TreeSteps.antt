@@ -7,15 +7,16 @@ use Rattle.std.proofs.lemmas.Nat.{pow_pos, pow_below}
 use Rattle.zp_model.specs.Block.{IsBlock, head}
 use Rattle.zp_model.specs.BlockSet.{Starts}
 use Rattle.zp_model.proofs.Heads.{number_around}
-use Rattle.zp_tree.specs.declared.constants.TheConstants.{GROUP_ORDER, GROUP_PAGES}
+use Rattle.zp_tree.specs.declared.constants.TheConstants.{GROUP_ORDER, GROUP_PAGES, WORD_LEVELS}
 use Rattle.zp_tree.specs.Blocks.{IsBlockSet, IsApart, buddy, with_block, without_block, without_buddies, split_set, joined_set}
-use Rattle.zp_tree.specs.Marks.{IsWords, IsRemarked, IsSplitUp, IsJoinedUp, IsLowered, IsNearRank, IsRankBound, IsRankOf}
+use Rattle.zp_tree.specs.Marks.{HasLarge, IsWords, IsRemarked, IsSplitUp, IsJoinedUp, IsLowered, IsNearRank, IsRankBound, IsRankOf}
 use Rattle.zp_tree.specs.Spelled.{IsTreeOf}
 use Rattle.zp_tree.proofs.Apart.{set-starts, clear-starts}
 use Rattle.zp_tree.proofs.BlockSets.{same_page}
 use Rattle.zp_tree.proofs.ChangedSets.{none_in, set_block_set, clear_block_set, split_block_set, halves_other, halves_at, halves_length}
 use Rattle.zp_tree.proofs.MarkedSets.{IsMarkedBy, marked_set, marked_clear, marked_split, marked_joined, half_or_not}
 use Rattle.zp_tree.proofs.BuddyPlaces.{buddy_around, head_around}
+use Rattle.zp_tree.proofs.GroupBlocks.{is_high}
 use Rattle.zp_tree.proofs.JoinedSets.{IsJoining, IsFreed, freed, joined_block_set}
 use Rattle.zp_tree.proofs.Ranked.{IsRankedBy, IsInside, IsChangedIn, near_rank, other_group, rank_bound, ranks_raised, ranks_lowered}
 use Rattle.zp_tree.proofs.Spelling.{block_in_groups}
@@ -197,6 +198,15 @@ split_tree m pages ls hs rs ms gs ts v w s p f t x st le r l =
     let n = halves_length (without_block s p) p t (f - t) ∙ length-set s p None in
     lowered_tree m pages ls hs rs ms gs ts v w s (split_set s p f t) p f x st r.words r.size n (split_block_set m s p f t x.set st le) (split_marked m pages ls hs rs ms gs v s p f t x st le r) (split_inside m pages ls hs rs ms gs v s p f t x st le r.size)
     (changed_split m s p f t x.set x.orders st le) l
+
+-- the half of order t is left in the high word
+pub split_large : (m pages : ℕ) (ls hs rs ms gs : List ℕ) (v : ℕ) (s : List (Option ℕ)) (p f t : ℕ) → IsTreeOf m pages ls hs rs v s → Starts s p f → t < f → WORD_LEVELS ≤ t → IsSplitUp ls hs ms gs p f t → HasLarge gs (p / GROUP_PAGES)
+split_large m pages ls hs rs ms gs v s p f t x st lt high r =
+    let b = x.set.block p f st in
+    let room : p + 2 ^ t < length s = omega (arith, b.inside, pow_below t f lt) in
+    let half : Starts (split_set s p f t) (p + 2 ^ t) t = halves_at (without_block s p) p t (f - t) t (omega arith) (omega arith) (omega (arith, room, length-set s p None)) in
+    let inside = split_inside m pages ls hs rs ms gs v s p f t x st (omega arith) r.size (p + 2 ^ t) t half in
+    (p + 2 ^ t, t, is_high ms gs (p + 2 ^ t) t (record { inside = inside; bit = r.halves t (omega arith) lt }) high, same_group m s p f (p + 2 ^ t) b x.orders (omega arith) (omega (arith, pow_below t f lt)))
 
 -- the buddies of a run lie in the group around it, as the block does that they make
 changed_joined : (m : ℕ) (s : List (Option ℕ)) (p f t : ℕ) → m ≤ GROUP_ORDER → IsJoining m s p f t → IsChangedIn s (joined_set s p f t) (p / GROUP_PAGES) t

@@ -3,6 +3,8 @@
 //! In Linux: `rmqueue`, `__free_pages_ok` and `zone_watermark_ok`; what is posted and collected is this allocator's own.
 ghost use Rattle.std.specs.Prelude.{◌≡◌, ◌<◌, ◌≤◌, IfOk, IsTrue};
 ghost use Rattle.zp_model.specs.Zone.{workers_of};
+ghost use Rattle.zp_model.specs.Area.{available};
+ghost use Rattle.zp_model.specs.Block.{size};
 ghost use Rattle.zp_model.specs.Mark.{is_above};
 ghost use Rattle.zp_model.specs.declared.request.Request.TheVariants as request;
 ghost use Rattle.zp_model.specs.Step.{step};
@@ -10,6 +12,7 @@ ghost use Rattle.zp_model.specs.Run.{is_out};
 ghost use Rattle.zp_zone.specs.NamedZone.{KeepsOut, KeepsOutBut, IsFresh, block_reply, page_reply};
 
 use super::UntiedZone;
+use zp_buddy::Buddy;
 use zp_model::{
     Block, MAX_PAGES, Mark, MigrateType, Order, PageAt, PageNo, Refused, State, Worker,
 };
@@ -36,7 +39,7 @@ impl UntiedZone {
     {
         // a clause of this call says that what is noted as free is free
         let _pages = self.buddy.pages();
-        if !is_above(self.min, self.buddy.available_pages(), order, mark) {
+        if !is_above(self.min, &self.buddy, order, mark) {
             return Err(Refused::BelowMark);
         }
         let Some(head) = self.buddy.take(order, kind) else {
@@ -138,14 +141,18 @@ impl UntiedZone {
     }
 }
 
-/// Whether a request of this order may go on at a mark, with so many free pages.
-fn is_above(min: u32, free: u32, order: Order, mark: Mark) -> bool
+/// Whether a request of this order may go on at a mark, with the free pages that there are outside isolated pageblocks.
+fn is_above(min: u32, buddy: &Buddy, order: Order, mark: Mark) -> bool
     requires { min ≤ MAX_PAGES }
-    ensures { result ≡ is_above min free order mark }
+    ensures { result ≡ is_above min (size (available buddy.now.area.largest buddy.now.area.kinds buddy.now.area.free)) order mark }
 {
+    // (no count is read where none is asked for)
+    if let Mark::Any = mark {
+        return true;
+    }
+    let free = buddy.available_pages();
     match mark {
         Mark::Low => free > min + min / 4 + (order.pages() - 1),
-        Mark::Min => free > min + (order.pages() - 1),
-        Mark::Any => true,
+        _ => free > min + (order.pages() - 1),
     }
 }

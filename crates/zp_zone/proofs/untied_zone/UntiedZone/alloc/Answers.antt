@@ -1,5 +1,5 @@
 use Rattle.zp_model.specs.Run.{is_out}
-use Rattle.std.proofs.Common.{subst, ◌≡◌, ◌+◌, ◌<◌, true, false, Some, ap, sym, ◌∙◌}
+use Rattle.std.proofs.Common.{subst, refl, ◌≡◌, ◌+◌, ◌<◌, true, false, Some, ap, sym, ◌∙◌}
 use Rattle.zp_model.specs.declared.request.Request.TheVariants as request
 use Rattle.zp_model.specs.declared.request.Reply.TheVariants as Reply
 use Rattle.zp_model.specs.Choose.{Chosen, choose}
@@ -16,7 +16,7 @@ use Rattle.zp_zone.proofs.untied_zone.UntiedZone.alloc.Goals as goal
 
 -- the mark's test fails
 below : (c : goal.Then-not-is_above) → passes (plain_of c.self.inside.buddy c.self.inside.base c.self.inside.min) c.args.order c.args.mark ≡ false
-below c = passes_by c.self.inside.buddy c.self.inside.base c.self.inside.min c.available_pages.result c.args.order c.args.mark false c.available_pages.ensures c.if-not-is_above.ensures
+below c = passes_by c.self.inside.buddy c.self.inside.base c.self.inside.min _ c.args.order c.args.mark false refl c.if-not-is_above.ensures
 
 pub returns-then-not-is_above-clause-reply : goal.returns-then-not-is_above-clause-reply
 returns-then-not-is_above-clause-reply c =
@@ -33,20 +33,20 @@ invariant_of-self c = stays_kept _ _ _ _ _ c.self.invariant c.pages-pages.ensure
 
 pub returns-in_default-clause-reply : goal.returns-in_default-clause-reply
 returns-in_default-clause-reply c =
-    let p = passes_by c.self.inside.buddy c.self.inside.base c.self.inside.min c.available_pages.result c.args.order c.args.mark true c.available_pages.ensures c.if-not-is_above.ensures in
+    let p = passes_by c.self.inside.buddy c.self.inside.base c.self.inside.min _ c.args.order c.args.mark true refl c.if-not-is_above.ensures in
     let none = chosen_none (c.self.inside.buddy).area c.args.order c.args.kind c.in_default.ensures.answer in
     reply_in c.args.self.now _ _ c.args.worker (request.Alloc c.args.order c.args.kind c.args.mark) _ c.self.view_is (ap (λ (o : Outcome). o.reply) (sym (alloc_none _ _ _ _ _ p none)))
 
 pub returns-in_default-clause-after : goal.returns-in_default-clause-after
 returns-in_default-clause-after c =
-    let p = passes_by c.self.inside.buddy c.self.inside.base c.self.inside.min c.available_pages.result c.args.order c.args.mark true c.available_pages.ensures c.if-not-is_above.ensures in
+    let p = passes_by c.self.inside.buddy c.self.inside.base c.self.inside.min _ c.args.order c.args.mark true refl c.if-not-is_above.ensures in
     let none = chosen_none (c.self.inside.buddy).area c.args.order c.args.kind c.in_default.ensures.answer in
     after_in c.args.self.now _ _ _ c.args.worker (request.Alloc c.args.order c.args.kind c.args.mark) c.self.view_is
     (stays_left _ _ _ _ (record { framed = c.pages-pages.ensures.framed; lawful = c.self.invariant.lawful }) (nothing _ _ _ _ c.in_default.ensures.answer c.in_default.ensures.after) ∙ ap (λ (o : Outcome). o.zone) (sym (alloc_none _ _ _ _ _ p none)))
 
 -- the test passes, and this block is chosen and held
 above : (c : goal.After-new) → passes (plain_of c.self.inside.buddy c.self.inside.base c.self.inside.min) c.args.order c.args.mark ≡ true
-above c = passes_by c.self.inside.buddy c.self.inside.base c.self.inside.min c.available_pages.result c.args.order c.args.mark true c.available_pages.ensures c.if-not-is_above.ensures
+above c = passes_by c.self.inside.buddy c.self.inside.base c.self.inside.min _ c.args.order c.args.mark true refl c.if-not-is_above.ensures
 
 chosen : (c : goal.After-new) → (x : Chosen) × (choose (c.self.inside.buddy).area c.args.order c.args.kind ≡ Some x) × (x.head ≡ c.in-Some.head)
 chosen c = chosen_some (c.self.inside.buddy).area c.args.order c.in-Some.head c.args.kind c.in-Some.ensures.answer
