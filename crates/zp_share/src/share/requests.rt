@@ -78,8 +78,7 @@ impl Share {
         ensures section { IsAsked (request.Free page order) (done_reply reply.Freed result) zone.old zone.new (share_at self.old place) (share_at self.new place) }
         ensures others { self.new ≡ with_zone_share place (share_at self.new place) self.old }
     {
-        let request = Request::Free(page, order);
-        answered!(self.section(zone, place, &request), Reply::Freed => ())
+        self.zones[place].free_block(zone, page, order)
     }
 
     /// Posts a lent block to a worker. Refused as `free_block` is.

@@ -43,9 +43,12 @@ impl ZoneShare {
         ensures section { IsAsked request.now result zone.old zone.new self.old self.new }
         ensures lists { (n : ℕ) → RefillsAtMost n request.now → HasAtMost n self.old → HasAtMost n self.new }
     {
-        // the request that is made most has a way of its own, on which no room is cleared for a list of pages
+        // the requests that are made most have ways of their own, on which no room is cleared for a list of pages
         if let Request::Alloc(order, kind, mark) = request {
             return page_reply(self.alloc_block(zone, *order, *kind, *mark));
+        }
+        if let Request::Free(page, order) = request {
+            return freed_reply(self.free_block(zone, *page, *order));
         }
         if let Request::Refill(kind, mark, count) = request {
             return self.refill(zone, *kind, *mark, *count);
@@ -87,6 +90,27 @@ impl ZoneShare {
         self.sections
             .add(worker, &Request::Alloc(order, kind, mark), &reply);
         got
+    }
+
+    /// Frees a lent block. Refused 20 where it is not lent with this order, and 30.
+    #[inline(always)]
+    pub fn free_block(&mut self, zone: &mut Zone, page: PageNo, order: Order) -> Result<(), Refused>
+        requires seat { IsSeatOf zone.old self.old.seat }
+        ensures section { IsAsked (request.Free page order) (done_reply reply.Freed result) zone.old zone.new self.old self.new }
+        ensures lists { (n : ℕ) → HasAtMost n self.old → HasAtMost n self.new }
+    {
+        if !self.is_lent(page, order) {
+            return Err(Refused::NotLent);
+        }
+        if self.sections.are_full() {
+            return Err(Refused::JournalFull);
+        }
+        let worker = self.seat.worker();
+        zone.free(&mut self.seat, page, order);
+        let request = Request::Free(page, order);
+        self.uses.note(&request, &Reply::Freed);
+        self.sections.add(worker, &request, &Reply::Freed);
+        Ok(())
     }
 
     /// Up to so many pages for this type, each held to this mark, which come to the front of its list: the pages. Refused as `fill` is.
@@ -168,6 +192,17 @@ impl ZoneShare {
         sections.add_drain(worker, kind, pages);
         drop_pages(cached, kind, count);
         Ok(())
+    }
+}
+
+/// The result of a request for a block to be freed, as a reply.
+#[inline(always)]
+fn freed_reply(got: Result<(), Refused>) -> Reply
+    ensures { result ≡ done_reply reply.Freed got }
+{
+    match got {
+        Ok(()) => Reply::Freed,
+        Err(refused) => Reply::Refused(refused),
     }
 }
 
