@@ -56,6 +56,7 @@ static void *fill_and_drain(void *nothing)
 typedef struct {
     uint32_t page, order;
     zone_counts_t counts;
+    zone_types_t types;
     uint8_t line[ZONE_INFO_LINE];
     size_t len;
     zone_page_t noted;
@@ -77,6 +78,7 @@ static uint32_t refill(void) { return zonealloc_refill(mine, 0, ZONE_TYPE_RECLAI
 static uint32_t drain(void) { return zonealloc_drain(mine, 0, ZONE_TYPE_MOVABLE, 1); }
 static uint32_t drain_all(void) { return zonealloc_drain_all(mine, 0); }
 static uint32_t counts(void) { return zonealloc_counts(mine, 0, &told.counts); }
+static uint32_t counts_by_type(void) { return zonealloc_counts_by_type(mine, 0, &told.types); }
 static uint32_t info(void) { return zonealloc_info(mine, 0, told.line, ZONE_INFO_LINE, &told.len); }
 static uint32_t page(void) { return zonealloc_page(mine, 0, BASE, &told.noted); }
 static uint32_t pageblock(void) { return zonealloc_pageblock(mine, 0, 0, &told.block); }
@@ -88,7 +90,8 @@ static const struct { const char *name; uint32_t (*call)(void); uint32_t otherwi
     { "post", post, ZONE_OK },         { "collect", collect, ZONE_NOTHING_POSTED },  { "isolate", isolate, ZONE_BAD_PAGEBLOCK },
     { "release", release, ZONE_NOT_ISOLATED }, { "refill", refill, ZONE_BELOW_MARK },      { "drain", drain, ZONE_OK },
     { "drain_all", drain_all, ZONE_OK },     { "counts", counts, ZONE_OK },                { "info", info, ZONE_OK },
-    { "page", page, ZONE_OK },               { "pageblock", pageblock, ZONE_OK },          { "gather", gather, ZONE_HAS_WORKERS }
+    { "page", page, ZONE_OK },               { "pageblock", pageblock, ZONE_OK },          { "gather", gather, ZONE_HAS_WORKERS },
+    { "counts_by_type", counts_by_type, ZONE_OK }
 };
 
 /* The block is lent: it is the one that was posted to the worker, or another. */

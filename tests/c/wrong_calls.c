@@ -37,6 +37,7 @@ static const zone_spec_t specs[ZONES] = {
 /* All that can be read. */
 typedef struct {
     zone_counts_t counts[ZONES];
+    zone_types_t types[ZONES];
     size_t len[ZONES];
     uint8_t lines[ZONES][ZONE_INFO_LINE];
     zone_page_t pages[ALL_PAGES];
@@ -65,6 +66,7 @@ static void see_zone(world_t *w, uint32_t zone, uint32_t first, uint32_t first_b
     uint32_t i, worker;
     zone_worker_t *reader = &w->workers[0];
     ANSWERS(ZONE_OK, zonealloc_counts(reader, zone, &s->counts[zone]));
+    ANSWERS(ZONE_OK, zonealloc_counts_by_type(reader, zone, &s->types[zone]));
     ANSWERS(ZONE_OK, zonealloc_info(reader, zone, s->lines[zone], ZONE_INFO_LINE, &s->len[zone]));
     for (i = 0; i << specs[zone].largest < specs[zone].pages; i++)
         ANSWERS(ZONE_OK, zonealloc_pageblock(reader, zone, i, &s->pageblocks[first_block + i]));
@@ -131,6 +133,7 @@ static void unfurnish(world_t *w)
 static struct {
     uint32_t page, order, number;
     zone_counts_t counts;
+    zone_types_t types;
     zone_page_t noted;
     zone_pageblock_t block;
     zone_totals_t totals;
@@ -210,6 +213,7 @@ static void wrong_zones(zone_worker_t *w)
         REFUSED(ZONE_BAD_ARGUMENT, zonealloc_drain(w, zone, ZONE_TYPE_MOVABLE, 1));
         REFUSED(ZONE_BAD_ARGUMENT, zonealloc_drain_all(w, zone));
         REFUSED(ZONE_BAD_ARGUMENT, zonealloc_counts(w, zone, &told.counts));
+        REFUSED(ZONE_BAD_ARGUMENT, zonealloc_counts_by_type(w, zone, &told.types));
         REFUSED(ZONE_BAD_ARGUMENT, zonealloc_info(w, zone, told.line, ZONE_INFO_LINE, &told.len));
         REFUSED(ZONE_BAD_ARGUMENT, zonealloc_page(w, zone, known.lent, &told.noted));
         REFUSED(ZONE_BAD_ARGUMENT, zonealloc_pageblock(w, zone, 0, &told.block));
@@ -388,6 +392,7 @@ static void dead_handles(zone_worker_t *w, zone_row_t *row)
     REFUSED(ZONE_BAD_HANDLE, zonealloc_drain(w, 1, ZONE_TYPE_MOVABLE, 1));
     REFUSED(ZONE_BAD_HANDLE, zonealloc_drain_all(w, 1));
     REFUSED(ZONE_BAD_HANDLE, zonealloc_counts(w, 1, &told.counts));
+    REFUSED(ZONE_BAD_HANDLE, zonealloc_counts_by_type(w, 1, &told.types));
     REFUSED(ZONE_BAD_HANDLE, zonealloc_info(w, 1, told.line, ZONE_INFO_LINE, &told.len));
     REFUSED(ZONE_BAD_HANDLE, zonealloc_page(w, 1, known.lent, &told.noted));
     REFUSED(ZONE_BAD_HANDLE, zonealloc_pageblock(w, 1, 0, &told.block));
@@ -611,7 +616,7 @@ static void little_memory(uint32_t workers, uint32_t zones)
 /* What a call is made with. A page is one of those that are known, or none of the zone's. */
 typedef enum {
     BYTES, MAKE, DISMISS, UNMAKE, TAKE, PUT, IS_LENT, CACHED, ALLOC, ALLOC_LOW, FREE, POST, COLLECT, ISOLATE, RELEASE, REFILL, DRAIN, DRAIN_ALL,
-    COUNTS, INFO, PAGE, PAGEBLOCK, GATHER
+    COUNTS, COUNTS_BY_TYPE, INFO, PAGE, PAGEBLOCK, GATHER
 } export_t;
 typedef enum { MINE, OF_FULL_LIST, WITHOUT_LISTS, EMPTY } handle_t;
 typedef enum { NO_PAGE, BELOW, ABOVE, LENT, ORDER4, OTHERS, SPARE } page_name_t;
@@ -716,6 +721,8 @@ static const stated_t stated[] = {
 
     { COUNTS, ZONE_BAD_HANDLE, .handle = EMPTY, .zone = NO_ZONE },
     { COUNTS, ZONE_BAD_ARGUMENT, .zone = NO_ZONE },
+    { COUNTS_BY_TYPE, ZONE_BAD_HANDLE, .handle = EMPTY, .zone = NO_ZONE },
+    { COUNTS_BY_TYPE, ZONE_BAD_ARGUMENT, .zone = NO_ZONE },
     { INFO, ZONE_BAD_HANDLE, .handle = EMPTY, .zone = NO_ZONE },
     { INFO, ZONE_BAD_ARGUMENT, .zone = NO_ZONE },
     { PAGE, ZONE_BAD_HANDLE, .handle = EMPTY, .zone = NO_ZONE },
@@ -769,6 +776,7 @@ static uint32_t ask(const stated_t *s, zone_worker_t *w, zone_row_t *row, uint32
     case DRAIN: return zonealloc_drain(w, s->zone, s->type, s->number);
     case DRAIN_ALL: return zonealloc_drain_all(w, s->zone);
     case COUNTS: return zonealloc_counts(w, s->zone, &told.counts);
+    case COUNTS_BY_TYPE: return zonealloc_counts_by_type(w, s->zone, &told.types);
     case INFO: return zonealloc_info(w, s->zone, told.line, ZONE_INFO_LINE, &told.len);
     case PAGE: return zonealloc_page(w, s->zone, page, &told.noted);
     case PAGEBLOCK: return zonealloc_pageblock(w, s->zone, s->number, &told.block);

@@ -35,7 +35,7 @@ mod worker;
 
 pub use refusal::Refusal;
 pub use row::{Row, Workers};
-pub use values::{Block, Counts, InfoLine, Level, Lists, Mark, MigrateType, PageState, PageblockState, Totals, ZoneSpec};
+pub use values::{Block, Counts, CountsByType, InfoLine, Level, Lists, Mark, MigrateType, PageState, PageblockState, Totals, ZoneSpec};
 pub use worker::Worker;
 
 /// Makes a call until no other is in its zone, with a longer rest each time.

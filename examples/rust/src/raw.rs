@@ -1,6 +1,6 @@
 //! The calls as `include/zonealloc.h` declares them. What it says there of each is not said again.
 
-use crate::values::{Counts, Totals, ZoneSpec};
+use crate::values::{Counts, CountsByType, Totals, ZoneSpec};
 
 /// A row's or a worker's handle: zeros, or what a call wrote last.
 #[repr(C)]
@@ -72,6 +72,7 @@ extern "C" {
     pub fn zonealloc_drain_all(worker: &mut Handle, zone: u32) -> u32;
 
     pub fn zonealloc_counts(worker: &mut Handle, zone: u32, counts: &mut RawCounts) -> u32;
+    pub fn zonealloc_counts_by_type(worker: &mut Handle, zone: u32, types: &mut CountsByType) -> u32;
     pub fn zonealloc_info(worker: &mut Handle, zone: u32, buffer: *mut u8, room: usize, len: &mut usize) -> u32;
     pub fn zonealloc_page(worker: &mut Handle, zone: u32, page: u32, told: &mut Page) -> u32;
     pub fn zonealloc_pageblock(worker: &mut Handle, zone: u32, pageblock: u32, told: &mut Pageblock) -> u32;

@@ -85,6 +85,15 @@ pub struct Counts {
     pub posted: u32,
 }
 
+/// How many free blocks of each order a zone has in the pageblocks of each type, by the number of the type, and how many pageblocks of each:
+/// what `/proc/pagetypeinfo` has. Behind the migrate types come those of isolated pageblocks.
+#[repr(C)]
+#[derive(Clone, Copy, Debug, Default, PartialEq, Eq)]
+pub struct CountsByType {
+    pub free: [[u32; 11]; 4],
+    pub pageblocks: [u32; 4],
+}
+
 /// Where the pages of a zone are, in the end.
 #[repr(C)]
 #[derive(Clone, Copy, Debug, Default, PartialEq, Eq)]

@@ -1,6 +1,6 @@
 use crate::raw::{self, Handle};
 use crate::refusal::answered;
-use crate::values::{Counts, InfoLine, Level, Lists, Mark, MigrateType, PageState, PageblockState};
+use crate::values::{Counts, CountsByType, InfoLine, Level, Lists, Mark, MigrateType, PageState, PageblockState};
 use crate::{until_free, Refusal};
 use core::marker::PhantomData;
 
@@ -116,6 +116,13 @@ impl Worker<'_> {
         let mut told = raw::RawCounts::default();
         answered(unsafe { raw::zonealloc_counts(&mut self.handle, zone, &mut told) })?;
         Ok((told.counts, Level::of(told.level)))
+    }
+
+    /// *Zone.* Free blocks by their pageblock's type and their order, and pageblocks by their type. It looks at each pageblock.
+    pub fn counts_by_type(&mut self, zone: u32) -> Result<CountsByType, Refusal> {
+        let mut told = CountsByType::default();
+        answered(unsafe { raw::zonealloc_counts_by_type(&mut self.handle, zone, &mut told) })?;
+        Ok(told)
     }
 
     /// *Zone.* The info line, without its line feed.

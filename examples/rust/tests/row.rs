@@ -38,6 +38,9 @@ fn a_block_is_lent_and_given_back() {
     assert_eq!(workers[0].free(1, page, 4), Err(Refusal::NotLent));
     let (counts, level) = workers[1].counts(1).unwrap();
     assert_eq!((counts.free, counts.by_order[10], level), (4096, 4, Level::High));
+    let types = workers[1].counts_by_type(1).unwrap();
+    assert_eq!((types.free[Movable as usize][10], types.pageblocks), (4, [0, 0, 4, 0]));
+    assert_eq!(workers[1].counts_by_type(2), Err(Refusal::BadArgument));
     let line = "Node 0, zone   Normal      0      0      0      0      0      0      0      0      0      0      4 ";
     assert_eq!(workers[0].info(1).as_deref(), Ok(line));
     assert_eq!(workers[0].alloc(2, 0, Movable, Mark::Any), Err(Refusal::BadArgument));
