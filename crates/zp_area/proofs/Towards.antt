@@ -1,5 +1,5 @@
 -- A block that is halved towards a part of it, at whatever place the part has there.
-use Rattle.std.proofs.Common.{ℕ, suc, zero, ◌+◌, ◌-◌, ◌^◌, ◌%◌, ◌≡◌, ◌≤◌, ◌<◌, ◌⊎◌, inl, inr, refl, sym, ◌∙◌, ap, arith, length, length-set}
+use Rattle.std.proofs.Common.{ℕ, suc, zero, ◌+◌, ◌-◌, ◌^◌, ◌%◌, ◌≡◌, ◌≤◌, ◌⊎◌, inl, inr, refl, sym, ◌∙◌, ap, arith, length-set}
 use Rattle.std.proofs.Math.Nat.{add-mod_right}
 use Rattle.zp_model.specs.declared.state.State.TheVariants.{Free, Tail}
 use Rattle.zp_model.specs.Block.{IsBuddy, head}

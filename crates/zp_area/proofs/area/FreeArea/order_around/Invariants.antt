@@ -1,4 +1,4 @@
-use Rattle.std.proofs.Common.{ℕ, ◌+◌, ◌-◌, ◌≡◌, ◌≤◌, ◌<◌}
+use Rattle.std.proofs.Common.{ℕ, ◌+◌, ◌-◌, ◌≤◌, ◌<◌}
 use Rattle.zp_model.specs.Block.{head}
 use Rattle.zp_model.specs.BlockSet.{Starts}
 use Rattle.zp_area.specs.Blocks.{block_set}

@@ -1,4 +1,4 @@
-use Rattle.std.proofs.Common.{◌+◌, ◌-◌, ◌/◌, ◌^◌, ◌≡◌, ◌<◌, ◌∙◌, ap, arith, cond, length, refl, set, sym}
+use Rattle.std.proofs.Common.{◌-◌, ◌/◌, ◌^◌, ◌≡◌, ◌∙◌, ap, arith, cond, length, refl, set, sym}
 use Rattle.std.proofs.lemmas.Nat.{pow_pos}
 use Rattle.zp_model.specs.declared.state.State.TheVariants.{Tail}
 use Rattle.zp_model.specs.PageblockType.{is_isolate}
@@ -8,7 +8,7 @@ use Rattle.zp_model.specs.Rows.{with_state}
 use Rattle.zp_model.specs.Area.{available_blocks, kind_at}
 use Rattle.zp_tree.specs.Blocks.{without_block}
 use Rattle.zp_area.specs.Available.{choosable, isolated_sum}
-use Rattle.zp_area.specs.Blocks.{Blocks, block_set, list_of_block, removed, taken_off}
+use Rattle.zp_area.specs.Blocks.{Blocks, block_set, removed, taken_off}
 use Rattle.zp_area.specs.OneSet.{IsKept}
 use Rattle.zp_area.specs.KeptSets.{set_of}
 use Rattle.zp_area.proofs.Keeping.{blocks_length, counted_there, kind_found, list_found, read_at, typed_there}
