@@ -1,21 +1,21 @@
 -- A run at any place that comes back: by the blocks that it was lent in, and of each by the cut of its part.
-use Rattle.std.proofs.Common.{ℕ, ◌+◌, ◌-◌, ◌^◌, ◌≡◌, ◌≢◌, ◌≤◌, ◌<◌, ◌&&◌, ◌||◌, ◌⊎◌, inl, inr, refl, sym, ◌∙◌, ap, arith, true, false, List, [], ◌∷◌, length, length-set, map, get_or, get_or-set_same, get_or-set_other, set, Option, Some, None, max}
+use Rattle.std.proofs.Common.{ℕ, ◌+◌, ◌-◌, ◌^◌, ◌≡◌, ◌≤◌, ◌<◌, ◌||◌, ◌⊎◌, inl, inr, refl, sym, ◌∙◌, ap, arith, true, false, List, length, length-set, map, get_or, get_or-set_same, get_or-set_other, set, Option, Some, None}
 use Rattle.std.specs.Option.{is_some}
 use Rattle.std.proofs.Math.ListN.{get_or-map}
 use Rattle.std.proofs.lemmas.Bool.{and_parts, both_ways, cases_eq, false≢true, false_from_ne_true, leb-true, or_cases}
-use Rattle.std.proofs.lemmas.List.{length-map, set-get_or}
+use Rattle.std.proofs.lemmas.List.{set-get_or}
 use Rattle.std.proofs.lemmas.Nat.{pow_pos}
 use Rattle.std.proofs.lemmas.Option.{same_Some}
 use Rattle.zp_model.specs.declared.migrate_type.MigrateType.{MigrateType}
 use Rattle.zp_model.specs.declared.state.State.{State}
 use Rattle.zp_model.specs.declared.state.State.TheVariants.{Free, Out, Posted, Tail}
 use Rattle.zp_model.specs.Area.{Area}
-use Rattle.zp_model.specs.Block.{has, in_run, IsBlock}
-use Rattle.zp_model.specs.Frames.{Frames, IsClear, IsFramed, given, with_area}
+use Rattle.zp_model.specs.Block.{has, in_run}
+use Rattle.zp_model.specs.Frames.{Frames, IsClear, IsFramed, given}
 use Rattle.zp_model.specs.Lawful.{IsLawful, IsListedArea}
-use Rattle.zp_model.specs.RunLaws.{IsFitting, IsTakenRun, give_blocks}
+use Rattle.zp_model.specs.RunLaws.{IsFitting, give_blocks}
 use Rattle.zp_model.specs.Runs.{block_around, cut, fitting_order, give_run, hand_out_blocks, hand_out_run, is_lent_run, is_within, may_free_run, meets, run_freed}
-use Rattle.zp_model.specs.Rows.{list_at, stands_in, state_at}
+use Rattle.zp_model.specs.Rows.{state_at}
 use Rattle.zp_model.specs.Take.{give}
 use Rattle.zp_model.specs.Zone.{PlainZone, Holding, holding_at, pages_of, posted_pages, workers_of}
 use Rattle.zp_model.proofs.Covers.{length-with}
@@ -25,7 +25,7 @@ use Rattle.zp_model.proofs.MaximalBlocks.{length-restated, max_has}
 use Rattle.zp_model.proofs.Pages.{in_run-from, in_run-to}
 use Rattle.zp_model.proofs.RunGiven.{given_by_cut}
 use Rattle.zp_model.proofs.RunParts.{has-with_pages, length-with_pages, within-from, within-to}
-use Rattle.zp_laws.proofs.Areas.{free-give, free-give_run, kinds-give, largest-give}
+use Rattle.zp_laws.proofs.Areas.{free-give, free-give_run, largest-give}
 use Rattle.zp_laws.proofs.Around.{IsAround, around-from, around-to, out_apart}
 use Rattle.zp_laws.proofs.Counting.{has-with_any, in_run-no}
 use Rattle.zp_laws.proofs.Held.{IsHolding}

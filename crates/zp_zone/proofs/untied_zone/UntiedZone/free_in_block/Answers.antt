@@ -1,4 +1,4 @@
-use Rattle.std.proofs.Common.{ℕ, ◌+◌, ◌-◌, ◌^◌, ◌≡◌, ◌≤◌, ◌<◌, ◌∙◌, ap, sym, arith, true, Some}
+use Rattle.std.proofs.Common.{ℕ, ◌+◌, ◌-◌, ◌^◌, ◌≡◌, ◌≤◌, ◌∙◌, ap, sym, arith, true, Some}
 use Rattle.std.proofs.lemmas.Nat.{pow_pos}
 use Rattle.zp_model.specs.declared.state.State.TheVariants.{Out}
 use Rattle.zp_model.specs.Block.{head, in_run}

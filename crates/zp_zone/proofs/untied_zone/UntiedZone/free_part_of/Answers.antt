@@ -1,12 +1,12 @@
-use Rattle.std.proofs.Common.{◌+◌, ◌-◌, ◌^◌, ◌≡◌, ◌≤◌, ◌<◌, ◌∙◌, ap, sym, arith, set, Some}
+use Rattle.std.proofs.Common.{◌+◌, ◌-◌, ◌^◌, ◌<◌, ◌∙◌, ap, arith, set}
 use Rattle.zp_model.specs.declared.state.State.TheVariants.{Tail}
 use Rattle.zp_model.specs.Frames.{Frames}
-use Rattle.zp_model.specs.Runs.{block_around, run_freed}
-use Rattle.zp_model.specs.Zone.{Holding, workers_of}
+use Rattle.zp_model.specs.Runs.{run_freed}
+use Rattle.zp_model.specs.Zone.{workers_of}
 use Rattle.zp_zone.specs.Kept.{plain_of}
 use Rattle.zp_zone.specs.NamedZone.{NamedZone}
 use Rattle.zp_zone.specs.RunsAt.{IsGivenRun, IsNotedRun}
-use Rattle.zp_zone.proofs.BlockSteps.{IsAsked, named}
+use Rattle.zp_zone.proofs.BlockSteps.{named}
 use Rattle.zp_zone.proofs.RunsFreed.{IsPart, before_clear, behind_clear, part_beside, part_from, part_head, part_here, part_kept, part_pages, part_plain, part_unheld, part_used}
 use Rattle.zp_zone.proofs.untied_zone.UntiedZone.free_part_of.Goals.{After-pages-pages, After-give_cut, After-note_cut, After-note_cut-2}
 use Rattle.zp_zone.proofs.untied_zone.UntiedZone.free_part_of.Goals as goal

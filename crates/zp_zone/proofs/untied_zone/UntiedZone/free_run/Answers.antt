@@ -1,4 +1,4 @@
-use Rattle.std.proofs.Common.{◌+◌, ◌-◌, ◌≡◌, ◌≤◌, ◌<◌, ◌∙◌, refl, ap, sym, arith}
+use Rattle.std.proofs.Common.{◌+◌, ◌-◌, ◌≡◌, ◌≤◌, refl, ap, arith}
 use Rattle.zp_model.specs.Zone.{pages_of}
 use Rattle.zp_laws.proofs.RunSteps.{lent_inside, may_free-to}
 use Rattle.zp_zone.specs.NamedZone.{NamedZone}

@@ -1,7 +1,7 @@
-use Rattle.std.proofs.Common.{◌+◌, ◌-◌, ◌^◌, ◌≡◌, ◌<◌, refl, sym, ◌∙◌, ap, arith}
+use Rattle.std.proofs.Common.{◌^◌, ◌≡◌, refl, ◌∙◌, ap, arith}
 use Rattle.std.proofs.lemmas.Nat.{pow_pos}
 use Rattle.zp_model.specs.Runs.{fitting_order}
-use Rattle.zp_zone.proofs.RunsTaken.{IsTakingRun, next_block, next_fits, next_free, taking_begins, taking_ends, taking_goes}
+use Rattle.zp_zone.proofs.RunsTaken.{next_block, next_fits, next_free, taking_begins, taking_ends, taking_goes}
 use Rattle.zp_zone.proofs.untied_zone.UntiedZone.take_run_at.Goals.{After-fitting_order-order}
 use Rattle.zp_zone.proofs.untied_zone.UntiedZone.take_run_at.Goals as goal
 

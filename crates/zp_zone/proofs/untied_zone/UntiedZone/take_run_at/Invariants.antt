@@ -1,4 +1,4 @@
-use Rattle.std.proofs.Common.{◌≡◌, ◌+◌}
+use Rattle.std.proofs.Common.{◌≡◌}
 use Rattle.zp_zone.proofs.RunsTaken.{IsTakingRun}
 use Rattle.zp_zone.proofs.untied_zone.UntiedZone.take_run_at.Given as goal
 

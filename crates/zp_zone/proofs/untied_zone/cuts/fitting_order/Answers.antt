@@ -1,4 +1,4 @@
-use Rattle.std.proofs.Common.{◌≡◌, ◌<◌, inl, inr, sym, arith}
+use Rattle.std.proofs.Common.{◌≡◌, inl, inr, sym, arith}
 use Rattle.std.proofs.lemmas.Bool.{both_ways, cases_eq, cases_lt}
 use Rattle.zp_model.proofs.Cuts.{fitting_unique}
 use Rattle.zp_zone.proofs.untied_zone.cuts.fitting_order.Goals as goal

@@ -1,4 +1,4 @@
-use Rattle.std.proofs.Common.{◌^◌, ◌≡◌, ◌≤◌, ◌∙◌, ap, arith}
+use Rattle.std.proofs.Common.{◌^◌, ◌≡◌, ◌≤◌, arith}
 use Rattle.std.proofs.lemmas.Nat.{pow_pos}
 use Rattle.zp_model.specs.Runs.{fitting_order}
 use Rattle.zp_zone.proofs.RunsFreed.{give_clear, give_size, giving_begins, giving_ends, giving_goes}

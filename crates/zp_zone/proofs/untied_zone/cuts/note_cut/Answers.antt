@@ -1,4 +1,4 @@
-use Rattle.std.proofs.Common.{◌^◌, ◌≡◌, ◌≤◌, ◌∙◌, ap, arith}
+use Rattle.std.proofs.Common.{◌^◌, ◌≡◌, ◌≤◌, arith}
 use Rattle.std.proofs.lemmas.Nat.{pow_pos}
 use Rattle.zp_model.specs.Runs.{fitting_order}
 use Rattle.zp_zone.proofs.RunsFreed.{note_size, note_unfree, noting_begins, noting_ends, noting_goes}
