@@ -1,11 +1,15 @@
 //! The two allocators side by side.
-ghost use Rattle.std.specs.Prelude.{◌≡◌, ◌≤◌, IfSome};
+ghost use Rattle.std.specs.Prelude.{◌≡◌, ◌≤◌, ◌+◌, IfSome, IsTrue, length};
+ghost use Rattle.zp_buddy.specs.FallingRuns.{AreTails};
+ghost use Rattle.zp_buddy.specs.Runs.{AreClear};
 ghost use Rattle.zp_plain.specs.declared.room.TheConstants.{PLAIN_PAGES};
 
 use crate::batches::Places;
 use std::alloc::{AllocError, AllocGlobal, Global};
 use std::process::Abort;
-use zp_model::{Largest, MigrateType, ORDERS, Order, PageAt, PageblockType, State, Worker};
+use zp_model::{
+    Largest, MAX_PAGES, MigrateType, ORDERS, Order, PageAt, PageblockType, State, Worker,
+};
 use zp_plain::PLAIN_PAGES;
 
 /// The order of this number.
@@ -27,6 +31,38 @@ pub fn new_pair(
     let largest = Largest::new(largest).expect(rt, "no largest order");
     assert!(rt; pages <= PLAIN_PAGES);
     Pair::new(rt.alloc(), pages, largest)
+}
+
+/// Whether so many pages in a row may come back, each by itself.
+fn are_clear(buddy: &zp_buddy::Buddy, head: PageAt, count: u32) -> bool
+    ensures clear { IsTrue result → AreClear buddy.now head count }
+    ensures inside { IsTrue result → head + count ≤ length buddy.now.states }
+{
+    let pages = buddy.pages();
+    if pages < count || pages - count < head.number() {
+        return false;
+    }
+    for place in 0..count {
+        if !buddy.is_clear(PageAt::at(head.number() + place), Order::zero()) {
+            return false;
+        }
+    }
+    true
+}
+
+/// Whether nothing is noted of so many pages in a row.
+fn are_tails(buddy: &zp_buddy::Buddy, head: PageAt, count: u32) -> bool
+    requires { head + count ≤ length buddy.now.states }
+    ensures { IsTrue result → AreTails buddy.now head (head + count) }
+{
+    // a clause of this call says how many pages there can be
+    let _pages = buddy.pages();
+    for place in 0..count {
+        let State::Tail = buddy.holding(PageAt::at(head.number() + place)) else {
+            return false;
+        };
+    }
+    true
 }
 
 /// How many further lists a pair has.
@@ -131,6 +167,23 @@ impl Pair {
         for it in 0..order.pages() {
             let place = (it.wrapping_mul(step) ^ turn) % order.pages();
             let page = page_of(rt, head.number() + place);
+            assert!(rt; self.plain.is_clear(page, Order::zero()));
+            self.plain.give(page, Order::zero());
+        }
+    }
+
+    /// Frees pages in a row at once, and to the plain one page by page, the highest first.
+    pub fn give_falling(&mut self, rt: &impl Abort, head: PageAt, count: u32) {
+        assert!(rt; are_clear(&self.buddy, head, count));
+        // a clause of this call says that the pages lie in the zone
+        let _pages = self.buddy.pages();
+        self.buddy.hold_run(head, count, &State::Tail);
+        assert!(rt; are_clear(&self.buddy, head, count));
+        assert!(rt; are_tails(&self.buddy, head, count));
+        self.buddy.give_run(head, count);
+        assert!(rt; head.number() < MAX_PAGES && count <= MAX_PAGES);
+        for place in 0..count {
+            let page = page_of(rt, head.number() + (count - 1 - place));
             assert!(rt; self.plain.is_clear(page, Order::zero()));
             self.plain.give(page, Order::zero());
         }

@@ -17,7 +17,7 @@ pub struct Requests {
 }
 
 /// A type, by a random word.
-fn kind_of(word: u32) -> MigrateType {
+pub fn kind_of(word: u32) -> MigrateType {
     match word % 3 {
         0 => MigrateType::Unmovable,
         1 => MigrateType::Reclaimable,
@@ -41,14 +41,14 @@ fn order_below(word: u32, orders: u8) -> Order {
 }
 
 /// A pageblock gets a type.
-fn retype_at_random(rt: &impl Abort, pair: &mut Pair, random: &mut Pcg32) {
+pub fn retype_at_random(rt: &impl Abort, pair: &mut Pair, random: &mut Pcg32) {
     let pageblock = random.next_u32() as usize % pair.pageblocks().max(1);
     let kind = pageblock_type_of(random.next_u32());
     assert!(rt; pair.retype(rt, pageblock, kind));
 }
 
 /// A block is taken, every fourth one the lowest.
-fn take_at_random(
+pub fn take_at_random(
     rt: &impl Abort,
     pair: &mut Pair,
     random: &mut Pcg32,
@@ -65,7 +65,7 @@ fn take_at_random(
 }
 
 /// One of the blocks that were taken comes back.
-fn give_at_random(
+pub fn give_at_random(
     rt: &impl Abort,
     pair: &mut Pair,
     random: &mut Pcg32,
