@@ -9,10 +9,12 @@ pub mod IsolatedPages
 pub mod Keeping
 pub mod Adding
 pub mod Removing
+pub mod Leaving
 pub mod Halves
 pub mod Splitting
 pub mod CountedLists
 pub mod Growing
+pub mod Towards
 pub mod Holding
 pub mod NoBlocks
 pub mod RelistedBy

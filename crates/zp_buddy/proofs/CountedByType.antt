@@ -1,7 +1,6 @@
 -- What a sound area says of its free blocks by order and type: they are as many as the list of both is long.
-use Rattle.std.proofs.Common.{ℕ, ◌+◌, ◌/◌, ◌≡◌, ◌≤◌, ◌<◌, arith, true, List, length}
+use Rattle.std.proofs.Common.{ℕ, ◌/◌, ◌≡◌, ◌≤◌, ◌<◌, arith, true, length}
 use Rattle.std.proofs.lemmas.Bool.{and_parts, false_from_ne_true}
-use Rattle.std.proofs.lemmas.List.{get_or-take}
 use Rattle.zp_model.specs.declared.pageblock_type.PageblockType.{PageblockType}
 use Rattle.zp_model.specs.PageblockType.{pageblock_types}
 use Rattle.zp_model.specs.BlockSet.{cover}

@@ -3,7 +3,7 @@
 //! In Linux: the `free_area` of a `struct zone`, `__rmqueue` and `__free_one_page`.
 ghost use Rattle.std.specs.Prelude.{ℕ, ◌≡◌, ◌<◌, ◌≤◌, ◌+◌, ◌++◌, ◌∷◌, [], ◌^◌, ◌*◌, ◌↔◌, false, length, map, slice_get, slice_index_or, slice_set, IfNone, IfOk, IfSome, IsTrue, None};
 ghost use Rattle.std.specs.List.{range_with_len};
-ghost use Rattle.zp_model.specs.Block.{has, in_run, size};
+ghost use Rattle.zp_model.specs.Block.{IsBlock, has, in_run, size};
 ghost use Rattle.zp_model.specs.Info.{blocks_of_type, counts_by_type, counts_of};
 ghost use Rattle.zp_model.specs.Rows.{IsLoose, IsOn, after, front, list_at, rest, state_at, with_run};
 ghost use Rattle.zp_model.specs.Described.{IsLinkedAt};
@@ -11,10 +11,12 @@ ghost use Rattle.zp_model.specs.Frames.{frames_opening, with_area, IsNote, IsFra
 ghost use Rattle.zp_model.specs.declared.pageblock_type.PageblockType.TheVariants.{Movable};
 ghost use Rattle.zp_model.specs.BlockSet.{largest_in, max_blocks};
 ghost use Rattle.zp_model.specs.Area.{available, list_number, free_list, kind_at, pageblock_pages, pageblocks_of, size_in};
-ghost use Rattle.zp_model.specs.Take.{retype, take_answer, take_after, take_low_answer, take_low_after};
+ghost use Rattle.zp_model.specs.Runs.{IsFreeRun, has_pages};
+ghost use Rattle.zp_model.specs.Take.{leave, retype, take_answer, take_after, take_low_answer, take_low_after};
 ghost use Rattle.zp_buddy.specs.FallingRuns.{AreTails, falling_run};
 ghost use Rattle.zp_buddy.specs.Runs.{AreClear, gives, pages_taken, pages_left, run_length, run_pages};
 
+use crate::at::{is_free_run, take_at};
 use crate::clear::{is_block, is_clear_run};
 use crate::falling::give_falling;
 use crate::join::join;
@@ -121,6 +123,30 @@ impl Buddy {
         let pages = order.pages();
         self.free -= pages;
         Some(head)
+    }
+
+    /// Whether so many pages from this one on are all free, in isolated pageblocks too.
+    pub fn is_free_run(&self, at: PageAt, pages: u32) -> bool
+        requires { at + pages ≤ length self.now.area.free }
+        ensures { result ≡ has_pages self.now.area.free at pages }
+    {
+        is_free_run(&self.area, at, pages)
+    }
+
+    /// Takes the block of this order at a page, each page of which is free, of whatever type and in isolated pageblocks too.
+    pub fn take_at(&mut self, at: PageAt, order: Order)
+        requires block { IsBlock self.old.area.largest (length self.old.area.free) at order }
+        requires free { IsFreeRun self.old.area at (2 ^ order) }
+        ensures after { self.new ≡ with_area self.old (leave self.old.area at order) }
+
+        // What the calls after it can rest on.
+        ensures head { (at < length self.new.states) × (has self.new.area.free at ≡ false) }
+        ensures clear { IsClear self.new at order }
+        ensures kept { (h k : ℕ) → IsClear self.old h k → IsClear self.new h k }
+    {
+        take_at(&mut self.area, at, order);
+        let pages = order.pages();
+        self.free -= pages;
     }
 
     /// Whether this is a block of which no page is free or on a further list.

@@ -1,6 +1,7 @@
 //! The buddy allocator of one zone: takes and gives blocks of its free pages. What it knows of them is its free area.
 #![tactic(auto)]
 
+mod at;
 mod buddy;
 mod choice;
 mod clear;

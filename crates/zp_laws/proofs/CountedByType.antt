@@ -1,5 +1,5 @@
 -- A free list of a lawful area is as long as there are blocks that belong on it.
-use Rattle.std.proofs.Common.{ℕ, suc, zero, ◌+◌, ◌≡◌, ◌<◌, refl, sym, ◌∙◌, ap, arith, Bool, true, ◌&&◌, length}
+use Rattle.std.proofs.Common.{ℕ, suc, zero, ◌+◌, ◌≡◌, ◌<◌, refl, sym, ◌∙◌, ap, arith, Bool, length}
 use Rattle.std.specs.List.{range_with_len, count_by, filter}
 use Rattle.std.proofs.lemmas.Bool.{and_from, and_parts, lt-ltb}
 use Rattle.std.proofs.lemmas.Cmp.{nat_eq_equiv}

@@ -28,12 +28,12 @@ pub fn zone(alloc: Global, calls: u32) -> Result<(), Unmade> {
 }
 
 /// The zone with two workers.
-fn two_workers(alloc: Global) -> Result<Crew, Unmade> {
+fn two_workers(alloc: Global) -> Result<SeatedZone, Unmade> {
     let (zone, mut seats) = Zone::new(alloc, config(PAGES), 2)?;
     let (Some(second), Some(first)) = (seats.pop(), seats.pop()) else {
         return Err(Unmade::Other);
     };
-    Ok(Crew {
+    Ok(SeatedZone {
         zone,
         first,
         second,
@@ -42,7 +42,7 @@ fn two_workers(alloc: Global) -> Result<Crew, Unmade> {
 
 /// A zone and the seats of two workers.
 #[derive(Drop)]
-struct Crew {
+struct SeatedZone {
     zone: Zone,
     first: Seat,
     second: Seat,
@@ -50,7 +50,7 @@ struct Crew {
     ghost second_fits: { IsSeatOf zone second },
 }
 
-impl Crew {
+impl SeatedZone {
     /// So many rounds.
     fn rounds(&mut self, rounds: u32) -> Result<(), Unmade> {
         for _ in 0..rounds {
@@ -61,7 +61,7 @@ impl Crew {
 
     /// Each of the nine requests, and what the zone reports. All pages are free after it, as before.
     fn round(&mut self) -> Result<(), Unmade> {
-        let Crew {
+        let SeatedZone {
             zone,
             first,
             second,

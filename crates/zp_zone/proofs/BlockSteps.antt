@@ -234,7 +234,7 @@ module _ (f : Frames) (base min w h k : ℕ) (x : IsAsked f base min) (y : IsHol
   held_here = omega (arith, held_below (map holding_of f.states) h y.holding y.at, length-map f.states holding_of)
 
   -- no other block out has its head in this one
-  other_out : (g : ℕ) → in_run h k g ≡ true → g ≢ h → g < length f.area.free → (o : Option Holding) → holding_of (state_at f.states g) ≡ o → o ≡ None
+  pub other_out : (g : ℕ) → in_run h k g ≡ true → g ≢ h → g < length f.area.free → (o : Option Holding) → holding_of (state_at f.states g) ≡ o → o ≡ None
   other_out g r ne lt None e = refl
   other_out g r ne lt (Some z) e =
       let out : List (Option Holding) = map holding_of f.states in

@@ -1,15 +1,13 @@
 -- The pages of a block, each out as a block of order 0, come back as one block: what that is of a drain, and what a zone's fields become.
-use Rattle.std.proofs.Common.{ℕ, suc, zero, ◌+◌, ◌-◌, ◌/◌, ◌^◌, ◌≡◌, ◌≢◌, ◌≤◌, ◌<◌, ◌⊎◌, inl, inr, refl, sym, ◌∙◌, ap, arith, subst, true, set, List, [], ◌∷◌, ◌++◌, All, length, length-set, map, get_or-set_same, get_or-set_other, Option, None, get_or, get_or-take, take, drop, length-take-le}
+use Rattle.std.proofs.Common.{ℕ, suc, zero, ◌+◌, ◌-◌, ◌/◌, ◌^◌, ◌≡◌, ◌≢◌, ◌≤◌, ◌<◌, ◌⊎◌, inl, inr, refl, sym, ◌∙◌, ap, arith, subst, true, set, List, [], ◌∷◌, ◌++◌, All, length, length-set, map, get_or-set_other, Option, None, get_or, get_or-take, take, drop, length-take-le}
 use Rattle.std.specs.Int.Bits.{bit_xor}
-use Rattle.std.proofs.lemmas.Bool.{both_ways, cases_eq, cases_lt, false_from_ne_true, or_cases}
+use Rattle.std.proofs.lemmas.Bool.{cases_eq, or_cases}
 use Rattle.std.proofs.lemmas.List.{ext_get_or, get_or_default, get_or-map as get_or-map_at, length-map, set-get_or, take-append-drop}
 use Rattle.std.proofs.lemmas.List.Elements.{All-nil, All-cons, All-head, All-tail, All-get_or, All-from_get_or}
 use Rattle.std.proofs.lemmas.List.FromFn.{get_or-range_with_len, length-range_with_len}
 use Rattle.std.specs.List.{range_with_len}
 use Rattle.std.proofs.lemmas.Nat.{pow_pos, shl-shr}
-use Rattle.zp_model.specs.declared.state.State.{State}
-use Rattle.zp_model.specs.declared.state.State.TheVariants.{Tail, Free}
-use Rattle.zp_model.specs.Area.{Area}
+use Rattle.zp_model.specs.declared.state.State.TheVariants.{Tail}
 use Rattle.zp_model.specs.Block.{has, head}
 use Rattle.zp_model.specs.Frames.{Frames, IsClear, given, with_area}
 use Rattle.zp_model.specs.Lawful.{IsLawful}
@@ -17,11 +15,9 @@ use Rattle.zp_model.specs.Rows.{state_at, with_run}
 use Rattle.zp_model.specs.Run.{is_distinct, is_out}
 use Rattle.zp_model.specs.Step.{drained, freed}
 use Rattle.zp_model.specs.Take.{give}
-use Rattle.zp_model.specs.Zone.{PlainZone, Holding, holding_at, posted_pages}
+use Rattle.zp_model.specs.Zone.{PlainZone, Holding, holding_at}
 use Rattle.zp_model.proofs.Heads.{head_aligned, head_le, lt_head, number_same}
-use Rattle.zp_model.proofs.MaximalBlocks.{length-restated, max_has}
 use Rattle.zp_model.proofs.Pages.{in_run-to}
-use Rattle.zp_model.proofs.Runs.{length-run}
 use Rattle.zp_laws.proofs.Areas.{free-give}
 use Rattle.zp_laws.proofs.Counting.{has-with_any}
 use Rattle.zp_laws.proofs.Held.{IsHolding, out-to, out_held}
@@ -29,12 +25,11 @@ use Rattle.zp_laws.proofs.StaysOut.{freed-kept, none_left_at}
 use Rattle.zp_laws.proofs.Steps.{freed_lawful}
 use Rattle.zp_buddy.specs.Runs.{AreClear, gives, turned_pages}
 use Rattle.zp_buddy.proofs.TurnedRuns.{get_or-turned, gives_turned, length-turned, turned_back, turned_in, turned_number}
-use Rattle.zp_zone.specs.Kept.{holding_of, plain_of, IsKept, IsPostedAside}
+use Rattle.zp_zone.specs.Kept.{plain_of, IsKept}
 use Rattle.zp_zone.specs.NamedZone.{AreOut, NamedZone}
 use Rattle.zp_zone.specs.Runs.{AreTurned}
-use Rattle.zp_zone.proofs.BlockSteps.{IsAsked, held_clear, named, not_out}
+use Rattle.zp_zone.proofs.BlockSteps.{IsAsked, held_clear, named}
 use Rattle.zp_zone.proofs.DrainSteps.{IsLeft, left_next}
-use Rattle.zp_zone.proofs.Noted.{IsBeside, aside_restated, kept_by, pages_same, plain-with_area}
 use Rattle.zp_zone.proofs.RunFrames.{out_run}
 use Rattle.zp_zone.proofs.RunsBack.{IsWithin, back, cases_run, kept_back, note_at, plain_back}
 

@@ -1,5 +1,5 @@
 -- The pages of a run, each out as a block of order 0, come back the highest first: what that is of a drain, and what a zone's fields become.
-use Rattle.std.proofs.Common.{ℕ, suc, zero, ◌+◌, ◌-◌, ◌≡◌, ◌≢◌, ◌≤◌, ◌<◌, ◌⊎◌, inl, inr, refl, sym, ◌∙◌, ap, arith, subst, true, set, List, [], ◌∷◌, All, length, map, Option, None, get_or}
+use Rattle.std.proofs.Common.{ℕ, suc, zero, ◌+◌, ◌-◌, ◌≡◌, ◌≤◌, ◌<◌, ◌⊎◌, inl, inr, refl, sym, ◌∙◌, ap, arith, subst, true, set, List, All, length, map, Option, None, get_or}
 use Rattle.std.proofs.lemmas.Bool.{or_cases}
 use Rattle.std.proofs.lemmas.List.{ext_get_or, get_or_default, get_or-map as get_or-map_at, length-map, set_comm, take_all}
 use Rattle.std.proofs.lemmas.List.Elements.{All-get_or}

@@ -13,4 +13,6 @@ pub mod Tied
 pub mod NewSeats
 pub mod BlockSteps
 pub mod RetypeSteps
+pub mod RunsTaken
+pub mod RunsFreed
 pub mod FallingDrains

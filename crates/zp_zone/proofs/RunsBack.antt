@@ -1,5 +1,5 @@
 -- Pages in a row that are noted as nothing and come back: what a zone's fields become, whatever free area they leave.
-use Rattle.std.proofs.Common.{ℕ, suc, zero, ◌+◌, ◌≡◌, ◌≤◌, ◌<◌, ◌⊎◌, inl, inr, refl, sym, ◌∙◌, ap, arith, true, set, List, length, get_or-set_same, get_or-set_other, length-set, Option, None}
+use Rattle.std.proofs.Common.{ℕ, suc, zero, ◌+◌, ◌≡◌, ◌≤◌, ◌<◌, ◌⊎◌, inl, inr, refl, sym, ◌∙◌, ap, arith, true, set, List, length, get_or-set_same, get_or-set_other, length-set, None}
 use Rattle.std.proofs.lemmas.Bool.{both_ways, cases_eq, cases_lt, false_from_ne_true}
 use Rattle.zp_model.specs.declared.state.State.{State}
 use Rattle.zp_model.specs.declared.state.State.TheVariants.{Tail, Free}
@@ -12,7 +12,7 @@ use Rattle.zp_model.specs.Zone.{PlainZone, posted_pages}
 use Rattle.zp_model.proofs.MaximalBlocks.{length-restated, max_has}
 use Rattle.zp_model.proofs.Runs.{length-run}
 use Rattle.zp_buddy.specs.Runs.{AreClear}
-use Rattle.zp_zone.specs.Kept.{holding_of, plain_of, IsKept, IsPostedAside}
+use Rattle.zp_zone.specs.Kept.{holding_of, plain_of, IsKept}
 use Rattle.zp_zone.proofs.BlockSteps.{IsAsked, not_out}
 use Rattle.zp_zone.proofs.Noted.{IsBeside, aside_restated, kept_by, pages_same, plain-with_area}
 use Rattle.zp_zone.proofs.RunFrames.{IsRunOff, aside_noted_run, out_run, plain-noted_run}

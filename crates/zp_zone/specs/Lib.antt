@@ -4,3 +4,4 @@ pub mod Kept
 pub mod Seats
 pub mod Asking
 pub mod Runs
+pub mod RunsAt

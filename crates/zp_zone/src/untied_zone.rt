@@ -15,9 +15,11 @@ ghost use Rattle.zp_zone.specs.Making.{wanted, AreBounds, IsGoodWithin, IsWhyWit
 
 mod batches;
 mod blocks;
+mod cuts;
 mod falling;
 mod pageblocks;
 mod parts;
+mod runs;
 mod turned;
 
 use crate::config::{ZoneBounds, ZoneConfig, checked_name};

@@ -146,7 +146,7 @@ fn is_above(min: u32, buddy: &Buddy, order: Order, mark: Mark) -> bool
     requires { min ≤ MAX_PAGES }
     ensures { result ≡ is_above min (size (available buddy.now.area.largest buddy.now.area.kinds buddy.now.area.free)) order mark }
 {
-    // (no count is read where none is asked for)
+    // (no count is read where there is no mark)
     if let Mark::Any = mark {
         return true;
     }

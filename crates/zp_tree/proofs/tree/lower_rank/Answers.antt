@@ -1,5 +1,4 @@
-use Rattle.std.proofs.Common.{◌∙◌, ◌/◌, inl, ap, arith, IsTrue, slice_index}
-use Rattle.zp_tree.specs.declared.constants.TheConstants.{GROUP_PAGES}
+use Rattle.std.proofs.Common.{◌∙◌, inl, ap, arith, slice_index}
 use Rattle.zp_tree.specs.Marks.{HasLarge}
 use Rattle.zp_tree.proofs.Lowered.{larger, unchanged}
 use Rattle.zp_tree.proofs.tree.lower_rank.Goals as goal

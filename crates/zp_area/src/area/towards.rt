@@ -1,0 +1,102 @@
+//! Taking a part out of the block in which it lies, at whatever place it has there and whatever the type of its pageblock.
+//!
+//! The block leaves the set whole; then each half that does not have the part comes to its list, the largest first.
+//!
+//! In Linux: `take_page_off_buddy`, with `break_down_buddy_pages`.
+ghost use Rattle.std.specs.Prelude.{◌≡◌, ◌≤◌, ◌<◌, ◌-◌, ◌^◌, cond, true, false, length, IfNone, IfSome};
+ghost use Rattle.zp_model.specs.PageblockType.{is_isolate};
+ghost use Rattle.zp_model.specs.Block.{has, head};
+ghost use Rattle.zp_model.specs.BlockSet.{Starts, cover};
+ghost use Rattle.zp_model.specs.RunLaws.{half_beside};
+ghost use Rattle.zp_tree.specs.Blocks.{without_block};
+ghost use Rattle.zp_area.specs.Blocks.{block_set, removed};
+ghost use Rattle.zp_area.specs.Towards.{split_towards};
+
+use super::FreeArea;
+use crate::free_lists::list_of;
+use crate::noting;
+use crate::splits::take_out;
+use zp_model::{Order, PageAt, PageblockType};
+use zp_tree::OrderTree;
+
+impl FreeArea {
+    /// The order of the block in which a page lies, where it lies in one: of the aligned heads around it one alone heads a block of its order.
+    /// At most as many pages are looked at as there are orders.
+    pub fn order_around(&self, at: PageAt) -> Option<Order>
+        ensures none { IfNone result (has (cover (block_set self.now)) at ≡ false) }
+        ensures some { IfSome result (λ o. Starts (block_set self.now) (head at o) o) }
+    {
+        // a clause of this call says that all that is kept is of one set of blocks
+        let _pages = self.pages();
+        let largest = self.largest().number();
+        let mut number = 0;
+        'orders: while number <= largest {
+            let order = Order::at(number);
+            if self.is_free(at.head(order), order) {
+                return Some(order);
+            }
+            number += 1;
+        }
+        None
+    }
+
+    /// Takes a block out of the set whole.
+    fn remove(&mut self, at: PageAt, order: Order)
+        requires { Starts (block_set self.old) at order }
+        ensures { self.new ≡ removed self.old.largest self.old at order }
+    {
+        let pageblock = self.blocks.largest.pageblock_of(at);
+        let kind = self.blocks.kinds[pageblock];
+        take_out(&mut self.blocks.lists, list_of(order, kind), at, false);
+        tell_removed(&mut self.blocks.tree, kind, at, order);
+        count_no_more(&mut self.isolated, kind, order);
+        self.blocks.free_in[pageblock] -= order.pages();
+        noting::changed(&mut self.noted, &self.blocks, pageblock);
+    }
+
+    /// Takes the aligned run of order `to` around a page out of the block of order `from` in which it lies. The halves beside it come into the
+    /// set, the largest first. The run is in no block then.
+    pub fn split_towards(&mut self, at: PageAt, from: Order, to: Order)
+        requires block { Starts (block_set self.old) (head at from) from }
+        requires down { to ≤ from }
+        ensures { self.new ≡ split_towards self.old.largest self.old at from to }
+    {
+        // a clause of this call says that all that is kept is of one set of blocks
+        let _pages = self.pages();
+        self.remove(at.head(from), from);
+        let mut order = from;
+        'halves: while to.number() < order.number() {
+            order = order.lower();
+            self.add(half_beside(at, order), order);
+        }
+    }
+}
+
+/// The half of the double of the aligned run of this order around a page in which the page does not lie.
+fn half_beside(at: PageAt, order: Order) -> PageAt
+    ensures { result ≡ half_beside at order }
+{
+    at.head(order).buddy(order)
+}
+
+/// Takes a block in a pageblock of this type out of the tree, unless that is isolated.
+#[inline(always)]
+fn tell_removed(tree: &mut OrderTree, kind: PageblockType, at: PageAt, order: Order)
+    requires { is_isolate kind ≡ false → Starts tree.old at order }
+    ensures { tree.new ≡ cond (is_isolate kind) tree.old (without_block tree.old at) }
+{
+    if !kind.is_isolate() {
+        tree.clear(at, order);
+    }
+}
+
+/// Counts the pages of a block in a pageblock of this type no more, where that is isolated.
+#[inline(always)]
+fn count_no_more(isolated: &mut u32, kind: PageblockType, order: Order)
+    requires { is_isolate kind ≡ true → 2 ^ order ≤ isolated.old }
+    ensures { isolated.new ≡ cond (is_isolate kind) (isolated.old - 2 ^ order) isolated.old }
+{
+    if kind.is_isolate() {
+        *isolated -= order.pages();
+    }
+}

@@ -1,0 +1,54 @@
+//! Which pages are free, and taking a block at whatever place out of the free block in which it lies.
+//!
+//! In Linux: `is_free_buddy_page` and `take_page_off_buddy`; `alloc_contig_range` takes such blocks out of the free area too.
+ghost use Rattle.std.specs.Prelude.{◌≡◌, ◌≤◌, ◌+◌, ◌%◌, ◌^◌, length};
+ghost use Rattle.zp_model.specs.BlockSet.{cover};
+ghost use Rattle.zp_model.specs.Frames.{with_area};
+ghost use Rattle.zp_model.specs.Runs.{IsFreeRun, has_pages};
+ghost use Rattle.zp_model.specs.Take.{leave};
+ghost use Rattle.zp_area.specs.Blocks.{block_set};
+ghost use Rattle.zp_buddy.specs.Choices.{area_in, frames_in};
+ghost use Rattle.zp_buddy.specs.Sound.{IsSound};
+
+use zp_area::FreeArea;
+use zp_model::{Order, PageAt};
+
+/// Whether so many pages from this one on are all free. They are looked at by the free blocks in which they lie.
+pub fn is_free_run(area: &FreeArea, at: PageAt, pages: u32) -> bool
+    requires { at + pages ≤ length area.now.rows.states }
+    ensures { result ≡ has_pages (cover (block_set area.now)) at pages }
+{
+    // a clause of this call says that all that is kept is of one set of blocks
+    let _pages = area.pages();
+    let end = at.number() + pages;
+    let mut next = at.number();
+    'looks: while next < end {
+        let page = PageAt::at(next);
+        let Some(order) = area.order_around(page) else {
+            return false;
+        };
+        next = page.head(order).number() + order.pages();
+    }
+    true
+}
+
+/// Takes the block of order `order` at a page, each page of which is free, out of the free block in which it lies.
+#[inline(always)]
+pub fn take_at(area: &mut FreeArea, at: PageAt, order: Order)
+    requires aligned { at % 2 ^ order ≡ 0 }
+    requires within { order ≤ area.old.largest }
+    requires free { IsFreeRun (area_in area.old.largest area.old) at (2 ^ order) }
+    requires sound { IsSound area.old.largest area.old.rows.states area.old.kinds area.old.rows.lists }
+    ensures largest { area.new.largest ≡ area.old.largest }
+    ensures sound { IsSound area.old.largest area.new.rows.states area.new.kinds area.new.rows.lists }
+    ensures pages { length area.new.rows.states ≡ length area.old.rows.states }
+    ensures kinds { area.new.kinds ≡ area.old.kinds }
+    ensures after { frames_in area.old.largest area.new ≡ with_area (frames_in area.old.largest area.old) (leave (frames_in area.old.largest area.old).area at order) }
+{
+    // a clause of this call says that all that is kept is of one set of blocks
+    let _pages = area.pages();
+    let Some(found) = area.order_around(at) else {
+        unreachable!()
+    };
+    area.split_towards(at, found, order);
+}

@@ -1,0 +1,83 @@
+//! The cut of a run of pages: the aligned blocks that tile it, block by block.
+//!
+//! In Linux: the loop of `__free_pages_memory`, and of `free_contig_range` where it frees by orders.
+ghost use Rattle.std.specs.Prelude.{ℕ, ◌≡◌, ◌≤◌, ◌<◌, ◌+◌, ◌%◌, ◌^◌, ◌↔◌, None, true, IsTrue};
+ghost use Rattle.zp_model.specs.Block.{has};
+ghost use Rattle.zp_model.specs.Lawful.{IsListedArea};
+ghost use Rattle.zp_model.specs.Rows.{state_at};
+ghost use Rattle.zp_model.specs.Runs.{fitting_order};
+ghost use Rattle.zp_buddy.specs.Runs.{AreClear};
+ghost use Rattle.zp_zone.specs.Kept.{IsPostedAside, holding_of};
+ghost use Rattle.zp_zone.specs.RunsAt.{IsGivenRun, IsNotedRun};
+
+use zp_buddy::Buddy;
+use zp_model::{Largest, MigrateType, Order, PageAt, State, Worker};
+
+/// Whether a block of this order may begin so many pages at this one: it is aligned there, and has no page past them.
+fn fits(at: PageAt, pages: u32, order: Order) -> bool
+    ensures { IsTrue result ↔ ((at % 2 ^ order ≡ 0) × (2 ^ order ≤ pages)) }
+{
+    at.number() % order.pages() == 0 && order.pages() <= pages
+}
+
+/// The order of the first block of the cut of so many pages from this one on: the largest that may begin them.
+pub fn fitting_order(largest: Largest, at: PageAt, pages: u32) -> Order
+    requires { 0 < pages }
+    ensures { result ≡ fitting_order largest at pages }
+{
+    let mut order = largest.order();
+    'orders: loop {
+        if fits(at, pages, order) {
+            return order;
+        }
+        order = order.lower();
+    }
+}
+
+/// Frees so many pages from this one on, which are neither free nor out nor posted, block by block of the run's cut: what freeing them at once
+/// leaves.
+pub fn give_cut(buddy: &mut Buddy, from: u32, pages: u32)
+    requires clear { AreClear buddy.old from pages }
+    requires listed { IsListedArea buddy.old.area }
+    requires beside { IsPostedAside buddy.old.sides buddy.old.states }
+    requires unheld { (i : ℕ) → has buddy.old.area.free i ≡ true → holding_of (state_at buddy.old.states i) ≡ None }
+    requires here { (i : ℕ) → from ≤ i → i < from + pages → holding_of (state_at buddy.old.states i) ≡ None }
+    ensures { IsGivenRun buddy.old buddy.new from pages }
+{
+    // a clause of this call says how many pages there can be
+    let _pages = buddy.pages();
+    let largest = buddy.largest();
+    let mut next = from;
+    let mut left = pages;
+    'tiles: while left > 0 {
+        // a clause of this call says that what is noted as free is free
+        let _framed = buddy.pages();
+        let head = PageAt::at(next);
+        let order = fitting_order(largest, head, left);
+        buddy.give(head, order);
+        let given = order.pages();
+        next += given;
+        left -= given;
+    }
+}
+
+/// Notes so many clear pages from this one on as out to a worker for a type, block by block of the run's cut.
+pub fn note_cut(buddy: &mut Buddy, worker: Worker, kind: MigrateType, from: u32, pages: u32)
+    requires clear { AreClear buddy.old from pages }
+    requires beside { IsPostedAside buddy.old.sides buddy.old.states }
+    ensures { IsNotedRun buddy.old buddy.new worker kind from pages }
+{
+    // a clause of this call says how many pages there can be
+    let _pages = buddy.pages();
+    let largest = buddy.largest();
+    let mut next = from;
+    let mut left = pages;
+    'tiles: while left > 0 {
+        let head = PageAt::at(next);
+        let order = fitting_order(largest, head, left);
+        buddy.hold(head, State::Out(order, kind, worker));
+        let noted = order.pages();
+        next += noted;
+        left -= noted;
+    }
+}

@@ -1,0 +1,210 @@
+//! The requests for runs of pages at any place, without seats. Each is one step of the plain zone.
+//!
+//! A run goes out as the blocks of its cut: aligned blocks that tile it from its first page on, each as large as its place, the rest of the run
+//! and the largest order allow. Taking them in rising order leaves what taking the run at once does.
+//!
+//! In Linux: `alloc_contig_range`, and `memblock_reserve` while a kernel boots.
+ghost use Rattle.std.specs.Prelude.{ℕ, ◌≡◌, ◌≤◌, ◌<◌, ◌+◌, ◌-◌, ◌^◌, IfNone, IfSome, Some, None, true};
+ghost use Rattle.zp_model.specs.declared.constants.TheConstants.{MAX_PAGES};
+ghost use Rattle.zp_model.specs.Block.{IsBlock, head};
+ghost use Rattle.zp_model.specs.Zone.{Holding, holds, pages_of, workers_of};
+ghost use Rattle.zp_model.specs.Runs.{
+  IsFreeRun,
+  alloc_run_at_step,
+  block_around,
+  free_run_step,
+  is_lent_run,
+  may_free_run,
+  run_freed,
+  run_taken,
+};
+ghost use Rattle.zp_zone.specs.RunsAt.{block_taken, run_reply};
+
+use super::cuts::{fitting_order, give_cut, note_cut};
+use super::{UntiedZone, is_out_to, place_of};
+use zp_model::{MigrateType, Order, PageAt, PageNo, State, Worker};
+
+/// Why a run is refused.
+#[derive(Clone, Copy, PartialEq, Eq, Debug, Drop)]
+pub(crate) enum RunRefused {
+    /// It has no page, or is not wholly the zone's.
+    BadRun,
+    /// One of its pages is not free.
+    NotFree,
+}
+
+impl UntiedZone {
+    /// The run of so many pages that begins at this page, in isolated pageblocks too, held to no mark: its first page. Each block of its cut is
+    /// out, with its pageblock's type noted. Refused 16 or 17.
+    pub fn alloc_run_at(
+        &mut self,
+        worker: Worker,
+        page: PageNo,
+        pages: u32,
+    ) -> Result<PageNo, RunRefused>
+        requires { worker < workers_of self.old.plain }
+        ensures reply { run_reply result ≡ (alloc_run_at_step self.old.plain worker page pages).reply }
+        ensures after { self.new ≡ record self.old { plain = (alloc_run_at_step self.old.plain worker page pages).zone } }
+    {
+        let Some(at) = run_place(page, pages, self.base, self.buddy.pages()) else {
+            return Err(RunRefused::BadRun);
+        };
+        if !self.buddy.is_free_run(at, pages) {
+            return Err(RunRefused::NotFree);
+        }
+        self.take_run_at(worker, at, pages);
+        Ok(page)
+    }
+
+    /// Takes so many pages from this one on, all of them free, block by block of the run's cut.
+    fn take_run_at(&mut self, worker: Worker, at: PageAt, pages: u32)
+        requires worker { worker < workers_of self.old.plain }
+        requires inside { at + pages ≤ pages_of self.old.plain }
+        requires free { IsFreeRun self.old.plain.area at pages }
+        ensures { self.new ≡ record self.old { plain = run_taken self.old.plain worker at pages } }
+    {
+        self.lawful();
+        // a clause of this call says how many pages there can be
+        let _pages = self.pages();
+        let largest = self.largest();
+        let mut next = at.number();
+        let mut left = pages;
+        'tiles: while left > 0 {
+            let head = PageAt::at(next);
+            let order = fitting_order(largest, head, left);
+            self.take_block_at(worker, head, order);
+            let taken = order.pages();
+            next += taken;
+            left -= taken;
+        }
+    }
+
+    /// Takes the block of this order at a page, all its pages free. The type noted for it is its pageblock's.
+    fn take_block_at(&mut self, worker: Worker, at: PageAt, order: Order)
+        requires worker { worker < workers_of self.old.plain }
+        requires block { IsBlock self.old.plain.area.largest (pages_of self.old.plain) at order }
+        requires free { IsFreeRun self.old.plain.area at (2 ^ order) }
+        ensures { self.new ≡ record self.old { plain = block_taken self.old.plain worker at order } }
+    {
+        // a clause of this call says that what is noted as free is free
+        let _pages = self.buddy.pages();
+        self.buddy.take_at(at, order);
+        let noted = self.buddy.type_of(at).noted();
+        self.buddy.hold(at, State::Out(order, noted, worker));
+    }
+
+    /// Frees so many pages from this one on, each of them lent to the worker, by whatever blocks. What the blocks around the first and the last
+    /// of them have beyond the run stays out to the worker.
+    pub fn free_run(&mut self, worker: Worker, page: PageNo, pages: u32)
+        requires worker { worker < workers_of self.old.plain }
+        requires lent { may_free_run self.old.plain worker page pages ≡ true }
+        ensures { self.new ≡ record self.old { plain = (free_run_step self.old.plain worker page pages).zone } }
+    {
+        self.lawful();
+        // a clause of this call says how many pages there can be
+        let _pages = self.pages();
+        let mut next = page.number() - self.base;
+        let end = next + pages;
+        'parts: while next < end {
+            self.lawful();
+            let at = PageAt::at(next);
+            let freed = self.free_in_block(worker, at, end - next);
+            next += freed;
+        }
+    }
+
+    /// Frees the first of so many pages that are lent to the worker, those of the block around this page. How many they are.
+    fn free_in_block(&mut self, worker: Worker, at: PageAt, pages: u32) -> u32
+        requires worker { worker < workers_of self.old.plain }
+        requires some { 0 < pages }
+        requires lent { is_lent_run self.old.plain worker at pages ≡ true }
+        ensures after { self.new ≡ record self.old { plain = run_freed self.old.plain worker at result } }
+        ensures some { 0 < result }
+        ensures most { result ≤ pages }
+        ensures ends { result < pages → (b : ℕ × Holding) × (block_around self.old.plain worker (at + result - 1) ≡ Some b) × (b.0 + 2 ^ b.1.order ≡ at + result) }
+    {
+        self.lawful();
+        // a clause of this call says that what is noted as free is free
+        let _pages = self.buddy.pages();
+        let Some(order) = self.lent_order(worker, at) else {
+            unreachable!()
+        };
+        let head = at.head(order);
+        let State::Out(_, kind, _) = self.buddy.holding(head) else {
+            unreachable!()
+        };
+        let end = head.number() + order.pages();
+        let count = pages.min(end - at.number());
+        self.free_part_of(worker, head, order, kind, at, count);
+        count
+    }
+
+    /// The order of the block out to the worker in which a page lies, where it lies in one: of the aligned heads around it one alone is that of such
+    /// a block. At most as many pages are looked at as there are orders.
+    fn lent_order(&self, worker: Worker, at: PageAt) -> Option<Order>
+        requires { at < pages_of self.now.plain }
+        ensures some { IfSome result (λ o. holds self.now.plain worker (head at o) o ≡ true) }
+        ensures none { IfNone result (block_around self.now.plain worker at ≡ None) }
+    {
+        // a clause of this call says that what is noted as free is free
+        let _pages = self.buddy.pages();
+        let largest = self.buddy.largest().number();
+        let mut number = 0;
+        'orders: while number <= largest {
+            let order = Order::at(number);
+            if is_out_to(self.buddy.holding(at.head(order)), order, worker) {
+                return Some(order);
+            }
+            number += 1;
+        }
+        None
+    }
+
+    /// Frees so many pages from this one on, of a block that is out to the worker. What it has before and behind them stays out to the worker.
+    fn free_part_of(
+        &mut self,
+        worker: Worker,
+        head: PageAt,
+        order: Order,
+        kind: MigrateType,
+        at: PageAt,
+        pages: u32,
+    )
+        requires worker { worker < workers_of self.old.plain }
+        requires around { block_around self.old.plain worker at ≡ Some (head, record { order = order; kind = kind; worker = worker }) }
+        requires some { 0 < pages }
+        requires within { at + pages ≤ head + 2 ^ order }
+        ensures { self.new ≡ record self.old { plain = run_freed self.old.plain worker at pages } }
+    {
+        // a clause of this call says that what is noted as free is free
+        let _pages = self.buddy.pages();
+        let first = head.number();
+        let end = first + order.pages();
+        let from = at.number();
+        let behind = from + pages;
+        let before = from - first;
+        let left = end - behind;
+        self.buddy.hold(head, State::Tail);
+        give_cut(&mut self.buddy, from, pages);
+        note_cut(&mut self.buddy, worker, kind, first, before);
+        note_cut(&mut self.buddy, worker, kind, behind, left);
+    }
+}
+
+/// The place of a run of so many absolute pages in a zone, where the run has a page and lies wholly there.
+fn run_place(page: PageNo, count: u32, base: u32, pages: u32) -> Option<PageAt>
+    requires { pages ≤ MAX_PAGES }
+    ensures some { IfSome result (λ at. (base ≤ page) × (at ≡ page - base) × (0 < count) × (at + count ≤ pages)) }
+    ensures none { IfNone result (base ≤ page → 0 < count → page - base + count ≤ pages → ⊥) }
+{
+    if count == 0 {
+        return None;
+    }
+    let Some(at) = place_of(page, base, pages) else {
+        return None;
+    };
+    if pages - at.number() < count {
+        return None;
+    }
+    Some(at)
+}
