@@ -1,6 +1,6 @@
 /* A kernel whose pages come from the allocator (docs/kernels.md). Each processor makes requests, while its timer's handler makes others on the
  * stack that it interrupts. Each page is marked while it is out. In the end all pages add up, or FAILED is told. Words of the command line:
- *   requests=N   of each processor        tick=N   nanoseconds between its ticks; 0: no ticks
+ *   requests=N   of each processor (the first word)        tick=N   nanoseconds between its ticks; 0: no ticks
  *   masked=1     requests are made with interrupts off; then handlers wait for a zone, as it is another processor that is in */
 #include <stddef.h>
 #include <stdint.h>
@@ -44,7 +44,7 @@ typedef struct processor {
 } processor_t;
 static processor_t processors[PROCESSORS];
 static uint32_t n_processors, n_zones, requests, tick_length, is_masked, kept_out[3];
-static volatile uint32_t tables, n_done, n_off;
+static uint32_t tables, n_done, n_off;
 static zone_spec_t zones[3];
 static zone_pool_t pool;
 static uint64_t heap_from, heap_next, heap_to, heap_blocks;
@@ -155,7 +155,7 @@ static void make_tables(void) {
     of_middle[510] = of_middle[KERNEL_GIBI];
     of_top[256] = of_top[511] = TABLE(middle);
     PRINT("%u tables of pages handed out, for %u GiB\n", (i + 511) / 512 + 2, (i + 511) / 512);
-    tables = top;
+    __atomic_store_n(&tables, top, __ATOMIC_RELEASE);
 }
 
 /* --- blocks: their pages are marked while they are out, and nobody else has one --- */
@@ -247,7 +247,7 @@ static void work(processor_t *own) {
         interrupts_on();
     }
     __atomic_add_fetch(&n_done, 1, __ATOMIC_ACQ_REL);
-    while (n_done < n_processors) pause();                              /* (its handler goes on until the last is done) */
+    while (__atomic_load_n(&n_done, __ATOMIC_ACQUIRE) < n_processors) pause();      /* (its handler goes on until the last is done) */
     interrupts_off();
     __atomic_add_fetch(&n_off, 1, __ATOMIC_ACQ_REL);
 }
@@ -319,10 +319,10 @@ void enter_c(uint32_t how, uint64_t told, uint32_t number) {
         add_up();
         make_tables();
     }
-    while (tables == 0) pause();
+    while (__atomic_load_n(&tables, __ATOMIC_ACQUIRE) == 0) pause();
     work(own);
     if (number != 0) return;
-    while (n_off < n_processors) pause();
+    while (__atomic_load_n(&n_off, __ATOMIC_ACQUIRE) < n_processors) pause();
     add_up();
     for (own = processors; own < processors + n_processors; own++) {
         PRINT("processor %u: requests %u refused %u posted %u collected %u; ", own->number, requests, own->refused, own->posted, own->collected);
