@@ -87,7 +87,7 @@ static int is_ours(uint64_t page) {
 }
 /* As Linux cuts them: below 16 MiB, below 4 GiB, above; up to the last page that is ours. */
 static void cut_zones(void) {
-    static const zone_spec_t kinds[3] = { { 16 * MEBI, 0, 0, 10, 3, "DMA" }, { 4096 * MEBI, 0, 0, 10, 5, "DMA32" }, { 1 << 24, 0, 0, 10, 6, "Normal" } };
+    static const zone_spec_t kinds[] = { { 16 * MEBI, 0, 0, 10, 3, "DMA" }, { 4096 * MEBI, 0, 0, 10, 5, "DMA32" }, { 1 << 24, 0, 0, 10, 6, "Normal" } };
     uint64_t page = 0, first, after;
     uint32_t i;
     for (i = 0; i < 3; i++) {

@@ -51,7 +51,9 @@ void rattle_dealloc(void *at)
 /* What a call is given, and what it tells. */
 static struct {
     uint32_t worker, zone, order, type, mark, page, to, lent, number, count;
-    union { zone_counts_t counts; zone_types_t types; zone_page_t page; zone_pageblock_t pageblock; zone_totals_t totals; uint8_t line[ZONE_INFO_LINE]; } told;
+    union {
+        zone_counts_t counts; zone_types_t types; zone_page_t page; zone_pageblock_t pageblock; zone_totals_t totals; uint8_t line[ZONE_INFO_LINE];
+    } told;
     size_t len;
     uint64_t bytes;
 } it;
@@ -83,8 +85,8 @@ static uint32_t page(void) { return zonealloc_page(W, it.zone, it.page, &it.told
 static uint32_t pageblock(void) { return zonealloc_pageblock(W, it.zone, it.number, &it.told.pageblock); }
 static uint32_t gather(void) { return zonealloc_gather(&row, it.zone, &it.told.totals); }
 
-typedef enum { NOTHING, BYTES, MAKE, DISMISS, UNMAKE, TAKE, PUT, IS_LENT, CACHED, ALLOC, ALLOC_LOW, FREE, POST, COLLECT, ISOLATE, RELEASE, REFILL, DRAIN,
-               DRAIN_ALL, COUNTS, COUNTS_BY_TYPE, INFO, PAGE, PAGEBLOCK, GATHER, CALLS } call_t;
+typedef enum { NOTHING, BYTES, MAKE, DISMISS, UNMAKE, TAKE, PUT, IS_LENT, CACHED, ALLOC, ALLOC_LOW, FREE, POST, COLLECT, ISOLATE, RELEASE,
+               REFILL, DRAIN, DRAIN_ALL, COUNTS, COUNTS_BY_TYPE, INFO, PAGE, PAGEBLOCK, GATHER, CALLS } call_t;
 static struct { const char *name; uint32_t (*call)(void); unsigned long times, deepest; } calls[CALLS] = {
     { "nothing", nothing, 0, 0 }, { "bytes", bytes, 0, 0 }, { "make", make, 0, 0 }, { "dismiss", dismiss, 0, 0 }, { "unmake", unmake, 0, 0 },
     { "take", take, 0, 0 }, { "put", put, 0, 0 }, { "is_lent", is_lent, 0, 0 }, { "cached", cached, 0, 0 }, { "alloc", alloc, 0, 0 },
