@@ -1,15 +1,19 @@
 /* A row for up to 32 threads, each with a worker of its own. There is no lock: a ZONE call that is answered ZONE_BUSY is made again
  * after a rest, so the archive's own gate of the zone is the lock. Each rest is longer than the one before: who is in a zone then makes
  * several calls before its memory moves to another processor. With ZONEALLOC_SLEEP defined before the include, a mutex for each zone
- * stands round the call, and who waits for it sleeps.
+ * stands round the call, and who waits for it sleeps. Where there is no C library, as in a kernel, the includer defines ZONEALLOC_REST(), which
+ * is what to do after the longest rest, and declares memset.
  *
  * ANY, below: any threads at the same time, each with a worker whose number no other thread calls with. ALONE is as in zonealloc.h.
  * Each call answers what the calls under it answer, but never ZONE_BUSY. */
 #ifndef ZONEALLOC_THREADS_H
 #define ZONEALLOC_THREADS_H
 #include "zonealloc.h"
+#ifndef ZONEALLOC_REST
 #include <sched.h>
 #include <string.h>
+#define ZONEALLOC_REST() (void)sched_yield()
+#endif
 #ifdef ZONEALLOC_SLEEP
 #include <pthread.h>
 typedef struct zone_door { unsigned char apart[64]; pthread_mutex_t mutex; } zone_door_t;
@@ -34,7 +38,7 @@ static inline uint32_t zone_rest(uint32_t hints) {
     for (i = 0; i < hints; i++) __builtin_ia32_pause();
 #endif
     if (hints < ZONE_LONGEST_REST) return hints * 2;
-    (void)sched_yield();
+    ZONEALLOC_REST();
     return hints;
 }
 /* ANY. A ZONE call, made until it is answered: for those that have no function below, too. (It may read zone twice, or not at all.) */
