@@ -1,14 +1,34 @@
-//! Links the archive, and with the feature `std` the two memory functions over malloc. Where they are, two variables of the environment tell:
-//! ZONEALLOC_ARCHIVE (libzonealloc.a) and ZONEALLOC_MALLOC (libzonealloc_malloc.a, which `make` leaves in build/).
+//! Links the archive of the target, and with the feature `std` the two memory functions over malloc. Where they are, two variables of the
+//! environment tell: ZONEALLOC_ARCHIVE (libzonealloc.a) and ZONEALLOC_MALLOC (libzonealloc_malloc.a, which `make` leaves in build/). Without
+//! the former it is the archive that `make targets` names for the target: of kernels, where there is no operating system.
 
 use std::env;
-use std::path::PathBuf;
+use std::path::{Path, PathBuf};
 
 const TOP: &str = concat!(env!("CARGO_MANIFEST_DIR"), "/../..");
 
-fn link(variable: &str, usual: &str, name: &str) {
+/// Where the archive is, most wanted first.
+fn archives() -> Vec<String> {
+    let said = |name: &str| env::var(name).unwrap_or_default();
+    let (machine, system) = (said("CARGO_CFG_TARGET_ARCH"), said("CARGO_CFG_TARGET_OS"));
+    let name = match (machine.as_str(), system.as_str()) {
+        ("x86_64", "none") => "x86_64-kernel-pic".to_string(),
+        (_, "none") => format!("{machine}-kernel"),
+        _ => machine.clone(),
+    };
+    let made = format!("build/targets/{name}/libzonealloc.a");
+    if name == "x86_64" {
+        vec!["crates/zonealloc/out/libzonealloc.a".to_string(), made]
+    } else {
+        vec![made]
+    }
+}
+
+fn link(variable: &str, usual: &[String], name: &str) {
     println!("cargo:rerun-if-env-changed={variable}");
-    let archive = env::var_os(variable).map_or_else(|| PathBuf::from(TOP).join(usual), PathBuf::from);
+    let usual: Vec<PathBuf> = usual.iter().map(|it| Path::new(TOP).join(it)).collect();
+    let found = usual.iter().find(|it| it.exists()).or_else(|| usual.last()).cloned();
+    let archive = env::var_os(variable).map(PathBuf::from).or(found).expect("there is a usual place");
     let archive = archive.canonicalize().unwrap_or_else(|_| panic!("{} is not there: name it in {variable}", archive.display()));
     assert!(archive.ends_with(format!("lib{name}.a")), "{variable} has to name a lib{name}.a");
     println!("cargo:rerun-if-changed={}", archive.display());
@@ -17,8 +37,8 @@ fn link(variable: &str, usual: &str, name: &str) {
 }
 
 fn main() {
-    link("ZONEALLOC_ARCHIVE", "crates/zonealloc/out/libzonealloc.a", "zonealloc");
+    link("ZONEALLOC_ARCHIVE", &archives(), "zonealloc");
     if env::var_os("CARGO_FEATURE_STD").is_some() {
-        link("ZONEALLOC_MALLOC", "build/libzonealloc_malloc.a", "zonealloc_malloc");
+        link("ZONEALLOC_MALLOC", &["build/libzonealloc_malloc.a".to_string()], "zonealloc_malloc");
     }
 }
