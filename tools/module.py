@@ -1,5 +1,5 @@
 #!/usr/bin/env python3
-"""Has the proved module kept: what the prover's compiler hands to clang, of which the archive is made.
+"""Has the module kept that the prover's compiler makes of what it proved, and hands to clang: the archive is compiled out of it.
 
     tools/module.py
 
@@ -40,6 +40,14 @@ def view():
     clang.write_text(f'#!/bin/sh\ncp module.bc "{MODULE}" && printf "%s\\n" "$@" > "{WORDS}"\nexec "{real}/toolchain/bin/clang" "$@"\n')
     clang.chmod(0o755)
     return seen
+
+
+def llvm(tool, *words, **how):
+    """What one of the toolchain's tools of LLVM, all of which are one file, says."""
+    ran = subprocess.run([tool, *map(str, words)], executable=kit() / "toolchain/bin/clang", capture_output=True, text=True, check=False, **how)
+    if ran.returncode:
+        raise ValueError(ran.stderr.strip())
+    return ran.stdout
 
 
 def keep():
