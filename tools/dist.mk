@@ -23,7 +23,9 @@ build/wrong_calls build/bytes: build/%: tests/c/%.c $(ARCHIVE)
 	$(LINKED) tests/c/$*.c $(ARCHIVE) -o $@
 build/against_reference: tests/c/against_reference.c tests/c/reference.c $(LIBRARIES)
 	$(LINKED) tests/c/against_reference.c tests/c/reference.c $(LIBRARIES) -o $@
-build/types build/lists build/rest build/busy: build/%: tests/c/%.c $(LIBRARIES)
+build/rest: tests/c/rest.c tests/c/rest_threads.c $(LIBRARIES)
+	$(LINKED) tests/c/rest.c tests/c/rest_threads.c $(LIBRARIES) -pthread -o $@
+build/types build/lists build/busy: build/%: tests/c/%.c $(LIBRARIES)
 	$(LINKED) tests/c/$*.c $(LIBRARIES) -pthread -o $@
 build/pool build/threads build/machine: build/%: examples/%.c $(LIBRARIES)
 	$(LINKED) examples/$*.c $(LIBRARIES) -pthread -o $@
