@@ -5,7 +5,7 @@ PREFIX = /usr/local
 CFLAGS = -O2 -std=c99 -Wall -Wextra -Wpedantic
 OUT = build/targets/$(TARGET)
 ARCHIVE = $(OUT)/libzonealloc.a
-MALLOC = build/libzonealloc_malloc.a
+MALLOC = $(OUT)/libzonealloc_malloc.a
 LIBRARIES = $(ARCHIVE) $(MALLOC)
 LINKED = $(CC) $(CFLAGS) -Iinclude $(LDFLAGS)
 TESTS = wrong_calls bytes types lists rest busy against_reference pool threads machine
@@ -15,23 +15,23 @@ all: $(LIBRARIES) build/zonealloc.pc
 $(ARCHIVE): asm/$(TARGET).s
 	mkdir -p $(OUT) && $(CC) $(ASFLAGS) -c asm/$(TARGET).s -o $(OUT)/zonealloc.o && rm -f $@ && $(AR) rcs $@ $(OUT)/zonealloc.o
 $(MALLOC): c/zonealloc_malloc.c
-	mkdir -p build && $(CC) $(CFLAGS) -Iinclude -fPIC -c c/zonealloc_malloc.c -o build/zonealloc_malloc.o && $(AR) rcs $@ build/zonealloc_malloc.o
+	mkdir -p $(OUT) && $(CC) $(CFLAGS) -Iinclude -fPIC -c c/zonealloc_malloc.c -o $(OUT)/zonealloc_malloc.o && $(AR) rcs $@ $(OUT)/zonealloc_malloc.o
 build/zonealloc.pc: zonealloc.pc.in
 	mkdir -p build && sed 's|@PREFIX@|$(PREFIX)|' zonealloc.pc.in > $@
 
-build/wrong_calls build/bytes: build/%: tests/c/%.c $(ARCHIVE)
+$(OUT)/wrong_calls $(OUT)/bytes: $(OUT)/%: tests/c/%.c $(ARCHIVE)
 	$(LINKED) tests/c/$*.c $(ARCHIVE) -o $@
-build/against_reference: tests/c/against_reference.c tests/c/reference.c $(LIBRARIES)
+$(OUT)/against_reference: tests/c/against_reference.c tests/c/reference.c $(LIBRARIES)
 	$(LINKED) tests/c/against_reference.c tests/c/reference.c $(LIBRARIES) -o $@
-build/rest: tests/c/rest.c tests/c/rest_threads.c $(LIBRARIES)
+$(OUT)/rest: tests/c/rest.c tests/c/rest_threads.c $(LIBRARIES)
 	$(LINKED) tests/c/rest.c tests/c/rest_threads.c $(LIBRARIES) -pthread -o $@
-build/types build/lists build/busy: build/%: tests/c/%.c $(LIBRARIES)
+$(OUT)/types $(OUT)/lists $(OUT)/busy: $(OUT)/%: tests/c/%.c $(LIBRARIES)
 	$(LINKED) tests/c/$*.c $(LIBRARIES) -pthread -o $@
-build/pool build/threads build/machine: build/%: examples/%.c $(LIBRARIES)
+$(OUT)/pool $(OUT)/threads $(OUT)/machine: $(OUT)/%: examples/%.c $(LIBRARIES)
 	$(LINKED) examples/$*.c $(LIBRARIES) -pthread -o $@
 
-check: all $(TESTS:%=build/%)
-	@for it in $(TESTS); do $(RUN) build/$$it || { echo "FAILED: $$it"; exit 1; }; done
+check: all $(TESTS:%=$(OUT)/%)
+	@for it in $(TESTS); do $(RUN) $(OUT)/$$it || { echo "FAILED: $$it"; exit 1; }; done
 	@echo "$(words $(TESTS)) passed, 0 failed"
 install: all
 	install -d $(DESTDIR)$(PREFIX)/include $(DESTDIR)$(PREFIX)/lib/pkgconfig $(DESTDIR)$(PREFIX)/lib/cmake/zonealloc

@@ -7,20 +7,14 @@ use std::path::{Path, PathBuf};
 
 const TOP: &str = concat!(env!("CARGO_MANIFEST_DIR"), "/../..");
 
-/// Where the archive is, most wanted first.
-fn archives() -> Vec<String> {
+/// The target, as `make targets` names it.
+fn target() -> String {
     let said = |name: &str| env::var(name).unwrap_or_default();
     let (machine, system) = (said("CARGO_CFG_TARGET_ARCH"), said("CARGO_CFG_TARGET_OS"));
-    let name = match (machine.as_str(), system.as_str()) {
+    match (machine.as_str(), system.as_str()) {
         ("x86_64", "none") => "x86_64-kernel-pic".to_string(),
         (_, "none") => format!("{machine}-kernel"),
-        _ => machine.clone(),
-    };
-    let made = format!("build/targets/{name}/libzonealloc.a");
-    if name == "x86_64" {
-        vec!["crates/zonealloc/out/libzonealloc.a".to_string(), made]
-    } else {
-        vec![made]
+        _ => machine,
     }
 }
 
@@ -36,9 +30,19 @@ fn link(variable: &str, usual: &[String], name: &str) {
     println!("cargo:rustc-link-lib=static={name}");
 }
 
+/// (Where `rt lib` and `make` leave what is for programs on x86-64 is looked at first.)
 fn main() {
-    link("ZONEALLOC_ARCHIVE", &archives(), "zonealloc");
+    let target = target();
+    let near = |usual: &str, name: &str| {
+        let made = format!("build/targets/{target}/lib{name}.a");
+        if target == "x86_64" {
+            vec![format!("{usual}/lib{name}.a"), made]
+        } else {
+            vec![made]
+        }
+    };
+    link("ZONEALLOC_ARCHIVE", &near("crates/zonealloc/out", "zonealloc"), "zonealloc");
     if env::var_os("CARGO_FEATURE_STD").is_some() {
-        link("ZONEALLOC_MALLOC", &["build/libzonealloc_malloc.a".to_string()], "zonealloc_malloc");
+        link("ZONEALLOC_MALLOC", &near("build", "zonealloc_malloc"), "zonealloc_malloc");
     }
 }
