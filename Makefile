@@ -1,4 +1,5 @@
-# The C side: all, check, install PREFIX=... . ARCHIVE is the proved archive, as `rt lib` leaves it in crates/zonealloc.
+# The C side: all, check, install PREFIX=... . ARCHIVE is the proved archive, as `rt lib` leaves it in crates/zonealloc. With the toolchain
+# also: targets, the archive for kernels and other processors, in build/targets; dist, a tarball that wants no toolchain.
 ARCHIVE = crates/zonealloc/out/libzonealloc.a
 PREFIX = /usr/local
 CFLAGS = -O2 -std=c99 -Wall -Wextra -Wpedantic
@@ -16,6 +17,10 @@ build/libzonealloc_malloc.a: c/zonealloc_malloc.c
 build/zonealloc.pc: zonealloc.pc.in
 	mkdir -p build && sed 's|@PREFIX@|$(PREFIX)|' $< > $@
 
+targets:
+	tools/targets
+dist:
+	tools/dist
 check: all
 	tests/c/run $(ARCHIVE)
 install: all
@@ -26,4 +31,4 @@ install: all
 	install -m 644 cmake/zonealloc-config.cmake cmake/zonealloc-config-version.cmake $(DESTDIR)$(PREFIX)/lib/cmake/zonealloc
 clean:
 	rm -rf build
-.PHONY: all check install clean build/libzonealloc.a build/zonealloc.pc
+.PHONY: all targets dist check install clean build/libzonealloc.a build/zonealloc.pc

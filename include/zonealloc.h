@@ -19,8 +19,15 @@
  * zonealloc_make, zonealloc_dismiss and zonealloc_unmake, and nowhere else: see docs/c.md. */
 #ifndef ZONEALLOC_H
 #define ZONEALLOC_H
+#define ZONEALLOC_VERSION "1.0"
+#define ZONEALLOC_VERSION_MAJOR 1
+#define ZONEALLOC_VERSION_MINOR 0
+/* No other header is included. With ZONEALLOC_NO_STDINT these are not, either: size_t, NULL and the types that are named by their widths are
+ * then the includer's, as a kernel has them. */
+#ifndef ZONEALLOC_NO_STDINT
 #include <stddef.h>
 #include <stdint.h>
+#endif
 #ifdef __cplusplus
 extern "C" {
 #endif

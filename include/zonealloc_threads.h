@@ -1,8 +1,12 @@
 /* A row for up to 32 threads, each with a worker of its own. There is no lock: a ZONE call that is answered ZONE_BUSY is made again
  * after a rest, so the archive's own gate of the zone is the lock. Each rest is longer than the one before: who is in a zone then makes
  * several calls before its memory moves to another processor. With ZONEALLOC_SLEEP defined before the include, a mutex for each zone
- * stands round the call, and who waits for it sleeps. Where there is no C library, as in a kernel, the includer defines ZONEALLOC_REST(), which
- * is what to do after the longest rest, and declares memset.
+ * stands round the call, and who waits for it sleeps.
+ *
+ * Where there is no C library, as in a kernel, ZONEALLOC_REST(hints) is defined before the include: a statement that rests for about so many
+ * of the processor's hints that a loop waits. They are 256 at first and twice as many each time, and from 4,096 on others may be let run.
+ * Then neither sched.h nor string.h is included, and of functions only memset and memcpy are called, which the archive wants as well:
+ *     #define ZONEALLOC_REST(hints) do { uint32_t left = (hints); while (left-- > 0) cpu_relax(); } while (0)
  *
  * ANY, below: any threads at the same time, each with a worker whose number no other thread calls with. ALONE is as in zonealloc.h.
  * Each call answers what the calls under it answer, but never ZONE_BUSY. */
@@ -12,7 +16,6 @@
 #ifndef ZONEALLOC_REST
 #include <sched.h>
 #include <string.h>
-#define ZONEALLOC_REST() (void)sched_yield()
 #endif
 #ifdef ZONEALLOC_SLEEP
 #include <pthread.h>
@@ -30,16 +33,29 @@ typedef struct zone_pool {
     uint32_t workers, batch, high_len;
     zone_door_t doors[ZONE_ZONES];
 } zone_pool_t;
+/* What tells the processor that a loop waits. */
+#if defined(__x86_64__) || defined(__i386__)
+#define ZONE_HINT() __builtin_ia32_pause()
+#elif defined(__aarch64__)
+#define ZONE_HINT() __asm__ __volatile__("isb")
+#elif defined(__riscv)
+#define ZONE_HINT() __asm__ __volatile__(".4byte 0x0100000f")   /* pause, by its number: not every assembler knows the name */
+#else
+#define ZONE_HINT() (void)0
+#endif
 /* Rests for so many hints to the processor, and tells how long to rest next. Past the longest rest others may want this processor. */
 enum { ZONE_FIRST_REST = 256, ZONE_LONGEST_REST = 4096 };
 static inline uint32_t zone_rest(uint32_t hints) {
-#if defined(__x86_64__) || defined(__i386__)
+#ifdef ZONEALLOC_REST
+    ZONEALLOC_REST(hints);
+    return hints < ZONE_LONGEST_REST ? hints * 2 : hints;
+#else
     uint32_t i;
-    for (i = 0; i < hints; i++) __builtin_ia32_pause();
-#endif
+    for (i = 0; i < hints; i++) ZONE_HINT();
     if (hints < ZONE_LONGEST_REST) return hints * 2;
-    ZONEALLOC_REST();
+    (void)sched_yield();
     return hints;
+#endif
 }
 /* ANY. A ZONE call, made until it is answered: for those that have no function below, too. (It may read zone twice, or not at all.) */
 #define ZONE_ASK(pool, zone, answer, call) do { \
@@ -48,12 +64,17 @@ static inline uint32_t zone_rest(uint32_t hints) {
         while (((answer) = (call)) == ZONE_BUSY) zone_hints = zone_rest(zone_hints); \
         ZONE_DOOR(unlock, pool, zone); \
     } while (0)
+/* (memset, where no header declares it) */
+static inline void zone_zero(void *at, size_t bytes) {
+    unsigned char *it = (unsigned char *)at;
+    while (bytes-- > 0) *it++ = 0;
+}
 /* ALONE. Makes a pool where none is: over one that was not unmade, that would be lost. */
 static inline uint32_t zone_pool_make(zone_pool_t *pool, uint32_t workers, const zone_spec_t *zones, size_t n_zones, uint32_t batch,
                                       uint32_t high_len) {
     zone_worker_t made[ZONE_WORKERS];
     uint32_t i, answer;
-    memset(pool, 0, sizeof *pool); memset(made, 0, sizeof made);
+    zone_zero(pool, sizeof *pool); zone_zero(made, sizeof made);
     if (workers > ZONE_WORKERS) return ZONE_BAD_WORKERS;
     answer = zonealloc_make(&pool->row, made, workers, zones, n_zones, batch, high_len);
     if (answer != ZONE_OK) return answer;

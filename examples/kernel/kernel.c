@@ -29,7 +29,7 @@ int memcmp(const void *one, const void *other, size_t bytes) {
     return bytes > 0 ? *a - *b : 0;
 }
 #include MACHINE_HEADER
-#define ZONEALLOC_REST() pause()
+#define ZONEALLOC_REST(hints) do { uint32_t left = (hints); while (left-- > 0) pause(); } while (0)
 #include "zonealloc_threads.h"
 #include "zonealloc_memory.h"
 
