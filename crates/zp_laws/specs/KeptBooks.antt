@@ -3,19 +3,20 @@ use Rattle.std.specs.Prelude.{ℕ, ◌+◌, ◌≡◌, ◌≢◌, length}
 use Rattle.zp_model.specs.declared.request.Request.{Request}
 use Rattle.zp_model.specs.declared.request.Reply.{Reply}
 use Rattle.zp_model.specs.Step.{step}
+use Rattle.zp_model.specs.Zone.{PlainZone}
 use Rattle.zp_model.specs.Run.{IsDefined, is_out}
 use Rattle.zp_model.specs.Lawful.{IsLawful}
-use Rattle.zp_model.specs.Books.{Books, Part, part, has_block, entered, noted}
+use Rattle.zp_model.specs.Books.{Books, Part, part, has_block, entered, noted_in}
 
 -- a request that is defined leaves what is other workers'
 abbrev pub RequestsLeaveOthers : Type 0
 RequestsLeaveOthers =
     (u w : ℕ) (r : Request) (b : Books) → IsLawful b.plain → IsDefined b.plain w r → u ≢ w → part u (entered w r b) ≡ part u b
 
--- and what it does to its worker's own part is said by request and reply alone
+-- and what it does to its worker's own part is said by request and reply, and for a run that is allocated by the types of the pageblocks
 abbrev pub RepliesTellTheirPart : Type 0
 RepliesTellTheirPart =
-    (w : ℕ) (r : Request) (b : Books) → IsDefined b.plain w r → part w (entered w r b) ≡ noted w r (step b.plain w r).reply (part w b)
+    (w : ℕ) (r : Request) (b : Books) → IsDefined b.plain w r → part w (entered w r b) ≡ noted_in b.plain w r (step b.plain w r).reply (part w b)
 
 -- a part tells which blocks are out in its worker's name
 abbrev pub PartsTellWhatIsOut : Type 0
@@ -33,4 +34,4 @@ PartsKeepTheirPlaces =
 
 -- a request makes one entry more
 abbrev pub RequestsMakeOneEntry : Type 0
-RequestsMakeOneEntry = (w : ℕ) (r : Request) (q : Reply) (s : Part) → length (noted w r q s).entries ≡ length s.entries + 1
+RequestsMakeOneEntry = (z : PlainZone) (w : ℕ) (r : Request) (q : Reply) (s : Part) → length (noted_in z w r q s).entries ≡ length s.entries + 1

@@ -12,7 +12,7 @@ pub fn requests_leave_others()
     ensures { RequestsLeaveOthers }
 {}
 
-/// Request and reply say what becomes of the worker's own part.
+/// Request and reply say what becomes of the worker's own part, with the types of the pageblocks where a run is allocated.
 pub fn replies_tell_their_part()
     ensures { RepliesTellTheirPart }
 {}

@@ -5,6 +5,10 @@ use Rattle.std.specs.List.{filter}
 use Rattle.zp_model.specs.Entries.{Entry}
 use Rattle.zp_model.specs.declared.request.Request.{Request}
 use Rattle.zp_model.specs.declared.request.Reply.{Reply}
+use Rattle.zp_model.specs.declared.migrate_type.MigrateType.{MigrateType}
+use Rattle.zp_model.specs.Area.{kind_at}
+use Rattle.zp_model.specs.PageblockType.{noted_type}
+use Rattle.zp_model.specs.Runs.{hand_out_run, run_freed}
 use Rattle.zp_model.specs.Zone.{PlainZone, Holding, zone_opening, holding_at, is_of}
 use Rattle.zp_model.specs.Step.{step}
 
@@ -74,11 +78,32 @@ blocks_after base w (Request.Refill t m n) (Reply.Pages ps) out = with_pages bas
 blocks_after base w (Request.Drain t ps) Reply.Drained out = without_pages base ps out
 blocks_after base w r q out = out
 
+-- the type of page i's pageblock, as it is noted of blocks
+abbrev pub type_of_page : PlainZone → ℕ → MigrateType
+type_of_page z i = noted_type (kind_at z.area.largest z.area.kinds i)
+
+-- and what any of its requests does, in the zone z as it was: a run that is allocated joins them as the blocks of its cut, for the types of their pageblocks,
+-- and one that is given back leaves what the blocks around its ends have beyond it
+abbrev pub blocks_after_in : PlainZone → ℕ → ℕ → Request → Reply → List (Option Holding) → List (Option Holding)
+blocks_after_in z base w (Request.AllocRun n a m) (Reply.Page p) out = (hand_out_run (record z { out = out }) w (type_of_page z) (p - base) n).out
+blocks_after_in z base w (Request.AllocRunAt b n) (Reply.Page p) out = (hand_out_run (record z { out = out }) w (type_of_page z) (p - base) n).out
+blocks_after_in z base w (Request.FreeRun p n) Reply.Freed out = (run_freed (record z { out = out }) w (p - base) n).out
+blocks_after_in z base w r q out = blocks_after base w r q out
+
 -- worker w's part, when its request is answered so
 abbrev pub noted : ℕ → Request → Reply → Part → Part
 noted w r q s =
     record {
       base = s.base;
       blocks = blocks_after s.base w r q s.blocks;
+      entries = s.entries ++ (let e : Entry = record { worker = w; request = r; reply = q } in e) ∷ [];
+    }
+
+-- worker w's part, when any request of its is answered so in the zone z as it was
+abbrev pub noted_in : PlainZone → ℕ → Request → Reply → Part → Part
+noted_in z w r q s =
+    record {
+      base = s.base;
+      blocks = blocks_after_in z s.base w r q s.blocks;
       entries = s.entries ++ (let e : Entry = record { worker = w; request = r; reply = q } in e) ∷ [];
     }
