@@ -2,11 +2,12 @@
 use Rattle.std.specs.Prelude.{ℕ, ◌+◌, ◌≡◌, ◌≢◌, length}
 use Rattle.zp_model.specs.declared.request.Request.{Request}
 use Rattle.zp_model.specs.declared.request.Reply.{Reply}
+use Rattle.zp_model.specs.Runs.{may_free_run}
 use Rattle.zp_model.specs.Step.{step}
 use Rattle.zp_model.specs.Zone.{PlainZone}
 use Rattle.zp_model.specs.Run.{IsDefined, is_out}
 use Rattle.zp_model.specs.Lawful.{IsLawful}
-use Rattle.zp_model.specs.Books.{Books, Part, part, has_block, entered, noted_in}
+use Rattle.zp_model.specs.Books.{Books, Part, part, has_block, has_run, entered, noted_in}
 
 -- a request that is defined leaves what is other workers'
 abbrev pub RequestsLeaveOthers : Type 0
@@ -21,6 +22,10 @@ RepliesTellTheirPart =
 -- a part tells which blocks are out in its worker's name
 abbrev pub PartsTellWhatIsOut : Type 0
 PartsTellWhatIsOut = (w p k : ℕ) (b : Books) → has_block w (part w b) p k ≡ is_out b.plain w p k
+
+-- and which runs are lent to its worker
+abbrev pub PartsTellWhatIsLent : Type 0
+PartsTellWhatIsLent = (w p n : ℕ) (b : Books) → IsLawful b.plain → has_run w (part w b) p n ≡ may_free_run b.plain w p n
 
 -- two moments of one part
 pub record IsSamePlaces (before after : Part) : Type 0 where

@@ -9,8 +9,8 @@ mod run_laws;
 mod zone_laws;
 
 pub use book_laws::{
-    parts_keep_their_places, parts_tell_what_is_out, replies_tell_their_part,
-    requests_leave_others, requests_make_one_entry,
+    parts_keep_their_places, parts_tell_what_is_lent, parts_tell_what_is_out,
+    replies_tell_their_part, requests_leave_others, requests_make_one_entry,
 };
 pub use cut_laws::{
     blocks_leave_by_halving, cuts_are_maximal, cuts_are_short, cuts_lie_in_the_zone, cuts_tile,

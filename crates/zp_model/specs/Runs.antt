@@ -3,6 +3,7 @@
 use Rattle.std.specs.Prelude.{ℕ, suc, zero, ◌+◌, ◌-◌, ◌%◌, ◌^◌, ◌≡◌, ◌==◌, ◌&&◌, ◌||◌, not, Bool, true, false, List, [], ◌∷◌, length, map, cond, leb, ltb, Option, None, Some, unwrap_or}
 use Rattle.std.specs.List.{range_with_len, find, list_all}
 use Rattle.std.specs.Option.{is_some, option_map}
+use Rattle.zp_model.specs.declared.constants.TheConstants.{LARGEST_ALIGNMENT}
 use Rattle.zp_model.specs.declared.migrate_type.MigrateType.{MigrateType}
 use Rattle.zp_model.specs.declared.mark.Mark.{Mark}
 use Rattle.zp_model.specs.declared.mark.Mark.TheVariants.{Low, Min, Any}
@@ -127,13 +128,9 @@ abbrev pub run_freed : PlainZone → ℕ → ℕ → ℕ → PlainZone
 run_freed z w h n =
     kept_from (kept_before (without_blocks (record z { area = give_run z.area h n }) h n) w h (block_around z w h)) w (h + n) (block_around z w (h + n - 1))
 
--- a run may be asked aligned to 2 to the 24 pages at most
-abbrev pub largest_alignment : ℕ
-largest_alignment = 24
-
 -- whether a worker of the zone may ask for a run of n pages so aligned, and whether w may free one
 abbrev pub may_alloc_run : ℕ → ℕ → Bool
-may_alloc_run n a = leb 1 n && leb a largest_alignment
+may_alloc_run n a = leb 1 n && leb a LARGEST_ALIGNMENT
 
 abbrev pub may_free_run : PlainZone → ℕ → ℕ → ℕ → Bool
 may_free_run z w p n = leb z.base p && leb 1 n && is_lent_run z w (p - z.base) n

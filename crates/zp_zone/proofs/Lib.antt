@@ -16,3 +16,4 @@ pub mod RetypeSteps
 pub mod RunsTaken
 pub mod RunsFreed
 pub mod FallingDrains
+pub mod RunsGiven

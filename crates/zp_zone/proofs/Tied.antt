@@ -6,19 +6,21 @@ use Rattle.std.proofs.lemmas.List.Sums.{list_all-from_AllPass}
 use Rattle.std.proofs.lemmas.List.Elements.{All-weaker}
 use Rattle.zp_model.specs.declared.constants.TheConstants.{MAX_BATCH}
 use Rattle.zp_model.specs.declared.request.Request.{Request}
-use Rattle.zp_model.specs.declared.request.Request.TheVariants.{Alloc, AllocLow, Free, Post, Collect, Refill, Drain, Isolate, Release}
+use Rattle.zp_model.specs.declared.request.Request.TheVariants.{Alloc, AllocLow, Free, Post, Collect, Refill, Drain, Isolate, Release, AllocRun, AllocRunAt, FreeRun}
 use Rattle.zp_model.specs.Zone.{PlainZone, workers_of}
 use Rattle.zp_model.specs.Step.{step}
 use Rattle.zp_model.specs.Run.{IsDefined, may_ask, is_out}
-use Rattle.zp_model.specs.Books.{Books, Part, part, has_block, entered, noted}
+use Rattle.zp_model.specs.Lawful.{IsLawful}
+use Rattle.zp_model.specs.Books.{Books, Part, part, has_block, has_run, entered, noted_in}
 use Rattle.zp_laws.proofs.BooksOwn.{request_noted}
 use Rattle.zp_laws.proofs.BooksOut.{has-is_out}
 use Rattle.zp_laws.proofs.Histories.{history_more}
+use Rattle.zp_laws.proofs.RunsHeld.{run-lent}
 use Rattle.zp_laws.proofs.Sameness.{step-same}
 use Rattle.zp_tie.specs.Ties.{Kept, Held}
 use Rattle.zp_zone.specs.NamedZone.{KeepsOut, KeepsOutBeside, IsFresh, AreOut}
 use Rattle.zp_zone.specs.Asking.{MaySeatAsk}
-use Rattle.zp_zone.specs.Seats.{SeatState, KeepsBooks, replied, has, HasPages, IsNewTo, KeepsBlocks, KeepsBlocksBeside}
+use Rattle.zp_zone.specs.Seats.{SeatState, KeepsBooks, replied_in, has, HasPages, IsNewTo, KeepsBlocks, KeepsBlocksBeside}
 
 -- a block is the seat's where it is out in its worker's name
 pub has_out : (s : SeatState) (b : Books) (p k : ℕ) → s.part ≡ part s.worker b → has s p k ≡ is_out b.plain s.worker p k
@@ -28,22 +30,25 @@ pages_out : (s : SeatState) (b : Books) (ps : List ℕ) → s.part ≡ part s.wo
 pages_out s b ps a h = All-weaker (λ p. has s p 0 ≡ true) (λ p. is_out b.plain s.worker p 0 ≡ true) (λ p o. sym (has_out s b p 0 a) ∙ o) ps h
 
 -- what a seat may ask by what it has, its worker may ask of the zone
-may_enter : (s : SeatState) (b : Books) (r : Request) → s.part ≡ part s.worker b → MaySeatAsk (workers_of b.plain) r s → may_ask b.plain s.worker r ≡ true
-may_enter s b (Alloc k t m) a h = refl
-may_enter s b (AllocLow k) a h = refl
-may_enter s b (Free p k) a h = sym (has_out s b p k a) ∙ h
-may_enter s b (Post p k to) a h = and_from _ _ (sym (has_out s b p k a) ∙ h.0) (lt-ltb to (workers_of b.plain) h.1)
-may_enter s b Collect a h = refl
-may_enter s b (Refill t m n) a h = and_from _ _ (le-leb 1 n h.0) (le-leb n MAX_BATCH h.1)
-may_enter s b (Drain t ps) a h = and_from _ _ (list_all-from_AllPass (λ p. is_out b.plain s.worker p 0) ps (pages_out s b ps a h.0)) h.1
-may_enter s b (Isolate p) a h = refl
-may_enter s b (Release p t) a h = refl
+may_enter : (s : SeatState) (b : Books) (r : Request) → IsLawful b.plain → s.part ≡ part s.worker b → MaySeatAsk (workers_of b.plain) r s → may_ask b.plain s.worker r ≡ true
+may_enter s b (Alloc k t m) l a h = refl
+may_enter s b (AllocLow k) l a h = refl
+may_enter s b (Free p k) l a h = sym (has_out s b p k a) ∙ h
+may_enter s b (Post p k to) l a h = and_from _ _ (sym (has_out s b p k a) ∙ h.0) (lt-ltb to (workers_of b.plain) h.1)
+may_enter s b Collect l a h = refl
+may_enter s b (Refill t m n) l a h = and_from _ _ (le-leb 1 n h.0) (le-leb n MAX_BATCH h.1)
+may_enter s b (Drain t ps) l a h = and_from _ _ (list_all-from_AllPass (λ p. is_out b.plain s.worker p 0) ps (pages_out s b ps a h.0)) h.1
+may_enter s b (Isolate p) l a h = refl
+may_enter s b (Release p t) l a h = refl
+may_enter s b (AllocRun n k m) l a h = h
+may_enter s b (AllocRunAt p n) l a h = refl
+may_enter s b (FreeRun p n) l a h = sym (run-lent s.worker b l p n) ∙ ap (λ x. has_run s.worker x p n) (sym a) ∙ h
 
 -- a request that a seat may make is defined, where its token and the books agree
-pub entering : (s : SeatState) (t : Held Part) (k : Kept Books) (z : PlainZone) (r : Request) → s.worker ≡ t.worker → s.part ≡ t.mine → k.whole.plain ≡ z → KeepsBooks k → MaySeatAsk (workers_of z) r s →
+pub entering : (s : SeatState) (t : Held Part) (k : Kept Books) (z : PlainZone) (r : Request) → IsLawful z → s.worker ≡ t.worker → s.part ≡ t.mine → k.whole.plain ≡ z → KeepsBooks k → MaySeatAsk (workers_of z) r s →
     t.worker < k.dealt → t.mine ≡ part t.worker k.whole → IsDefined k.whole.plain t.worker r
-entering s t k z r e f g books may lt agree =
-    rw (← e) (rw (e, ← books.0) lt, may_enter s k.whole r (f ∙ agree ∙ ap (λ w. part w k.whole) (sym e)) (rw g may))
+entering s t k z r l e f g books may lt agree =
+    rw (← e) (rw (e, ← books.0) lt, may_enter s k.whole r (rw g l) (f ∙ agree ∙ ap (λ w. part w k.whole) (sym e)) (rw g may))
 
 -- the books are kept when it is entered
 pub books_after : (k j : Kept Books) (w : ℕ) (r : Request) → KeepsBooks k → IsDefined k.whole.plain w r → j ≡ record k { whole = entered w r k.whole } → KeepsBooks j
@@ -52,11 +57,11 @@ books_after k j w r books d e = rw e (books.0 ∙ sym (step-same k.whole.plain w
 -- the seat then has what request and reply say
 pub seat_after : (s : SeatState) (t u : Held Part) (v : ℕ) (k : Kept Books) (z : PlainZone) (r : Request) → (let x : SeatState = record { tie = t.tie; worker = v; part = t.mine } in x) ≡ s → t.worker ≡ v → k.whole.plain ≡ z →
     t.mine ≡ part t.worker k.whole → IsDefined k.whole.plain t.worker r → u ≡ record t { mine = part t.worker (entered t.worker r k.whole) } →
-    (let x : SeatState = record { tie = u.tie; worker = v; part = u.mine } in x) ≡ replied r (step z s.worker r).reply s
+    (let x : SeatState = record { tie = u.tie; worker = v; part = u.mine } in x) ≡ replied_in z r (step z s.worker r).reply s
 seat_after s t u v k z r view e f agree d g =
-    let mine : u.mine ≡ noted v r (step z v r).reply t.mine =
-    ap (λ (x : Held Part). x.mine) g ∙ request_noted t.worker r k.whole d.1 ∙ (λ i. noted (e i) r (step (f i) (e i) r).reply (sym agree i)) in
-    (λ i. let x : SeatState = record { tie = ap (λ (y : Held Part). y.tie) g i; worker = v; part = mine i } in x) ∙ ap (λ x. replied r (step z x.worker r).reply x) view
+    let mine : u.mine ≡ noted_in z v r (step z v r).reply t.mine =
+    ap (λ (x : Held Part). x.mine) g ∙ request_noted t.worker r k.whole d.1 ∙ (λ i. noted_in (f i) (e i) r (step (f i) (e i) r).reply (sym agree i)) in
+    (λ i. let x : SeatState = record { tie = ap (λ (y : Held Part). y.tie) g i; worker = v; part = mine i } in x) ∙ ap (λ x. replied_in z r (step z x.worker r).reply x) view
 
 -- what the seat has is what is out in its worker's name in the zone, where they agree
 has_in : (s : SeatState) (k : Kept Books) (z : PlainZone) (p o : ℕ) → s.part ≡ part s.worker k.whole → k.whole.plain ≡ z → has s p o ≡ is_out z s.worker p o
