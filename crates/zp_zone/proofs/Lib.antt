@@ -17,3 +17,5 @@ pub mod RunsTaken
 pub mod RunsFreed
 pub mod FallingDrains
 pub mod RunsGiven
+pub mod LowestRuns
+pub mod PassedBlocks

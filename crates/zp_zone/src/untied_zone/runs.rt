@@ -23,6 +23,7 @@ ghost use Rattle.zp_zone.specs.NamedZone.{AreFresh, KeepsLentBut, KeepsOut, page
 ghost use Rattle.zp_zone.specs.RunsAt.{block_taken};
 
 use super::cuts::{fitting_order, give_cut, note_cut};
+use super::parts::room_above;
 use super::{UntiedZone, is_out_to, place_of};
 use zp_model::{Mark, MigrateType, Order, PageAt, PageNo, Refused, State, Worker};
 
@@ -54,8 +55,15 @@ impl UntiedZone {
         Ok(page)
     }
 
-    // STUB
-    pub fn alloc_run(&mut self, worker: Worker, pages: u32, align: u8, mark: Mark) -> Result<PageNo, Refused>
+    /// The lowest run of so many pages outside isolated pageblocks that begins at an absolute page which is a multiple of two to the power
+    /// `align`, held to this mark: its first page. Each block of its cut is out, with its pageblock's type noted. Refused 10 or 11.
+    pub fn alloc_run(
+        &mut self,
+        worker: Worker,
+        pages: u32,
+        align: u8,
+        mark: Mark,
+    ) -> Result<PageNo, Refused>
         requires worker { worker < workers_of self.old.plain }
         requires may { may_alloc_run pages align ≡ true }
         ensures reply { page_reply result ≡ (step self.old.plain worker (request.AllocRun pages align mark)).reply }
@@ -66,7 +74,17 @@ impl UntiedZone {
         ensures fresh { IfOk result (λ first. AreFresh self.old.plain first pages) }
         ensures kept { KeepsOut self.old.plain self.new.plain }
     {
-        Err(Refused::NoBlock)
+        self.lawful();
+        let room = room_above(self.min, self.buddy.available_pages(), mark);
+        if room < pages {
+            return Err(Refused::BelowMark);
+        }
+        let Some(at) = self.lowest_run(pages, align) else {
+            return Err(Refused::NoBlock);
+        };
+        let page = PageNo::new(self.base + at.number());
+        self.take_run_at(worker, at, pages);
+        Ok(page)
     }
 
     /// Takes so many pages from this one on, all of them free, block by block of the run's cut.
