@@ -1,23 +1,23 @@
 -- The lowest run of free pages, as the blocks of a zone are passed one after another: what a search knows at the end of a block, and what it comes to.
-use Rattle.std.proofs.Common.{ℕ, ◌+◌, ◌-◌, ◌*◌, ◌/◌, ◌%◌, ◌^◌, ◌≡◌, ◌≤◌, ◌<◌, ◌&&◌, inl, inr, refl, sym, ◌∙◌, ap, arith, true, false, Some, None, eqb-true, eq-eqb}
-use Rattle.std.proofs.Math.Nat.{mul-le-mul_right, mul-mod_left}
+use Rattle.std.proofs.Common.{ℕ, ◌+◌, ◌-◌, ◌*◌, ◌/◌, ◌%◌, ◌^◌, ◌≡◌, ◌≤◌, ◌<◌, ◌↔◌, ◌&&◌, inl, inr, refl, sym, ◌∙◌, ap, arith, true, false, Some, None, eqb-true, eq-eqb}
+use Rattle.std.proofs.Math.Nat.{mul-le-mul_right, mul-mod_left, pow-le-pow_right}
 use Rattle.std.proofs.lemmas.Bool.{and_parts, and_from, both_ways, cases_lt, false_from_ne_true, leb-true}
-use Rattle.std.proofs.lemmas.Nat.{div_below, mod_below, pow_pos, shr_split}
-use Rattle.zp_model.specs.declared.constants.TheConstants.{LARGEST_ALIGNMENT}
+use Rattle.std.proofs.lemmas.Nat.{div_below, mod_below, one_shl, pow_pos, shr_split}
+use Rattle.zp_model.specs.declared.constants.TheConstants.{BASE_LIMIT, LARGEST_ALIGNMENT, MAX_PAGES}
 use Rattle.zp_model.specs.declared.mark.Mark.{Mark}
 use Rattle.zp_model.specs.declared.refused.Refused.TheVariants.{BelowMark, NoBlock}
 use Rattle.zp_model.specs.declared.request.Reply.{Reply}
 use Rattle.zp_model.specs.Area.{available}
 use Rattle.zp_model.specs.Block.{has, is_max}
 use Rattle.zp_model.specs.Mark.{pages_at_hand}
-use Rattle.zp_model.specs.Runs.{is_above_by, is_run_for, lowest_run, may_alloc_run, run_taken}
+use Rattle.zp_model.specs.Runs.{has_pages, is_above_by, is_run_for, lowest_run, may_alloc_run, run_taken}
 use Rattle.zp_model.specs.Step.{Outcome, alloc_run, refuse}
 use Rattle.zp_model.specs.Zone.{PlainZone, pages_of}
 use Rattle.zp_model.proofs.LowestRun.{available-to, has_pages-from, has_pages-to, lowest_found, lowest_none, lowest_some}
 use Rattle.zp_model.proofs.Maximal.{maximal-apart}
 use Rattle.zp_model.proofs.MaximalBlocks.{each_page_in_one_block, max_has}
 use Rattle.zp_model.proofs.Pages.{In, in_run-to, is_max-to}
-use Rattle.zp_model.proofs.RunParts.{within-to}
+use Rattle.zp_model.proofs.RunParts.{within-from, within-to}
 use Rattle.zp_laws.proofs.KeepingRuns.{IsFree}
 use Rattle.zp_zone.specs.Lowest.{IsBetween, IsFirstMultiple, IsPassed, serves}
 
@@ -40,6 +40,16 @@ first_multiple base h a =
           let order : n / 2 ^ a * 2 ^ a ≤ (base + g) / 2 ^ a * 2 ^ a = mul-le-mul_right (2 ^ a) le in
           omega arith;
     }
+
+-- as the code does, which shifts
+pub shifted : (base h a : ℕ) → base ≤ BASE_LIMIT → h ≤ MAX_PAGES → a ≤ LARGEST_ALIGNMENT → IsFirstMultiple base h a ((base + h + (1 * 2 ^ a % 2 ^ 32 - 1)) / 2 ^ a * 2 ^ a % 2 ^ 32 - base)
+shifted base h a based room few =
+    let n : ℕ = base + h + (2 ^ a - 1) in
+    let step : 1 * 2 ^ a % 2 ^ 32 ≡ 2 ^ a = one_shl a 32 (omega arith) in
+    let size : 2 ^ a ≤ 2 ^ 24 = pow-le-pow_right (omega arith) few in
+    let split : n / 2 ^ a * 2 ^ a + n % 2 ^ a ≡ n = shr_split n a in
+    let whole : n / 2 ^ a * 2 ^ a % 2 ^ 32 ≡ n / 2 ^ a * 2 ^ a = omega arith in
+    rw (step, whole) (first_multiple base h a)
 
 module _ (z : PlainZone) where
   -- no free block goes past the end of another one
@@ -95,8 +105,8 @@ module _ (z : PlainZone) (n a : ℕ) where
 
   -- nor where one of its pages does not serve
   broken : (g i : ℕ) → g ≤ i → i < g + n → serves z i ≡ false → is_run_for z n a g ≡ false
-  broken g i lo hi no =
-      false_from_ne_true _ (λ e. both_ways _ no (has_pages-to (available z.area.largest z.area.kinds z.area.free) g n (and_parts _ _ e).1 i lo hi))
+  broken g i lo hi out =
+      false_from_ne_true _ (λ e. both_ways _ out (has_pages-to (available z.area.largest z.area.kinds z.area.free) g n (and_parts _ _ e).1 i lo hi))
 
   pub search_begins : (s : ℕ) → 0 < n → IsFirstMultiple z.base 0 a s → IsSearching z n a s 0
   search_begins s some m = record {
@@ -168,9 +178,18 @@ module _ (z : PlainZone) (n a : ℕ) where
             (has_pages-to (available z.area.largest z.area.kinds z.area.free) h n (and_parts _ _ x.1).1 i s.0 s.1)).0;
       }
 
+-- the pages of a free run are free
+pub free_run : (z : PlainZone) (h n : ℕ) → IsFree z h n → has_pages z.area.free h n ≡ true
+free_run z h n x = has_pages-from z.area.free h n (λ i lo hi. x.full i (within-from h n i lo hi))
+
 -- a run that may be asked for has a page, and no more than the largest alignment
 pub may_alloc_run-to : (n a : ℕ) → may_alloc_run n a ≡ true → (0 < n) × (a ≤ LARGEST_ALIGNMENT)
 may_alloc_run-to n a e = let x = and_parts _ _ e in (leb-true 1 n x.0, leb-true a LARGEST_ALIGNMENT x.1)
+
+-- the mark's test, as the code makes it
+pub marked : (z : PlainZone) (n free room : ℕ) (m : Mark) → free ≡ pages_at_hand z → ((k : ℕ) → 0 < k → k < 2 ^ 32 → (k ≤ room) ↔ (is_above_by z.min free k m ≡ true)) → 0 < n → n < 2 ^ 32 →
+    (n ≤ room) ↔ (is_above_by z.min (pages_at_hand z) n m ≡ true)
+marked z n free room m e f some fits = rw e at (f n some fits)
 
 -- what a request for such a run comes to
 module _ (z : PlainZone) (w n a : ℕ) (m : Mark) where
