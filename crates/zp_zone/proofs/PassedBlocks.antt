@@ -111,7 +111,10 @@ module _ (f : Frames) (base min h : ℕ) (x : IsAsked f base min) (b : IsBetween
       ]
 
   -- a page that heads no block
-  pub passed_alone : h < length f.area.free → ((k : ℕ) → state_at f.states h ≡ Free k → ⊥) → IsPassed (plain_of f base min) h 1 false
-  passed_alone lt none =
-      let used : has f.area.free h ≡ false = false_from_ne_true _ (λ full. let y = free_heads (plain_of f base min) h b full in none y.0 ((x.framed.noted h y.0).1 y.1)) in
+  pub passed_alone : h < length f.area.free → state_at f.states h ≡ Tail → IsPassed (plain_of f base min) h 1 false
+  passed_alone lt e =
+      let used : has f.area.free h ≡ false = false_from_ne_true _ (λ full. let y = free_heads (plain_of f base min) h b full in other y.0 (sym e ∙ (x.framed.noted h y.0).1 y.1)) in
       used_passed (plain_of f base min) h 1 (omega arith) (omega arith) b (λ i lo hi. let same : i ≡ h = omega arith in rw same used)
+    where
+      other : (k : ℕ) → Tail ≡ Free k → ⊥
+      other k q = cc

@@ -31,7 +31,7 @@ impl UntiedZone {
         // the pages from `start` to `next` serve, but are too few, and no run begins before `start`
         let mut start = first_multiple(self.base, 0, align);
         let mut next = 0;
-        'blocks: while start <= last {
+        'passes: while start <= last {
             let passed = self.pages_at(PageAt::at(next));
             next += passed.count;
             if !passed.serve {
@@ -56,7 +56,11 @@ impl UntiedZone {
                 count: order.pages(),
                 serve: !self.buddy.type_of(at).is_isolate(),
             },
-            State::Out(order, _, _) | State::Posted(order, _, _) => PassedPages {
+            State::Out(order, _, _) => PassedPages {
+                count: order.pages(),
+                serve: false,
+            },
+            State::Posted(order, _, _) => PassedPages {
                 count: order.pages(),
                 serve: false,
             },
