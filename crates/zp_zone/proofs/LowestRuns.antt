@@ -1,5 +1,5 @@
 -- The lowest run of free pages, as the blocks of a zone are passed one after another: what a search knows at the end of a block, and what it comes to.
-use Rattle.std.proofs.Common.{ℕ, ◌+◌, ◌-◌, ◌*◌, ◌/◌, ◌%◌, ◌^◌, ◌≡◌, ◌≤◌, ◌<◌, ◌↔◌, ◌&&◌, inl, inr, refl, sym, ◌∙◌, ap, arith, true, false, Some, None, eqb-true, eq-eqb}
+use Rattle.std.proofs.Common.{ℕ, ◌+◌, ◌-◌, ◌*◌, ◌/◌, ◌%◌, ◌^◌, ◌≡◌, ◌≤◌, ◌<◌, ◌↔◌, inl, inr, refl, ◌∙◌, ap, arith, true, false, Some, None, eqb-true, eq-eqb}
 use Rattle.std.proofs.Math.Nat.{mul-le-mul_right, mul-mod_left, pow-le-pow_right}
 use Rattle.std.proofs.lemmas.Bool.{and_parts, and_from, both_ways, cases_lt, false_from_ne_true, leb-true}
 use Rattle.std.proofs.lemmas.Nat.{div_below, mod_below, one_shl, pow_pos, shr_split}

@@ -1,23 +1,21 @@
 -- What a page's note says of the pages from it on, where no free block begins before the page and goes past it.
-use Rattle.std.proofs.Common.{ℕ, ◌+◌, ◌-◌, ◌^◌, ◌/◌, ◌≡◌, ◌≤◌, ◌<◌, ◌&&◌, not, inl, inr, refl, sym, ◌∙◌, ap, arith, true, false, List, [], ◌∷◌, length, map, get_or, All, Some, eq-eqb}
+use Rattle.std.proofs.Common.{ℕ, ◌+◌, ◌-◌, ◌^◌, ◌≡◌, ◌≤◌, ◌<◌, ◌&&◌, not, inl, inr, refl, sym, ◌∙◌, ap, arith, true, false, List, [], ◌∷◌, length, get_or, All, eq-eqb}
 use Rattle.std.proofs.Math.ListN.{get_or-map}
-use Rattle.std.proofs.lemmas.Bool.{both_ways, cases_lt, false≢true, false_from_ne_true}
+use Rattle.std.proofs.lemmas.Bool.{cases_lt, false≢true, false_from_ne_true}
 use Rattle.std.proofs.lemmas.List.{get_or_past, length-map}
 use Rattle.std.proofs.lemmas.List.Elements.{All-head, All-tail}
 use Rattle.std.proofs.lemmas.List.FromFn.{get_or-map-range_with_len}
 use Rattle.std.proofs.lemmas.Nat.{pow_pos}
 use Rattle.zp_model.specs.declared.migrate_type.MigrateType.{MigrateType}
 use Rattle.zp_model.specs.declared.pageblock_type.PageblockType.TheVariants.{Movable}
-use Rattle.zp_model.specs.declared.pageblock_type.PageblockType.{PageblockType}
 use Rattle.zp_model.specs.declared.state.State.{State}
 use Rattle.zp_model.specs.declared.state.State.TheVariants.{Tail, Free, Out, Posted}
 use Rattle.zp_model.specs.Area.{available, is_isolated, kind_at}
 use Rattle.zp_model.specs.Block.{IsBlock, has, in_run, is_max}
 use Rattle.zp_model.specs.Frames.{Frames}
-use Rattle.zp_model.specs.Lawful.{times_posted}
 use Rattle.zp_model.specs.PageblockType.{is_isolate}
 use Rattle.zp_model.specs.Rows.{list_at, stands_in, state_at}
-use Rattle.zp_model.specs.Zone.{Holding, PlainZone, PostedBlock, holding_at, pages_of, posted_to}
+use Rattle.zp_model.specs.Zone.{Holding, PlainZone, PostedBlock}
 use Rattle.zp_model.proofs.Covers.{has_below}
 use Rattle.zp_model.proofs.Heads.{number_around}
 use Rattle.zp_model.proofs.Normal.{IsMaximal}
