@@ -57,7 +57,7 @@ module _ (z : PlainZone) where
   free_between h k e g j x lt = elim (cases_lt (h + 2 ^ k) (g + 2 ^ j)) [
     | inl past ↦
         let same = maximal-apart z.area.largest (In z.area.free) g j h k (h + 2 ^ k - 1) (is_max-to z.area.largest z.area.free g j x) (is_max-to z.area.largest z.area.free h k e)
-            (omega (arith, pow_pos k)) (omega arith) (omega (arith, pow_pos k)) (omega (arith, pow_pos k)) in
+        (omega (arith, pow_pos k)) (omega arith) (omega (arith, pow_pos k)) (omega (arith, pow_pos k)) in
         let size : 2 ^ j ≡ 2 ^ k = ap (λ o. 2 ^ o) same.1 in
         absurd (omega (arith, same.0, size))
     | inr le ↦ le

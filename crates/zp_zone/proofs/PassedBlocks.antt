@@ -95,12 +95,12 @@ module _ (f : Frames) (base min h : ℕ) (x : IsAsked f base min) (b : IsBetween
       let block = standing_all (λ (p : PostedBlock). IsBlock f.area.largest (length f.area.free) p.head p.order) f.states (list_at f.sides w) h blocks stands in
       let inside : h + 2 ^ k ≤ length f.area.free = rw (head, order) at block.inside in
       used_passed z h (2 ^ k) (pow_pos k) inside b (λ i lo hi. false_from_ne_true _ (λ full.
-          let counted = standing_counts f.states (list_at f.sides w) h i (rw order (in_run-from h k i lo hi)) stands in
-          let times = posted-has (posted_of f.states f.sides) w i (on_some w stands) in
-          let here : count_posted (get_or (posted_of f.states f.sides) w []) i ≡ count_posted (blocks_at f.states (list_at f.sides w)) i =
-          ap (λ (ps : List PostedBlock). count_posted ps i) (posted_at f base min w) in
-          let free : one_if (has f.area.free i) ≡ 1 = ap one_if full in
-          omega (arith, counted, times, here, free, one_place z x.lawful i (omega arith))))
+      let counted = standing_counts f.states (list_at f.sides w) h i (rw order (in_run-from h k i lo hi)) stands in
+      let times = posted-has (posted_of f.states f.sides) w i (on_some w stands) in
+      let here : count_posted (get_or (posted_of f.states f.sides) w []) i ≡ count_posted (blocks_at f.states (list_at f.sides w)) i =
+      ap (λ (ps : List PostedBlock). count_posted ps i) (posted_at f base min w) in
+      let free : one_if (has f.area.free i) ≡ 1 = ap one_if full in
+      omega (arith, counted, times, here, free, one_place z x.lawful i (omega arith))))
     where
       on_some : (w : ℕ) → stands_in h (list_at f.sides w) ≡ true → w < length (posted_of f.states f.sides)
       on_some w e = elim (cases_lt w (length f.sides)) [
