@@ -1,5 +1,5 @@
 use Rattle.std.proofs.Common.{◌+◌, ◌≡◌, ◌<◌, true, false, inl, inr, sym, ◌∙◌, ap, arith}
-use Rattle.std.proofs.lemmas.Bool.{cases_lt}
+use Rattle.std.proofs.lemmas.Bool.{cases_lt, not-false, not-true}
 use Rattle.zp_model.specs.Zone.{pages_of}
 use Rattle.zp_zone.specs.Lowest.{IsPassed}
 use Rattle.zp_zone.specs.NamedZone.{NamedZone}
@@ -24,13 +24,13 @@ passed c = rw c.at.ensures at c.pages_at-passed.ensures
 pub passes-preserved-then-not-passed : goal.passes-preserved-then-not-passed
 passes-preserved-then-not-passed c =
     let base : c.self.inside.base ≡ c.args.self.now.plain.base = ap (λ (z : NamedZone). z.plain.base) c.self.view_is in
-    let out : c.pages_at-passed.result.serve ≡ false = first_of (c.if-not-passed.true, grind (arith, c.if-not-passed.true)) in
+    let out : c.pages_at-passed.result.serve ≡ false = not-true _ c.if-not-passed.true in
     search_leaves c.args.self.now.plain c.args.pages c.args.align c.passes.invariant c.first_multiple-start-then-not-passed.result (may_alloc_run-to c.args.pages c.args.align c.requires).0
     (rw out at (passed (goal.at.passes-preserved-then-not-passed c).After-pages_at-passed)) (rw base at c.first_multiple-start-then-not-passed.ensures)
 
 pub returns-then-next-start : goal.returns-then-next-start
 returns-then-next-start c =
-    let on : c.pages_at-passed.result.serve ≡ true = first_of (c.if-not-passed.false, grind (arith, c.if-not-passed.false)) in
+    let on : c.pages_at-passed.result.serve ≡ true = not-false _ c.if-not-passed.false in
     rw c.at-then-next-start.ensures
     (sym (search_finds c.args.self.now.plain c.args.pages c.args.align c.passes.invariant (rw on at (passed (goal.at.returns-then-next-start c).After-pages_at-passed)) c.if-next-start.true))
 
