@@ -1,5 +1,5 @@
 -- What a run that goes out, or comes back, leaves of what is out, for the calls after it.
-use Rattle.std.proofs.Common.{ℕ, ◌+◌, ◌-◌, ◌≡◌, ◌≤◌, ◌<◌, refl, sym, ◌∙◌, ap, arith, Bool, true, false, cond, leb, ◌&&◌, Option, Some, None}
+use Rattle.std.proofs.Common.{ℕ, ◌+◌, ◌-◌, ◌^◌, ◌≡◌, ◌≤◌, ◌<◌, refl, sym, ◌∙◌, ap, arith, Bool, true, false, cond, leb, ◌&&◌, Option, Some, None}
 use Rattle.std.specs.Option.{is_some, option_map}
 use Rattle.std.proofs.lemmas.Bool.{and_from, both_ways, eq-eqb, false_from_ne_true, le-leb}
 use Rattle.zp_model.specs.declared.migrate_type.MigrateType.{MigrateType}
@@ -10,14 +10,15 @@ use Rattle.zp_model.specs.Lawful.{IsLawful}
 use Rattle.zp_model.specs.Run.{is_out}
 use Rattle.zp_model.specs.Runs.{block_around, is_lent_run, is_within, may_free_run, run_freed, run_taken}
 use Rattle.zp_model.specs.Step.{step}
-use Rattle.zp_model.specs.Zone.{PlainZone, Holding, is_of, holding_at, workers_of}
-use Rattle.zp_model.proofs.LowestRun.{all-from}
+use Rattle.zp_model.specs.Zone.{PlainZone, Holding, is_of, holding_at, holds, pages_of, workers_of}
+use Rattle.zp_model.proofs.LowestRun.{all-from, all-to}
+use Rattle.zp_model.proofs.Pages.{in_run-from}
 use Rattle.zp_model.proofs.RunParts.{length-with_pages, with_pages-new, within-from, within-to}
 use Rattle.zp_laws.specs.KeptRuns.{lent_type}
 use Rattle.zp_laws.proofs.Areas.{free-give_run}
 use Rattle.zp_laws.proofs.Around.{IsAround, around-from}
 use Rattle.zp_laws.proofs.HandedOut.{in_run-head}
-use Rattle.zp_laws.proofs.Held.{IsHolding, held-not_free, out-to, out_held}
+use Rattle.zp_laws.proofs.Held.{IsHolding, held-not_free, held-to, held_block, out-to, out_held}
 use Rattle.zp_laws.proofs.KeepingRuns.{IsFree, IsLent, freed_run_rest, run_taken_lawful, run_taken_rest}
 use Rattle.zp_laws.proofs.RunBooks.{run_step_lent, taken_lent}
 use Rattle.zp_laws.proofs.RunSteps.{lent_inside, may_free-to, run_freed_lawful}
@@ -92,3 +93,34 @@ module _ (z : PlainZone) (w p n : ℕ) (l : IsLawful z) (lt : w < workers_of z) 
   freed_keeps q out e =
       let y : PlainZone = (step z w (Request.FreeRun p n)).zone in
       lent_one (step z w (Request.FreeRun p n)).zone w q ∙ ap is_some (run_step_lent z w (Request.FreeRun p n) q l lt lent tt ∙ rw out refl) ∙ sym (lent_one z w q) ∙ e
+
+-- a page of a block that is out to a worker is lent
+pub lent_block : (z : PlainZone) (w h k j : ℕ) → IsLawful z → holds z w h k ≡ true → h ≤ j → j < h + 2 ^ k → is_some (block_around z w j) ≡ true
+lent_block z w h k j l e lo hi =
+    let x : IsHolding z w h k = held-to z w h k e in
+    let b : ℕ × Holding = (h, x.holding) in
+    ap is_some (around-from z l w j b (record { at = x.at; worker = x.worker; page = rw x.order (in_run-from h k j lo hi) }))
+
+-- such a block lies in the zone
+pub lent_inside_zone : (z : PlainZone) (w h k : ℕ) → IsLawful z → holds z w h k ≡ true → h + 2 ^ k ≤ pages_of z
+lent_inside_zone z w h k l e = (held_block z w h k l (held-to z w h k e)).inside
+
+-- so is a run where each of its pages is
+pub lent_all : (z : PlainZone) (w h n : ℕ) → ((i : ℕ) → h ≤ i → i < h + n → is_some (block_around z w i) ≡ true) → is_lent_run z w h n ≡ true
+unfolding is_lent_run
+lent_all z w h n f = all-from (λ i. is_some (block_around z w i)) h n f
+
+-- and none is of which a page is not
+pub lent_not : (z : PlainZone) (w h n i : ℕ) → h ≤ i → i < h + n → block_around z w i ≡ None → is_lent_run z w h n ≡ false
+unfolding is_lent_run
+lent_not z w h n i lo hi none = false_from_ne_true _ (λ e. both_ways _ (ap is_some none) (all-to (λ i. is_some (block_around z w i)) h n e i lo hi))
+
+-- a run that is lent lies in the zone
+pub may_not : (z : PlainZone) (w p n : ℕ) → IsLawful z → (z.base ≤ p → 0 < n → p - z.base + n ≤ pages_of z → ⊥) → may_free_run z w p n ≡ false
+may_not z w p n l no = false_from_ne_true _ (λ e.
+    let x = may_free-to z w p n e in
+    no x.0 (omega (arith, x.1.some)) (lent_inside z w (p - z.base) n l x.1))
+
+-- where the run lies in the zone, its pages tell
+pub may_where : (z : PlainZone) (w p n h : ℕ) → z.base ≤ p → 0 < n → h ≡ p - z.base → is_lent_run z w h n ≡ may_free_run z w p n
+may_where z w p n h le some at = rw (at, le-leb z.base p le, le-leb 1 n (omega arith)) refl
