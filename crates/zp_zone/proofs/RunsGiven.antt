@@ -117,9 +117,9 @@ lent_not z w h n i lo hi none = false_from_ne_true _ (λ e. both_ways _ (ap is_s
 
 -- a run that is lent lies in the zone
 pub may_not : (z : PlainZone) (w p n : ℕ) → IsLawful z → (z.base ≤ p → 0 < n → p - z.base + n ≤ pages_of z → ⊥) → may_free_run z w p n ≡ false
-may_not z w p n l no = false_from_ne_true _ (λ e.
+may_not z w p n l outside = false_from_ne_true _ (λ e.
     let x = may_free-to z w p n e in
-    no x.0 (omega (arith, x.1.some)) (lent_inside z w (p - z.base) n l x.1))
+    outside x.0 (omega (arith, x.1.some)) (lent_inside z w (p - z.base) n l x.1))
 
 -- where the run lies in the zone, its pages tell
 pub may_where : (z : PlainZone) (w p n h : ℕ) → z.base ≤ p → 0 < n → h ≡ p - z.base → is_lent_run z w h n ≡ may_free_run z w p n
