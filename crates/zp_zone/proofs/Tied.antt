@@ -5,9 +5,12 @@ use Rattle.std.proofs.lemmas.Bool.{and_from, le-leb, lt-ltb}
 use Rattle.std.proofs.lemmas.List.Sums.{list_all-from_AllPass}
 use Rattle.std.proofs.lemmas.List.Elements.{All-weaker}
 use Rattle.zp_model.specs.declared.constants.TheConstants.{MAX_BATCH}
+use Rattle.std.specs.Prelude.{IfOk, IsTrue, Result, Ok, Err}
+use Rattle.zp_model.specs.declared.refused.Refused.{Refused}
 use Rattle.zp_model.specs.declared.request.Request.{Request}
 use Rattle.zp_model.specs.declared.request.Request.TheVariants.{Alloc, AllocLow, Free, Post, Collect, Refill, Drain, Isolate, Release, AllocRun, AllocRunAt, FreeRun}
 use Rattle.zp_model.specs.Zone.{PlainZone, workers_of}
+use Rattle.zp_model.specs.Runs.{may_free_run}
 use Rattle.zp_model.specs.Step.{step}
 use Rattle.zp_model.specs.Run.{IsDefined, may_ask, is_out}
 use Rattle.zp_model.specs.Lawful.{IsLawful}
@@ -18,9 +21,9 @@ use Rattle.zp_laws.proofs.Histories.{history_more}
 use Rattle.zp_laws.proofs.RunsHeld.{run-lent}
 use Rattle.zp_laws.proofs.Sameness.{step-same}
 use Rattle.zp_tie.specs.Ties.{Kept, Held}
-use Rattle.zp_zone.specs.NamedZone.{KeepsOut, KeepsOutBeside, IsFresh, AreOut}
-use Rattle.zp_zone.specs.Asking.{MaySeatAsk}
-use Rattle.zp_zone.specs.Seats.{SeatState, KeepsBooks, replied_in, has, HasPages, IsNewTo, KeepsBlocks, KeepsBlocksBeside}
+use Rattle.zp_zone.specs.NamedZone.{AreFresh, KeepsLentBut, KeepsOut, KeepsOutBeside, IsFresh, AreOut}
+use Rattle.zp_zone.specs.Asking.{IsGivenRun, MaySeatAsk}
+use Rattle.zp_zone.specs.Seats.{SeatState, KeepsBooks, replied_in, has, HasPages, AreNewTo, IsNewTo, KeepsPagesBut, KeepsBlocks, KeepsBlocksBeside}
 
 -- a block is the seat's where it is out in its worker's name
 pub has_out : (s : SeatState) (b : Books) (p k : ℕ) → s.part ≡ part s.worker b → has s p k ≡ is_out b.plain s.worker p k
@@ -79,3 +82,31 @@ blocks_stay_beside pages s t k j y z a w e f stay p o ne h = has_in t j z p o a.
 -- where no block out starts, none of the seat does
 pub all_new : (t : SeatState) (j : Kept Books) (z : PlainZone) (ps : List ℕ) → t.part ≡ part t.worker j.whole → j.whole.plain ≡ z → All (IsFresh z) ps → All (IsNewTo t) ps
 all_new t j z ps a e = All-weaker (IsFresh z) (IsNewTo t) (λ p fresh o. has_in t j z p o a e ∙ fresh t.worker o) ps
+
+-- a run that is lent to its worker is the seat's, where they agree
+pub run_in : (s : SeatState) (k : Kept Books) (z : PlainZone) (p n : ℕ) → s.part ≡ part s.worker k.whole → k.whole.plain ≡ z → IsLawful z → may_free_run z s.worker p n ≡ has_run s.worker s.part p n
+run_in s k z p n a e l =
+    sym (ap (λ x. may_free_run x s.worker p n) e) ∙ sym (run-lent s.worker k.whole (rw e l) p n) ∙ ap (λ x. has_run s.worker x p n) (sym a)
+
+-- a run that goes out, where no block out started before, is given to the seat
+pub given_run : (p n : ℕ) (s t : SeatState) (k j : Kept Books) (y z : PlainZone) → (s.part ≡ part s.worker k.whole) × (t.part ≡ part t.worker j.whole) → t.worker ≡ s.worker → k.whole.plain ≡ y → j.whole.plain ≡ z →
+    IsLawful z → may_free_run z s.worker p n ≡ true → AreFresh y p n → IsGivenRun p n s t
+given_run p n s t k j y z a w e f l lent fresh = record {
+  has = sym (run_in t j z p n a.1 f l) ∙ ap (λ v. may_free_run z v p n) w ∙ lent;
+  fresh = λ q r o. has_in s k y q o a.0 e ∙ fresh q r s.worker o;
+}
+
+pub given_run_if : (n v : ℕ) (got : Result ℕ Refused) (s t : SeatState) (k j : Kept Books) (y z : PlainZone) → (s.part ≡ part s.worker k.whole) × (t.part ≡ part t.worker j.whole) → t.worker ≡ s.worker → k.whole.plain ≡ y →
+    j.whole.plain ≡ z → v ≡ s.worker → IsLawful z → IfOk got (λ p. IsTrue (may_free_run z v p n)) → IfOk got (λ p. AreFresh y p n) → IfOk got (λ p. IsGivenRun p n s t)
+given_run_if n v (Ok p) s t k j y z a w e f x l lent fresh = given_run p n s t k j y z a w e f l (sym (ap (λ u. may_free_run z u p n) x) ∙ lent) fresh
+given_run_if n v (Err r) s t k j y z a w e f x l lent fresh = tt
+
+-- no block of the seat starts where none out does
+pub run_new : (p n : ℕ) (t : SeatState) (j : Kept Books) (z : PlainZone) → t.part ≡ part t.worker j.whole → j.whole.plain ≡ z → AreFresh z p n → AreNewTo t p n
+run_new p n t j z a f fresh q r o = has_in t j z q o a f ∙ fresh q r t.worker o
+
+-- the pages that stay lent to its worker stay the seat's
+pub pages_stay_but : (p n : ℕ) (s t : SeatState) (k j : Kept Books) (y z : PlainZone) → (s.part ≡ part s.worker k.whole) × (t.part ≡ part t.worker j.whole) → t.worker ≡ s.worker → k.whole.plain ≡ y → j.whole.plain ≡ z →
+    IsLawful y → IsLawful z → KeepsLentBut s.worker p n y z → KeepsPagesBut p n s t
+pages_stay_but p n s t k j y z a w e f l m stay q out h =
+    sym (run_in t j z q 1 a.1 f m) ∙ ap (λ v. may_free_run z v q 1) w ∙ stay q out (run_in s k y q 1 a.0 e l ∙ h)

@@ -195,7 +195,7 @@ impl UntiedZone {
         let _pages = self.pages();
         let mut next = at.number();
         let end = next + pages;
-        'blocks: while next < end {
+        'looks: while next < end {
             let place = PageAt::at(next);
             let Some(order) = self.lent_order(worker, place) else {
                 return false;

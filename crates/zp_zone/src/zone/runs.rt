@@ -43,7 +43,9 @@ impl Zone {
         ensures kept { KeepsBlocks seat.old seat.new }
     {
         let worker = seat.enter::<Brand, _>(&mut self.keeper, &self.untied, &(pages, align, mark));
-        self.untied.alloc_run(worker, pages, align, mark)
+        let got = self.untied.alloc_run(worker, pages, align, mark);
+        self.untied.lawful();
+        got
     }
 
     /// The run of so many pages that begins at this page, in isolated pageblocks too, held to no mark: its first page. Each block of its cut is
@@ -69,7 +71,9 @@ impl Zone {
         ensures kept { KeepsBlocks seat.old seat.new }
     {
         let worker = seat.enter::<Brand, _>(&mut self.keeper, &self.untied, &(page, pages));
-        self.untied.alloc_run_at(worker, page, pages)
+        let got = self.untied.alloc_run_at(worker, page, pages);
+        self.untied.lawful();
+        got
     }
 
     /// Frees so many pages of the seat from this one on, by whatever blocks they are out. What the blocks around the first and the last of them
@@ -89,7 +93,9 @@ impl Zone {
         ensures gone { AreNewTo seat.new page pages }
         ensures kept { KeepsPagesBut page pages seat.old seat.new }
     {
+        self.untied.lawful();
         let worker = seat.enter::<Brand, _>(&mut self.keeper, &self.untied, &(page, pages));
         self.untied.free_run(worker, page, pages);
+        self.untied.lawful();
     }
 }

@@ -19,7 +19,7 @@ test : (c : After-room_above-room) →
     (c.args.pages ≤ c.room_above-room.result) ↔ (is_above_by c.self.inside.min (pages_at_hand (plain_of c.self.inside.buddy c.self.inside.base c.self.inside.min)) c.args.pages c.args.mark ≡ true)
 test c =
     marked (plain_of c.self.inside.buddy c.self.inside.base c.self.inside.min) c.args.pages c.available_pages.result c.room_above-room.result c.args.mark c.available_pages.ensures c.room_above-room.ensures.run
-    (may_alloc_run-to c.args.pages c.args.align c.requires.may).0 c.ranges.pages
+    (may_alloc_run-to c.args.pages c.args.align c.requires.may).0 (omega (arith, c.ranges.pages))
 
 -- it fails
 below : (c : After-room_above-room) → c.room_above-room.result < c.args.pages →
@@ -42,14 +42,14 @@ above c le = rw (← c.self.view_is) ((test c).0 le)
 -- and there is no run
 none : (c : In_default) → c.args.pages ≤ c.room_above-room.result →
     alloc_run c.args.self.now.plain c.args.worker c.args.pages c.args.align c.args.mark ≡ refuse c.args.self.now.plain NoBlock
-none c le = run_none c.args.self.now.plain c.args.worker c.args.pages c.args.align c.args.mark (above c.After-room_above-room le) (sym c.in_default.ensures)
+none c le = run_none c.args.self.now.plain c.args.worker c.args.pages c.args.align c.args.mark (above (goal.at.In_default c).After-room_above-room le) (sym c.in_default.ensures)
 
 pub returns-in_default-clause-reply : goal.returns-in_default-clause-reply
 returns-in_default-clause-reply c = ap (λ (o : Outcome). o.reply) (sym (none (goal.at.returns-in_default-clause-reply c).In_default c.if-room-pages.false))
 
 pub returns-in_default-clause-after : goal.returns-in_default-clause-after
 returns-in_default-clause-after c =
-    c.self.view_is ∙ ap (λ (o : Outcome). let z : NamedZone = record c.args.self.now { plain = o.zone } in z) (sym (none (goal.at.returns-in_default-clause-after c).In_default c.if-room-pages.false))
+    ap (λ (o : Outcome). let z : NamedZone = record c.args.self.now { plain = o.zone } in z) (sym (none (goal.at.returns-in_default-clause-after c).In_default c.if-room-pages.false))
 
 -- or this one
 free : (c : In-Some) → IsFree c.args.self.now.plain c.in-Some.at c.args.pages
@@ -67,7 +67,7 @@ page c = omega (arith, c.new-page.ensures, c.number.ensures.same, ap (λ (z : Na
 got : (c : In-Some) → c.args.pages ≤ c.room_above-room.result →
     alloc_run c.args.self.now.plain c.args.worker c.args.pages c.args.align c.args.mark
     ≡ (let o : Outcome = record { reply = Reply.Page (c.args.self.now.plain.base + c.in-Some.at); zone = run_taken c.args.self.now.plain c.args.worker c.in-Some.at c.args.pages } in o)
-got c le = run_got c.args.self.now.plain c.args.worker c.args.pages c.args.align c.args.mark c.in-Some.at (above c.After-room_above-room le) (sym c.in-Some.ensures)
+got c le = run_got c.args.self.now.plain c.args.worker c.args.pages c.args.align c.args.mark c.in-Some.at (above (goal.at.In-Some c).After-room_above-room le) (sym c.in-Some.ensures)
 
 pub returns-clause-reply : goal.returns-clause-reply
 returns-clause-reply c =

@@ -6,6 +6,11 @@ use Rattle.zp_model.specs.Step.{Outcome, alloc_run_at, refuse}
 use Rattle.zp_zone.specs.Kept.{plain_of}
 use Rattle.zp_zone.specs.NamedZone.{NamedZone}
 use Rattle.zp_zone.proofs.BlockSteps.{named}
+use Rattle.zp_model.specs.Lawful.{IsLawful}
+use Rattle.zp_model.proofs.LowestRun.{has_pages-to}
+use Rattle.zp_model.proofs.RunParts.{within-to}
+use Rattle.zp_laws.proofs.KeepingRuns.{IsFree}
+use Rattle.zp_zone.proofs.RunsGiven.{free_fresh, taken_keeps, taken_lends}
 use Rattle.zp_zone.proofs.RunsTaken.{at_got, at_no_place, at_not_free}
 use Rattle.zp_zone.proofs.untied_zone.UntiedZone.alloc_run_at.Goals.{In_default, In-Some}
 use Rattle.zp_zone.proofs.untied_zone.UntiedZone.alloc_run_at.Goals as goal
@@ -63,3 +68,35 @@ returns-clause-reply c = ap (λ (o : Outcome). o.reply) (sym (got (goal.at.retur
 pub returns-clause-after : goal.returns-clause-after
 returns-clause-after c =
     c.take_run_at.ensures ∙ ap (λ (o : Outcome). let z : NamedZone = record c.args.self.now { plain = o.zone } in z) (sym (got (goal.at.returns-clause-after c).In-Some c.if-not-is_free_run.ensures))
+
+-- the run is free, and is that of the pages asked for
+whole : (c : In-Some) → true ≡ has_pages c.self.inside.buddy.area.free c.in-Some.at c.args.pages → IsFree c.args.self.now.plain c.in-Some.at c.args.pages
+whole c e = record {
+  inside = rw (← c.self.view_is) (omega (arith, inside c, c.in-Some.ensures.some.1));
+  full = λ i q. let r = within-to c.in-Some.at c.args.pages i q in has_pages-to c.args.self.now.plain.area.free c.in-Some.at c.args.pages (rw (← c.self.view_is) (sym e)) i r.0 r.1;
+}
+
+place : (c : In-Some) → c.args.self.now.plain.base + c.in-Some.at ≡ c.args.page
+place c =
+    let base : c.self.inside.base ≡ c.args.self.now.plain.base = ap (λ (z : NamedZone). z.plain.base) c.self.view_is in
+    omega (arith, c.in-Some.ensures.some.0, c.in-Some.ensures.some.1, base)
+
+lawful : (c : In-Some) → IsLawful c.args.self.now.plain
+lawful c = rw (← c.self.view_is) c.self.invariant.lawful
+
+pub returns-clause-lent : goal.returns-clause-lent
+returns-clause-lent c =
+    let b = (goal.at.returns-clause-lent c).In-Some in
+    rw (ap (λ (z : NamedZone). z.plain) c.take_run_at.ensures, ← place b)
+    (taken_lends c.args.self.now.plain (lawful b) c.args.worker c.in-Some.at c.args.pages c.requires (whole b c.if-not-is_free_run.ensures) (omega (arith, c.in-Some.ensures.some.2)))
+
+pub returns-clause-fresh : goal.returns-clause-fresh
+returns-clause-fresh c =
+    let b = (goal.at.returns-clause-fresh c).In-Some in
+    rw (← place b) (free_fresh c.args.self.now.plain c.in-Some.at c.args.pages (lawful b) (whole b c.if-not-is_free_run.ensures))
+
+pub returns-clause-kept : goal.returns-clause-kept
+returns-clause-kept c =
+    let b = (goal.at.returns-clause-kept c).In-Some in
+    rw (ap (λ (z : NamedZone). z.plain) c.take_run_at.ensures)
+    (taken_keeps c.args.self.now.plain (lawful b) c.args.worker c.in-Some.at c.args.pages c.requires (whole b c.if-not-is_free_run.ensures))

@@ -5,12 +5,12 @@ use Rattle.zp_model.specs.Zone.{pages_of}
 use Rattle.zp_zone.proofs.untied_zone.UntiedZone.is_lent_run.Given as goal
 
 -- the pages before `next` are lent
-abbrev pub invariant-blocks : goal.invariant-blocks
-invariant-blocks l = record {
+abbrev pub invariant-looks : goal.invariant-looks
+invariant-looks l = record {
   from : l.fn.at ≤ l.next;
   within : l.next ≤ pages_of l.fn.self.plain;
   lent : (i : ℕ) → l.fn.at ≤ i → i < l.next → is_some (block_around l.fn.self.plain l.fn.worker i) ≡ true;
 }
 
-abbrev pub decreases-blocks : goal.decreases-blocks
-decreases-blocks l = l.end - l.next
+abbrev pub decreases-looks : goal.decreases-looks
+decreases-looks l = l.end - l.next
