@@ -1,9 +1,14 @@
 -- What each page of a zone is to one worker's share of it (this profile).
-use Rattle.std.specs.Prelude.{ℕ, ◌≤◌, ◌<◌, length, ◌-◌, ◌==◌, Bool, false, List, [], ◌∷◌, cond, leb, slice_index_or, slice_set, Option, None, Some}
+use Rattle.std.specs.Prelude.{ℕ, ◌≤◌, ◌<◌, length, ◌+◌, ◌-◌, ◌==◌, ◌&&◌, Bool, false, List, [], ◌∷◌, cond, leb, map, slice_index_or, slice_set, Option, None, Some}
+use Rattle.std.specs.List.{list_all, range_with_len}
+use Rattle.zp_model.specs.declared.constants.TheConstants.{ORDERS}
 use Rattle.zp_model.specs.declared.request.Request.{Request}
 use Rattle.zp_model.specs.declared.request.Reply.{Reply}
 use Rattle.zp_model.specs.MigrateType.{type_number}
-use Rattle.zp_model.specs.Zone.{Holding}
+use Rattle.zp_model.specs.Block.{head}
+use Rattle.zp_model.specs.BlockSet.{some_below}
+use Rattle.zp_model.specs.Books.{blocks_after_in}
+use Rattle.zp_model.specs.Zone.{PlainZone, Holding, holding_at}
 use Rattle.zp_share.specs.declared.page_use.PageUse.{PageUse}
 use Rattle.zp_share.specs.declared.page_use.PageUse.TheVariants.{Away, Lent, Cached}
 
@@ -46,6 +51,24 @@ abbrev pub all_as : ℕ → PageUse → List ℕ → List PageUse → List PageU
 all_as base u [] us = us
 all_as base u (p ∷ ps) us = all_as base u ps (slice_set us (p - base) u)
 
+-- whether page i of the zone, its first being 0, lies in a lent block
+abbrev pub is_lent_page : List PageUse → ℕ → Bool
+is_lent_page us i = some_below (λ k. is_lent_as k (use_at us (head i k))) ORDERS
+
+-- whether n pages from an absolute page on, one at least, are of the zone, and each of them lies in a lent block
+unfoldable pub is_lent_run : ℕ → List PageUse → ℕ → ℕ → Bool
+is_lent_run base us p n = leb base p && leb 1 n && leb (p - base + n) (length us) && list_all (is_lent_page us) (range_with_len (p - base) n)
+
+-- what a page is where this block is out there in the worker's name: a page on a list stays on it, and any other block out is lent
+abbrev pub lent_as : PageUse → Option Holding → PageUse
+lent_as (Cached t) o = Cached t
+lent_as u None = Away
+lent_as u (Some x) = Lent x.order x.kind
+
+-- the pages, where these blocks are out in the worker's name
+unfoldable pub uses_by : List PageUse → List (Option Holding) → List PageUse
+uses_by us out = map (λ g. lent_as (use_at us g) (holding_at out g)) (range_with_len 0 (length us))
+
 -- what a request, answered so, makes of the pages
 abbrev pub uses_after : ℕ → Request → Reply → List PageUse → List PageUse
 uses_after base (Request.Alloc k t m) (Reply.Page p) us = slice_set us (p - base) (Lent k t)
@@ -56,3 +79,10 @@ uses_after base Request.Collect (Reply.Block x) us = slice_set us (x.page - base
 uses_after base (Request.Refill t m n) (Reply.Pages ps) us = all_as base (Cached t) ps us
 uses_after base (Request.Drain t ps) Reply.Drained us = all_as base Away ps us
 uses_after base r q us = us
+
+-- what any request of worker w does, in the zone z as it was: what a run makes of them is what it makes of the blocks out in the worker's name
+abbrev pub uses_after_in : PlainZone → ℕ → ℕ → Request → Reply → List PageUse → List PageUse
+uses_after_in z base w (Request.AllocRun n a m) (Reply.Page p) us = uses_by us (blocks_after_in z base w (Request.AllocRun n a m) (Reply.Page p) (map (held w) us))
+uses_after_in z base w (Request.AllocRunAt b n) (Reply.Page p) us = uses_by us (blocks_after_in z base w (Request.AllocRunAt b n) (Reply.Page p) (map (held w) us))
+uses_after_in z base w (Request.FreeRun p n) Reply.Freed us = uses_by us (blocks_after_in z base w (Request.FreeRun p n) Reply.Freed (map (held w) us))
+uses_after_in z base w r q us = uses_after base r q us

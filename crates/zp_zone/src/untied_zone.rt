@@ -17,6 +17,7 @@ mod batches;
 mod blocks;
 mod cuts;
 mod falling;
+mod lowest;
 mod pageblocks;
 mod parts;
 mod runs;

@@ -7,17 +7,19 @@ ghost use Rattle.zp_model.specs.Zone.{zone_opening, pages_of, posted_pages, work
 ghost use Rattle.zp_model.specs.Mark.{level_of};
 ghost use Rattle.zp_model.specs.Info.{counts_by_type, counts_of};
 ghost use Rattle.zp_model.specs.Run.{IsHistory, is_out};
+ghost use Rattle.zp_model.specs.Runs.{may_free_run};
 ghost use Rattle.zp_model.specs.Lawful.{IsLawful};
 ghost use Rattle.zp_model.specs.Naming.{IsName};
 ghost use Rattle.zp_model.specs.Area.{pageblocks_of};
 ghost use Rattle.zp_zone.specs.NamedZone.{IsPageOf, IsPageblockOf, IsToldOf};
-ghost use Rattle.zp_zone.specs.Seats.{IsSeatOf, IsUnused, Agrees, books, has, seats_of};
+ghost use Rattle.zp_zone.specs.Seats.{IsSeatOf, IsUnused, Agrees, books, has, has_run, seats_of};
 ghost use Rattle.zp_zone.specs.Making.{wanted, AreBounds, IsGood, IsGoodWithin, IsWhy, IsWhyWithin, IsWideGood, IsWideWhy};
 
 mod asking;
 mod batches;
 mod blocks;
 mod pageblocks;
+mod runs;
 
 use crate::books::{Books, Opens, Part, Parts};
 use crate::config::{NARROW, WIDE, ZoneBounds, ZoneConfig};
@@ -139,6 +141,16 @@ impl Zone {
         ensures has { Agrees self.now seat.now → result ≡ has seat.now page order }
     {
         self.untied.held_by(seat.worker(), page, order)
+    }
+
+    /// Whether each of so many pages from this one on, one at least, is out to the seat's worker, by whatever blocks.
+    pub fn run_held_by(&self, seat: &Seat, page: PageNo, pages: u32) -> bool
+        requires { IsSeatOf self.now seat.now }
+        ensures out { result ≡ may_free_run self.now.plain seat.now.worker page pages }
+        ensures has { Agrees self.now seat.now → result ≡ has_run seat.now page pages }
+    {
+        self.untied.lawful();
+        self.untied.holds_run(seat.worker(), page, pages)
     }
 
     /// The zone's name.

@@ -1,0 +1,27 @@
+-- The lowest run of free pages, block by block from a zone's first page on: what is known at the end of each block (this profile).
+use Rattle.std.specs.Prelude.{ℕ, ◌+◌, ◌%◌, ◌^◌, ◌≡◌, ◌≤◌, ◌<◌, Bool, true}
+use Rattle.zp_model.specs.Area.{available}
+use Rattle.zp_model.specs.Block.{has, is_max}
+use Rattle.zp_model.specs.Zone.{PlainZone, pages_of}
+
+-- whether a run may have page i: it is free, outside isolated pageblocks
+abbrev pub serves : PlainZone → ℕ → Bool
+serves z i = has (available z.area.largest z.area.kinds z.area.free) i
+
+-- no free block has pages both before page h and from it on
+abbrev pub IsBetween : PlainZone → ℕ → Type 0
+IsBetween z h = (g k : ℕ) → is_max z.area.largest z.area.free g k ≡ true → g < h → g + 2 ^ k ≤ h
+
+-- the n pages from h on all serve, or none of them does, and no free block goes past them
+pub record IsPassed (z : PlainZone) (h n : ℕ) (serving : Bool) : Type 0 where
+  pub some : 0 < n
+  pub inside : h + n ≤ pages_of z
+  pub alike : (i : ℕ) → h ≤ i → i < h + n → serves z i ≡ serving
+  pub between : IsBetween z (h + n)
+
+-- place s is the first from h on that is a multiple of 2 to the a pages, in absolute pages
+pub record IsFirstMultiple (base h a s : ℕ) : Type 0 where
+  pub from : h ≤ s
+  pub near : s < h + 2 ^ a
+  pub aligned : (base + s) % 2 ^ a ≡ 0
+  pub least : (g : ℕ) → h ≤ g → (base + g) % 2 ^ a ≡ 0 → s ≤ g
