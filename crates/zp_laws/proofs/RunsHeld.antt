@@ -2,7 +2,6 @@
 use Rattle.std.proofs.Common.{ℕ, ◌+◌, ◌-◌, ◌^◌, ◌≡◌, ◌<◌, refl, sym, ◌∙◌, ap, arith, true, Option, Some}
 use Rattle.std.specs.Option.{is_some}
 use Rattle.std.proofs.lemmas.Bool.{and_from, and_parts, eq-eqb}
-
 use Rattle.zp_model.specs.Block.{head, in_run, IsBlock}
 use Rattle.zp_model.specs.Books.{Books, has_page, has_run, own, part}
 use Rattle.zp_model.specs.Lawful.{IsLawful}

@@ -9,6 +9,7 @@ ghost use Rattle.zp_model.specs.Info.{counts_by_type, counts_of};
 ghost use Rattle.zp_model.specs.Run.{IsHistory, is_out};
 ghost use Rattle.zp_model.specs.Runs.{may_free_run};
 ghost use Rattle.zp_model.specs.Lawful.{IsLawful};
+ghost use Rattle.zp_model.specs.Books.{type_of_page};
 ghost use Rattle.zp_model.specs.Naming.{IsName};
 ghost use Rattle.zp_model.specs.Area.{pageblocks_of};
 ghost use Rattle.zp_zone.specs.NamedZone.{IsPageOf, IsPageblockOf, IsToldOf};
@@ -31,7 +32,8 @@ pub use asking::page_reply;
 use std::alloc::Global;
 use std::marker::Model;
 use zp_model::{
-    Counts, CountsByType, LONGEST_NAME, Largest, Level, MAX_PAGES, Order, PageNo, Refused,
+    Counts, CountsByType, LONGEST_NAME, Largest, Level, MAX_PAGES, MigrateType, Order, PageAt,
+    PageNo, Refused,
 };
 use zp_tie::Keeper;
 
@@ -168,6 +170,15 @@ impl Zone {
         ensures { result ≡ self.now.plain.area.largest }
     {
         self.untied.largest()
+    }
+
+    /// The type for which a block at this page of the zone, the first being 0, is out when a run goes out: its pageblock's, and Movable where the
+    /// pageblock is isolated.
+    pub fn noted_type(&self, at: PageAt) -> MigrateType
+        requires { at < pages_of self.now.plain }
+        ensures { result ≡ type_of_page self.now.plain at }
+    {
+        self.untied.noted_type(at)
     }
 
     /// How many pages the zone has.
