@@ -181,11 +181,13 @@ impl Zone {
         self.untied.noted_type(at)
     }
 
-    /// How many pages the zone has.
+    /// How many pages the zone has. Each zone is lawful.
     pub fn pages(&self) -> u32
         ensures pages { result ≡ pages_of self.now.plain }
         ensures within { result ≤ MAX_PAGES }
+        ensures lawful { IsLawful self.now.plain }
     {
+        self.untied.lawful();
         self.untied.pages()
     }
 
