@@ -19,6 +19,13 @@ pub record IsBack (s : ZoneShareState) (t : MigrateType) (ps : List ℕ) : Type 
   pub within : length ps ≤ length (cached_of s t)
   pub pages : ps ≡ back (length ps) (cached_of s t)
 
+-- the request is for no run of pages
+abbrev pub IsForNoRun : Request → Type 0
+IsForNoRun (Request.AllocRun n a m) = ⊥
+IsForNoRun (Request.AllocRunAt p n) = ⊥
+IsForNoRun (Request.FreeRun p n) = ⊥
+IsForNoRun r = Unit {0}
+
 -- what a share needs to ask a zone of so many workers, beside the block that is named: a refill asks for so many pages at most, for a list
 -- that is empty, and a drain gives back the pages at the back of a list
 abbrev pub MayAsk : ℕ → ℕ → Request → ZoneShareState → Type 0
