@@ -1,10 +1,9 @@
 -- One section of a share for a run of pages: what the zone's answer makes of the share, and that it is a reply to the request.
-use Rattle.std.specs.Prelude.{IsTrue, IfOk, Result, Ok, Err}
-use Rattle.std.proofs.Common.{ℕ, ◌+◌, ◌-◌, ◌≡◌, ◌≤◌, ◌<◌, ◌&&◌, ◌==◌, inl, inr, refl, sym, ◌∙◌, ap, subst, arith, true, false, List, length, map, Option}
-use Rattle.std.proofs.lemmas.Bool.{and_from, and_parts, both_ways, eq-eqb, false_from_ne_true, le-leb, leb-true, ltb-true}
+use Rattle.std.specs.Prelude.{IfOk, Result, Ok, Err}
+use Rattle.std.proofs.Common.{ℕ, ◌+◌, ◌-◌, ◌≡◌, ◌≤◌, ◌<◌, refl, sym, ◌∙◌, ap, subst, arith, true, false, List, length, map, Option}
+use Rattle.std.proofs.lemmas.Bool.{and_parts, leb-true, ltb-true}
 use Rattle.std.proofs.lemmas.List.{length-map}
 use Rattle.zp_model.specs.declared.mark.Mark.{Mark}
-use Rattle.zp_model.specs.declared.migrate_type.MigrateType.{MigrateType}
 use Rattle.zp_model.specs.declared.refused.Refused.{Refused}
 use Rattle.zp_model.specs.declared.request.Request.{Request}
 use Rattle.zp_model.specs.declared.request.Reply.{Reply}
@@ -13,11 +12,10 @@ use Rattle.zp_model.specs.Books as books
 use Rattle.zp_model.specs.Books.{blocks_after_in, has_run as part_has_run, own, type_of_page}
 use Rattle.zp_model.specs.Lawful.{IsLawful}
 use Rattle.zp_model.specs.PageblockType.{noted_type}
-use Rattle.zp_model.specs.Runs.{hand_out_run, is_within, may_free_run, run_freed, run_taken}
+use Rattle.zp_model.specs.Runs.{hand_out_run, is_within, run_freed, run_taken}
 use Rattle.zp_model.specs.Step.{Outcome, step}
 use Rattle.zp_model.specs.Zone.{PlainZone, Holding, pages_of}
 use Rattle.zp_model.proofs.RunParts.{within-from}
-use Rattle.zp_laws.specs.FreePages.{IsSameZone}
 use Rattle.zp_laws.proofs.Areas.{kinds-leave_run, largest-leave_run}
 use Rattle.zp_laws.proofs.KeepingRuns.{IsFree, run_taken_rest}
 use Rattle.zp_laws.proofs.RunSteps.{alloc_run_at_by, alloc_run_by}
@@ -28,11 +26,11 @@ use Rattle.zp_zone.specs.Asking.{IsGivenRun}
 use Rattle.zp_zone.specs.NamedZone.{page_reply}
 use Rattle.zp_zone.specs.Seats.{ZoneState, SeatState, Agrees, asked, has, has_run}
 use Rattle.zp_share.specs.declared.page_use.PageUse.{PageUse}
-use Rattle.zp_share.specs.declared.page_use.PageUse.TheVariants.{Away, Lent, Cached}
+use Rattle.zp_share.specs.declared.page_use.PageUse.TheVariants.{Away}
 use Rattle.zp_share.specs.declared.zone_share.ZoneShare.TheInside.{Inside}
-use Rattle.zp_share.specs.PageUses.{UsesState, AreUncached, HasSameCached, IsCutLent, IsLentWhereGot, IsRunOff, held, is_cached_as, is_lent_run, use_at, use_of, uses_after_in, uses_by}
+use Rattle.zp_share.specs.PageUses.{UsesState, HasSameCached, IsCutLent, IsLentWhereGot, IsRunOff, held, is_cached_as, is_lent_run, use_at, uses_after_in, uses_by}
 use Rattle.zp_share.specs.Sections.{IsRunLent}
-use Rattle.zp_share.specs.ZoneShares.{ZoneShareState, IsNew, IsShare, use_in}
+use Rattle.zp_share.specs.ZoneShares.{IsNew, use_in}
 use Rattle.zp_share.proofs.Closing.{IsRunUsed, IsWhole, away_by_none, held_at, share_of}
 use Rattle.zp_share.proofs.OneUse.{IsIn, in_at}
 use Rattle.zp_share.proofs.RunUses.{run_from, run_lent, uses_told}

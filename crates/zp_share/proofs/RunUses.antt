@@ -2,23 +2,21 @@
 use Rattle.std.specs.Prelude.{slice_set}
 use Rattle.std.specs.List.{range_with_len}
 use Rattle.std.specs.Option.{is_some}
-use Rattle.std.proofs.Common.{ℕ, ◌+◌, ◌-◌, ◌^◌, ◌≡◌, ◌==◌, ◌≤◌, ◌<◌, ◌&&◌, inl, inr, refl, sym, ◌∙◌, ap, arith, Bool, true, false, List, [], ◌∷◌, length, map, cond, leb, Option, Some, None}
+use Rattle.std.proofs.Common.{ℕ, ◌+◌, ◌-◌, ◌^◌, ◌≡◌, ◌==◌, ◌≤◌, ◌<◌, inl, inr, refl, sym, ◌∙◌, ap, arith, true, false, List, [], ◌∷◌, length, map, Option, Some, None}
 use Rattle.std.proofs.Math.ListN.{get_or-map}
 use Rattle.std.proofs.lemmas.Bool.{and_from, and_parts, both_ways, cases_Bool, cases_eq, cases_lt, eq-eqb, eqb-true, false≢true, false_from_ne_true, le-leb, leb-true}
 use Rattle.std.proofs.lemmas.List.{ext_get_or, get_or-set_other, get_or-set_same, length-map, length-set, map-set}
 use Rattle.std.proofs.lemmas.List.FromFn.{get_or-map-range_with_len, length-map-range_with_len}
-use Rattle.std.proofs.lemmas.Nat.{pow_pos}
 use Rattle.std.proofs.lemmas.Option.{none-some, same_Some}
 use Rattle.zp_model.specs.declared.migrate_type.MigrateType.{MigrateType}
 use Rattle.zp_model.specs.declared.constants.TheConstants.{ORDERS}
 use Rattle.zp_model.specs.Area.{Area}
 use Rattle.zp_model.specs.Block.{head, in_run, IsBlock}
 use Rattle.zp_model.specs.Books.{only, own}
-use Rattle.zp_model.specs.BlockSet.{some_below}
 use Rattle.zp_model.specs.Lawful.{IsLawful}
 use Rattle.zp_model.specs.MigrateType.{type_number}
 use Rattle.zp_model.specs.Runs.{block_around, cut, fitting_order, give_run, hand_out_blocks, hand_out_run, may_free_run, run_freed}
-use Rattle.zp_model.specs.Zone.{PlainZone, Holding, hand_out, holding_at, is_of, pages_of, take_back, workers_of}
+use Rattle.zp_model.specs.Zone.{PlainZone, Holding, hand_out, holding_at, pages_of, take_back, workers_of}
 use Rattle.zp_model.proofs.Covers.{some_below-decides}
 use Rattle.zp_model.proofs.Cuts.{fitting}
 use Rattle.zp_model.proofs.Heads.{head_aligned, head_le, head_of, head_self, lt_head}

@@ -1,7 +1,7 @@
 use Rattle.std.specs.Prelude.{slice_set}
-use Rattle.std.proofs.Common.{get_or, length, ◌<◌, ℕ, ◌+◌, ◌-◌, ◌^◌, ◌≡◌, ◌∙◌, ap, refl, sym, arith}
+use Rattle.std.proofs.Common.{get_or, length, ◌<◌, ◌-◌, ◌≡◌, ◌∙◌, ap, sym, arith}
 use Rattle.std.proofs.lemmas.List.{get_or_default}
-use Rattle.zp_model.specs.Block.{head, in_run}
+use Rattle.zp_model.specs.Block.{head}
 use Rattle.zp_share.specs.declared.page_use.PageUse.TheVariants.{Away}
 use Rattle.zp_share.specs.PlainShares.{lent_kind}
 use Rattle.zp_model.proofs.Heads.{head_le, lt_head}

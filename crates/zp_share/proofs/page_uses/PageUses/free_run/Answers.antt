@@ -1,8 +1,8 @@
-use Rattle.std.proofs.Common.{ℕ, ◌+◌, ◌-◌, ◌≡◌, ◌≤◌, ◌<◌, ◌∙◌, ap, refl, sym, arith, length, subst, true}
+use Rattle.std.proofs.Common.{◌+◌, ◌-◌, ◌≡◌, ◌≤◌, ◌∙◌, ap, refl, sym, arith, length, true}
 use Rattle.zp_model.specs.Runs.{may_free_run}
 use Rattle.zp_share.specs.PageUses.{AreUncached, AreWholeBlocks}
 use Rattle.zp_share.proofs.RunUses.{next_lent, pages_out, run_lent, run_parts, run_uncached, uses_begin, uses_go, whole_blocks}
-use Rattle.zp_share.proofs.page_uses.PageUses.free_run.Goals.{After-number, In-parts, After-free_in_block-freed}
+use Rattle.zp_share.proofs.page_uses.PageUses.free_run.Goals.{After-number}
 use Rattle.zp_share.proofs.page_uses.PageUses.free_run.Goals as goal
 
 pub overflow_sub-next : goal.overflow_sub-next

@@ -1,5 +1,4 @@
-use Rattle.std.proofs.Common.{◌^◌, ◌≤◌, arith}
-use Rattle.zp_model.specs.Runs.{fitting_order}
+use Rattle.std.proofs.Common.{◌≤◌, arith}
 use Rattle.zp_model.proofs.Cuts.{fitting}
 use Rattle.zp_share.proofs.RunUses.{lending_ends, lending_goes}
 use Rattle.zp_share.proofs.page_uses.PageUses.lend_cut.Goals.{After-lend_first-lent}

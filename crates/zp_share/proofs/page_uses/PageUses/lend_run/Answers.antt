@@ -1,6 +1,5 @@
-use Rattle.std.proofs.Common.{ℕ, ◌-◌, ◌^◌, ◌≤◌, arith, subst}
+use Rattle.std.proofs.Common.{◌-◌, ◌≤◌, arith, subst}
 use Rattle.zp_model.specs.Books.{type_of_page}
-use Rattle.zp_model.specs.Runs.{fitting_order}
 use Rattle.zp_model.proofs.Cuts.{fitting}
 use Rattle.zp_share.specs.PageUses.{IsCutLent}
 use Rattle.zp_share.proofs.RunUses.{lending_ends, lending_goes}

@@ -5,7 +5,6 @@ use Rattle.zp_model.specs.declared.refused.Refused.TheVariants.{BelowMark, NoBlo
 use Rattle.zp_model.specs.declared.request.Request.{Request}
 use Rattle.zp_model.specs.declared.request.Request.TheVariants as request
 use Rattle.zp_model.specs.declared.request.Reply.{Reply}
-use Rattle.zp_model.specs.Step.{step}
 use Rattle.zp_zone.specs.NamedZone.{page_reply}
 use Rattle.zp_share.specs.declared.sections_made.TheConstants.{LAST_SECTION}
 use Rattle.zp_share.specs.declared.zone_share.ZoneShare.TheInside.{Inside}

@@ -1,4 +1,4 @@
-use Rattle.std.proofs.Common.{ℕ, ◌≡◌, ◌==◌, ◌-◌, sym, ◌∙◌, ap, subst, refl, rules, true, false}
+use Rattle.std.proofs.Common.{◌≡◌, ◌==◌, ◌-◌, sym, ◌∙◌, ap, subst, refl, rules, true, false}
 use Rattle.zp_model.specs.declared.request.Request.{Request}
 use Rattle.zp_model.specs.declared.request.Request.TheVariants as request
 use Rattle.zp_model.specs.declared.request.Reply.TheVariants as reply
