@@ -26,8 +26,9 @@ use Rattle.zp_journal.specs.Journals.{counts_after}
 use Rattle.zp_share.specs.declared.sections_made.TheConstants.{LAST_SECTION}
 use Rattle.zp_share.specs.PlainShares.{lends_for, refusal}
 use Rattle.zp_share.specs.Sections.{ComesOf, IsAsked, IsReplyTo}
-use Rattle.zp_share.specs.ZoneShares.{ZoneShareState, SharesIn, IsLeft, IsSection, answered, opening_share, plain_share}
-use Rattle.zp_share.specs.Shares.{ShareState, ZoneKey, IsAskedAt, IsShareOf, no_key, no_tie, key_of, ties_of, share_at, with_zone_share, is_section, noted_at, no_seat}
+use Rattle.zp_share.specs.ZoneShares.{ZoneShareState, SharesIn, IsLeft, IsSection, answered_in, opening_share, plain_share}
+use Rattle.zp_share.specs.Shares.{ShareState, ZoneKey, IsAskedAt, IsShareOf, no_key, no_tie, key_of, ties_of, share_at, with_zone_share, is_section, noted_in, no_seat}
+use Rattle.zp_share.proofs.Carrying.{noted_by}
 use Rattle.zp_share.proofs.Telling.{same-key}
 use Rattle.zp_share.proofs.Tried.{not_lent_alone, step-section}
 use Rattle.zp_shared.proofs.Publishing.{counts_more}
@@ -62,11 +63,11 @@ share_kept keys r q z y s t i fits others made =
 
 -- it has one section more
 share_noted : (r : Request) (q : Reply) (z y : ZoneState) (s t : ShareState) (i : ℕ) → t ≡ with_zone_share i (share_at t i) s →
-    IsSection r q z y (share_at s i) (share_at t i) → t ≡ noted_at i r q s
+    IsSection r q z y (share_at s i) (share_at t i) → t ≡ noted_in z.plain i r q s
 share_noted r q z y s t i others made =
     others
     ∙ ap (λ v. with_zone_share i v s) made.share
-    ∙ sym (ap (λ v. cond v (with_zone_share i (answered r q (share_at s i)) s) s) (ap is_section made.reply ∙ step-section z.plain (share_at s i).seat.worker r))
+    ∙ sym (ap (λ v. cond v (with_zone_share i (answered_in z.plain r q (share_at s i)) s) s) (ap is_section made.reply ∙ step-section z.plain (share_at s i).seat.worker r))
 
 pub filter_few : {X : Type 0} (p : X → Bool) (xs : List X) → length (filter p xs) ≤ length xs
 filter_few p [] = omega arith
@@ -147,7 +148,7 @@ unasked keys r q g s key fits none reply made = record {
         others = sym (ap (λ l. let u : ShareState = record s { zones = l } in u) (set-get_or s.zones g.place (opening_share no_seat 0)));
         fits = fits;
       };
-  share = sym (ap (λ b. cond b (with_zone_share g.place (answered r q (share_at s g.place)) s) s) none);
+  share = sym (ap (λ b. cond b (with_zone_share g.place (answered_in g.zone.plain r q (share_at s g.place)) s) s) none);
   reply = reply;
 }
 
@@ -333,7 +334,7 @@ viewed keys i r q g h s t at x =
     (record {
       keys = refl;
       fits = x.kept.fits;
-      share = x.share;
+      share = noted_by g.zone.plain g.place r q s t x.share;
       reply = x.reply;
       not_lent = not_lent_alone (lends_for r (plain_share (share_at s g.place))) (is_journal_full g) r q g.zone h.zone (share_at s g.place) (share_at t g.place) x.made;
       told = λ rows e. absurd (cc);
