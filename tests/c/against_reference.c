@@ -379,9 +379,14 @@ static uint32_t other_page(const call_t *c)
     }
 }
 
-static int is_of_run(kind_t kind)
+static uint32_t other_number(const call_t *c)
 {
-    return kind == ALLOC_RUN || kind == ALLOC_RUN_AT || kind == FREE_RUN;
+    switch (c->kind) {
+    case POST: return out_of(n_workers);
+    case DRAIN: return one_in(2) ? 0 : out_of(65);
+    case ALLOC_RUN: case ALLOC_RUN_AT: case FREE_RUN: return one_in(2) ? 0 : any32();
+    default: return any32();
+    }
 }
 
 /* One argument becomes another: out of its range, or of another block. A call that does not have it stays good. */
@@ -394,7 +399,7 @@ static void spoil(call_t *c)
     case 3: c->mark = out_of(ZONE_LOW + 1); break;
     case 4: c->page = other_page(c); break;
     case 5: c->order = below(ZONE_ORDERS); break;
-    default: c->number = c->kind == POST ? out_of(n_workers) : c->kind == DRAIN ? one_in(2) ? 0 : out_of(65) : one_in(2) && is_of_run(c->kind) ? 0 : any32();
+    default: c->number = other_number(c);
     }
 }
 

@@ -205,7 +205,8 @@ static void runs_fall_to_lower_zones(void)
     zone = ZONES;
     CHECK(zone_alloc_run(&pool, 0, 1, 0, ZONE_ANY, &zone, &page) == ZONE_BAD_ARGUMENT && zone == ZONES);
     zone = 1;
-    CHECK(zone_alloc_run(&pool, 0, 0, 0, ZONE_ANY, &zone, &page) == ZONE_BAD_ARGUMENT && zone_alloc_run(&pool, CREW, 1, 0, ZONE_ANY, &zone, &page) == ZONE_BAD_ARGUMENT);
+    CHECK(zone_alloc_run(&pool, 0, 0, 0, ZONE_ANY, &zone, &page) == ZONE_BAD_ARGUMENT);
+    CHECK(zone_alloc_run(&pool, CREW, 1, 0, ZONE_ANY, &zone, &page) == ZONE_BAD_ARGUMENT);
     CHECK(zone_alloc_run_at(&pool, CREW, 0, 0, 1) == ZONE_BAD_ARGUMENT && zone_free_run(&pool, CREW, 0, 0, 1) == ZONE_BAD_ARGUMENT);
     unmake();
 }
