@@ -4,4 +4,3 @@ pub mod Leaving
 pub mod Steps
 pub mod Keys
 pub mod Putting
-pub mod RunsGiven
