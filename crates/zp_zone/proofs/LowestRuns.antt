@@ -1,25 +1,32 @@
 -- The lowest run of free pages, as the blocks of a zone are passed one after another: what a search knows at the end of a block, and what it comes to.
-use Rattle.std.proofs.Common.{ℕ, ◌+◌, ◌-◌, ◌*◌, ◌/◌, ◌%◌, ◌^◌, ◌≡◌, ◌≤◌, ◌<◌, ◌↔◌, inl, inr, refl, ◌∙◌, ap, arith, true, false, Some, None, eqb-true, eq-eqb}
+use Rattle.std.proofs.Common.{ℕ, ◌+◌, ◌-◌, ◌*◌, ◌/◌, ◌%◌, ◌^◌, ◌≡◌, ◌≤◌, ◌<◌, ◌↔◌, ◌⊎◌, inl, inr, refl, sym, max, ◌∙◌, ap, arith, true, false, Some, None, eqb-true, eq-eqb}
+use Rattle.std.specs.List.{slice_index_or}
 use Rattle.std.proofs.Math.Nat.{mul-le-mul_right, mul-mod_left, pow-le-pow_right}
 use Rattle.std.proofs.lemmas.Bool.{and_parts, and_from, both_ways, cases_lt, false_from_ne_true, leb-true}
 use Rattle.std.proofs.lemmas.Nat.{div_below, mod_below, one_shl, pow_pos, shr_split}
-use Rattle.zp_model.specs.declared.constants.TheConstants.{BASE_LIMIT, LARGEST_ALIGNMENT, MAX_PAGES}
+use Rattle.zp_model.specs.declared.constants.TheConstants.{BASE_LIMIT, LARGEST_ALIGNMENT, LARGEST_BLOCK_PAGES, LARGEST_ORDER, MAX_PAGES}
+use Rattle.zp_model.specs.declared.pageblock_type.PageblockType.TheVariants.{Movable}
 use Rattle.zp_model.specs.declared.mark.Mark.{Mark}
 use Rattle.zp_model.specs.declared.refused.Refused.TheVariants.{BelowMark, NoBlock}
 use Rattle.zp_model.specs.declared.request.Reply.{Reply}
-use Rattle.zp_model.specs.Area.{available}
+use Rattle.zp_model.specs.Area.{available, is_isolated}
 use Rattle.zp_model.specs.Block.{has, is_max}
 use Rattle.zp_model.specs.Mark.{pages_at_hand}
 use Rattle.zp_model.specs.Runs.{has_pages, is_above_by, is_run_for, lowest_run, may_alloc_run, run_taken}
 use Rattle.zp_model.specs.Step.{Outcome, alloc_run, refuse}
+use Rattle.zp_model.specs.PageblockType.{is_isolate}
 use Rattle.zp_model.specs.Zone.{PlainZone, pages_of}
+use Rattle.zp_model.proofs.Heads.{head_room, number_around, two}
 use Rattle.zp_model.proofs.LowestRun.{available-to, has_pages-from, has_pages-to, lowest_found, lowest_none, lowest_some}
-use Rattle.zp_model.proofs.Maximal.{maximal-apart}
+use Rattle.zp_model.proofs.Maximal.{Max, max-normal, maximal-apart}
 use Rattle.zp_model.proofs.MaximalBlocks.{each_page_in_one_block, max_has}
+use Rattle.zp_model.proofs.Normal.{IsMaximal}
 use Rattle.zp_model.proofs.Pages.{In, in_run-to, is_max-to}
+use Rattle.zp_model.proofs.RunBlocks.{large_near}
 use Rattle.zp_model.proofs.RunParts.{within-from, within-to}
 use Rattle.zp_laws.proofs.KeepingRuns.{IsFree}
-use Rattle.zp_zone.specs.Lowest.{IsBetween, IsFirstMultiple, IsPassed, serves}
+use Rattle.zp_buddy.specs.Bare.{AreAtHand, IsBareTo}
+use Rattle.zp_zone.specs.Lowest.{IsBetween, IsFirstMultiple, IsNextStart, IsPassed, serves}
 
 -- the multiple is found by rounding up
 pub first_multiple : (base h a : ℕ) → IsFirstMultiple base h a ((base + h + (2 ^ a - 1)) / 2 ^ a * 2 ^ a - base)
@@ -70,6 +77,23 @@ module _ (z : PlainZone) where
     | inr from ↦ absurd (both_ways _ (none g from lt) (max_has z.area.largest z.area.free g j x))
   ]
 
+  -- none goes past a multiple of the largest block's pages
+  pub border_between : (h : ℕ) → z.area.largest ≤ LARGEST_ORDER → h % LARGEST_BLOCK_PAGES ≡ 0 → IsBetween z h
+  border_between h few al g k e lt =
+      let y = is_max-to z.area.largest z.area.free g k e in
+      omega (arith, head_room g k LARGEST_ORDER (omega (arith, y.order, few)) y.aligned)
+
+  -- so whole groups at hand are passed
+  pub whole_passed : (h e : ℕ) → z.area.largest ≤ LARGEST_ORDER → h < e → e ≤ pages_of z → e % LARGEST_BLOCK_PAGES ≡ 0 → AreAtHand z.area h e → IsPassed z h (e - h) true
+  whole_passed h e few lt inside al all =
+      let end : h + (e - h) ≡ e = omega arith in
+      record {
+        some = omega arith;
+        inside = omega arith;
+        alike = λ i lo hi. all i lo (omega arith);
+        between = rw end (border_between e few al);
+      }
+
   -- where none goes past the page before it, a free page heads a free block
   pub free_heads : (h : ℕ) → IsBetween z h → has z.area.free h ≡ true → (k : ℕ) × (is_max z.area.largest z.area.free h k ≡ true)
   free_heads h b e =
@@ -108,19 +132,63 @@ module _ (z : PlainZone) (n a : ℕ) where
   broken g i lo hi out =
       false_from_ne_true _ (λ e. both_ways _ out (has_pages-to (available z.area.largest z.area.kinds z.area.free) g n (and_parts _ _ e).1 i lo hi))
 
-  pub search_begins : (s : ℕ) → 0 < n → IsFirstMultiple z.base 0 a s → IsSearching z n a s 0
+  -- nor where a large block is too far away
+  unaided : (k h e g : ℕ) → k ≤ z.area.largest → 2 ^ (k + 1) ≤ n + 1 → IsBareTo z.area k h e → h ≤ g → g + 2 ^ k ≤ e → is_run_for z n a g ≡ false
+  unaided k h e g le some bare from far = false_from_ne_true _ (λ r.
+      let all = has_pages-to (available z.area.largest z.area.kinds z.area.free) g n (and_parts _ _ r).1 in
+      let free : (i : ℕ) → g ≤ i → i < g + n → In z.area.free i = λ i lo hi. (available-to z.area.largest z.area.kinds z.area.free i (all i lo hi)).0 in
+      let x = large_near z.area.largest (Max z.area.largest z.area.free) (In z.area.free) (max-normal z.area.largest z.area.free) g n k le some free in
+      let f = x.0 in
+      let j = x.1 in
+      let y : IsMaximal z.area.largest (In z.area.free) f j = is_max-to z.area.largest z.area.free f j x.2.starts in
+      let shown : is_isolated z.area.largest z.area.kinds f ≡ false = elim (cases_lt f g) [
+        | inl before ↦
+            ap (λ q. is_isolate (slice_index_or z.area.kinds q Movable)) (sym (number_around f g j z.area.largest y.order y.aligned (omega arith) x.2.past))
+            ∙ (available-to z.area.largest z.area.kinds z.area.free g (all g (omega arith) (omega (arith, some, pow_pos k, two k)))).1
+        | inr on ↦ (available-to z.area.largest z.area.kinds z.area.free f (all f on (omega (arith, x.2.soon, some, pow_pos k, two k)))).1
+      ] in
+      omega (arith, bare f j x.2.starts shown x.2.enough (omega (arith, from, x.2.past)), x.2.soon, far))
+
+  -- the first multiple from there on is where a search goes on
+  pub start_comes : (k h e l s : ℕ) → k ≤ z.area.largest → 2 ^ (k + 1) ≤ n + 1 → IsBareTo z.area k h e → h ≤ l → l ≤ h ⊎ l + 2 ^ k ≤ e + 1 → IsFirstMultiple z.base l a s → IsNextStart z n a h s
+  start_comes k h e l s le some bare from near m = record {
+    from = omega (arith, from, m.from);
+    aligned = m.aligned;
+    none = λ g lo hi. elim (cases_lt g l) [
+      | inl before ↦ elim near [ inl none ↦ absurd (omega arith) | inr far ↦ unaided k h e g le some bare lo (omega arith) ]
+      | inr on ↦ askew l s g m on hi
+    ];
+  }
+
+  pub search_begins : (s : ℕ) → 0 < n → IsNextStart z n a 0 s → IsSearching z n a s 0
   search_begins s some m = record {
     inside = omega arith;
     between = λ g k e lt. absurd (omega arith);
     aligned = m.aligned;
     few = omega arith;
     serve = λ i lo hi. absurd (omega arith);
-    none = λ g lt. askew 0 s g m (omega arith) lt;
+    none = λ g lt. m.none g (omega arith) lt;
   }
 
   module _ {start next : ℕ} (x : IsSearching z n a start next) where
+    -- the pages before the last border before the start need not be looked at
+    pub search_skips : (v : ℕ) → 0 < n → z.area.largest ≤ LARGEST_ORDER → start + n ≤ pages_of z → v ≡ max next (start / LARGEST_BLOCK_PAGES * LARGEST_BLOCK_PAGES) → IsSearching z n a start v
+    search_skips v some few room e = elim (cases_lt next (start / LARGEST_BLOCK_PAGES * LARGEST_BLOCK_PAGES)) [
+      | inl up ↦
+          let same : start / LARGEST_BLOCK_PAGES * LARGEST_BLOCK_PAGES ≡ v = omega (arith, e) in
+          rw (← same) (record {
+            inside = omega arith;
+            between = border_between z (start / LARGEST_BLOCK_PAGES * LARGEST_BLOCK_PAGES) few (omega arith);
+            aligned = x.aligned;
+            few = omega arith;
+            serve = λ i lo hi. absurd (omega arith);
+            none = x.none;
+          })
+      | inr stays ↦ let same : next ≡ v = omega (arith, e) in rw (← same) x
+    ]
+
     -- pages that do not serve are passed
-    pub search_leaves : {c : ℕ} → (s : ℕ) → 0 < n → IsPassed z next c false → IsFirstMultiple z.base (next + c) a s → IsSearching z n a s (next + c)
+    pub search_leaves : {c : ℕ} → (s : ℕ) → 0 < n → IsPassed z next c false → IsNextStart z n a (next + c) s → IsSearching z n a s (next + c)
     search_leaves {c} s some p m = record {
       inside = p.inside;
       between = p.between;
@@ -133,7 +201,7 @@ module _ (z : PlainZone) (n a : ℕ) where
           | inl before ↦ broken g next (omega arith) (omega (arith, x.few)) (p.alike next (omega arith) (omega (arith, p.some)))
           | inr on ↦ elim (cases_lt g (next + c)) [
             | inl within ↦ broken g g (omega arith) (omega arith) (p.alike g on within)
-            | inr behind ↦ askew (next + c) s g m behind lt
+            | inr behind ↦ m.none g behind lt
           ]
         ]
       ];

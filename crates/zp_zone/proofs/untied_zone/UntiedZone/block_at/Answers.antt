@@ -3,8 +3,8 @@ use Rattle.zp_zone.specs.Kept.{plain_of}
 use Rattle.zp_zone.specs.Lowest.{IsBetween}
 use Rattle.zp_zone.proofs.BlockSteps.{IsAsked}
 use Rattle.zp_zone.proofs.PassedBlocks.{passed_alone, passed_free, passed_out, passed_posted}
-use Rattle.zp_zone.proofs.untied_zone.UntiedZone.pages_at.Goals.{After-holding}
-use Rattle.zp_zone.proofs.untied_zone.UntiedZone.pages_at.Goals as goal
+use Rattle.zp_zone.proofs.untied_zone.UntiedZone.block_at.Goals.{After-holding}
+use Rattle.zp_zone.proofs.untied_zone.UntiedZone.block_at.Goals as goal
 
 asked : (c : After-holding) → IsAsked c.self.inside.buddy c.self.inside.base c.self.inside.min
 asked c = record { framed = c.pages-pages.ensures.framed; lawful = c.self.invariant.lawful }
