@@ -13,7 +13,7 @@ ghost use Rattle.zp_model.specs.BlockSet.{largest_in, max_blocks};
 ghost use Rattle.zp_model.specs.Area.{available, list_number, free_list, kind_at, pageblock_pages, pageblocks_of, size_in};
 ghost use Rattle.zp_model.specs.Runs.{IsFreeRun, has_pages};
 ghost use Rattle.zp_model.specs.Take.{leave, retype, take_answer, take_after, take_low_answer, take_low_after};
-ghost use Rattle.zp_model.specs.declared.constants.TheConstants.{LARGEST_BLOCK_PAGES, MAX_PAGES};
+ghost use Rattle.zp_model.specs.declared.constants.TheConstants.{LARGEST_BLOCK_PAGES, LARGEST_ORDER, MAX_PAGES};
 ghost use Rattle.zp_buddy.specs.Bare.{AreAtHand, IsBareTo};
 ghost use Rattle.zp_buddy.specs.FallingRuns.{AreTails, falling_run};
 ghost use Rattle.zp_buddy.specs.Runs.{AreClear, gives, pages_taken, pages_left, run_length, run_pages};
@@ -141,7 +141,8 @@ impl Buddy {
         self.area.bare_until(group, order) as u32 * GROUP_PAGES
     }
 
-    /// The end of free pages outside isolated pageblocks from page `from` on, before `end`, as far as whole groups of pages have nothing else.
+    /// The end of free pages outside isolated pageblocks from page `from` on, before `end`, as far as whole groups of pages have nothing else. A
+    /// group that is a block of the largest order is passed where it has nothing else.
     pub fn whole_until(&self, from: u32, end: u32) -> u32
         requires order { from ≤ end }
         requires inside { end ≤ length self.now.area.free }
@@ -149,6 +150,7 @@ impl Buddy {
         ensures to { result ≤ end }
         ensures pages { AreAtHand self.now.area from result }
         ensures border { from < result → result % LARGEST_BLOCK_PAGES ≡ 0 }
+        ensures stops { self.now.area.largest ≡ LARGEST_ORDER → result % LARGEST_BLOCK_PAGES ≡ 0 → result + LARGEST_BLOCK_PAGES ≤ end → AreAtHand self.now.area result (result + LARGEST_BLOCK_PAGES) → ⊥ }
     {
         if from % GROUP_PAGES != 0 {
             return from;
