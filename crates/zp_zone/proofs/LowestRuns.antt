@@ -1,8 +1,8 @@
 -- The lowest run of free pages, as the blocks of a zone are passed one after another: what a search knows at the end of a block, and what it comes to.
-use Rattle.std.proofs.Common.{ℕ, ◌+◌, ◌-◌, ◌*◌, ◌/◌, ◌%◌, ◌^◌, ◌≡◌, ◌≤◌, ◌<◌, ◌↔◌, ◌⊎◌, inl, inr, refl, sym, max, ◌∙◌, ap, arith, true, false, Some, None, eqb-true, eq-eqb}
+use Rattle.std.proofs.Common.{ℕ, ◌+◌, ◌-◌, ◌*◌, ◌/◌, ◌%◌, ◌^◌, ◌≡◌, ◌≤◌, ◌<◌, ◌↔◌, ◌⊎◌, inl, inr, refl, sym, max, ◌∙◌, ap, arith, Bool, true, false, Some, None, eqb-true, eq-eqb}
 use Rattle.std.specs.List.{slice_index_or}
 use Rattle.std.proofs.Math.Nat.{mul-le-mul_right, mul-mod_left, pow-le-pow_right}
-use Rattle.std.proofs.lemmas.Bool.{and_parts, and_from, both_ways, cases_lt, false_from_ne_true, leb-true}
+use Rattle.std.proofs.lemmas.Bool.{and_parts, and_from, both_ways, cases_lt, false_from_ne_true, leb-true, true≢false}
 use Rattle.std.proofs.lemmas.Nat.{div_below, mod_below, one_shl, pow_pos, shr_split}
 use Rattle.zp_model.specs.declared.constants.TheConstants.{BASE_LIMIT, LARGEST_ALIGNMENT, LARGEST_BLOCK_PAGES, LARGEST_ORDER, MAX_PAGES}
 use Rattle.zp_model.specs.declared.pageblock_type.PageblockType.TheVariants.{Movable}
@@ -26,7 +26,7 @@ use Rattle.zp_model.proofs.RunBlocks.{large_near}
 use Rattle.zp_model.proofs.RunParts.{within-from, within-to}
 use Rattle.zp_laws.proofs.KeepingRuns.{IsFree}
 use Rattle.zp_buddy.specs.Bare.{AreAtHand, IsBareTo}
-use Rattle.zp_zone.specs.Lowest.{IsBetween, IsFirstMultiple, IsNextStart, IsPassed, serves}
+use Rattle.zp_zone.specs.Lowest.{IsBetween, IsFirstMultiple, IsNextStart, IsPassed, IsPassedFor, serves}
 
 -- the multiple is found by rounding up
 pub first_multiple : (base h a : ℕ) → IsFirstMultiple base h a ((base + h + (2 ^ a - 1)) / 2 ^ a * 2 ^ a - base)
@@ -82,17 +82,6 @@ module _ (z : PlainZone) where
   border_between h few al g k e lt =
       let y = is_max-to z.area.largest z.area.free g k e in
       omega (arith, head_room g k LARGEST_ORDER (omega (arith, y.order, few)) y.aligned)
-
-  -- so whole groups at hand are passed
-  pub whole_passed : (h e : ℕ) → z.area.largest ≤ LARGEST_ORDER → h < e → e ≤ pages_of z → e % LARGEST_BLOCK_PAGES ≡ 0 → AreAtHand z.area h e → IsPassed z h (e - h) true
-  whole_passed h e few lt inside al all =
-      let end : h + (e - h) ≡ e = omega arith in
-      record {
-        some = omega arith;
-        inside = omega arith;
-        alike = λ i lo hi. all i lo (omega arith);
-        between = rw end (border_between e few al);
-      }
 
   -- where none goes past the page before it, a free page heads a free block
   pub free_heads : (h : ℕ) → IsBetween z h → has z.area.free h ≡ true → (k : ℕ) × (is_max z.area.largest z.area.free h k ≡ true)
@@ -160,6 +149,46 @@ module _ (z : PlainZone) (n a : ℕ) where
     ];
   }
 
+  -- pages that are alike are passed
+  pub passed_for : {c : ℕ} {b : Bool} → (s h : ℕ) → 0 < n → h < s + n → IsPassed z h c b → IsPassedFor z n a s h c b
+  passed_for {c} {b} s h some lt p = record {
+    some = p.some;
+    inside = p.inside;
+    between = p.between;
+    serve = λ on i lo hi. p.alike i lo hi ∙ on;
+    none = λ out g from to. elim (cases_lt g h) [
+      | inl before ↦ broken g h (omega arith) (omega (arith, from, lt)) (p.alike h (omega arith) (omega (arith, p.some)) ∙ out)
+      | inr on ↦ broken g g (omega arith) (omega arith) (p.alike g on to ∙ out)
+    ];
+  }
+
+  -- whole groups at hand are passed
+  pub whole_passed : (s h e : ℕ) → z.area.largest ≤ LARGEST_ORDER → h < e → e ≤ pages_of z → e % LARGEST_BLOCK_PAGES ≡ 0 → AreAtHand z.area h e → IsPassedFor z n a s h (e - h) true
+  whole_passed s h e few lt inside al all =
+      let end : h + (e - h) ≡ e = omega arith in
+      record {
+        some = omega arith;
+        inside = omega arith;
+        between = rw end (border_between z e few al);
+        serve = λ on i lo hi. all i lo (omega arith);
+        none = λ out. absurd (true≢false out);
+      }
+
+  -- a group that is not whole is passed where no multiple lies inside it: the runs that begin before it have all of it
+  pub group_passed : (s h v : ℕ) → z.area.largest ≤ LARGEST_ORDER → h % LARGEST_BLOCK_PAGES ≡ 0 → h + LARGEST_BLOCK_PAGES ≤ s + n → s + n ≤ pages_of z → IsFirstMultiple z.base (h + 1) a v → LARGEST_BLOCK_PAGES ≤ v - h →
+      (AreAtHand z.area h (h + LARGEST_BLOCK_PAGES) → ⊥) → IsPassedFor z n a s h LARGEST_BLOCK_PAGES false
+  group_passed s h v few al room inside m far out = record {
+    some = omega arith;
+    inside = omega (arith, room, inside);
+    between = border_between z (h + LARGEST_BLOCK_PAGES) few (omega (arith, al));
+    serve = λ on. absurd (true≢false (sym on));
+    none = λ _ g from to. elim (cases_lt h g) [
+      | inl behind ↦ askew (h + 1) v g m (omega arith) (omega (arith, far, to))
+      | inr before ↦ false_from_ne_true _ (λ r.
+          out (λ i lo hi. has_pages-to (available z.area.largest z.area.kinds z.area.free) g n (and_parts _ _ r).1 i (omega arith) (omega (arith, from, room, hi))))
+    ];
+  }
+
   pub search_begins : (s : ℕ) → 0 < n → IsNextStart z n a 0 s → IsSearching z n a s 0
   search_begins s some m = record {
     inside = omega arith;
@@ -187,8 +216,8 @@ module _ (z : PlainZone) (n a : ℕ) where
       | inr stays ↦ let same : next ≡ v = omega (arith, e) in rw (← same) x
     ]
 
-    -- pages that do not serve are passed
-    pub search_leaves : {c : ℕ} → (s : ℕ) → 0 < n → IsPassed z next c false → IsNextStart z n a (next + c) s → IsSearching z n a s (next + c)
+    -- pages are passed before whose end no run begins
+    pub search_leaves : {c : ℕ} → (s : ℕ) → 0 < n → IsPassedFor z n a start next c false → IsNextStart z n a (next + c) s → IsSearching z n a s (next + c)
     search_leaves {c} s some p m = record {
       inside = p.inside;
       between = p.between;
@@ -197,33 +226,27 @@ module _ (z : PlainZone) (n a : ℕ) where
       serve = λ i lo hi. absurd (omega (arith, m.from));
       none = λ g lt. elim (cases_lt g start) [
         | inl below ↦ x.none g below
-        | inr from ↦ elim (cases_lt g next) [
-          | inl before ↦ broken g next (omega arith) (omega (arith, x.few)) (p.alike next (omega arith) (omega (arith, p.some)))
-          | inr on ↦ elim (cases_lt g (next + c)) [
-            | inl within ↦ broken g g (omega arith) (omega arith) (p.alike g on within)
-            | inr behind ↦ m.none g behind lt
-          ]
-        ]
+        | inr from ↦ elim (cases_lt g (next + c)) [ inl within ↦ p.none refl g from within | inr behind ↦ m.none g behind lt ]
       ];
     }
 
     -- pages that serve are passed, and are too few still
-    pub search_grows : {c : ℕ} → IsPassed z next c true → next + c < start + n → IsSearching z n a start (next + c)
+    pub search_grows : {c : ℕ} → IsPassedFor z n a start next c true → next + c < start + n → IsSearching z n a start (next + c)
     search_grows p few = record {
       inside = p.inside;
       between = p.between;
       aligned = x.aligned;
       few = few;
-      serve = λ i lo hi. elim (cases_lt i next) [ inl before ↦ x.serve i lo before | inr on ↦ p.alike i on hi ];
+      serve = λ i lo hi. elim (cases_lt i next) [ inl before ↦ x.serve i lo before | inr on ↦ p.serve refl i on hi ];
       none = x.none;
     }
 
     -- or they are enough
-    pub search_finds : {c : ℕ} → IsPassed z next c true → start + n ≤ next + c → lowest_run z n a ≡ Some start
+    pub search_finds : {c : ℕ} → IsPassedFor z n a start next c true → start + n ≤ next + c → lowest_run z n a ≡ Some start
     search_finds p enough =
         lowest_some z n a start (omega (arith, p.inside))
         (and_from _ _ (eq-eqb _ _ x.aligned)
-        (has_pages-from (available z.area.largest z.area.kinds z.area.free) start n (λ i lo hi. elim (cases_lt i next) [ inl before ↦ x.serve i lo before | inr on ↦ p.alike i on (omega arith) ])))
+        (has_pages-from (available z.area.largest z.area.kinds z.area.free) start n (λ i lo hi. elim (cases_lt i next) [ inl before ↦ x.serve i lo before | inr on ↦ p.serve refl i on (omega arith) ])))
         x.none
 
     -- there is no place for a run from start on

@@ -20,6 +20,14 @@ pub record IsPassed (z : PlainZone) (h n : ℕ) (serving : Bool) : Type 0 where
   pub alike : (i : ℕ) → h ≤ i → i < h + n → serves z i ≡ serving
   pub between : IsBetween z (h + n)
 
+-- the c pages from h on all serve, or no run of n pages that begins at s or behind it begins before their end; and no free block goes past them
+pub record IsPassedFor (z : PlainZone) (n a s h c : ℕ) (serving : Bool) : Type 0 where
+  pub some : 0 < c
+  pub inside : h + c ≤ pages_of z
+  pub between : IsBetween z (h + c)
+  pub serve : serving ≡ true → (i : ℕ) → h ≤ i → i < h + c → serves z i ≡ true
+  pub none : serving ≡ false → (g : ℕ) → s ≤ g → g < h + c → is_run_for z n a g ≡ false
+
 -- place s is the first from h on that is a multiple of 2 to the a pages, in absolute pages
 pub record IsFirstMultiple (base h a s : ℕ) : Type 0 where
   pub from : h ≤ s

@@ -10,10 +10,10 @@ ghost use Rattle.std.specs.Prelude.{◌≡◌, ◌<◌, ◌≤◌, ◌+◌, ◌^
 ghost use Rattle.zp_model.specs.declared.constants.TheConstants.{BASE_LIMIT, LARGEST_ALIGNMENT, MAX_PAGES};
 ghost use Rattle.zp_model.specs.Runs.{lowest_run, may_alloc_run};
 ghost use Rattle.zp_model.specs.Zone.{pages_of};
-ghost use Rattle.zp_zone.specs.Lowest.{IsBetween, IsFirstMultiple, IsNextStart, IsPassed};
+ghost use Rattle.zp_zone.specs.Lowest.{IsBetween, IsFirstMultiple, IsNextStart, IsPassed, IsPassedFor};
 
 use super::UntiedZone;
-use zp_model::{LARGEST_BLOCK_PAGES, Largest, Order, PageAt, State};
+use zp_model::{LARGEST_BLOCK_PAGES, LARGEST_ORDER, Largest, Order, PageAt, State};
 
 /// The pages of a block, as a search passes them: how many, and whether a run may have them.
 #[derive(Clone, Copy, Drop)]
@@ -38,7 +38,7 @@ impl UntiedZone {
         'passes: while start <= last {
             // no block goes past a multiple of the largest block's pages
             next = next.max(start / LARGEST_BLOCK_PAGES * LARGEST_BLOCK_PAGES);
-            let passed = self.pages_at(PageAt::at(next), start + pages);
+            let passed = self.pages_at(PageAt::at(next), start, pages, align);
             next += passed.count;
             if !passed.serve {
                 start = self.next_start(next, pages, align);
@@ -63,21 +63,35 @@ impl UntiedZone {
         first_multiple(self.base, least, align)
     }
 
-    /// Pages from this one on that all serve, or all do not, where no free block begins before it and goes past it. Those of whole groups are
-    /// passed at once, up to page `end`.
-    fn pages_at(&self, at: PageAt, end: u32) -> PassedPages
-        requires order { at < end }
-        requires inside { end ≤ pages_of self.now.plain }
+    /// Pages from this one on, in a search for so many pages that has come to `start`: they all serve, or no run begins from there on before their
+    /// end. Those of whole groups are passed at once. So are those of a group that is not whole, where no run can begin inside it.
+    fn pages_at(&self, at: PageAt, start: u32, pages: u32, align: u8) -> PassedPages
+        requires may { may_alloc_run pages align ≡ true }
+        requires order { at < start + pages }
+        requires inside { start + pages ≤ pages_of self.now.plain }
         requires between { IsBetween self.now.plain at }
-        ensures { IsPassed self.now.plain at result.count result.serve }
+        ensures { IsPassedFor self.now.plain pages align start at result.count result.serve }
     {
-        // a clause of this call says how large a block can be
-        let _largest = self.largest().number();
-        let whole = self.buddy.whole_until(at.number(), end);
-        if whole > at.number() {
+        // clauses of these calls say how large a block can be, and how many pages there can be
+        let largest = self.largest().number();
+        let _pages = self.pages();
+        let next = at.number();
+        let end = start + pages;
+        let whole = self.buddy.whole_until(next, end);
+        if whole > next {
             return PassedPages {
-                count: whole - at.number(),
+                count: whole - next,
                 serve: true,
+            };
+        }
+        if largest == LARGEST_ORDER
+            && next % LARGEST_BLOCK_PAGES == 0
+            && end - next >= LARGEST_BLOCK_PAGES
+            && first_multiple(self.base, next + 1, align) - next >= LARGEST_BLOCK_PAGES
+        {
+            return PassedPages {
+                count: LARGEST_BLOCK_PAGES,
+                serve: false,
             };
         }
         self.block_at(at)

@@ -1,8 +1,8 @@
-use Rattle.std.proofs.Common.{◌+◌, ◌≡◌, ◌≤◌, ◌<◌, true, false, inl, inr, sym, ◌∙◌, arith}
+use Rattle.std.proofs.Common.{◌≡◌, ◌<◌, true, false, inl, inr, sym, ◌∙◌, arith}
 use Rattle.std.proofs.lemmas.Bool.{cases_lt, not-false, not-true}
 use Rattle.zp_model.specs.Zone.{pages_of}
-use Rattle.zp_zone.specs.Lowest.{IsPassed}
-use Rattle.zp_zone.proofs.LowestRuns.{IsSearching, may_alloc_run-to, none_fits, search_ends, search_finds, search_grows, search_leaves, search_skips}
+use Rattle.zp_zone.specs.Lowest.{IsPassedFor}
+use Rattle.zp_zone.proofs.LowestRuns.{IsSearching, may_alloc_run-to, none_fits, search_ends, search_finds, search_leaves, search_skips}
 use Rattle.zp_zone.proofs.untied_zone.UntiedZone.lowest_run.Goals.{After-at, After-pages, After-pages_at-passed}
 use Rattle.zp_zone.proofs.untied_zone.UntiedZone.lowest_run.Goals as goal
 
@@ -26,7 +26,7 @@ pub pages_at-passed-requires-clause-between : goal.pages_at-passed-requires-clau
 pages_at-passed-requires-clause-between c = rw c.at.ensures (skipped (goal.at.pages_at-passed-requires-clause-between c).After-at).between
 
 -- the pages from there on
-passed : (c : After-pages_at-passed) → IsPassed c.args.self.now.plain c.max-next.result c.pages_at-passed.result.count c.pages_at-passed.result.serve
+passed : (c : After-pages_at-passed) → IsPassedFor c.args.self.now.plain c.args.pages c.args.align c.passes.start c.max-next.result c.pages_at-passed.result.count c.pages_at-passed.result.serve
 passed c = rw c.at.ensures at c.pages_at-passed.ensures
 
 pub passes-preserved-then-not-passed : goal.passes-preserved-then-not-passed
