@@ -1,5 +1,5 @@
 -- No request changes what is other workers'.
-use Rattle.std.proofs.Common.{ℕ, ◌-◌, ◌≡◌, ◌≢◌, ◌<◌, refl, sym, ◌∙◌, ap, arith, true, cond, List, [], ◌∷◌, ◌++◌, Option, Some, None}
+use Rattle.std.proofs.Common.{ℕ, ◌-◌, ◌≡◌, ◌≢◌, ◌<◌, refl, ◌∙◌, ap, arith, true, List, [], ◌∷◌, ◌++◌, None}
 use Rattle.std.specs.Prelude.{slice_get, slice_set}
 use Rattle.std.proofs.lemmas.Bool.{and_parts}
 use Rattle.std.proofs.lemmas.Bool.Decides.{nat_tests}
@@ -7,7 +7,7 @@ use Rattle.zp_model.specs.Entries.{Entry}
 use Rattle.zp_model.specs.declared.request.Request.{Request}
 use Rattle.zp_model.specs.Area.{kind_at}
 use Rattle.zp_model.specs.PageblockType.{noted_type}
-use Rattle.zp_model.specs.Zone.{PlainZone, Holding, holding_at, workers_of}
+use Rattle.zp_model.specs.Zone.{PlainZone, workers_of}
 use Rattle.zp_model.specs.Step.{drained, step}
 use Rattle.zp_model.specs.Run.{may_ask}
 use Rattle.zp_model.specs.Lawful.{IsLawful}

@@ -21,7 +21,7 @@ use Rattle.zp_laws.proofs.Around.{IsAround, around-from, around-to, some_around}
 use Rattle.zp_laws.proofs.Counting.{one_if}
 use Rattle.zp_laws.proofs.HandedOut.{out-has}
 use Rattle.zp_laws.proofs.Keeping.{block-inside, one_place}
-use Rattle.zp_laws.proofs.KeepingRuns.{IsFree, IsLent, freed_run_lawful, freed_run_rest, run_taken_lawful, run_taken_rest}
+use Rattle.zp_laws.proofs.KeepingRuns.{IsFree, IsLent, freed_run_lawful, freed_run_rest, run_taken_rest}
 use Rattle.zp_laws.proofs.Moves.{move_back_run, move_out_run, none}
 
 -- a request for a run is refused, or one of free pages goes out

@@ -1,12 +1,12 @@
 -- A run lies in a worker's part of the books where it is lent to the worker in the zone.
-use Rattle.std.proofs.Common.{ℕ, ◌+◌, ◌-◌, ◌^◌, ◌≡◌, ◌<◌, refl, sym, ◌∙◌, ap, arith, true, Option, Some}
+use Rattle.std.proofs.Common.{ℕ, ◌-◌, ◌≡◌, ◌<◌, refl, sym, ◌∙◌, ap, arith, true}
 use Rattle.std.specs.Option.{is_some}
 use Rattle.std.proofs.lemmas.Bool.{and_from, and_parts, eq-eqb}
-use Rattle.zp_model.specs.Block.{head, in_run, IsBlock}
+use Rattle.zp_model.specs.Block.{head, IsBlock}
 use Rattle.zp_model.specs.Books.{Books, has_page, has_run, own, part}
 use Rattle.zp_model.specs.Lawful.{IsLawful}
 use Rattle.zp_model.specs.Runs.{block_around, is_lent_run, may_free_run}
-use Rattle.zp_model.specs.Zone.{PlainZone, Holding, holding_at, is_of, pages_of}
+use Rattle.zp_model.specs.Zone.{Holding, holding_at, is_of, pages_of}
 use Rattle.zp_model.proofs.Covers.{some_below-decides}
 use Rattle.zp_model.proofs.Heads.{head_le, head_of, lt_head, lt_pow}
 use Rattle.zp_model.proofs.LowestRun.{all-from, all-to}

@@ -2,15 +2,14 @@
 use Rattle.std.proofs.Common.{ℕ, ◌+◌, ◌-◌, ◌^◌, ◌≡◌, ◌≤◌, ◌<◌, refl, sym, ◌∙◌, ap, arith, Bool, true, false, cond, leb, ◌&&◌, Option, Some, None}
 use Rattle.std.specs.Option.{is_some, option_map}
 use Rattle.std.proofs.lemmas.Bool.{and_from, both_ways, eq-eqb, false_from_ne_true, le-leb}
-use Rattle.zp_model.specs.declared.migrate_type.MigrateType.{MigrateType}
 use Rattle.zp_model.specs.declared.request.Request.{Request}
 use Rattle.zp_model.specs.Area.{Area}
 use Rattle.zp_model.specs.Block.{has}
 use Rattle.zp_model.specs.Lawful.{IsLawful}
 use Rattle.zp_model.specs.Run.{is_out}
-use Rattle.zp_model.specs.Runs.{block_around, is_lent_run, is_within, may_free_run, run_freed, run_taken}
+use Rattle.zp_model.specs.Runs.{block_around, is_lent_run, may_free_run, run_freed, run_taken}
 use Rattle.zp_model.specs.Step.{step}
-use Rattle.zp_model.specs.Zone.{PlainZone, Holding, is_of, holding_at, holds, pages_of, workers_of}
+use Rattle.zp_model.specs.Zone.{PlainZone, Holding, is_of, holds, pages_of, workers_of}
 use Rattle.zp_model.proofs.LowestRun.{all-from, all-to}
 use Rattle.zp_model.proofs.Pages.{in_run-from}
 use Rattle.zp_model.proofs.RunParts.{length-with_pages, with_pages-new, within-from, within-to}

@@ -1,6 +1,5 @@
 use Rattle.zp_tree.proofs.Spelling.{tree_in}
 use Rattle.zp_tree.proofs.TreeReads.{kept_exact, words_exact}
-use Rattle.std.proofs.Common.{arith}
 use Rattle.zp_tree.proofs.tree.OrderTree.rank_of.Goals as goal
 
 pub returns-then-group-self : goal.returns-then-group-self

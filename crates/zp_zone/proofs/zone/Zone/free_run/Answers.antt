@@ -1,4 +1,4 @@
-use Rattle.std.proofs.Common.{◌≡◌, ◌∙◌, ap, sym, rules}
+use Rattle.std.proofs.Common.{◌∙◌, ap, rules}
 use Rattle.zp_model.specs.Runs.{may_free_run}
 use Rattle.zp_zone.proofs.Tied.{pages_stay_but, run_in, run_new}
 use Rattle.zp_zone.proofs.zone.Zone.free_run.Goals as goal

@@ -1,4 +1,4 @@
-use Rattle.std.proofs.Common.{◌≡◌, ◌∙◌, ap, sym}
+use Rattle.std.proofs.Common.{◌∙◌, ap, sym}
 use Rattle.zp_model.specs.Books.{has_run}
 use Rattle.zp_model.specs.Runs.{may_free_run}
 use Rattle.zp_laws.proofs.RunsHeld.{run-lent}
