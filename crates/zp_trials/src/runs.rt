@@ -172,8 +172,11 @@ impl Asked {
         }
         let at = page_of(rt, first);
         assert!(rt; at.number() == first);
-        assert!(rt; self.plain.is_clear_run(at, end - first));
-        self.plain.give_run(at, end - first);
+        let is_clear = self.plain.is_clear_run(at, end - first);
+        assert!(rt; is_clear);
+        if is_clear {
+            self.plain.give_run(at, end - first);
+        }
         self.hand_out(rt, head, first, Some(kind));
         self.hand_out(rt, end, after, Some(kind_after));
         let request = Request::FreeRun(absolute(at), end - first);
