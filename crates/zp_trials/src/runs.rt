@@ -39,8 +39,9 @@ impl Asked {
 
     /// The type for which a block at this page goes out with a run.
     fn noted_at(&self, rt: &impl Abort, page: u32) -> MigrateType {
-        assert!(rt; page < self.plain.pages());
-        self.plain.type_of(page_of(rt, page)).noted()
+        let at = page_of(rt, page);
+        assert!(rt; at.number() < self.plain.pages());
+        self.plain.type_of(at).noted()
     }
 
     /// The order of the largest block that begins at this page and has no more than so many pages.
@@ -79,14 +80,13 @@ impl Asked {
 
     /// The block that is out and has this page.
     fn block_around(&self, rt: &impl Abort, page: u32) -> Option<Block> {
-        assert!(rt; page < self.plain.pages());
         for number in 0..=self.plain.largest().number() {
             let order = order_of(rt, number);
-            let head = page / order.pages() * order.pages();
-            assert!(rt; head < self.plain.pages());
-            if let State::Out(noted, kind, _) = self.plain.holding(page_of(rt, head)) {
+            let head = page_of(rt, page / order.pages() * order.pages());
+            assert!(rt; head.number() < self.plain.pages());
+            if let State::Out(noted, kind, _) = self.plain.holding(head) {
                 if noted == order {
-                    return Some((head, head + order.pages(), kind));
+                    return Some((head.number(), head.number() + order.pages(), kind));
                 }
             }
         }
@@ -172,8 +172,11 @@ impl Asked {
         }
         let at = page_of(rt, first);
         assert!(rt; at.number() == first);
-        assert!(rt; self.plain.is_clear_run(at, end - first));
-        self.plain.give_run(at, end - first);
+        let is_clear = self.plain.is_clear_run(at, end - first);
+        assert!(rt; is_clear);
+        if is_clear {
+            self.plain.give_run(at, end - first);
+        }
         self.hand_out(rt, head, first, Some(kind));
         self.hand_out(rt, end, after, Some(kind_after));
         let request = Request::FreeRun(absolute(at), end - first);
