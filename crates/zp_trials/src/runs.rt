@@ -1,7 +1,9 @@
 //! Runs of pages at any place, of a zone beside the definitions. In the plain allocator the pages of a run leave or come at once, and the lists
 //! settle once. Which blocks a run goes out as, and what stays out of a block that reaches over its end, is worked out here, page by page. The
 //! same is a journal, which a zone has to replay.
+ghost use Rattle.std.specs.Prelude.{◌+◌, ◌≤◌};
 ghost use Rattle.zp_model.specs.Frames.{IsNote};
+ghost use Rattle.zp_plain.specs.declared.room.TheConstants.{PLAIN_PAGES};
 
 use crate::pair::{order_of, page_of};
 use crate::zones::{Asked, BASE, absolute, compare_replayed, kind_of, mark_of};
@@ -161,6 +163,17 @@ impl Asked {
         self.log(rt, &Request::AllocRunAt(page, pages), &reply);
     }
 
+    /// So many pages from this one on come back, none of which is free.
+    fn give_clear_run(&mut self, rt: &impl Abort, at: PageAt, pages: u32)
+        requires { at + pages ≤ PLAIN_PAGES }
+    {
+        let is_clear = self.plain.is_clear_run(at, pages);
+        assert!(rt; is_clear);
+        if is_clear {
+            self.plain.give_run(at, pages);
+        }
+    }
+
     /// The pages up to this end, all of them out, come back.
     fn free_run(&mut self, rt: &impl Abort, first: u32, end: u32) {
         assert!(rt; first < end && end <= PLAIN_PAGES);
@@ -172,11 +185,7 @@ impl Asked {
         }
         let at = page_of(rt, first);
         assert!(rt; at.number() == first);
-        let is_clear = self.plain.is_clear_run(at, end - first);
-        assert!(rt; is_clear);
-        if is_clear {
-            self.plain.give_run(at, end - first);
-        }
+        self.give_clear_run(rt, at, end - first);
         self.hand_out(rt, head, first, Some(kind));
         self.hand_out(rt, end, after, Some(kind_after));
         let request = Request::FreeRun(absolute(at), end - first);
