@@ -44,25 +44,26 @@ impl ZoneShare {
         ensures section { IsAsked request.now result zone.old zone.new self.old self.new }
         ensures lists { (n : ℕ) → RefillsAtMost n request.now → HasAtMost n self.old → HasAtMost n self.new }
     {
-        // the requests that are made most have ways of their own, on which no room is cleared for a list of pages, and so have those for runs
-        match request {
-            Request::Alloc(order, kind, mark) => {
-                page_reply(self.alloc_block(zone, *order, *kind, *mark))
-            }
-            Request::Free(page, order) => freed_reply(self.free_block(zone, *page, *order)),
-            Request::Refill(kind, mark, count) => self.refill(zone, *kind, *mark, *count),
-            Request::AllocRun(pages, align, mark) => {
-                page_reply(self.alloc_run(zone, *pages, *align, *mark))
-            }
-            Request::AllocRunAt(page, pages) => page_reply(self.alloc_run_at(zone, *page, *pages)),
-            Request::FreeRun(page, pages) => freed_reply(self.free_run(zone, *page, *pages)),
-            Request::AllocLow(_)
-            | Request::Post(_, _, _)
-            | Request::Collect
-            | Request::Drain(_, _)
-            | Request::Isolate(_)
-            | Request::Release(_, _) => self.ask(zone, request),
+        // the requests that are made most have ways of their own, on which no room is cleared for a list of pages
+        if let Request::Alloc(order, kind, mark) = request {
+            return page_reply(self.alloc_block(zone, *order, *kind, *mark));
         }
+        if let Request::Free(page, order) = request {
+            return freed_reply(self.free_block(zone, *page, *order));
+        }
+        if let Request::Refill(kind, mark, count) = request {
+            return self.refill(zone, *kind, *mark, *count);
+        }
+        if let Request::AllocRun(pages, align, mark) = request {
+            return page_reply(self.alloc_run(zone, *pages, *align, *mark));
+        }
+        if let Request::AllocRunAt(page, pages) = request {
+            return page_reply(self.alloc_run_at(zone, *page, *pages));
+        }
+        if let Request::FreeRun(page, pages) = request {
+            return freed_reply(self.free_run(zone, *page, *pages));
+        }
+        self.ask(zone, request)
     }
 
     /// One request to the zone that is for no run, whichever it is.
