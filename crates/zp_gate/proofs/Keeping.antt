@@ -1,5 +1,5 @@
 -- What one call makes of what stands behind a lock: it is the zone of the same key still.
-use Rattle.std.proofs.Common.{◌≡◌, List, length, All, sym, ap, ◌∙◌, subst, inl, inr}
+use Rattle.std.proofs.Common.{ℕ, zero, suc, ◌≡◌, ◌<◌, ◌+◌, List, length, All, sym, ap, ◌∙◌, subst, refl, inl, inr, arith}
 use Rattle.std.specs.Prelude.{Option, Some, None, Result, Ok, Err}
 use Rattle.std.proofs.lemmas.List.{length-set}
 use Rattle.std.proofs.lemmas.List.Elements.{All-push}
@@ -15,7 +15,7 @@ use Rattle.zp_share.specs.Sections.{ComesOf, IsAsked, IsRefilled}
 use Rattle.zp_share.specs.Shares.{ShareState, ZoneKey, key_of, share_at}
 use Rattle.zp_share.specs.ZoneShares.{ZoneShareState, plain_share}
 use Rattle.zp_share.proofs.Telling.{same-key}
-use Rattle.zp_gate.specs.GatedZones.{GatedState, IsBehind, IsOneCall, IsOneShare, IsSectionOf}
+use Rattle.zp_gate.specs.GatedZones.{AreSections, EndsWith, GatedState, IsBehind, IsOneCall, IsOneShare, IsSectionOf}
 
 -- whatever is asked, the zone's key stays, and the first page of the share
 came : (e : Option Refused) (r : Request) (q : Reply) (z y : ZoneState) (a b : ZoneShareState) → ComesOf e r q z y a b → (key_of y ≡ key_of z) × (b.seat.part.base ≡ a.seat.part.base)
@@ -33,25 +33,58 @@ pub refill_workers : (r : Request) (z y : ZoneState) (a b : ZoneShareState) (ans
 refill_workers r z y a b (Ok u) got = workers_stay r (Reply.Pages got.0) z y a b got.1
 refill_workers r z y a b (Err e) got = workers_stay r (Reply.Refused e) z y a b got
 
--- what stands behind a lock stands there after one call
-pub one_call_behind : (key : ZoneKey) (y z : GatedState) → IsBehind key y → IsOneCall key y z → IsBehind key z
-one_call_behind key y z behind (inl x) =
-    let asked = x.4.0 in
+-- what stands behind a lock stands there after a section
+section_behind : (key : ZoneKey) (r : Request) (q : Reply) (y z : GatedState) (s t : ShareState) → IsBehind key y → IsSectionOf r q y z s t → IsBehind key z
+section_behind key r q y z s t behind x =
     record {
-      known = key_stays x.0 x.1 y.zone z.zone (share_at x.2 0) (share_at x.3 0) asked ∙ behind.known;
-      left = subst (λ (ss : List ShareState). All (IsOneShare key) ss) (sym (ap (λ (g : GatedState). g.left) x.4.1)) behind.left;
+      known = key_stays r q y.zone z.zone (share_at s 0) (share_at t 0) x.0 ∙ behind.known;
+      left = subst (λ (ss : List ShareState). All (IsOneShare key) ss) (sym (ap (λ (g : GatedState). g.left) x.1)) behind.left;
     }
+
+-- after so many
+sections_behind : (key : ZoneKey) (asks : ℕ → Request) (gives : ℕ → Reply) (n : ℕ) (y z : GatedState) (s t : ShareState) → IsBehind key y → AreSections asks gives n y z s t → IsBehind key z
+sections_behind key asks gives zero y z s t behind x = subst (IsBehind key) (sym x.0) behind
+sections_behind key asks gives (suc n) y z s t behind x = section_behind key (asks n) (gives n) x.0 z x.1 t (sections_behind key asks gives n y x.0 s x.1 behind x.2) x.3
+
+end_behind : (key : ZoneKey) (asks : ℕ → Request) (most n : ℕ) (e : Option Refused) (y z : GatedState) (s t : ShareState) → IsBehind key y → EndsWith asks most n e y z s t → IsBehind key z
+end_behind key asks most n None y z s t behind x = subst (IsBehind key) (sym x.1) behind
+end_behind key asks most n (Some e) y z s t behind x = section_behind key (asks n) (Reply.Refused e) y z s t behind x.1
+
+-- and after one call
+pub one_call_behind : (key : ZoneKey) (y z : GatedState) → IsBehind key y → IsOneCall key y z → IsBehind key z
+one_call_behind key y z behind (inl x) = section_behind key x.0 x.1 y z x.2 x.3 behind x.4
 one_call_behind key y z behind (inr (inl x)) =
     record {
       known = ap (λ (g : GatedState). key_of g.zone) x.2 ∙ behind.known;
       left = subst (λ (ss : List ShareState). All (IsOneShare key) ss) (sym (ap (λ (g : GatedState). g.left) x.2))
           (All-push (IsOneShare key) y.left x.0 behind.left x.1);
     }
-one_call_behind key y z behind (inr (inr same)) = subst (IsBehind key) (sym same) behind
+one_call_behind key y z behind (inr (inr (inl same))) = subst (IsBehind key) (sym same) behind
+one_call_behind key y z behind (inr (inr (inr x))) =
+    let made = x.6 in
+    end_behind key x.0 x.2 x.3.count x.3.refused made.0 z made.1 x.5 (sections_behind key x.0 x.1 x.3.count y made.0 x.4 made.1 behind made.2) made.3
 
 -- a share that made a section is one of the same zone still
 pub share_stays : (key : ZoneKey) (r : Request) (q : Reply) (y z : GatedState) (s t : ShareState) → IsOneShare key s → IsSectionOf r q y z s t → IsOneShare key t
 share_stays key r q y z s t one x = (
   ap (λ (u : ShareState). length u.zones) x.2 ∙ length-set s.zones 0 (share_at t 0) ∙ one.0,
   (x.0.same.tie ∙ one.1.0, (came (refusal_of r (plain_share (share_at s 0))) r q y.zone z.zone (share_at s 0) (share_at t 0) x.0.made).1 ∙ one.1.1),
+)
+
+pub still_one : (r : Request) (q : Reply) (y z : GatedState) (s t : ShareState) → IsOneShare (key_of y.zone) s → IsSectionOf r q y z s t → IsOneShare (key_of z.zone) t
+still_one r q y z s t one x =
+    subst (λ (k : ZoneKey). IsOneShare k t) (sym (key_stays r q y.zone z.zone (share_at s 0) (share_at t 0) x.0)) (share_stays (key_of y.zone) r q y z s t one x)
+
+-- so many sections, and one more
+pub one_more : (asks : ℕ → Request) (gives : ℕ → Reply) (n : ℕ) (y m z : GatedState) (s u t : ShareState) → AreSections asks gives n y m s u → IsSectionOf (asks n) (gives n) m z u t → AreSections asks gives (n + 1) y z s t
+one_more asks gives n y m z s u t made x = (m, u, made, x)
+
+-- of the replies only the first n are told
+pub same_told : (asks : ℕ → Request) (gives others : ℕ → Reply) (n : ℕ) (y z : GatedState) (s t : ShareState) → ((i : ℕ) → i < n → gives i ≡ others i) → AreSections asks gives n y z s t → AreSections asks others n y z s t
+same_told asks gives others zero y z s t same x = x
+same_told asks gives others (suc n) y z s t same x = (
+  x.0,
+  x.1,
+  same_told asks gives others n y x.0 s x.1 (λ i lt. same i (omega (arith, lt))) x.2,
+  subst (λ (q : Reply). IsSectionOf (asks n) q x.0 z x.1 t) (same n (omega arith)) x.3,
 )
