@@ -1,7 +1,7 @@
 -- What one call makes of what stands behind a lock: it is the zone of the same key still.
-use Rattle.std.proofs.Common.{ℕ, zero, suc, ◌≡◌, ◌<◌, ◌+◌, List, length, All, sym, ap, ◌∙◌, subst, refl, inl, inr, arith}
+use Rattle.std.proofs.Common.{ℕ, zero, suc, ◌≡◌, ◌<◌, ◌+◌, List, length, All, slice_index, slice_set, sym, ap, ◌∙◌, subst, inl, inr, arith}
 use Rattle.std.specs.Prelude.{Option, Some, None, Result, Ok, Err}
-use Rattle.std.proofs.lemmas.List.{length-set}
+use Rattle.std.proofs.lemmas.List.{get_or-set_other, get_or-set_same, length-set}
 use Rattle.std.proofs.lemmas.List.Elements.{All-push}
 use Rattle.zp_model.specs.declared.refused.Refused.{Refused}
 use Rattle.zp_model.specs.declared.request.Request.{Request}
@@ -15,7 +15,7 @@ use Rattle.zp_share.specs.Sections.{ComesOf, IsAsked, IsRefilled}
 use Rattle.zp_share.specs.Shares.{ShareState, ZoneKey, key_of, share_at}
 use Rattle.zp_share.specs.ZoneShares.{ZoneShareState, plain_share}
 use Rattle.zp_share.proofs.Telling.{same-key}
-use Rattle.zp_gate.specs.GatedZones.{AreSections, EndsWith, GatedState, IsBehind, IsOneCall, IsOneShare, IsSectionOf}
+use Rattle.zp_gate.specs.GatedZones.{AreSections, EndsWith, GatedState, IsBehind, IsOneCall, IsOneShare, IsSectionOf, IsWrittenTo, each_is, free_of, freed_of, page_of}
 
 -- whatever is asked, the zone's key stays, and the first page of the share
 came : (e : Option Refused) (r : Request) (q : Reply) (z y : ZoneState) (a b : ZoneShareState) → ComesOf e r q z y a b → (key_of y ≡ key_of z) × (b.seat.part.base ≡ a.seat.part.base)
@@ -80,7 +80,7 @@ pub one_more : (asks : ℕ → Request) (gives : ℕ → Reply) (n : ℕ) (y m z
 one_more asks gives n y m z s u t made x = (m, u, made, x)
 
 -- of the replies only the first n are told
-pub same_told : (asks : ℕ → Request) (gives others : ℕ → Reply) (n : ℕ) (y z : GatedState) (s t : ShareState) → ((i : ℕ) → i < n → gives i ≡ others i) → AreSections asks gives n y z s t → AreSections asks others n y z s t
+same_told : (asks : ℕ → Request) (gives others : ℕ → Reply) (n : ℕ) (y z : GatedState) (s t : ShareState) → ((i : ℕ) → i < n → gives i ≡ others i) → AreSections asks gives n y z s t → AreSections asks others n y z s t
 same_told asks gives others zero y z s t same x = x
 same_told asks gives others (suc n) y z s t same x = (
   x.0,
@@ -88,3 +88,24 @@ same_told asks gives others (suc n) y z s t same x = (
   same_told asks gives others n y x.0 s x.1 (λ i lt. same i (omega (arith, lt))) x.2,
   subst (λ (q : Reply). IsSectionOf (asks n) q x.0 z x.1 t) (same n (omega arith)) x.3,
 )
+
+-- a page was got, and stands behind those that were got before
+pub page_got : (r : Request) (n page : ℕ) (pages : List ℕ) (y m z : GatedState) (s u t : ShareState) → n < length pages → AreSections (each_is r) (page_of pages) n y m s u → IsSectionOf r (Reply.Page page) m z u t
+    → AreSections (each_is r) (page_of (slice_set pages n page)) (n + 1) y z s t
+page_got r n page pages y m z s u t lt made x =
+    let now : List ℕ = slice_set pages n page in
+    let before : (i : ℕ) → i < n → page_of pages i ≡ page_of now i = λ i less. ap (λ (k : ℕ). Reply.Page k) (sym (get_or-set_other pages n i page 0 (λ same. absurd (omega (arith, less, same))))) in
+    let last : page_of now n ≡ Reply.Page page = ap (λ (k : ℕ). Reply.Page k) (get_or-set_same pages n page 0 lt) in
+    one_more (each_is r) (page_of now) n y m z s u t (same_told (each_is r) (page_of pages) (page_of now) n y m s u before made) (subst (λ (q : Reply). IsSectionOf r q m z u t) (sym last) x)
+
+pub one_written : (n page : ℕ) (before pages : List ℕ) → IsWrittenTo n before pages → IsWrittenTo (n + 1) before (slice_set pages n page)
+one_written n page before pages is = (
+  length-set pages n page ∙ is.0,
+  λ i after. get_or-set_other pages n i page 0 (λ same. absurd (omega (arith, same, after))) ∙ is.1 i (omega (arith, after)),
+)
+
+-- a block more was freed
+pub block_freed : (ps ks : List ℕ) (n page order : ℕ) (y m z : GatedState) (s u t : ShareState) → page ≡ slice_index ps n → order ≡ slice_index ks n → AreSections (free_of ps ks) freed_of n y m s u
+    → IsSectionOf (Request.Free page order) Reply.Freed m z u t → AreSections (free_of ps ks) freed_of (n + 1) y z s t
+block_freed ps ks n page order y m z s u t at of made x =
+    one_more (free_of ps ks) freed_of n y m z s u t made (subst (λ (r : Request). IsSectionOf r Reply.Freed m z u t) (λ i. Request.Free (at i) (of i)) x)

@@ -41,7 +41,7 @@ abbrev pub IsSectionOf : Request → Reply → GatedState → GatedState → Sha
 IsSectionOf r q y z s t = IsAsked r q y.zone z.zone (share_at s 0) (share_at t 0) × (z ≡ record y { zone = z.zone }) × (t ≡ with_zone_share 0 (share_at t 0) s)
 
 -- so many sections of a share with the zone, one after another: the first n of those that are asked for, each with its reply
-pub AreSections : (ℕ → Request) → (ℕ → Reply) → ℕ → GatedState → GatedState → ShareState → ShareState → Type 0
+abbrev pub AreSections : (ℕ → Request) → (ℕ → Reply) → ℕ → GatedState → GatedState → ShareState → ShareState → Type 0
 AreSections asks gives zero y z s t = (z ≡ y) × (t ≡ s)
 AreSections asks gives (suc n) y z s t = (m : GatedState) × (u : ShareState) × AreSections asks gives n y m s u × IsSectionOf (asks n) (gives n) m z u t
 
