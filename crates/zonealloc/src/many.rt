@@ -1,5 +1,5 @@
 //! Many blocks in one passage of a zone's gate: the requests of a worker, one after another up to the first that is refused.
-ghost use Rattle.std.specs.Prelude.{◌≡◌, ◌⊎◌, All, false, length, true};
+ghost use Rattle.std.specs.Prelude.{◌≡◌, ◌⊎◌, false, length, true};
 ghost use Rattle.zp_gate.specs.GatedZones.{IsWrittenTo, freed_of, page_of};
 ghost use Rattle.zonealloc.specs.Calls.{HasNoZone, IsDenied, IsRefusedOrBusy};
 ghost use Rattle.zonealloc.specs.ManyCalls.{AreOrders, AsksAllocs, AsksFrees, IsManyCall, NameNoBlocks};
