@@ -1,7 +1,7 @@
 -- What one call makes of what stands behind a lock: it is the zone of the same key still.
-use Rattle.std.proofs.Common.{ℕ, zero, suc, ◌≡◌, ◌<◌, ◌+◌, List, length, All, slice_index, slice_set, sym, ap, ◌∙◌, subst, inl, inr, arith}
+use Rattle.std.proofs.Common.{ℕ, zero, suc, ◌≡◌, ◌<◌, ◌+◌, List, length, All, slice_index, slice_index_or, slice_set, sym, ap, ◌∙◌, subst, inl, inr, arith}
 use Rattle.std.specs.Prelude.{Option, Some, None, Result, Ok, Err}
-use Rattle.std.proofs.lemmas.List.{get_or-set_other, get_or-set_same, length-set}
+use Rattle.std.proofs.lemmas.List.{get_or_default, get_or-set_other, get_or-set_same, length-set}
 use Rattle.std.proofs.lemmas.List.Elements.{All-push}
 use Rattle.zp_model.specs.declared.refused.Refused.{Refused}
 use Rattle.zp_model.specs.declared.request.Request.{Request}
@@ -15,7 +15,10 @@ use Rattle.zp_share.specs.Sections.{ComesOf, IsAsked, IsRefilled}
 use Rattle.zp_share.specs.Shares.{ShareState, ZoneKey, key_of, share_at}
 use Rattle.zp_share.specs.ZoneShares.{ZoneShareState, plain_share}
 use Rattle.zp_share.proofs.Telling.{same-key}
-use Rattle.zp_gate.specs.GatedZones.{AreSections, EndsWith, GatedState, IsBehind, IsOneCall, IsOneShare, IsSectionOf, IsWrittenTo, each_is, free_of, freed_of, page_of}
+use Rattle.zp_gate.specs.declared.granted.Granted.{Granted}
+use Rattle.zp_gate.specs.GatedWorkers.{AreMadeAt, GatedShareState, HasTurned, WorkerState, gated_at, no_gated_share}
+use Rattle.zp_gate.specs.Visits.{AreAnswers}
+use Rattle.zp_gate.specs.GatedZones.{AreSections, AreSectionsTill, EndsWith, GatedState, IsBehind, IsOneCall, IsOneShare, IsSectionOf, IsWrittenTo, each_is, free_of, freed_of, page_of}
 
 -- whatever is asked, the zone's key stays, and the first page of the share
 came : (e : Option Refused) (r : Request) (q : Reply) (z y : ZoneState) (a b : ZoneShareState) → ComesOf e r q z y a b → (key_of y ≡ key_of z) × (b.seat.part.base ≡ a.seat.part.base)
@@ -75,9 +78,24 @@ pub still_one : (r : Request) (q : Reply) (y z : GatedState) (s t : ShareState) 
 still_one r q y z s t one x =
     subst (λ (k : ZoneKey). IsOneShare k t) (sym (key_stays r q y.zone z.zone (share_at s 0) (share_at t 0) x.0)) (share_stays (key_of y.zone) r q y z s t one x)
 
+sections_stay : (key : ZoneKey) (asks : ℕ → Request) (gives : ℕ → Reply) (n : ℕ) (y z : GatedState) (s t : ShareState) → IsOneShare key s → AreSections asks gives n y z s t → IsOneShare key t
+sections_stay key asks gives zero y z s t one x = subst (IsOneShare key) (sym x.1) one
+sections_stay key asks gives (suc n) y z s t one x = share_stays key (asks n) (gives n) x.0 z x.1 t (sections_stay key asks gives n y x.0 s x.1 one x.2) x.3
+
+end_stays : (key : ZoneKey) (asks : ℕ → Request) (most n : ℕ) (e : Option Refused) (y z : GatedState) (s t : ShareState) → IsOneShare key s → EndsWith asks most n e y z s t → IsOneShare key t
+end_stays key asks most n None y z s t one x = subst (IsOneShare key) (sym x.2) one
+end_stays key asks most n (Some e) y z s t one x = share_stays key (asks n) (Reply.Refused e) y z s t one x.1
+
+-- and so is one that made many
+pub many_stay : (key : ZoneKey) (asks : ℕ → Request) (gives : ℕ → Reply) (most : ℕ) (g : Granted) (y z : GatedState) (s t : ShareState) → IsOneShare key s → AreSectionsTill asks gives most g y z s t → IsOneShare key t
+many_stay key asks gives most g y z s t one x = end_stays key asks most g.count g.refused x.0 z x.1 t (sections_stay key asks gives g.count y x.0 s x.1 one x.2) x.3
+
 -- so many sections, and one more
 pub one_more : (asks : ℕ → Request) (gives : ℕ → Reply) (n : ℕ) (y m z : GatedState) (s u t : ShareState) → AreSections asks gives n y m s u → IsSectionOf (asks n) (gives n) m z u t → AreSections asks gives (n + 1) y z s t
-one_more asks gives n y m z s u t made x = (m, u, made, x)
+one_more asks gives n y m z s u t made x =
+    let more : AreSections asks gives (suc n) y z s t = (m, u, made, x) in
+    let next : suc n ≡ n + 1 = omega arith in
+    subst (λ (k : ℕ). AreSections asks gives k y z s t) next more
 
 -- of the replies only the first n are told
 same_told : (asks : ℕ → Request) (gives others : ℕ → Reply) (n : ℕ) (y z : GatedState) (s t : ShareState) → ((i : ℕ) → i < n → gives i ≡ others i) → AreSections asks gives n y z s t → AreSections asks others n y z s t
@@ -109,3 +127,13 @@ pub block_freed : (ps ks : List ℕ) (n page order : ℕ) (y m z : GatedState) (
     → IsSectionOf (Request.Free page order) Reply.Freed m z u t → AreSections (free_of ps ks) freed_of (n + 1) y z s t
 block_freed ps ks n page order y m z s u t at of made x =
     one_more (free_of ps ks) freed_of n y m z s u t made (subst (λ (r : Request). IsSectionOf r Reply.Freed m z u t) (λ i. Request.Free (at i) (of i)) x)
+
+-- what many requests made of a worker's share at a place they made of the worker
+pub made_at : (i : ℕ) (asks : ℕ → Request) (gives : ℕ → Reply) (most : ℕ) (g : Granted) (v w : WorkerState) (d f : GatedShareState) → i < length v.shares → d ≡ slice_index_or v.shares i d
+    → w ≡ record v { shares = slice_set v.shares i f } → HasTurned (AreAnswers d.key asks gives most g) d f → AreMadeAt i asks gives most g v w
+made_at i asks gives most g v w d f lt at now made =
+    let P : GatedShareState → GatedShareState → Type 0 = λ x y. HasTurned (AreAnswers x.key asks gives most g) x y in
+    let was : gated_at v i ≡ d = get_or_default v.shares i no_gated_share d lt ∙ sym at in
+    let is : gated_at w i ≡ f = ap (λ (x : WorkerState). gated_at x i) now ∙ get_or-set_same v.shares i f no_gated_share lt in
+    let turned : P (gated_at v i) (gated_at w i) = subst (λ (x : GatedShareState). P x (gated_at w i)) (sym was) (subst (λ (y : GatedShareState). P d y) (sym is) made) in
+    (lt, turned, now ∙ ap (λ (y : GatedShareState). record v { shares = slice_set v.shares i y }) (sym is))

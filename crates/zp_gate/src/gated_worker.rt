@@ -89,12 +89,7 @@ impl GatedWorker {
     }
 
     /// Frees the blocks of two arrays, in one visit, one after another up to the first that is refused: how many, and that refusal, 20 or 30.
-    pub fn free_many(
-        &mut self,
-        zone: usize,
-        pages: &[u32],
-        orders: &[u32],
-    ) -> Result<Granted, Busy>
+    pub fn free_many(&mut self, zone: usize, pages: &[u32], orders: &[u32]) -> Result<Granted, Busy>
         requires zone { HasZone zone self.old }
         requires each { length orders.now ≡ length pages.now }
         requires orders { All (λ k. k ≤ LARGEST_ORDER) orders.now }

@@ -129,12 +129,7 @@ impl GatedZone {
     }
 
     /// The blocks of two arrays back, one after another up to the first that is refused.
-    pub(crate) fn free_many(
-        &mut self,
-        share: &mut Share,
-        pages: &[u32],
-        orders: &[u32],
-    ) -> Granted
+    pub(crate) fn free_many(&mut self, share: &mut Share, pages: &[u32], orders: &[u32]) -> Granted
         requires share { IsOneShare (key_of self.old.zone) share.old }
         requires each { length orders.now ≡ length pages.now }
         requires orders { All (λ k. k ≤ LARGEST_ORDER) orders.now }

@@ -1,4 +1,3 @@
-use Rattle.std.proofs.Common.{◌≡◌, length}
 use Rattle.zp_model.specs.declared.request.Request.{Request}
 use Rattle.zp_share.specs.Shares.{key_of}
 use Rattle.zp_gate.specs.GatedZones.{AreSections, IsOneShare, IsWrittenTo, each_is, page_of}
