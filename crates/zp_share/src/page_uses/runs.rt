@@ -18,6 +18,8 @@ use zp_zone::{Zone, fitting_order};
 
 impl PageUses {
     /// Whether so many pages from this absolute one on, one at least, are the zone's, and each lies in a lent block. It goes from block to block.
+    // (out of line: in line `Share::refuse` is too long to be so, and then each section that may be refused clears room for a list of pages)
+    #[inline(never)]
     pub fn is_lent_run(&self, page: PageNo, pages: u32) -> bool
         ensures { result ≡ is_lent_run self.now.base self.now.uses page pages }
     {

@@ -15,6 +15,7 @@ use zp_zone::{Zone, page_reply};
 
 impl ZoneShare {
     /// Whether so many pages from this one on, one at least, are lent, by whatever blocks.
+    #[inline(never)]
     pub fn is_lent_run(&self, page: PageNo, pages: u32) -> bool
         ensures { result ≡ is_lent_run self.now.seat.part.base self.now.uses page pages }
     {
