@@ -57,15 +57,17 @@ enum {
     ZONE_BAD_WORKERS = 5,         /* not 1 to 32 */
     ZONE_NO_MEMORY = 6,
     ZONE_BELOW_MARK = 10,         /* the request would take the available pages below its mark */
-    ZONE_NO_BLOCK = 11,           /* no free block outside isolated pageblocks is large enough */
+    ZONE_NO_BLOCK = 11,           /* no free block outside isolated pageblocks is large enough, nor a run long enough */
     ZONE_NOTHING_POSTED = 12,     /* nothing of this zone is posted to the worker */
     ZONE_BAD_PAGEBLOCK = 13,      /* the zone has none of this number */
     ZONE_ALREADY_ISOLATED = 14,
     ZONE_NOT_ISOLATED = 15,
-    ZONE_NOT_LENT = 20,           /* the block is not lent to this worker with this order */
+    ZONE_BAD_RUN = 16,            /* the run has no page, or is not wholly the zone's */
+    ZONE_NOT_FREE = 17,           /* one of the run's pages is not free */
+    ZONE_NOT_LENT = 20,           /* the block is not lent to this worker with this order; or a page of the run is not lent to it */
     ZONE_LIST_FULL = 21,          /* of put: drain the list of the page's type first */
     ZONE_ENDED = 30,              /* the worker made the last of 2^64 - 1 requests to the zone */
-    ZONE_BAD_ARGUMENT = 40,       /* an order, type, mark, zone, worker, page or count out of its range */
+    ZONE_BAD_ARGUMENT = 40,       /* an order, alignment, type, mark, zone, worker, page or count out of its range */
     ZONE_BAD_HANDLE = 41,         /* nothing is in the handle; of make: something is */
     ZONE_BUSY = 42,               /* another is in the zone */
     ZONE_HAS_WORKERS = 43,        /* a worker was not dismissed */
@@ -174,6 +176,34 @@ uint32_t zonealloc_alloc_low(zone_worker_t *worker, uint32_t zone, uint32_t orde
  *   ZONE_BUSY              another is in the zone
  *   ZONE_ENDED             the worker made its last request to the zone */
 uint32_t zonealloc_free(zone_worker_t *worker, uint32_t zone, uint32_t page, uint32_t order);
+/* ZONE. The lowest run of so many free pages outside isolated pageblocks whose first page is a multiple of 2^align: its first page. A run may
+ * begin and end anywhere in the zone. Its pages are then lent as aligned blocks, each as large as its place, the rest of the run and the zone's
+ * largest order allow, and each of the type of its pageblock. They are freed by zonealloc_free_run in any parts, or block by block.
+ *   ZONE_BAD_ARGUMENT      the pages are 0, the alignment is above 24, or the mark above 2
+ *   ZONE_BAD_HANDLE        nothing is in the handle
+ *   ZONE_BAD_ARGUMENT      the row has no such zone
+ *   ZONE_BUSY              another is in the zone
+ *   ZONE_ENDED             the worker made its last request to the zone
+ *   ZONE_BELOW_MARK        so many pages less would be below the mark: ask the zone below
+ *   ZONE_NO_BLOCK          there is no such run: ask the zone below */
+uint32_t zonealloc_alloc_run(zone_worker_t *worker, uint32_t zone, uint32_t pages, uint32_t align, uint32_t mark, uint32_t *page);
+/* ZONE. So many pages from this one on, in isolated pageblocks too. They are then lent as those of zonealloc_alloc_run are. It is held to no
+ * mark.
+ *   ZONE_BAD_HANDLE        nothing is in the handle
+ *   ZONE_BAD_ARGUMENT      the row has no such zone
+ *   ZONE_BUSY              another is in the zone
+ *   ZONE_ENDED             the worker made its last request to the zone
+ *   ZONE_BAD_RUN           the pages are 0, or one of them is outside the zone
+ *   ZONE_NOT_FREE          one of the pages is not free */
+uint32_t zonealloc_alloc_run_at(zone_worker_t *worker, uint32_t zone, uint32_t page, uint32_t pages);
+/* ZONE. Gives back so many pages from this one on, each of which is lent to this worker, by whatever blocks. What a block at an end of the run
+ * has beyond it stays lent, as aligned blocks of the type that it had.
+ *   ZONE_BAD_HANDLE        nothing is in the handle
+ *   ZONE_BAD_ARGUMENT      the row has no such zone
+ *   ZONE_NOT_LENT          one of the pages is not lent to the worker, as one outside the zone never is; or the pages are 0
+ *   ZONE_BUSY              another is in the zone
+ *   ZONE_ENDED             the worker made its last request to the zone */
+uint32_t zonealloc_free_run(zone_worker_t *worker, uint32_t zone, uint32_t page, uint32_t pages);
 /* ZONE. Posts a lent block to the worker of this number, dismissed or not.
  *   ZONE_BAD_ARGUMENT      the order is above 10, or the number above 31
  *   ZONE_BAD_HANDLE        nothing is in the handle

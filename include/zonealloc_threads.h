@@ -168,6 +168,35 @@ static inline uint32_t zone_alloc_pages(zone_pool_t *pool, uint32_t worker, uint
     if (answer == ZONE_OK || !zone_has_none(answer)) return answer;
     return zone_alloc_below(pool, own, order, type, mark, zone, page, answer);
 }
+/* ANY. The lowest run of so many pages that begins at a multiple of 2^align, of *zone or the nearest zone below that has one: its first page, and
+ * in *zone the zone that it is of. Where no zone has one, the worker's own lists of these zones go back to them, and where those had a page all
+ * zones are asked once more. ZONE_BELOW_MARK and ZONE_NO_BLOCK are the lowest zone's answer. */
+ZONE_SELDOM uint32_t zone_alloc_run(zone_pool_t *pool, uint32_t worker, uint32_t pages, uint32_t align, uint32_t mark, uint32_t *zone,
+                                    uint32_t *page) {
+    zone_worker_t *own;
+    uint32_t at, drained = 0, answer = ZONE_NO_BLOCK;
+    if (worker >= pool->workers || *zone >= ZONE_ZONES) return ZONE_BAD_ARGUMENT;
+    own = &pool->seats[worker].worker;
+    do {
+        for (at = *zone + 1; at-- > 0 && zone_has_none(answer);) {
+            ZONE_ASK(pool, at, answer, zonealloc_alloc_run(own, at, pages, align, mark, page));
+            if (answer == ZONE_OK) *zone = at;
+        }
+    } while (zone_has_none(answer) && drained++ == 0 && zone_drain_down(pool, own, *zone));
+    return answer;
+}
+/* ANY. So many pages of a zone from this one on. */
+static inline uint32_t zone_alloc_run_at(zone_pool_t *pool, uint32_t worker, uint32_t zone, uint32_t page, uint32_t pages) {
+    uint32_t answer = ZONE_BAD_ARGUMENT;
+    if (worker < pool->workers) ZONE_ASK(pool, zone, answer, zonealloc_alloc_run_at(&pool->seats[worker].worker, zone, page, pages));
+    return answer;
+}
+/* ANY. Gives back so many pages of a zone from this one on, by whatever blocks they are lent. No page of them goes to a list. */
+static inline uint32_t zone_free_run(zone_pool_t *pool, uint32_t worker, uint32_t zone, uint32_t page, uint32_t pages) {
+    uint32_t answer = ZONE_BAD_ARGUMENT;
+    if (worker < pool->workers) ZONE_ASK(pool, zone, answer, zonealloc_free_run(&pool->seats[worker].worker, zone, page, pages));
+    return answer;
+}
 /* The type of a page for which its list has no room: that of the one list that is full, and where more are, what is noted of the page. */
 ZONE_SELDOM uint32_t zone_full_type(zone_pool_t *pool, zone_worker_t *own, uint32_t zone, uint32_t page, uint32_t *type) {
     zone_page_t noted;

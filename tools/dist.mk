@@ -8,7 +8,7 @@ ARCHIVE = $(OUT)/libzonealloc.a
 MALLOC = $(OUT)/libzonealloc_malloc.a
 LIBRARIES = $(ARCHIVE) $(MALLOC)
 LINKED = $(CC) $(CFLAGS) -Iinclude $(LDFLAGS)
-TESTS = wrong_calls bytes types lists rest busy against_reference pool threads machine
+TESTS = wrong_calls bytes types runs lists rest busy against_reference pool threads machine memory_map
 
 all: $(LIBRARIES) build/zonealloc.pc
 
@@ -25,9 +25,9 @@ $(OUT)/against_reference: tests/c/against_reference.c tests/c/reference.c $(LIBR
 	$(LINKED) tests/c/against_reference.c tests/c/reference.c $(LIBRARIES) -o $@
 $(OUT)/rest: tests/c/rest.c tests/c/rest_threads.c $(LIBRARIES)
 	$(LINKED) tests/c/rest.c tests/c/rest_threads.c $(LIBRARIES) -pthread -o $@
-$(OUT)/types $(OUT)/lists $(OUT)/busy: $(OUT)/%: tests/c/%.c $(LIBRARIES)
+$(OUT)/types $(OUT)/runs $(OUT)/lists $(OUT)/busy: $(OUT)/%: tests/c/%.c $(LIBRARIES)
 	$(LINKED) tests/c/$*.c $(LIBRARIES) -pthread -o $@
-$(OUT)/pool $(OUT)/threads $(OUT)/machine: $(OUT)/%: examples/%.c $(LIBRARIES)
+$(OUT)/pool $(OUT)/threads $(OUT)/machine $(OUT)/memory_map: $(OUT)/%: examples/%.c $(LIBRARIES)
 	$(LINKED) examples/$*.c $(LIBRARIES) -pthread -o $@
 
 check: all $(TESTS:%=$(OUT)/%)

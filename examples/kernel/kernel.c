@@ -101,22 +101,9 @@ static void cut_zones(void) {
         n_zones++;
     }
 }
-/* Keeps pages of a zone from being handed out: they are lent for good. Nobody has asked for pages yet. No call takes a block at a page of one's
- * choice, but one takes the lowest: so another worker takes all that is below, which then goes back. */
+/* Keeps pages of a zone from being handed out: they are lent for good. Nobody has asked for pages yet. */
 static void reserve(uint32_t zone, uint32_t from, uint32_t to) {
-    zone_worker_t *worker = &pool.seats[0].worker, *keeper = &pool.seats[KEEPER].worker;
-    zone_page_t told;
-    uint32_t page, got;
-    for (page = zones[zone].base; page < to; page += 1u << told.order) {
-        DEMAND(zonealloc_page(keeper, zone, page, &told) == ZONE_OK);
-        if (told.state == ZONE_OUT) continue;
-        while (page + (1u << told.order) > (page < from ? from : to)) told.order--;
-        DEMAND(zonealloc_alloc_low(page < from ? worker : keeper, zone, told.order, &got) == ZONE_OK && got == page);
-    }
-    for (page = zones[zone].base; page < from; page += 1u << told.order) {
-        DEMAND(zonealloc_page(keeper, zone, page, &told) == ZONE_OK);
-        DEMAND(told.worker == KEEPER || zonealloc_free(worker, zone, page, told.order) == ZONE_OK);
-    }
+    DEMAND(zonealloc_alloc_run_at(&pool.seats[KEEPER].worker, zone, from, to - from) == ZONE_OK);
     kept_out[zone] += to - from;
 }
 /* The zones, over the highest memory below 4 GiB that the archive finds enough. */

@@ -8,21 +8,22 @@
 #include <stdlib.h>
 #include <string.h>
 
-enum { MOST_HELD = 1 << 16, SWEEP_EACH = 4096, TIDE_EACH = 3000, WORKERS_MADE = 2 * ZONE_WORKERS };
+enum { MOST_HELD = 1 << 16, SWEEP_EACH = 4096, TIDE_EACH = 3000, WORKERS_MADE = 2 * ZONE_WORKERS, ALIGNMENTS = 25 };
 
 typedef enum {
-    TAKE, PUT, IS_LENT, CACHED, ALLOC, ALLOC_LOW, FREE, POST, COLLECT, ISOLATE, RELEASE, REFILL, DRAIN, DRAIN_ALL, COUNTS, INFO, PAGE,
-    PAGEBLOCK, DISMISS, UNMAKE, GATHER, CALLS
+    TAKE, PUT, IS_LENT, CACHED, ALLOC, ALLOC_LOW, FREE, ALLOC_RUN, ALLOC_RUN_AT, FREE_RUN, POST, COLLECT, ISOLATE, RELEASE, REFILL, DRAIN,
+    DRAIN_ALL, COUNTS, INFO, PAGE, PAGEBLOCK, DISMISS, UNMAKE, GATHER, CALLS
 } kind_t;
 
 static const char *const names[CALLS] = {
-    "take", "put", "is_lent", "cached", "alloc", "alloc_low", "free", "post", "collect", "isolate", "release", "refill", "drain",
-    "drain_all", "counts", "info", "page", "pageblock", "dismiss", "unmake", "gather"
+    "take", "put", "is_lent", "cached", "alloc", "alloc_low", "free", "alloc_run", "alloc_run_at", "free_run", "post", "collect", "isolate",
+    "release", "refill", "drain", "drain_all", "counts", "info", "page", "pageblock", "dismiss", "unmake", "gather"
 };
 /* How often each is picked while a row lives. The last three are picked apart. */
-static const uint32_t weights[CALLS] = { 14, 20, 4, 2, 24, 4, 24, 6, 6, 1, 4, 10, 3, 1, 3, 2, 2, 2, 0, 0, 0 };
+static const uint32_t weights[CALLS] = { 14, 20, 4, 2, 24, 4, 24, 3, 3, 6, 6, 6, 1, 4, 10, 3, 1, 3, 2, 2, 2, 0, 0, 0 };
 
-/* A call with all arguments that any of them has: the number is a pageblock, a count or a receiver. */
+/* A call with all arguments that any of them has: the number is a pageblock, a count of pages or a receiver, and of a run the order is how it is
+ * aligned. */
 typedef struct { kind_t kind; uint32_t worker, zone, order, type, mark, page, number; size_t room; } call_t;
 
 /* What a call answered, and all that any of them tells. */
@@ -85,6 +86,9 @@ static int one_in(uint32_t n)
         case ALLOC: t->answer = PREFIX##_alloc(WORKERS, c->zone, c->order, c->type, c->mark, &t->page); break;    \
         case ALLOC_LOW: t->answer = PREFIX##_alloc_low(WORKERS, c->zone, c->order, &t->page); break;              \
         case FREE: t->answer = PREFIX##_free(WORKERS, c->zone, c->page, c->order); break;                         \
+        case ALLOC_RUN: t->answer = PREFIX##_alloc_run(WORKERS, c->zone, c->number, c->order, c->mark, &t->page); break; \
+        case ALLOC_RUN_AT: t->answer = PREFIX##_alloc_run_at(WORKERS, c->zone, c->page, c->number); break;        \
+        case FREE_RUN: t->answer = PREFIX##_free_run(WORKERS, c->zone, c->page, c->number); break;                \
         case POST: t->answer = PREFIX##_post(WORKERS, c->zone, c->page, c->order, c->number); break;              \
         case COLLECT: t->answer = PREFIX##_collect(WORKERS, c->zone, &t->page, &t->order); break;                 \
         case ISOLATE: t->answer = PREFIX##_isolate(WORKERS, c->zone, c->number); break;                           \
@@ -172,6 +176,35 @@ static void let_go(const call_t *c)
         }
 }
 
+/* The blocks that begin in a run and are out: those of the worker, mostly. */
+static void hold_run(const call_t *c, uint32_t page, uint32_t pages)
+{
+    zone_page_t noted;
+    uint32_t end = page + pages;
+    for (; page < end; page += noted.state == ZONE_OUT ? 1u << noted.order : 1) {
+        if (reference_page(&plain_workers[c->worker], c->zone, page, &noted) != ZONE_OK)
+            return;
+        if (noted.state == ZONE_OUT)
+            hold(c, page, noted.order);
+    }
+}
+
+/* The run's blocks are the worker's no more; what two of them may have beyond it is. */
+static void let_go_run(const call_t *c)
+{
+    uint32_t i, first = c->page, end = c->page + c->number;
+    for (i = n_held; i-- > 0;) {
+        const held_t *it = &held[i];
+        uint32_t after = it->page + (1u << it->order);
+        if (it->zone != c->zone || it->worker != c->worker || it->page >= c->page + c->number || after <= c->page)
+            continue;
+        first = it->page < first ? it->page : first;
+        end = after > end ? after : end;
+        held[i] = held[--n_held];
+    }
+    hold_run(c, first, end - first);
+}
+
 /* What a worker that was dismissed had: one in eight is still asked for. */
 static void forget(uint32_t worker)
 {
@@ -189,6 +222,10 @@ static void learn(const call_t *c, const told_t *t)
         hold(c, t->page, 0);
     else if (c->kind == ALLOC || c->kind == ALLOC_LOW)
         hold(c, t->page, c->order);
+    else if (c->kind == ALLOC_RUN || c->kind == ALLOC_RUN_AT)
+        hold_run(c, c->kind == ALLOC_RUN ? t->page : c->page, c->number);
+    else if (c->kind == FREE_RUN)
+        let_go_run(c);
     else if (c->kind == COLLECT)
         hold(c, t->page, t->order);
     else if (c->kind == FREE || c->kind == POST || c->kind == PUT)
@@ -212,6 +249,8 @@ static uint32_t pick_kind(void)
         at -= weights[kind];
     if (ebb && (kind == ALLOC || kind == ALLOC_LOW || kind == REFILL) && !one_in(4))
         return kind == REFILL ? DRAIN : FREE;
+    if (ebb && (kind == ALLOC_RUN || kind == ALLOC_RUN_AT) && !one_in(4))
+        return FREE_RUN;
     if (kind == FREE && (n_held == 0 || (!ebb && !one_in(3))))
         return ALLOC;
     return kind;
@@ -249,6 +288,42 @@ static uint32_t pick_count(const call_t *c)
     return 1 + below(len == 0 ? 64 : len);
 }
 
+/* How many pages a run has: few, mostly. */
+static uint32_t pick_run_pages(void)
+{
+    return one_in(8) ? 1 + below(5000) : 1 + below(one_in(2) ? 8 : 100);
+}
+
+/* A run at a page that is free, mostly. Half of those are within the free block there, or all of it. */
+static void pick_free_run(call_t *c)
+{
+    zone_page_t noted;
+    uint32_t tries, last;
+    for (tries = 0; tries < 8; tries++) {
+        c->page = specs[c->zone].base + below(specs[c->zone].pages);
+        if (reference_page(&plain_workers[c->worker], c->zone, c->page, &noted) == ZONE_OK && noted.state == ZONE_FREE)
+            break;
+    }
+    c->number = pick_run_pages();
+    if (tries == 8 || one_in(2))
+        return;
+    last = (1u << noted.order) - 1;
+    c->page += below(last + 1);
+    c->number = 1 + below(last + 1);
+}
+
+/* A run of lent pages, mostly: a part of a lent block, all of it, or that and what lies behind it. */
+static void pick_lent_run(call_t *c)
+{
+    uint32_t pages = 1u << c->order, skipped = one_in(2) ? 0 : below(pages);
+    c->page += skipped;
+    switch (below(4)) {
+    case 0: c->number = pages - skipped; break;
+    case 1: c->number = pages - skipped + pick_run_pages(); break;
+    default: c->number = 1 + below(pages - skipped);
+    }
+}
+
 static uint32_t pick_number(const call_t *c)
 {
     uint32_t pageblocks = (specs[c->zone].pages + (1u << specs[c->zone].largest) - 1) >> specs[c->zone].largest;
@@ -271,11 +346,18 @@ static call_t pick_good(void)
     c.zone = below(n_zones);
     c.page = specs[c.zone].base + below(specs[c.zone].pages);
     c.order = pick_order(c.zone);
-    if (c.kind == FREE || c.kind == POST || c.kind == PUT || (c.kind == IS_LENT && one_in(2)))
+    if (c.kind == FREE || c.kind == FREE_RUN || c.kind == POST || c.kind == PUT || (c.kind == IS_LENT && one_in(2)))
         pick_held(&c);
     c.type = below(ZONE_TYPES);
     c.mark = one_in(2) ? ZONE_ANY : below(ZONE_LOW + 1);
     c.number = pick_number(&c);
+    if (c.kind == ALLOC_RUN) {
+        c.number = pick_run_pages();
+        c.order = one_in(2) ? 0 : below(one_in(4) ? ALIGNMENTS : 12);
+    } else if (c.kind == ALLOC_RUN_AT)
+        pick_free_run(&c);
+    else if (c.kind == FREE_RUN)
+        pick_lent_run(&c);
     if (c.kind == INFO && one_in(2))
         c.room = below(ZONE_INFO_LINE + 1);
     return c;
@@ -297,17 +379,27 @@ static uint32_t other_page(const call_t *c)
     }
 }
 
+static uint32_t other_number(const call_t *c)
+{
+    switch (c->kind) {
+    case POST: return out_of(n_workers);
+    case DRAIN: return one_in(2) ? 0 : out_of(65);
+    case ALLOC_RUN: case ALLOC_RUN_AT: case FREE_RUN: return one_in(2) ? 0 : any32();
+    default: return any32();
+    }
+}
+
 /* One argument becomes another: out of its range, or of another block. A call that does not have it stays good. */
 static void spoil(call_t *c)
 {
     switch (below(7)) {
     case 0: c->zone = out_of(n_zones); break;
-    case 1: c->order = out_of(ZONE_ORDERS); break;
+    case 1: c->order = out_of(c->kind == ALLOC_RUN ? ALIGNMENTS : ZONE_ORDERS); break;
     case 2: c->type = out_of(ZONE_TYPES); break;
     case 3: c->mark = out_of(ZONE_LOW + 1); break;
     case 4: c->page = other_page(c); break;
     case 5: c->order = below(ZONE_ORDERS); break;
-    default: c->number = c->kind == POST ? out_of(n_workers) : c->kind == DRAIN ? one_in(2) ? 0 : out_of(65) : any32();
+    default: c->number = other_number(c);
     }
 }
 

@@ -70,6 +70,9 @@ static uint32_t lent;        /* the page at which a block of this order is lent 
 static uint32_t alloc(void) { return zonealloc_alloc(mine, 0, 10, ZONE_TYPE_MOVABLE, ZONE_ANY, &told.page); }
 static uint32_t alloc_low(void) { return zonealloc_alloc_low(mine, 0, 10, &told.page); }
 static uint32_t give_back(void) { return zonealloc_free(mine, 0, lent, ORDER); }
+static uint32_t alloc_run(void) { return zonealloc_alloc_run(mine, 0, PAGES + 1, 0, ZONE_ANY, &told.page); }
+static uint32_t alloc_run_at(void) { return zonealloc_alloc_run_at(mine, 0, BASE, PAGES + 1); }
+static uint32_t free_run(void) { return zonealloc_free_run(mine, 0, lent, 1 << ORDER); }
 static uint32_t post(void) { return zonealloc_post(mine, 0, lent, ORDER, 0); }
 static uint32_t collect(void) { return zonealloc_collect(mine, 0, &told.page, &told.order); }
 static uint32_t isolate(void) { return zonealloc_isolate(mine, 0, 1); }
@@ -91,7 +94,8 @@ static const struct { const char *name; uint32_t (*call)(void); uint32_t otherwi
     { "release", release, ZONE_NOT_ISOLATED }, { "refill", refill, ZONE_BELOW_MARK },      { "drain", drain, ZONE_OK },
     { "drain_all", drain_all, ZONE_OK },     { "counts", counts, ZONE_OK },                { "info", info, ZONE_OK },
     { "page", page, ZONE_OK },               { "pageblock", pageblock, ZONE_OK },          { "gather", gather, ZONE_HAS_WORKERS },
-    { "counts_by_type", counts_by_type, ZONE_OK }
+    { "counts_by_type", counts_by_type, ZONE_OK }, { "alloc_run", alloc_run, ZONE_NO_BLOCK },
+    { "alloc_run_at", alloc_run_at, ZONE_BAD_RUN }, { "free_run", free_run, ZONE_OK }
 };
 
 /* The block is lent: it is the one that was posted to the worker, or another. */

@@ -183,6 +183,34 @@ static void has_no_lists(void)
     unmake();
 }
 
+/* --- runs --- */
+
+/* A run comes from the nearest zone that has one, and what the worker's lists have is no hindrance. */
+static void runs_fall_to_lower_zones(void)
+{
+    uint32_t zone = 1, page = 0;
+    make(BATCH, HIGH_LEN);
+    /* above the upper zone's mark there are 12 pages */
+    CHECK(zone_alloc_run(&pool, 0, 20, 0, ZONE_LOW, &zone, &page) == ZONE_OK && zone == 0 && page == 0);
+    zone = 1;
+    CHECK(zone_alloc_run(&pool, 0, UPPER, 5, ZONE_ANY, &zone, &page) == ZONE_OK && zone == 1 && page == 1024);
+    fill(0, ZONE_TYPE_MOVABLE, HIGH_LEN);
+    CHECK(zone_alloc_run(&pool, 1, LOWER - 20, 0, ZONE_ANY, &zone, &page) == ZONE_NO_BLOCK && zone == 1);
+    CHECK(zone_alloc_run(&pool, 0, LOWER - 20, 0, ZONE_ANY, &zone, &page) == ZONE_OK && zone == 0 && page == 20);
+    CHECK(cached(0, 0, ZONE_TYPE_MOVABLE) == 0 && free_pages(0) == 0);
+    CHECK(zone_free_run(&pool, 0, 0, 10, 50) == ZONE_OK && zone_free_run(&pool, 0, 1, 1024, UPPER) == ZONE_OK);
+    CHECK(free_pages(0) == 50 && free_pages(1) == UPPER);
+    CHECK(zone_alloc_run_at(&pool, 1, 0, 10, 50) == ZONE_OK && zone_alloc_run_at(&pool, 1, 0, 9, 1) == ZONE_NOT_FREE);
+    CHECK(zone_free_run(&pool, 0, 0, 10, 50) == ZONE_NOT_LENT && zone_free_run(&pool, 1, 0, 10, 50) == ZONE_OK);
+    zone = ZONES;
+    CHECK(zone_alloc_run(&pool, 0, 1, 0, ZONE_ANY, &zone, &page) == ZONE_BAD_ARGUMENT && zone == ZONES);
+    zone = 1;
+    CHECK(zone_alloc_run(&pool, 0, 0, 0, ZONE_ANY, &zone, &page) == ZONE_BAD_ARGUMENT);
+    CHECK(zone_alloc_run(&pool, CREW, 1, 0, ZONE_ANY, &zone, &page) == ZONE_BAD_ARGUMENT);
+    CHECK(zone_alloc_run_at(&pool, CREW, 0, 0, 1) == ZONE_BAD_ARGUMENT && zone_free_run(&pool, CREW, 0, 0, 1) == ZONE_BAD_ARGUMENT);
+    unmake();
+}
+
 int main(void)
 {
     size_t i;
@@ -192,6 +220,7 @@ int main(void)
         ask_one(&requests[i]);
     keeps_other_lists();
     has_no_lists();
+    runs_fall_to_lower_zones();
     printf("lists: %u checks, %u failures\n", checks, failures);
     return failures == 0 ? 0 : 1;
 }

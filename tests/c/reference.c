@@ -3,7 +3,7 @@
 #include <stdlib.h>
 #include <string.h>
 
-enum { MOST_PAGES = 1 << 24, MOST_BASE = 1 << 30, BASE_STEP = 1024, MOST_BATCH = 31, LONGEST_LIST = 64, KINDS = 4 };
+enum { MOST_PAGES = 1 << 24, MOST_BASE = 1 << 30, BASE_STEP = 1024, MOST_BATCH = 31, LONGEST_LIST = 64, KINDS = 4, MOST_ALIGN = 24 };
 /* No page. */
 static const uint32_t NONE = UINT32_MAX;
 
@@ -263,9 +263,9 @@ static uint32_t mark_of(const zone_t *zone, uint32_t mark)
     return mark == ZONE_LOW ? zone->spec.min + zone->spec.min / 4 : zone->spec.min;
 }
 
-static int passes(const zone_t *zone, uint32_t order, uint32_t mark)
+static int passes(const zone_t *zone, uint32_t pages, uint32_t mark)
 {
-    return mark == ZONE_ANY || zone->available > mark_of(zone, mark) + (1u << order) - 1;
+    return mark == ZONE_ANY || zone->available > (uint64_t)mark_of(zone, mark) + pages - 1;
 }
 
 static uint32_t level_of(const zone_t *zone)
@@ -281,13 +281,108 @@ static uint32_t level_of(const zone_t *zone)
 /* A block that is out in the worker's name from then on: its head, counted from the base. */
 static uint32_t alloc(zone_t *zone, uint32_t worker, uint32_t order, uint32_t type, uint32_t mark, uint32_t *head)
 {
-    if (!passes(zone, order, mark))
+    if (!passes(zone, 1u << order, mark))
         return ZONE_BELOW_MARK;
     *head = choose(zone, order, type);
     if (*head == NONE)
         return ZONE_NO_BLOCK;
     take_out(zone, *head, order, type, worker);
     return ZONE_OK;
+}
+
+/* --- runs of pages --- */
+
+/* The order of the first block of a run's cut: as large as its place, the rest of the run and the largest order allow. */
+static uint32_t first_of_cut(const zone_t *zone, uint32_t head, uint32_t pages)
+{
+    uint32_t order = 0;
+    while (order < zone->spec.largest && head % (2u << order) == 0 && 2u << order <= pages)
+        order++;
+    return order;
+}
+
+/* The blocks of a run's cut are out in the worker's name, with this type, or where there is none with that of their pageblocks: an isolated one
+ * counts as Movable. */
+static void note_cut(zone_t *zone, uint32_t head, uint32_t pages, uint32_t type, uint32_t worker)
+{
+    uint32_t order, own;
+    for (; pages > 0; head += 1u << order, pages -= 1u << order) {
+        order = first_of_cut(zone, head, pages);
+        own = zone->pageblocks[head >> zone->spec.largest].type;
+        note(zone, head, ZONE_OUT, order, type != NONE ? type : own == ZONE_TYPE_ISOLATED ? ZONE_TYPE_MOVABLE : own, worker);
+    }
+}
+
+/* All of it changes, and then its pageblocks settle, in rising order: no block that changes is of two of them. */
+static void set_run_free(zone_t *zone, uint32_t head, uint32_t pages, int free)
+{
+    uint32_t i, number;
+    for (i = 0; i < pages; i++)
+        zone->pages[head + i].free = (uint8_t)free;
+    for (number = head >> zone->spec.largest; number <= (head + pages - 1) >> zone->spec.largest; number++)
+        settle(zone, number, zone->pageblocks[number].type);
+}
+
+static void take_run(zone_t *zone, uint32_t head, uint32_t pages, uint32_t worker)
+{
+    set_run_free(zone, head, pages, 0);
+    note_cut(zone, head, pages, NONE, worker);
+}
+
+static int is_available(const zone_t *zone, uint32_t page)
+{
+    return zone->pages[page].free && zone->pageblocks[page >> zone->spec.largest].type != ZONE_TYPE_ISOLATED;
+}
+
+/* The first page of the lowest run of available pages that is aligned so, counted from the base; or none. */
+static uint32_t choose_run(const zone_t *zone, uint32_t pages, uint32_t align)
+{
+    uint64_t head, page, step = (uint64_t)1 << align;
+    for (head = 0; head + pages <= zone->spec.pages; head = page + 1) {
+        head = (zone->spec.base + head + step - 1) / step * step - zone->spec.base;
+        for (page = head; page < head + pages && page < zone->spec.pages && is_available(zone, (uint32_t)page);)
+            page++;
+        if (page == head + pages)
+            return (uint32_t)head;
+    }
+    return NONE;
+}
+
+/* The head of the block in which a page lies that is lent to the worker; or none. */
+static uint32_t lent_around(const zone_t *zone, uint32_t page, uint32_t worker)
+{
+    uint32_t order;
+    for (order = 0; order <= zone->spec.largest; order++) {
+        const page_t *at = &zone->pages[page >> order << order];
+        if (at->state == ZONE_OUT && at->order == order && at->worker == worker && !at->cached)
+            return page >> order << order;
+    }
+    return NONE;
+}
+
+static int is_lent_run(const zone_t *zone, uint32_t head, uint32_t pages, uint32_t worker)
+{
+    uint32_t i;
+    for (i = 0; i < pages; i++)
+        if (lent_around(zone, head + i, worker) == NONE)
+            return 0;
+    return 1;
+}
+
+/* Each block that has a page of the run is no more; what it has beyond the run stays the worker's. */
+static void give_run(zone_t *zone, uint32_t head, uint32_t pages, uint32_t worker)
+{
+    uint32_t page = head, end = head + pages;
+    while (page < end) {
+        uint32_t first = lent_around(zone, page, worker), after = first + (1u << zone->pages[first].order), type = zone->pages[first].type;
+        note(zone, first, ZONE_TAIL, 0, 0, 0);
+        if (first < head)
+            note_cut(zone, first, head - first, type, worker);
+        if (after > end)
+            note_cut(zone, end, after - end, type, worker);
+        page = after;
+    }
+    set_run_free(zone, head, pages, 1);
 }
 
 /* --- making and unmaking --- */
@@ -574,6 +669,61 @@ uint32_t reference_free(reference_worker_t *worker, uint32_t zone, uint32_t page
     if (!is_lent(worker, at, page, order))
         return ZONE_NOT_LENT;
     give(at, page - at->spec.base, order);
+    return ZONE_OK;
+}
+
+uint32_t reference_alloc_run(reference_worker_t *worker, uint32_t zone, uint32_t pages, uint32_t align, uint32_t mark, uint32_t *page)
+{
+    uint32_t answer;
+    uint32_t head;
+    zone_t *at = zone_of(worker, zone, pages == 0 || align > MOST_ALIGN || mark > ZONE_LOW, &answer);
+    if (!at)
+        return answer;
+    if (!passes(at, pages, mark))
+        return ZONE_BELOW_MARK;
+    head = choose_run(at, pages, align);
+    if (head == NONE)
+        return ZONE_NO_BLOCK;
+    take_run(at, head, pages, worker->number);
+    *page = at->spec.base + head;
+    return ZONE_OK;
+}
+
+/* The run's first page, counted from the base; or none, where it has no page or is not wholly the zone's. */
+static uint32_t run_of(const zone_t *zone, uint32_t page, uint32_t pages)
+{
+    uint32_t head = number_of(zone, page);
+    return head == NONE || pages == 0 || pages > zone->spec.pages - head ? NONE : head;
+}
+
+uint32_t reference_alloc_run_at(reference_worker_t *worker, uint32_t zone, uint32_t page, uint32_t pages)
+{
+    uint32_t answer;
+    uint32_t head, i;
+    zone_t *at = zone_of(worker, zone, 0, &answer);
+    if (!at)
+        return answer;
+    head = run_of(at, page, pages);
+    if (head == NONE)
+        return ZONE_BAD_RUN;
+    for (i = 0; i < pages; i++)
+        if (!at->pages[head + i].free)
+            return ZONE_NOT_FREE;
+    take_run(at, head, pages, worker->number);
+    return ZONE_OK;
+}
+
+uint32_t reference_free_run(reference_worker_t *worker, uint32_t zone, uint32_t page, uint32_t pages)
+{
+    uint32_t answer;
+    uint32_t head;
+    zone_t *at = zone_of(worker, zone, 0, &answer);
+    if (!at)
+        return answer;
+    head = run_of(at, page, pages);
+    if (head == NONE || !is_lent_run(at, head, pages, worker->number))
+        return ZONE_NOT_LENT;
+    give_run(at, head, pages, worker->number);
     return ZONE_OK;
 }
 

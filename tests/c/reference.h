@@ -22,6 +22,9 @@ uint32_t reference_cached(reference_worker_t *worker, uint32_t zone, uint32_t ty
 uint32_t reference_alloc(reference_worker_t *worker, uint32_t zone, uint32_t order, uint32_t type, uint32_t mark, uint32_t *page);
 uint32_t reference_alloc_low(reference_worker_t *worker, uint32_t zone, uint32_t order, uint32_t *page);
 uint32_t reference_free(reference_worker_t *worker, uint32_t zone, uint32_t page, uint32_t order);
+uint32_t reference_alloc_run(reference_worker_t *worker, uint32_t zone, uint32_t pages, uint32_t align, uint32_t mark, uint32_t *page);
+uint32_t reference_alloc_run_at(reference_worker_t *worker, uint32_t zone, uint32_t page, uint32_t pages);
+uint32_t reference_free_run(reference_worker_t *worker, uint32_t zone, uint32_t page, uint32_t pages);
 uint32_t reference_post(reference_worker_t *worker, uint32_t zone, uint32_t page, uint32_t order, uint32_t to);
 uint32_t reference_collect(reference_worker_t *worker, uint32_t zone, uint32_t *page, uint32_t *order);
 uint32_t reference_isolate(reference_worker_t *worker, uint32_t zone, uint32_t pageblock);

@@ -50,7 +50,7 @@ void rattle_dealloc(void *at)
 
 /* What a call is given, and what it tells. */
 static struct {
-    uint32_t worker, zone, order, type, mark, page, to, lent, number, count;
+    uint32_t worker, zone, order, type, mark, page, to, lent, number, count, pages;
     union {
         zone_counts_t counts; zone_types_t types; zone_page_t page; zone_pageblock_t pageblock; zone_totals_t totals; uint8_t line[ZONE_INFO_LINE];
     } told;
@@ -71,6 +71,9 @@ static uint32_t cached(void) { return zonealloc_cached(W, it.zone, it.type, &it.
 static uint32_t alloc(void) { return zonealloc_alloc(W, it.zone, it.order, it.type, it.mark, &it.page); }
 static uint32_t alloc_low(void) { return zonealloc_alloc_low(W, it.zone, it.order, &it.page); }
 static uint32_t give(void) { return zonealloc_free(W, it.zone, it.page, it.order); }
+static uint32_t alloc_run(void) { return zonealloc_alloc_run(W, it.zone, it.pages, it.order, it.mark, &it.page); }
+static uint32_t alloc_run_at(void) { return zonealloc_alloc_run_at(W, it.zone, it.page, it.pages); }
+static uint32_t free_run(void) { return zonealloc_free_run(W, it.zone, it.page, it.pages); }
 static uint32_t post(void) { return zonealloc_post(W, it.zone, it.page, it.order, it.to); }
 static uint32_t collect(void) { return zonealloc_collect(W, it.zone, &it.page, &it.order); }
 static uint32_t isolate(void) { return zonealloc_isolate(W, it.zone, it.number); }
@@ -85,12 +88,13 @@ static uint32_t page(void) { return zonealloc_page(W, it.zone, it.page, &it.told
 static uint32_t pageblock(void) { return zonealloc_pageblock(W, it.zone, it.number, &it.told.pageblock); }
 static uint32_t gather(void) { return zonealloc_gather(&row, it.zone, &it.told.totals); }
 
-typedef enum { NOTHING, BYTES, MAKE, DISMISS, UNMAKE, TAKE, PUT, IS_LENT, CACHED, ALLOC, ALLOC_LOW, FREE, POST, COLLECT, ISOLATE, RELEASE,
-               REFILL, DRAIN, DRAIN_ALL, COUNTS, COUNTS_BY_TYPE, INFO, PAGE, PAGEBLOCK, GATHER, CALLS } call_t;
+typedef enum { NOTHING, BYTES, MAKE, DISMISS, UNMAKE, TAKE, PUT, IS_LENT, CACHED, ALLOC, ALLOC_LOW, FREE, ALLOC_RUN,
+               ALLOC_RUN_AT, FREE_RUN, POST, COLLECT, ISOLATE, RELEASE, REFILL, DRAIN, DRAIN_ALL, COUNTS, COUNTS_BY_TYPE, INFO, PAGE, PAGEBLOCK, GATHER, CALLS } call_t;
 static struct { const char *name; uint32_t (*call)(void); unsigned long times, deepest; } calls[CALLS] = {
     { "nothing", nothing, 0, 0 }, { "bytes", bytes, 0, 0 }, { "make", make, 0, 0 }, { "dismiss", dismiss, 0, 0 }, { "unmake", unmake, 0, 0 },
     { "take", take, 0, 0 }, { "put", put, 0, 0 }, { "is_lent", is_lent, 0, 0 }, { "cached", cached, 0, 0 }, { "alloc", alloc, 0, 0 },
-    { "alloc_low", alloc_low, 0, 0 }, { "free", give, 0, 0 }, { "post", post, 0, 0 }, { "collect", collect, 0, 0 }, { "isolate", isolate, 0, 0 },
+    { "alloc_low", alloc_low, 0, 0 }, { "free", give, 0, 0 }, { "alloc_run", alloc_run, 0, 0 }, { "alloc_run_at", alloc_run_at, 0, 0 },
+    { "free_run", free_run, 0, 0 }, { "post", post, 0, 0 }, { "collect", collect, 0, 0 }, { "isolate", isolate, 0, 0 },
     { "release", release, 0, 0 }, { "refill", refill, 0, 0 }, { "drain", drain, 0, 0 }, { "drain_all", drain_all, 0, 0 }, { "counts", counts, 0, 0 },
     { "counts_by_type", counts_by_type, 0, 0 }, { "info", info, 0, 0 }, { "page", page, 0, 0 }, { "pageblock", pageblock, 0, 0 },
     { "gather", gather, 0, 0 }
@@ -206,6 +210,21 @@ static void turn_pageblock(void)
         DEMAND(answer == ZONE_ALREADY_ISOLATED || answer == ZONE_NOT_ISOLATED);
 }
 
+/* A run, of any number of pages, which is given back in two parts. */
+static void run_of_pages(void)
+{
+    uint32_t pages = 1 + next(next(2) == 0 ? 8 : 3000), part = 1 + next(pages);
+    it.order = next(12), it.pages = pages, it.page = specs[it.zone].base + next(specs[it.zone].pages);
+    if (ask(next(2) == 0 ? ALLOC_RUN : ALLOC_RUN_AT) != ZONE_OK) {
+        DEMAND(answer == ZONE_BELOW_MARK || answer == ZONE_NO_BLOCK || answer == ZONE_BAD_RUN || answer == ZONE_NOT_FREE);
+        return;
+    }
+    it.page += part, it.pages = pages - part;
+    DEMAND(ask(FREE_RUN) == (part == pages ? ZONE_NOT_LENT : ZONE_OK));
+    it.page -= part, it.pages = part;
+    DEMAND(ask(FREE_RUN) == ZONE_OK);
+}
+
 /* Requests, which fill the zones and then empty them, again and again. */
 static void request(uint32_t is_filling)
 {
@@ -219,7 +238,9 @@ static void request(uint32_t is_filling)
         turn_pageblock();
     else if (kind == 5)
         drain_some();
-    else if (kind < 10)
+    else if (kind < 8)
+        run_of_pages();
+    else if (kind < 11)
         keep_answered(ask(COLLECT) == ZONE_OK ? it.order : 0);
     else if (kind < 40 ? is_filling : !is_filling) {
         if (next(3) == 0)

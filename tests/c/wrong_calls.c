@@ -11,7 +11,8 @@
 #include <stdlib.h>
 #include <string.h>
 
-enum { LOW_ZONE = 40, HIGH_ZONE = 1500, ALL_PAGES = LOW_ZONE + HIGH_ZONE, PAGEBLOCKS = 7, CREW = 3, ZONES = 2, BATCH = 4, HIGH_LEN = 6 };
+enum { LOW_ZONE = 40, HIGH_ZONE = 1500, ALL_PAGES = LOW_ZONE + HIGH_ZONE, PAGEBLOCKS = 7, CREW = 3, ZONES = 2, BATCH = 4, HIGH_LEN = 6,
+       MOST_ALIGN = 24 };
 
 /* --- what is told of a failure --- */
 
@@ -193,6 +194,12 @@ static uint32_t beyond(uint32_t range, uint32_t i)
     return past[i] < 253 ? range + past[i] : past[i];
 }
 
+/* More pages than there are. */
+static uint32_t above(uint32_t pages, uint32_t i)
+{
+    return past[i] <= pages ? pages + 1 + past[i] : past[i];
+}
+
 static void wrong_zones(zone_worker_t *w)
 {
     uint32_t i, zone;
@@ -205,6 +212,9 @@ static void wrong_zones(zone_worker_t *w)
         REFUSED(ZONE_BAD_ARGUMENT, zonealloc_alloc(w, zone, 0, ZONE_TYPE_MOVABLE, ZONE_ANY, &told.page));
         REFUSED(ZONE_BAD_ARGUMENT, zonealloc_alloc_low(w, zone, 0, &told.page));
         REFUSED(ZONE_BAD_ARGUMENT, zonealloc_free(w, zone, known.lent, 0));
+        REFUSED(ZONE_BAD_ARGUMENT, zonealloc_alloc_run(w, zone, 1, 0, ZONE_ANY, &told.page));
+        REFUSED(ZONE_BAD_ARGUMENT, zonealloc_alloc_run_at(w, zone, known.given, 1));
+        REFUSED(ZONE_BAD_ARGUMENT, zonealloc_free_run(w, zone, known.lent, 1));
         REFUSED(ZONE_BAD_ARGUMENT, zonealloc_post(w, zone, known.lent, 0, 1));
         REFUSED(ZONE_BAD_ARGUMENT, zonealloc_collect(w, zone, &told.page, &told.order));
         REFUSED(ZONE_BAD_ARGUMENT, zonealloc_isolate(w, zone, 0));
@@ -253,6 +263,11 @@ static void wrong_numbers(zone_worker_t *w)
     for (i = 0; i < PASTS; i++) {
         REFUSED(ZONE_BAD_ARGUMENT, zonealloc_alloc(w, 1, 0, ZONE_TYPE_MOVABLE, beyond(ZONE_LOW + 1, i), &told.page));
         REFUSED(ZONE_BAD_ARGUMENT, zonealloc_refill(w, 1, ZONE_TYPE_UNMOVABLE, beyond(ZONE_LOW + 1, i)));
+        REFUSED(ZONE_BAD_ARGUMENT, zonealloc_alloc_run(w, 1, 1, beyond(MOST_ALIGN + 1, i), ZONE_ANY, &told.page));
+        REFUSED(ZONE_BAD_ARGUMENT, zonealloc_alloc_run(w, 1, 1, 0, beyond(ZONE_LOW + 1, i), &told.page));
+        REFUSED(ZONE_NO_BLOCK, zonealloc_alloc_run(w, 1, above(HIGH_ZONE, i), 0, ZONE_ANY, &told.page));
+        REFUSED(ZONE_BAD_RUN, zonealloc_alloc_run_at(w, 1, 2048, above(HIGH_ZONE, i)));
+        REFUSED(ZONE_NOT_LENT, zonealloc_free_run(w, 1, known.order4, above(HIGH_ZONE, i)));
         REFUSED(ZONE_BAD_ARGUMENT, zonealloc_post(w, 1, known.lent, 0, beyond(CREW, i)));
         REFUSED(ZONE_BAD_ARGUMENT, zonealloc_drain(w, 1, ZONE_TYPE_MOVABLE, beyond(BATCH + 1, i)));
         REFUSED(ZONE_BAD_PAGEBLOCK, zonealloc_isolate(w, 0, beyond(5, i)));
@@ -261,6 +276,9 @@ static void wrong_numbers(zone_worker_t *w)
         REFUSED(ZONE_BAD_PAGEBLOCK, zonealloc_release(w, 1, beyond(2, i), ZONE_TYPE_MOVABLE));
         REFUSED(ZONE_BAD_PAGEBLOCK, zonealloc_pageblock(w, 1, beyond(2, i), &told.block));
     }
+    REFUSED(ZONE_BAD_ARGUMENT, zonealloc_alloc_run(w, 1, 0, 0, ZONE_ANY, &told.page));
+    REFUSED(ZONE_BAD_RUN, zonealloc_alloc_run_at(w, 1, known.given, 0));
+    REFUSED(ZONE_NOT_LENT, zonealloc_free_run(w, 1, known.lent, 0));
     REFUSED(ZONE_BAD_ARGUMENT, zonealloc_drain(w, 1, ZONE_TYPE_MOVABLE, 0));
     REFUSED(ZONE_BAD_ARGUMENT, zonealloc_drain(w, 1, ZONE_TYPE_UNMOVABLE, 1));
     REFUSED(ZONE_BAD_ARGUMENT, zonealloc_post(w, 1, known.lent, 0, ZONE_WORKERS));
@@ -275,6 +293,10 @@ static void wrong_pages(zone_worker_t *w)
         REFUSED(ZONE_NOT_LENT, zonealloc_put(w, 1, pages[i]));
         REFUSED(ZONE_NOT_LENT, zonealloc_free(w, 1, pages[i], 0));
         REFUSED(ZONE_NOT_LENT, zonealloc_free(w, 1, pages[i], ZONE_ORDERS - 1));
+        REFUSED(ZONE_NOT_LENT, zonealloc_free_run(w, 1, pages[i], 1));
+        REFUSED(ZONE_NOT_LENT, zonealloc_free_run(w, 1, pages[i], 0xFFFFFFFF));
+        REFUSED(ZONE_BAD_RUN, zonealloc_alloc_run_at(w, 1, pages[i], 1));
+        REFUSED(ZONE_BAD_RUN, zonealloc_alloc_run_at(w, 1, pages[i], 0xFFFFFFFF));
         REFUSED(ZONE_NOT_LENT, zonealloc_post(w, 1, pages[i], 0, 1));
         REFUSED(ZONE_BAD_ARGUMENT, zonealloc_page(w, 1, pages[i], &told.noted));
         ANSWERS(ZONE_OK, zonealloc_is_lent(w, 1, pages[i], 0, &told.number));
@@ -308,6 +330,14 @@ static void not_lent(zone_worker_t *w)
             REFUSED(ZONE_NOT_LENT, zonealloc_free(w, 1, known.order4, i));
     }
     REFUSED(ZONE_NOT_LENT, zonealloc_free(w, 1, known.posted, 1));
+    for (i = 2; i < 6; i++) {
+        REFUSED(ZONE_NOT_LENT, zonealloc_free_run(w, 1, pages[i], 1));
+        REFUSED(i == 5 ? ZONE_BAD_RUN : ZONE_NOT_FREE, zonealloc_alloc_run_at(w, 1, pages[i], i == 5 ? HIGH_ZONE : 1));
+    }
+    REFUSED(ZONE_NOT_LENT, zonealloc_free_run(w, 1, known.order4 + 15, 2));
+    REFUSED(ZONE_NOT_LENT, zonealloc_free_run(w, 1, known.order4 - 1, 2));
+    REFUSED(ZONE_NOT_FREE, zonealloc_alloc_run_at(w, 1, known.order4 + 15, 2));
+    REFUSED(ZONE_NOT_FREE, zonealloc_alloc_run_at(w, 1, known.lent, 1));
 }
 
 static void no_block(zone_worker_t *w)
@@ -319,6 +349,9 @@ static void no_block(zone_worker_t *w)
         REFUSED(ZONE_NO_BLOCK, zonealloc_alloc(w, 0, i, ZONE_TYPE_MOVABLE, ZONE_ANY, &told.page));
         REFUSED(ZONE_NO_BLOCK, zonealloc_alloc_low(w, 0, i, &told.page));
     }
+    REFUSED(ZONE_BELOW_MARK, zonealloc_alloc_run(w, 0, 25, 0, ZONE_MIN, &told.page));
+    REFUSED(ZONE_NO_BLOCK, zonealloc_alloc_run(w, 0, 33, 0, ZONE_ANY, &told.page));   /* the last pageblock is isolated */
+    REFUSED(ZONE_NO_BLOCK, zonealloc_alloc_run(w, 0, 1, 11, ZONE_ANY, &told.page));
 }
 
 static void wrong_states(zone_worker_t *w)
@@ -384,6 +417,9 @@ static void dead_handles(zone_worker_t *w, zone_row_t *row)
     REFUSED(ZONE_BAD_HANDLE, zonealloc_alloc(w, 1, 0, ZONE_TYPE_MOVABLE, ZONE_ANY, &told.page));
     REFUSED(ZONE_BAD_HANDLE, zonealloc_alloc_low(w, 1, 0, &told.page));
     REFUSED(ZONE_BAD_HANDLE, zonealloc_free(w, 1, known.lent, 0));
+    REFUSED(ZONE_BAD_HANDLE, zonealloc_alloc_run(w, 1, 1, 0, ZONE_ANY, &told.page));
+    REFUSED(ZONE_BAD_HANDLE, zonealloc_alloc_run_at(w, 1, known.given, 1));
+    REFUSED(ZONE_BAD_HANDLE, zonealloc_free_run(w, 1, known.lent, 1));
     REFUSED(ZONE_BAD_HANDLE, zonealloc_post(w, 1, known.lent, 0, 0));
     REFUSED(ZONE_BAD_HANDLE, zonealloc_collect(w, 1, &told.page, &told.order));
     REFUSED(ZONE_BAD_HANDLE, zonealloc_isolate(w, 1, 0));
@@ -613,10 +649,11 @@ static void little_memory(uint32_t workers, uint32_t zones)
 
 /* --- each number that the header states --- */
 
-/* What a call is made with. A page is one of those that are known, or none of the zone's. */
+/* What a call is made with. A page is one of those that are known, or none of the zone's. Of a run the number is its pages, and the order how it is
+ * aligned. */
 typedef enum {
-    BYTES, MAKE, DISMISS, UNMAKE, TAKE, PUT, IS_LENT, CACHED, ALLOC, ALLOC_LOW, FREE, POST, COLLECT, ISOLATE, RELEASE, REFILL, DRAIN, DRAIN_ALL,
-    COUNTS, COUNTS_BY_TYPE, INFO, PAGE, PAGEBLOCK, GATHER
+    BYTES, MAKE, DISMISS, UNMAKE, TAKE, PUT, IS_LENT, CACHED, ALLOC, ALLOC_LOW, FREE, ALLOC_RUN, ALLOC_RUN_AT, FREE_RUN, POST, COLLECT, ISOLATE,
+    RELEASE, REFILL, DRAIN, DRAIN_ALL, COUNTS, COUNTS_BY_TYPE, INFO, PAGE, PAGEBLOCK, GATHER
 } export_t;
 typedef enum { MINE, OF_FULL_LIST, WITHOUT_LISTS, EMPTY } handle_t;
 typedef enum { NO_PAGE, BELOW, ABOVE, LENT, ORDER4, OTHERS, SPARE } page_name_t;
@@ -675,6 +712,27 @@ static const stated_t stated[] = {
     { FREE, ZONE_NOT_LENT, .page = ABOVE },
     { FREE, ZONE_NOT_LENT, .page = ABOVE, .order = ABOVE_LARGEST },
     { FREE, ZONE_NOT_LENT, .page = LENT, .zone = UPPER, .order = 1 },
+
+    { ALLOC_RUN, ZONE_BAD_ARGUMENT, .number = 0, .handle = EMPTY, .zone = NO_ZONE },
+    { ALLOC_RUN, ZONE_BAD_ARGUMENT, .number = 1, .order = MOST_ALIGN + 1, .handle = EMPTY, .zone = NO_ZONE },
+    { ALLOC_RUN, ZONE_BAD_ARGUMENT, .number = 1, .mark = NO_MARK, .handle = EMPTY, .zone = NO_ZONE },
+    { ALLOC_RUN, ZONE_BAD_HANDLE, .number = 1, .handle = EMPTY, .zone = NO_ZONE },
+    { ALLOC_RUN, ZONE_BAD_ARGUMENT, .number = LOW_ZONE + 1, .mark = ZONE_MIN, .zone = NO_ZONE },
+    { ALLOC_RUN, ZONE_BELOW_MARK, .number = LOW_ZONE + 1, .mark = ZONE_MIN },
+    { ALLOC_RUN, ZONE_NO_BLOCK, .number = 1, .order = MOST_ALIGN },
+
+    { ALLOC_RUN_AT, ZONE_BAD_HANDLE, .handle = EMPTY, .zone = NO_ZONE },
+    { ALLOC_RUN_AT, ZONE_BAD_ARGUMENT, .zone = NO_ZONE },
+    { ALLOC_RUN_AT, ZONE_BAD_RUN, .page = LENT, .zone = UPPER, .number = 0 },
+    { ALLOC_RUN_AT, ZONE_BAD_RUN, .page = BELOW, .number = 2 },
+    { ALLOC_RUN_AT, ZONE_BAD_RUN, .page = LENT, .zone = UPPER, .number = HIGH_ZONE },
+    { ALLOC_RUN_AT, ZONE_NOT_FREE, .page = LENT, .zone = UPPER, .number = 1 },
+
+    { FREE_RUN, ZONE_BAD_HANDLE, .handle = EMPTY, .zone = NO_ZONE },
+    { FREE_RUN, ZONE_BAD_ARGUMENT, .zone = NO_ZONE },
+    { FREE_RUN, ZONE_NOT_LENT, .page = LENT, .zone = UPPER, .number = 0 },
+    { FREE_RUN, ZONE_NOT_LENT, .page = BELOW, .number = 2 },
+    { FREE_RUN, ZONE_NOT_LENT, .page = OTHERS, .zone = UPPER, .number = 1 },
 
     { POST, ZONE_BAD_ARGUMENT, .order = NO_ORDER, .handle = EMPTY, .zone = NO_ZONE },
     { POST, ZONE_BAD_ARGUMENT, .number = ZONE_WORKERS, .handle = EMPTY, .zone = NO_ZONE },
@@ -768,6 +826,9 @@ static uint32_t ask(const stated_t *s, zone_worker_t *w, zone_row_t *row, uint32
     case ALLOC: return zonealloc_alloc(w, s->zone, s->order, s->type, s->mark, &told.page);
     case ALLOC_LOW: return zonealloc_alloc_low(w, s->zone, s->order, &told.page);
     case FREE: return zonealloc_free(w, s->zone, page, s->order);
+    case ALLOC_RUN: return zonealloc_alloc_run(w, s->zone, s->number, s->order, s->mark, &told.page);
+    case ALLOC_RUN_AT: return zonealloc_alloc_run_at(w, s->zone, page, s->number);
+    case FREE_RUN: return zonealloc_free_run(w, s->zone, page, s->number);
     case POST: return zonealloc_post(w, s->zone, page, s->order, s->number);
     case COLLECT: return zonealloc_collect(w, s->zone, &told.page, &told.order);
     case ISOLATE: return zonealloc_isolate(w, s->zone, s->number);
@@ -948,6 +1009,12 @@ static void good_requests(zone_worker_t *w)
     ANSWERS(ZONE_OK, zonealloc_free(&w[1], 0, 1056, 2));
     ANSWERS(ZONE_OK, zonealloc_alloc_low(&w[0], 0, 1, &told.page));
     CHECK(told.page == 1024);
+    ANSWERS(ZONE_OK, zonealloc_alloc_run(&w[0], 0, 5, 2, ZONE_LOW, &told.page));
+    CHECK(told.page == 1028);
+    ANSWERS(ZONE_OK, zonealloc_free_run(&w[0], 0, 1029, 4));
+    ANSWERS(ZONE_OK, zonealloc_alloc_run_at(&w[1], 0, 1029, 11));
+    ANSWERS(ZONE_OK, zonealloc_free_run(&w[1], 0, 1029, 11));
+    ANSWERS(ZONE_OK, zonealloc_free(&w[0], 0, 1028, 0));
     ANSWERS(ZONE_OK, zonealloc_isolate(&w[0], 0, 2));
     ANSWERS(ZONE_OK, zonealloc_release(&w[0], 0, 2, ZONE_TYPE_RECLAIMABLE));
 }

@@ -72,6 +72,9 @@ pub record IsAskDenied (i : ℕ) (r : Request) (code : ℕ) (b a : Option Worker
 abbrev pub AsksAlloc : ℕ → ℕ → ℕ → Option WorkerState → Request → Type 0
 AsksAlloc k t m b r = (kind : MigrateType) × (mark : Mark) × (type_number kind ≡ t) × (mark_number mark ≡ m) × (r ≡ Request.Alloc k kind mark)
 
+abbrev pub AsksAllocRun : ℕ → ℕ → ℕ → Option WorkerState → Request → Type 0
+AsksAllocRun n a m b r = (mark : Mark) × (mark_number mark ≡ m) × (r ≡ Request.AllocRun n a mark)
+
 abbrev pub Asks : Request → Option WorkerState → Request → Type 0
 Asks is b r = r ≡ is
 
@@ -93,7 +96,8 @@ IsPages q = (ps : List ℕ) × (q ≡ Reply.Pages ps)
 abbrev pub IsBlockAt : ℕ → ℕ → Reply → Type 0
 IsBlockAt p k q = (x : Block) × (q ≡ Reply.Block x) × (x.page ≡ p) × (x.order ≡ k)
 
--- a request that names a block is answered 20 exactly where the order and the worker that it names are some, and the block is not lent
+-- a request that names a block, or frees a run, is answered 20 exactly where the order and the worker that it names are some, and what it names is
+-- not lent
 abbrev pub IsLentDenied : ℕ → Request → Type 0 → ℕ → Option WorkerState → Type 0
 IsLentDenied i r named code b = (code ≡ 20) ↔ (named × IsOf (λ v. HasZone i v × LacksBlock r (gated_at v i)) b)
 

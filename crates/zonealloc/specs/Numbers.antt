@@ -2,7 +2,7 @@
 use Rattle.std.specs.Prelude.{ℕ, ◌<◌, ◌≤◌}
 use Rattle.zp_model.specs.declared.mark.Mark.{Mark}
 use Rattle.zp_model.specs.declared.mark.Mark.TheVariants.{Low, Min, Any}
-use Rattle.zp_model.specs.declared.constants.TheConstants.{LARGEST_ORDER, MAX_WORKERS, TYPES}
+use Rattle.zp_model.specs.declared.constants.TheConstants.{LARGEST_ALIGNMENT, LARGEST_ORDER, MAX_WORKERS, TYPES}
 use Rattle.zp_model.specs.Refused.{refused_number}
 use Rattle.zp_gate.specs.declared.call_error.CallError.{CallError}
 use Rattle.zp_gate.specs.declared.call_error.CallError.TheVariants.{NoZone, Busy, NoWorker, NoLists, NotEmpty, TooFew, Refused}
@@ -12,7 +12,7 @@ mark_number Any = 0
 mark_number Min = 1
 mark_number Low = 2
 
--- the numbers that name no order, no migrate type, no mark, and no worker of any zone
+-- the numbers that name no order, no migrate type, no mark, no worker of any zone, and no alignment of a run
 abbrev pub IsNoOrder : ℕ → Type 0
 IsNoOrder n = LARGEST_ORDER < n
 
@@ -24,6 +24,9 @@ IsNoMark n = mark_number Low < n
 
 abbrev pub IsNoWorker : ℕ → Type 0
 IsNoWorker n = MAX_WORKERS ≤ n
+
+abbrev pub IsNoAlignment : ℕ → Type 0
+IsNoAlignment n = LARGEST_ALIGNMENT < n
 
 -- from 40 on nothing was asked
 abbrev pub error_number : CallError → ℕ

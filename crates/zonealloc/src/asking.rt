@@ -1,8 +1,9 @@
 //! The one road from a worker's handle to a zone: the handle lends the worker, which makes the request. The two most frequent ones,
 //! allocating and freeing a block, have functions of their own.
-ghost use Rattle.std.specs.Prelude.{IfErr, IfOk, OnOk};
+ghost use Rattle.std.specs.Prelude.{IfErr, IfOk, IsTrue, OnOk};
 ghost use Rattle.zp_model.specs.declared.request.Request.TheVariants as request;
 ghost use Rattle.zp_model.specs.declared.request.Reply.TheVariants as reply;
+ghost use Rattle.zp_model.specs.Runs.{may_alloc_run};
 ghost use Rattle.zp_gate.specs.GatedWorkers.{IsGrantedAt};
 ghost use Rattle.zp_gate.specs.Calls.{reply_of, request_of};
 ghost use Rattle.zonealloc.specs.Calls.{IsAskDenied, IsOfBoth};
@@ -48,6 +49,29 @@ pub fn ask_free(worker: &mut WorkerHandle, zone: u32, page: PageNo, order: Order
     let held = worker.slot.held();
     match held.free(zone as usize, page, order) {
         Ok(()) => Ok(()),
+        Err(why) => Err(call_error(why)),
+    }
+}
+
+/// A run of pages for the worker in a handle: its first page, else the number of why there is none.
+#[tactic(auto, using(crate::proofs::Answering::ask_denied))]
+pub fn ask_alloc_run(
+    worker: &mut WorkerHandle,
+    zone: u32,
+    pages: u32,
+    align: u8,
+    mark: Mark,
+) -> Result<PageNo, u32>
+    requires { IsTrue (may_alloc_run pages align) }
+    ensures granted { IfOk result (λ page. IsOfBoth (IsGrantedAt zone (request.AllocRun pages align mark) (reply.Page page)) worker.old.slot.value worker.new.slot.value) }
+    ensures denied { IfErr result (λ n. IsAskDenied zone (request.AllocRun pages align mark) n worker.old.slot.value worker.new.slot.value) }
+{
+    if !worker.is_live() {
+        return Err(BAD_HANDLE);
+    }
+    let held = worker.slot.held();
+    match held.alloc_run(zone as usize, pages, align, mark) {
+        Ok(page) => Ok(page),
         Err(why) => Err(call_error(why)),
     }
 }

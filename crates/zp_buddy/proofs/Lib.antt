@@ -21,3 +21,4 @@ pub mod TakenTowards
 pub mod FallingRuns
 pub mod LastOrders
 pub mod GivingAs
+pub mod Groups

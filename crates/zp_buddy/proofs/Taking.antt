@@ -41,8 +41,11 @@ taken_claimed f g n k h b t claims en e eb eg es =
     rw (en, e) (cc)
 
 -- the lowest block of a sound area outside isolated pageblocks
+pub at_hand : (m : ℕ) (a : Blocks) → IsSound m a.rows.states a.kinds a.rows.lists → blocks_at_hand (area_in m a) ≡ choosable m a
+at_hand m a x = ap (available_blocks m a.kinds) (sym (set_maximal m (block_set a) x.normal))
+
 pub lowest_at : (m : ℕ) (a : Blocks) (k : ℕ) → IsSound m a.rows.states a.kinds a.rows.lists → lowest (blocks_at_hand (area_in m a)) k ≡ lowest (choosable m a) k
-lowest_at m a k x = ap (λ s. lowest (available_blocks m a.kinds s) k) (sym (set_maximal m (block_set a) x.normal))
+lowest_at m a k x = ap (λ s. lowest s k) (at_hand m a x)
 
 -- its type, as it is noted, is that of its pageblock
 pub noted_back : (s : PageblockType) → is_isolate s ≡ false → pageblock_type (noted_type s) ≡ s

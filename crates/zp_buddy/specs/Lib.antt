@@ -4,3 +4,4 @@ pub mod Choices
 pub mod Held
 pub mod Runs
 pub mod FallingRuns
+pub mod Bare

@@ -1,7 +1,7 @@
 //! The buddy allocator of one zone.
 //!
 //! In Linux: the `free_area` of a `struct zone`, `__rmqueue` and `__free_one_page`.
-ghost use Rattle.std.specs.Prelude.{ℕ, ◌≡◌, ◌<◌, ◌≤◌, ◌+◌, ◌++◌, ◌∷◌, [], ◌^◌, ◌*◌, ◌↔◌, false, length, map, slice_get, slice_index_or, slice_set, IfNone, IfOk, IfSome, IsTrue, None};
+ghost use Rattle.std.specs.Prelude.{ℕ, ◌≡◌, ◌<◌, ◌≤◌, ◌+◌, ◌++◌, ◌∷◌, [], ◌^◌, ◌*◌, ◌%◌, ◌↔◌, false, length, map, slice_get, slice_index_or, slice_set, IfNone, IfOk, IfSome, IsTrue, None};
 ghost use Rattle.std.specs.List.{range_with_len};
 ghost use Rattle.zp_model.specs.Block.{IsBlock, has, in_run, size};
 ghost use Rattle.zp_model.specs.Info.{blocks_of_type, counts_by_type, counts_of};
@@ -13,6 +13,8 @@ ghost use Rattle.zp_model.specs.BlockSet.{largest_in, max_blocks};
 ghost use Rattle.zp_model.specs.Area.{available, list_number, free_list, kind_at, pageblock_pages, pageblocks_of, size_in};
 ghost use Rattle.zp_model.specs.Runs.{IsFreeRun, has_pages};
 ghost use Rattle.zp_model.specs.Take.{leave, retype, take_answer, take_after, take_low_answer, take_low_after};
+ghost use Rattle.zp_model.specs.declared.constants.TheConstants.{LARGEST_BLOCK_PAGES, LARGEST_ORDER, MAX_PAGES};
+ghost use Rattle.zp_buddy.specs.Bare.{AreAtHand, IsBareTo};
 ghost use Rattle.zp_buddy.specs.FallingRuns.{AreTails, falling_run};
 ghost use Rattle.zp_buddy.specs.Runs.{AreClear, gives, pages_taken, pages_left, run_length, run_pages};
 
@@ -30,6 +32,7 @@ use zp_model::{
     Counts, CountsByType, Largest, MAX_PAGES, MigrateType, ORDERS, Order, PageAt, PageblockType,
     State,
 };
+use zp_tree::GROUP_PAGES;
 
 /// The free blocks of a zone, what is noted of its other pages, and further lists of those pages. Contracts see the plain
 /// free area with these.
@@ -123,6 +126,39 @@ impl Buddy {
         let pages = order.pages();
         self.free -= pages;
         Some(head)
+    }
+
+    /// A page before which no free block of this order or more begins that ends past page `from`, outside isolated pageblocks. It is found by
+    /// groups of pages.
+    pub fn bare_until(&self, from: u32, order: Order) -> u32
+        requires { from ≤ MAX_PAGES }
+        ensures within { result ≤ MAX_PAGES }
+        ensures bare { IsBareTo self.now.area order from result }
+    {
+        // a clause of this call says how large a block can be
+        let _largest = self.area.largest().number();
+        let group = (from / GROUP_PAGES) as usize;
+        self.area.bare_until(group, order) as u32 * GROUP_PAGES
+    }
+
+    /// The end of free pages outside isolated pageblocks from page `from` on, before `end`, as far as whole groups of pages have nothing else. A
+    /// group that is a block of the largest order is passed where it has nothing else.
+    pub fn whole_until(&self, from: u32, end: u32) -> u32
+        requires order { from ≤ end }
+        requires inside { end ≤ length self.now.area.free }
+        ensures from { from ≤ result }
+        ensures to { result ≤ end }
+        ensures pages { AreAtHand self.now.area from result }
+        ensures border { from < result → result % LARGEST_BLOCK_PAGES ≡ 0 }
+        ensures stops { self.now.area.largest ≡ LARGEST_ORDER → result % LARGEST_BLOCK_PAGES ≡ 0 → result + LARGEST_BLOCK_PAGES ≤ end → AreAtHand self.now.area result (result + LARGEST_BLOCK_PAGES) → ⊥ }
+    {
+        if from % GROUP_PAGES != 0 {
+            return from;
+        }
+        // a clause of this call says how many pages there can be
+        let _pages = self.area.pages();
+        let group = (from / GROUP_PAGES) as usize;
+        self.area.whole_until(group, (end / GROUP_PAGES) as usize) as u32 * GROUP_PAGES
     }
 
     /// Whether so many pages from this one on are all free, in isolated pageblocks too.

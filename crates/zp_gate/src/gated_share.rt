@@ -1,9 +1,10 @@
 //! One worker's share of one zone behind its lock.
-ghost use Rattle.std.specs.Prelude.{◌≡◌, ◌<◌, ◌↔◌, true, false, IfOk, IfErr, OnOk, Err};
+ghost use Rattle.std.specs.Prelude.{◌≡◌, ◌<◌, ◌↔◌, true, false, IfOk, IfErr, IsTrue, OnOk, Err};
 ghost use Rattle.std.specs.Arc.{arc_value};
 ghost use Rattle.zp_model.specs.declared.request.Request.TheVariants as request;
 ghost use Rattle.zp_model.specs.declared.request.Reply.TheVariants as reply;
 ghost use Rattle.zp_model.specs.declared.refused.Refused.TheVariants.{Memory};
+ghost use Rattle.zp_model.specs.Runs.{may_alloc_run};
 ghost use Rattle.zp_zone.specs.Seats.{IsUnused};
 ghost use Rattle.zp_share.specs.PlainShares.{lends_for};
 ghost use Rattle.zp_share.specs.Shares.{share_at};
@@ -23,7 +24,7 @@ use crate::try_lock::{Busy, TryLock, Visit};
 use std::alloc::Global;
 use std::marker::Model;
 use std::sync::Arc;
-use zp_model::{Mark, MigrateType, Order, PageNo, Refused};
+use zp_model::{Mark, MigrateType, Order, PageNo, Refused, Request};
 use zp_share::{ListConfig, Share};
 use zp_zone::Seat;
 
@@ -105,8 +106,27 @@ impl GatedShare {
         answer.map_err(CallError::Refused)
     }
 
-    /// Another request to the zone. Whether the zone has the worker to whom a block is posted, and whether the block is lent, is tested before
-    /// anybody enters. Refused 20, and as the zone refuses it.
+    /// The lowest run of so many free pages that begins at a multiple of two to the power `align`, held to this mark: its first page. It is then
+    /// lent. Refused 10, 11 or 30.
+    pub(crate) fn alloc_run(
+        &mut self,
+        pages: u32,
+        align: u8,
+        mark: Mark,
+    ) -> Result<PageNo, CallError>
+        requires { IsTrue (may_alloc_run pages align) }
+        ensures { IsSection (request.AllocRun pages align mark) reply.Page result self.old self.new }
+    {
+        let lock = &*self.lock;
+        let mut visitor = lock.enter().map_err(CallError::Busy)?;
+        let zone = visitor.slot_mut(&lock.table.shared, 0);
+        let answer = zone.alloc_run(&mut self.share, pages, align, mark);
+        lock.leave(visitor);
+        answer.map_err(CallError::Refused)
+    }
+
+    /// Another request to the zone. Whether the zone has the worker to whom a block is posted, and whether the block or the run that is named
+    /// is lent, is tested before anybody enters. Refused 20, and as the zone refuses it.
     #[tactic(auto, using(crate::proofs::Keeping::share_stays))]
     #[inline(always)]
     pub(crate) fn section(&mut self, call: ZoneCall) -> Result<Given, CallError>
@@ -141,13 +161,17 @@ impl GatedShare {
         }
     }
 
-    /// Whether the block that is named, if one is, is lent.
+    /// Whether the block that is named, if one is, or each page of the run that is to be freed is lent.
     #[inline(always)]
     fn lends_for(&self, call: &ZoneCall) -> bool
         ensures { result ≡ lends_for (request_of call.now) (plain_share (share_at self.now.share 0)) }
     {
         match call {
             ZoneCall::Post(page, order, _) => self.share.is_lent(0, *page, *order),
+            ZoneCall::FreeRun(page, pages) => {
+                let request = Request::FreeRun(*page, *pages);
+                self.share.lends_for(0, &request)
+            }
             _ => true,
         }
     }

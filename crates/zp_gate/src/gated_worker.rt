@@ -3,6 +3,7 @@ ghost use Rattle.std.specs.Prelude.{◌≡◌, ◌<◌, ◌≤◌, ◌↔◌, le
 ghost use Rattle.zp_model.specs.declared.request.Request.TheVariants as request;
 ghost use Rattle.zp_model.specs.declared.request.Reply.TheVariants as reply;
 ghost use Rattle.zp_model.specs.declared.constants.TheConstants.{LONGEST_LIST};
+ghost use Rattle.zp_model.specs.Runs.{may_alloc_run};
 ghost use Rattle.zp_share.specs.Shares.{share_at};
 ghost use Rattle.zp_share.specs.ZoneShares.{cached_of, is_lent};
 ghost use Rattle.zp_gate.specs.declared.call_error.CallError.TheVariants.{NoLists, NotEmpty, NoZone, TooFew};
@@ -66,6 +67,24 @@ impl GatedWorker {
             return Err(CallError::NoZone);
         };
         share.free(page, order)
+    }
+
+    /// The lowest run of so many free pages that begins at a multiple of two to the power `align`, held to this mark: its first page. It is then
+    /// lent. Refused 10, 11 or 30.
+    pub fn alloc_run(
+        &mut self,
+        zone: usize,
+        pages: u32,
+        align: u8,
+        mark: Mark,
+    ) -> Result<PageNo, CallError>
+        requires { IsTrue (may_alloc_run pages align) }
+        ensures { IsSectionAt zone (request.AllocRun pages align mark) reply.Page result self.old self.new }
+    {
+        let Some(share) = self.shares.get_mut(zone) else {
+            return Err(CallError::NoZone);
+        };
+        share.alloc_run(pages, align, mark)
     }
 
     /// Another request to the zone at a place, whatever is asked.

@@ -4,6 +4,7 @@ ghost use Rattle.std.specs.List.{count_by};
 ghost use Rattle.zp_model.specs.declared.refused.Refused.TheVariants.{Memory};
 ghost use Rattle.zp_model.specs.declared.request.Request.TheVariants as request;
 ghost use Rattle.zp_model.specs.Zone.{workers_of};
+ghost use Rattle.zp_model.specs.Runs.{may_alloc_run};
 ghost use Rattle.zp_share.specs.Gathering.{IsCrewOf};
 ghost use Rattle.zp_model.specs.declared.request.Reply.TheVariants as reply;
 ghost use Rattle.zp_zone.specs.NamedZone.{page_reply};
@@ -93,6 +94,21 @@ impl GatedZone {
         ensures { IsSectionOf (request.Free page order) (done_reply reply.Freed result) self.old self.new share.old share.new }
     {
         share.free_block(&mut self.zone, 0, page, order)
+    }
+
+    /// The lowest run of so many free pages for a share of the zone.
+    pub(crate) fn alloc_run(
+        &mut self,
+        share: &mut Share,
+        pages: u32,
+        align: u8,
+        mark: Mark,
+    ) -> Result<PageNo, Refused>
+        requires share { IsOneShare (key_of self.old.zone) share.old }
+        requires run { IsTrue (may_alloc_run pages align) }
+        ensures { IsSectionOf (request.AllocRun pages align mark) (page_reply result) self.old self.new share.old share.new }
+    {
+        share.alloc_run(&mut self.zone, 0, pages, align, mark)
     }
 
     /// Another request of a share to the zone.
@@ -200,6 +216,11 @@ fn asked(zone: &mut Zone, share: &mut Share, call: ZoneCall) -> Result<Given, Re
         ZoneCall::Post(page, order, to) => done(share.post(zone, 0, page, order, to)),
         ZoneCall::Isolate(pageblock) => done(share.isolate(zone, 0, pageblock)),
         ZoneCall::Release(pageblock, kind) => done(share.release(zone, 0, pageblock, kind)),
+        ZoneCall::AllocRunAt(page, pages) => match share.alloc_run_at(zone, 0, page, pages) {
+            Ok(_) => Ok(Given::Done),
+            Err(refused) => Err(refused),
+        },
+        ZoneCall::FreeRun(page, pages) => done(share.free_run(zone, 0, page, pages)),
     }
 }
 

@@ -12,7 +12,7 @@ ghost use Rattle.zp_zone.specs.Seats.{Agrees, HasPages, IsSeatOf, asked};
 ghost use Rattle.zp_journal.specs.Asking.{IsAnsweredWith, IsReplyWith, IsSeatStill};
 
 use arrayvec::ArrayVec;
-use zp_model::{Answered, Asked, Block, MAX_BATCH, Order, PageNo, Refused};
+use zp_model::{Answered, Asked, Block, LARGEST_ALIGNMENT, MAX_BATCH, Order, PageNo, Refused};
 use zp_zone::{Seat, Zone};
 
 /// The zone's reply, where the seat's worker may ask for this and the reply's list is that of the pages. Else nothing; the zone does not
@@ -65,6 +65,14 @@ fn answer(zone: &mut Zone, seat: &mut Seat, request: &Asked, pages: &[PageNo]) -
         }
         Asked::Isolate(pageblock) => isolate_answer(zone.isolate(seat, *pageblock)),
         Asked::Release(pageblock, kind) => release_answer(zone.release(seat, *pageblock, *kind)),
+        Asked::AllocRun(pages, align, mark) => {
+            page_answer(zone.alloc_run(seat, *pages, *align, *mark))
+        }
+        Asked::AllocRunAt(page, pages) => page_answer(zone.alloc_run_at(seat, *page, *pages)),
+        Asked::FreeRun(page, pages) => {
+            zone.free_run(seat, *page, *pages);
+            Some(Answered::Freed)
+        }
     }
 }
 
@@ -118,8 +126,8 @@ fn pages_answer(
     }
 }
 
-/// Whether the seat's worker may ask for this: each block named is the seat's, a worker named is one of the zone's, and the
-/// pages of a refill are some and not more than a batch.
+/// Whether the seat's worker may ask for this: each block and each run to be freed is the seat's, a worker named is one of the zone's, the pages
+/// of a refill are some and not more than a batch, and a run has a page and an alignment that may be asked.
 fn may_ask(zone: &Zone, seat: &Seat, workers: usize, request: &Asked, pages: &[PageNo]) -> bool
     requires seat { IsSeatOf zone.now seat.now }
     requires workers { workers ≡ workers_of zone.now.plain }
@@ -133,8 +141,11 @@ fn may_ask(zone: &Zone, seat: &Seat, workers: usize, request: &Asked, pages: &[P
         }
         Asked::Refill(_, _, count) => *count >= 1 && usize::from(*count) <= MAX_BATCH,
         Asked::Drain(_) => holds_all(zone, seat, pages) && has_no_page_twice(pages),
+        Asked::AllocRun(pages, align, _) => *pages >= 1 && *align <= LARGEST_ALIGNMENT,
+        Asked::FreeRun(page, pages) => zone.run_held_by(seat, *page, *pages),
         Asked::Alloc(_, _, _)
         | Asked::AllocLow(_)
+        | Asked::AllocRunAt(_, _)
         | Asked::Collect
         | Asked::Isolate(_)
         | Asked::Release(_, _) => true,

@@ -1,21 +1,23 @@
 -- No request changes what is other workers'.
-use Rattle.std.proofs.Common.{ℕ, ◌-◌, ◌≡◌, ◌≢◌, ◌<◌, refl, sym, ◌∙◌, ap, arith, true, cond, List, [], ◌∷◌, ◌++◌, Option, Some, None, ne_eqb}
+use Rattle.std.proofs.Common.{ℕ, ◌-◌, ◌≡◌, ◌≢◌, ◌<◌, refl, ◌∙◌, ap, arith, true, List, [], ◌∷◌, ◌++◌, None}
 use Rattle.std.specs.Prelude.{slice_get, slice_set}
-use Rattle.std.proofs.Math.Seq.{map-set_same}
 use Rattle.std.proofs.lemmas.Bool.{and_parts}
 use Rattle.std.proofs.lemmas.Bool.Decides.{nat_tests}
 use Rattle.zp_model.specs.Entries.{Entry}
 use Rattle.zp_model.specs.declared.request.Request.{Request}
 use Rattle.zp_model.specs.Area.{kind_at}
 use Rattle.zp_model.specs.PageblockType.{noted_type}
-use Rattle.zp_model.specs.Zone.{PlainZone, Holding, holding_at, workers_of}
+use Rattle.zp_model.specs.Zone.{PlainZone, workers_of}
 use Rattle.zp_model.specs.Step.{drained, step}
 use Rattle.zp_model.specs.Run.{may_ask}
 use Rattle.zp_model.specs.Lawful.{IsLawful}
 use Rattle.zp_model.specs.Books.{Books, only, own, made_by, part, entry_of, entered}
+use Rattle.zp_laws.proofs.BooksOut.{only_other, own_other, own-taken}
 use Rattle.zp_laws.proofs.Held.{IsHolding, out_held}
 use Rattle.zp_laws.proofs.Keeping.{posted_place}
 use Rattle.zp_laws.proofs.Outcomes.{alloc_by, low_by, collected_by, isolated_by, released_by, refill_by}
+use Rattle.zp_laws.proofs.RunBooks.{freed_others, taken_lent}
+use Rattle.zp_laws.proofs.RunSteps.{alloc_run_by, alloc_run_at_by, may_free-to}
 use Rattle.zp_laws.proofs.Sameness.{step-same}
 use Rattle.zp_laws.proofs.StaysOut.{chosen_place, low_place}
 use Rattle.zp_laws.proofs.Steps.{chosen_lawful, drained_by}
@@ -28,17 +30,6 @@ part_by u b d x y z = λ i. record { base = x i; blocks = y i; entries = z i }
 made_other : (u : ℕ) (e : Entry) (entries : List Entry) → u ≢ e.worker → made_by u (entries ++ e ∷ []) ≡ made_by u entries
 made_other u e [] ne = grind (arith, nat_tests)
 made_other u e (x ∷ xs) ne = grind (arith, nat_tests, made_other u e xs ne)
-
--- the holding at a page becomes another, and neither is u's
-own_other : (u : ℕ) (out : List (Option Holding)) (h : ℕ) (v : Option Holding) → only u v ≡ None → only u (holding_at out h) ≡ None → own u (slice_set out h v) ≡ own u out
-own_other u out h v a b = map-set_same (only u) out h v None (a ∙ sym b)
-
-pub only_other : (u : ℕ) (x : Holding) → u ≢ x.worker → only u (Some x) ≡ None
-only_other u x ne = ap (λ b. cond b (Some x) None) (ne_eqb x.worker u (λ e. ne (sym e)))
-
--- another's block goes out where none was
-pub own-taken : (u h : ℕ) (out : List (Option Holding)) (x : Holding) → u ≢ x.worker → holding_at out h ≡ None → own u (slice_set out h (Some x)) ≡ own u out
-own-taken u h out x ne none = own_other u out h (Some x) (only_other u x ne) (ap (only u) none)
 
 -- another's block is out no more
 own-left : (z : PlainZone) (u w h k : ℕ) → IsHolding z w h k → u ≢ w → own u (slice_set z.out h None) ≡ own u z.out
@@ -65,6 +56,10 @@ own-step u w z (Request.Drain t ps) l lt e ne =
     drained_by (λ y qs. own u (drained y qs).out ≡ own u y.out) w (λ y k. refl) (λ y p qs k out r. r ∙ own-left y u w (p - y.base) 0 (out_held y w p 0 out) ne) z ps a.0 a.1 l
 own-step u w z (Request.Isolate b) l lt e ne = isolated_by (λ o. own u o.zone.out ≡ own u z.out) z b (slice_get z.area.kinds b) (λ r. refl) refl
 own-step u w z (Request.Release b t) l lt e ne = released_by (λ o. own u o.zone.out ≡ own u z.out) z b t (slice_get z.area.kinds b) (λ r. refl) refl
+own-step u w z (Request.AllocRun n a m) l lt e ne = alloc_run_by (λ o. own u o.zone.out ≡ own u z.out) z w n a m (λ r. refl) (λ h x. (taken_lent z l w h n lt x).others u ne)
+own-step u w z (Request.AllocRunAt p n) l lt e ne =
+    alloc_run_at_by (λ o. own u o.zone.out ≡ own u z.out) z w p n (λ r. refl) (λ le x. (taken_lent z l w (p - z.base) n lt x).others u ne)
+own-step u w z (Request.FreeRun p n) l lt e ne = freed_others z l w (p - z.base) n lt (may_free-to z w p n e).1 u ne
 
 -- a request that may be made leaves what is other workers'
 pub request_others : (u w : ℕ) (r : Request) (b : Books) → IsLawful b.plain → w < workers_of b.plain → may_ask b.plain w r ≡ true → u ≢ w → part u (entered w r b) ≡ part u b

@@ -32,3 +32,4 @@ pub mod RunBooks
 pub mod RunPlaces
 pub mod RunsByBlocks
 pub mod RunsOwn
+pub mod RunsHeld

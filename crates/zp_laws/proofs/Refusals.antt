@@ -6,6 +6,7 @@ use Rattle.zp_model.specs.declared.request.Request.{Request}
 use Rattle.zp_model.specs.declared.request.Reply.{Reply}
 use Rattle.zp_model.specs.Zone.{PlainZone}
 use Rattle.zp_model.specs.Step.{Outcome, step}
+use Rattle.zp_laws.proofs.RunSteps.{alloc_run_by, alloc_run_at_by}
 use Rattle.zp_laws.proofs.Outcomes.{alloc_by, low_by, collected_by, isolated_by, released_by, refill_by}
 
 -- an outcome that is a refusal and leaves the zone, or is none
@@ -27,3 +28,6 @@ refusal-same z w (Request.Refill t m n) =
 refusal-same z w (Request.Drain t ps) = λ r e. absurd (cc)
 refusal-same z w (Request.Isolate b) = isolated_by (IsFair z) z b (slice_get z.area.kinds b) (λ x r e. refl) (λ r e. absurd (cc))
 refusal-same z w (Request.Release b t) = released_by (IsFair z) z b t (slice_get z.area.kinds b) (λ x r e. refl) (λ r e. absurd (cc))
+refusal-same z w (Request.AllocRun n a m) = alloc_run_by (IsFair z) z w n a m (λ x r e. refl) (λ h x r e. absurd (cc))
+refusal-same z w (Request.AllocRunAt p n) = alloc_run_at_by (IsFair z) z w p n (λ x r e. refl) (λ le x r e. absurd (cc))
+refusal-same z w (Request.FreeRun p n) = λ r e. absurd (cc)

@@ -8,7 +8,10 @@ use Rattle.zp_model.specs.declared.migrate_type.MigrateType.{MigrateType}
 use Rattle.zp_model.specs.declared.pageblock_type.PageblockType.TheVariants.{Movable}
 use Rattle.zp_model.specs.Area.{Area, kind_at}
 use Rattle.zp_model.specs.Block.{has, IsBlock}
-use Rattle.zp_model.specs.Books.{only, own}
+use Rattle.zp_model.specs.declared.request.Request.{Request}
+use Rattle.zp_model.specs.Books.{only, own, type_of_page}
+use Rattle.zp_model.specs.Run.{may_ask}
+use Rattle.zp_model.specs.Step.{step}
 use Rattle.zp_model.specs.Lawful.{IsLawful}
 use Rattle.zp_model.specs.PageblockType.{noted_type}
 use Rattle.zp_model.specs.Runs.{give_run, is_within, kept_before, kept_from, leave_run, meets, run_freed, run_taken, without_blocks}
@@ -16,19 +19,19 @@ use Rattle.zp_model.specs.Zone.{PlainZone, Holding, holding_at, pages_of, worker
 use Rattle.zp_model.proofs.Heads.{number_around}
 use Rattle.zp_model.proofs.Pages.{in_run-to, in_run-from}
 use Rattle.zp_model.proofs.RunParts.{with_pages-new, within-from, within-to}
-use Rattle.zp_laws.specs.KeptRuns.{RunRequest, run_step, may_ask_run, handed_out_run, given_back_run, lent_type, page_type}
+use Rattle.zp_laws.specs.FreePages.{given_back, handed_out}
+use Rattle.zp_laws.specs.KeptRuns.{IsForRun, lent_type}
 use Rattle.zp_laws.proofs.Areas.{free-give_run, largest-leave_run}
 use Rattle.zp_laws.proofs.Around.{IsAround, out_apart}
-use Rattle.zp_laws.proofs.BooksOthers.{only_other}
-use Rattle.zp_laws.proofs.BooksOut.{own-at}
+use Rattle.zp_laws.proofs.BooksOut.{only_other, own-at}
 use Rattle.zp_laws.proofs.KeepingRuns.{IsFree, IsLent, before_ready, behind_ready, beside, freed_run_lawful, freed_run_rest, left_at, length-left, meets-to, meets_beside, opened_out, run_taken_lawful, run_taken_rest, taken_ready}
 use Rattle.zp_laws.proofs.Moves.{run-absolute}
 use Rattle.zp_laws.proofs.RunsLent.{IsLentToo, cut_lent, type_around, type_none, type_same, type_some}
-use Rattle.zp_laws.proofs.RunSteps.{alloc_run_by, alloc_run_at_by, free_run_by, lent-not_free, lent_inside, may_free-to}
+use Rattle.zp_laws.proofs.RunSteps.{alloc_run_by, alloc_run_at_by, free_run_by, lent-not_free, lent_inside, may_free-to, run_freed_lawful}
 
 -- what is lent when a run of free pages goes out
 module _ (z : PlainZone) (l : IsLawful z) (w h n : ℕ) (lt : w < workers_of z) (x : IsFree z h n) where
-  taken_lent : IsLentToo (record z { area = leave_run z.area h n }) (run_taken z w h n) w (λ g. noted_type (kind_at z.area.largest z.area.kinds g)) h n
+  pub taken_lent : IsLentToo (record z { area = leave_run z.area h n }) (run_taken z w h n) w (λ g. noted_type (kind_at z.area.largest z.area.kinds g)) h n
   taken_lent = cut_lent (record z { area = leave_run z.area h n }) (is_within h n) w (λ g. noted_type (kind_at z.area.largest z.area.kinds g)) h n (taken_ready z w h n l lt x)
 
   -- a page of it is lent for its pageblock's type, and each other page is as before
@@ -147,9 +150,6 @@ module _ (z : PlainZone) (l : IsLawful z) (w h n : ℕ) (x : IsLent z w h n) (lt
 
 -- what is lent when a run comes back: a page of it is not, and each other page is as before
 module _ (z : PlainZone) (l : IsLawful z) (w h n : ℕ) (lt : w < workers_of z) (x : IsLent z w h n) where
-  pub run_freed_lawful : IsLawful (run_freed z w h n)
-  run_freed_lawful = free_run_by IsLawful z w h n l x (λ b e s t. freed_run_lawful z l w h n x b e s t lt)
-
   freed_type : (i : ℕ) → type_around (run_freed z w h n) w i ≡ cond (is_within h n i) None (type_around z w i)
   freed_type i = go (is_within h n i) refl
     where
@@ -158,10 +158,10 @@ module _ (z : PlainZone) (l : IsLawful z) (w h n : ℕ) (lt : w < workers_of z) 
           let r = within-to h n i q in
           let now : has (run_freed z w h n).area.free i ≡ true = ap (λ (a : Area). has a.free i) (freed_run_rest z w h n).area ∙ ap (λ u. has u i) (free-give_run z.area h n)
           ∙ with_pages-new z.area.free h n i (omega (arith, r.1, lent_inside z w h n l x)) r.0 r.1 in
-          both_ways (has (run_freed z w h n).area.free i) (lent-not_free (run_freed z w h n) w i c run_freed_lawful a) now)
+          both_ways (has (run_freed z w h n).area.free i) (lent-not_free (run_freed z w h n) w i c (run_freed_lawful z l w h n lt x) a) now)
       go false q = free_run_by (λ y. type_around y w i ≡ type_around z w i) z w h n l x (λ b e s t. kept_type z l w h n x lt b e s t i q)
 
-  freed_others : (u : ℕ) → u ≢ w → own u (run_freed z w h n).out ≡ own u z.out
+  pub freed_others : (u : ℕ) → u ≢ w → own u (run_freed z w h n).out ≡ own u z.out
   freed_others u ne = free_run_by (λ y. own u y.out ≡ own u z.out) z w h n l x (λ b e s t. kept_others z l w h n x lt b e s t u ne)
 
 -- in absolute pages
@@ -174,25 +174,28 @@ lent_told z y w h n p v base e =
     parts : (a r : Bool) (v o : Option MigrateType) → cond a (cond r v o) None ≡ cond (a && r) v (cond a o None)
     parts a r v o = grind arith
 
-pub run_step_lent : (z : PlainZone) (w : ℕ) (q : RunRequest) (p : ℕ) → IsLawful z → w < workers_of z → may_ask_run z w q ≡ true →
-    lent_type (run_step z w q).zone w p ≡ cond (handed_out_run q (run_step z w q).reply p) (Some (page_type z p)) (cond (given_back_run q p) None (lent_type z w p))
-run_step_lent z w (RunRequest.AllocRun n a m) p l lt e =
-    alloc_run_by (λ o. lent_type o.zone w p ≡ cond (handed_out_run (RunRequest.AllocRun n a m) o.reply p) (Some (page_type z p)) (lent_type z w p)) z w n a m (λ r. refl)
-    (λ h x. lent_told z (run_taken z w h n) w h n p (Some (page_type z p)) (run_taken_rest z w h n).base (taken_type z l w h n lt x (p - z.base)))
-run_step_lent z w (RunRequest.AllocRunAt g n) p l lt e =
-    alloc_run_at_by (λ o. lent_type o.zone w p ≡ cond (handed_out_run (RunRequest.AllocRunAt g n) o.reply p) (Some (page_type z p)) (lent_type z w p)) z w g n (λ r. refl)
+pub run_step_lent : (z : PlainZone) (w : ℕ) (q : Request) (p : ℕ) → IsLawful z → w < workers_of z → may_ask z w q ≡ true → IsForRun q →
+    lent_type (step z w q).zone w p ≡ cond (handed_out q (step z w q).reply p) (Some (type_of_page z (p - z.base))) (cond (given_back q p) None (lent_type z w p))
+run_step_lent z w (Request.AllocRun n a m) p l lt e r =
+    alloc_run_by (λ o. lent_type o.zone w p ≡ cond (handed_out (Request.AllocRun n a m) o.reply p) (Some (type_of_page z (p - z.base))) (lent_type z w p)) z w n a m (λ r. refl)
+    (λ h x. lent_told z (run_taken z w h n) w h n p (Some (type_of_page z (p - z.base))) (run_taken_rest z w h n).base (taken_type z l w h n lt x (p - z.base)))
+run_step_lent z w (Request.AllocRunAt g n) p l lt e r =
+    alloc_run_at_by (λ o. lent_type o.zone w p ≡ cond (handed_out (Request.AllocRunAt g n) o.reply p) (Some (type_of_page z (p - z.base))) (lent_type z w p)) z w g n (λ r. refl)
     (λ le x.
     let h : ℕ = g - z.base in
     let at : z.base + (g - z.base) ≡ g = omega arith in
-    rw at at (lent_told z (run_taken z w h n) w h n p (Some (page_type z p)) (run_taken_rest z w h n).base (taken_type z l w h n lt x (p - z.base))))
-run_step_lent z w (RunRequest.FreeRun g n) p l lt e =
+    rw at at (lent_told z (run_taken z w h n) w h n p (Some (type_of_page z (p - z.base))) (run_taken_rest z w h n).base (taken_type z l w h n lt x (p - z.base))))
+run_step_lent z w (Request.FreeRun g n) p l lt e r =
     let h : ℕ = g - z.base in
     let x = may_free-to z w g n e in
     let at : z.base + (g - z.base) ≡ g = omega (arith, x.0) in
     rw at at (lent_told z (run_freed z w h n) w h n p None (freed_run_rest z w h n).base (freed_type z l w h n lt x.1 (p - z.base)))
-
-pub run_step_others : (u w : ℕ) (z : PlainZone) (q : RunRequest) → IsLawful z → w < workers_of z → may_ask_run z w q ≡ true → u ≢ w → own u (run_step z w q).zone.out ≡ own u z.out
-run_step_others u w z (RunRequest.AllocRun n a m) l lt e ne = alloc_run_by (λ o. own u o.zone.out ≡ own u z.out) z w n a m (λ r. refl) (λ h x. (taken_lent z l w h n lt x).others u ne)
-run_step_others u w z (RunRequest.AllocRunAt p n) l lt e ne =
-    alloc_run_at_by (λ o. own u o.zone.out ≡ own u z.out) z w p n (λ r. refl) (λ le x. (taken_lent z l w (p - z.base) n lt x).others u ne)
-run_step_others u w z (RunRequest.FreeRun p n) l lt e ne = freed_others z l w (p - z.base) n lt (may_free-to z w p n e).1 u ne
+run_step_lent z w (Request.Alloc k t m) p l lt e r = absurd r
+run_step_lent z w (Request.AllocLow k) p l lt e r = absurd r
+run_step_lent z w (Request.Free b k) p l lt e r = absurd r
+run_step_lent z w (Request.Post b k to) p l lt e r = absurd r
+run_step_lent z w Request.Collect p l lt e r = absurd r
+run_step_lent z w (Request.Refill t m n) p l lt e r = absurd r
+run_step_lent z w (Request.Drain t ps) p l lt e r = absurd r
+run_step_lent z w (Request.Isolate b) p l lt e r = absurd r
+run_step_lent z w (Request.Release b t) p l lt e r = absurd r

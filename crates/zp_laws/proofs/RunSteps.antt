@@ -1,39 +1,40 @@
--- Each request for a run that is defined keeps a lawful zone lawful, moves exactly its pages, and changes nothing where it is refused.
+-- What a request for a run comes to: it is refused, or a run of free pages goes out, or one that is lent comes back.
 use Rattle.std.proofs.Common.{ℕ, ◌+◌, ◌-◌, ◌≡◌, ◌≤◌, ◌<◌, refl, ◌∙◌, ap, arith, Bool, true, false, length, ◌&&◌, cond, leb, Option, Some, None}
 use Rattle.std.specs.Option.{is_some}
 use Rattle.std.proofs.lemmas.Bool.{and_parts, false_from_ne_true, leb-true}
 use Rattle.zp_model.specs.declared.mark.Mark.{Mark}
-use Rattle.zp_model.specs.declared.refused.Refused.TheVariants.{BelowMark, NoBlock}
+use Rattle.zp_model.specs.declared.refused.Refused.{Refused}
+use Rattle.zp_model.specs.declared.refused.Refused.TheVariants.{BadRun, BelowMark, NoBlock, NotFree}
+use Rattle.zp_model.specs.declared.request.Reply.{Reply}
 use Rattle.zp_model.specs.Area.{Area}
 use Rattle.zp_model.specs.Block.{has}
 use Rattle.zp_model.specs.Lawful.{IsLawful}
 use Rattle.zp_model.specs.Mark.{pages_at_hand}
-use Rattle.zp_model.specs.Refused.{refused_number}
-use Rattle.zp_model.specs.Runs.{RunOutcome, RunReply, alloc_run_found, alloc_run_step, alloc_run_at_step, block_around, give_run, has_pages, is_above_by, is_lent_run, is_run, is_within, kept_before, kept_from, lowest_run, may_free_run, refuse_run, run_freed, run_taken, without_blocks, not_free, bad_run}
+use Rattle.zp_model.specs.Runs.{block_around, give_run, has_pages, is_above_by, is_lent_run, is_run, is_within, kept_before, kept_from, lowest_run, may_free_run, run_freed, run_taken, without_blocks}
+use Rattle.zp_model.specs.Step.{Outcome, alloc_run, alloc_run_at, alloc_run_found, refuse}
 use Rattle.zp_model.specs.Zone.{PlainZone, Holding, pages_of, workers_of}
 use Rattle.zp_model.proofs.LowestRun.{all-to, available-to, has_pages-to, lowest_found}
 use Rattle.zp_model.proofs.RunParts.{length-with_pages, length-without_pages, within-from, within-to}
 use Rattle.zp_laws.specs.FreePages.{IsMove, IsSameZone}
-use Rattle.zp_laws.specs.KeptRuns.{RunRequest, run_step, may_ask_run, handed_out_run, given_back_run}
 use Rattle.zp_laws.proofs.Areas.{free-give_run, free-leave_run, largest-give_run, largest-leave_run}
 use Rattle.zp_laws.proofs.Around.{IsAround, around-from, around-to, some_around}
 use Rattle.zp_laws.proofs.Counting.{one_if}
 use Rattle.zp_laws.proofs.HandedOut.{out-has}
 use Rattle.zp_laws.proofs.Keeping.{block-inside, one_place}
-use Rattle.zp_laws.proofs.KeepingRuns.{IsFree, IsLent, freed_run_lawful, freed_run_rest, run_taken_lawful, run_taken_rest}
-use Rattle.zp_laws.proofs.Moves.{move_back_run, move_none, move_out_run, none}
+use Rattle.zp_laws.proofs.KeepingRuns.{IsFree, IsLent, freed_run_lawful, freed_run_rest, run_taken_rest}
+use Rattle.zp_laws.proofs.Moves.{move_back_run, move_out_run, none}
 
 -- a request for a run is refused, or one of free pages goes out
-pub alloc_run_by : (P : RunOutcome → Type 0) (z : PlainZone) (w n a : ℕ) (m : Mark) → ((r : ℕ) → P (refuse_run z r)) → ((h : ℕ) → IsFree z h n → P (alloc_run_found z w n (Some h))) →
-    P (alloc_run_step z w n a m)
+pub alloc_run_by : (P : Outcome → Type 0) (z : PlainZone) (w n a : ℕ) (m : Mark) → ((r : Refused) → P (refuse z r)) → ((h : ℕ) → IsFree z h n → P (alloc_run_found z w n (Some h))) →
+    P (alloc_run z w n a m)
 alloc_run_by P z w n a m none some =
-    elim (is_above_by z.min (pages_at_hand z) n m) as (λ b. P (cond b (alloc_run_found z w n (lowest_run z n a)) (refuse_run z (refused_number BelowMark)))) [
+    elim (is_above_by z.min (pages_at_hand z) n m) as (λ b. P (cond b (alloc_run_found z w n (lowest_run z n a)) (refuse z BelowMark))) [
       | true ↦ found (lowest_run z n a) refl
-      | false ↦ none (refused_number BelowMark)
+      | false ↦ none BelowMark
     ]
   where
     found : (o : Option ℕ) → lowest_run z n a ≡ o → P (alloc_run_found z w n o)
-    found None e = none (refused_number NoBlock)
+    found None e = none NoBlock
     found (Some h) e =
         let x = lowest_found z n a h e in
         let y = and_parts _ _ x.1 in
@@ -42,24 +43,24 @@ alloc_run_by P z w n a m none some =
           full = λ i q. let r = within-to h n i q in (available-to z.area.largest z.area.kinds z.area.free i (has_pages-to _ h n y.1 i r.0 r.1)).0;
         })
 
-pub alloc_run_at_by : (P : RunOutcome → Type 0) (z : PlainZone) (w p n : ℕ) → ((r : ℕ) → P (refuse_run z r)) →
-    (z.base ≤ p → IsFree z (p - z.base) n → P (record { reply = RunReply.Page p; zone = run_taken z w (p - z.base) n })) → P (alloc_run_at_step z w p n)
+pub alloc_run_at_by : (P : Outcome → Type 0) (z : PlainZone) (w p n : ℕ) → ((r : Refused) → P (refuse z r)) →
+    (z.base ≤ p → IsFree z (p - z.base) n → P (record { reply = Reply.Page p; zone = run_taken z w (p - z.base) n })) → P (alloc_run_at z w p n)
 alloc_run_at_by P z w p n none some =
     inside (leb z.base p && is_run (pages_of z) (p - z.base) n) refl
   where
     h : ℕ
     h = p - z.base
 
-    taken : RunOutcome
-    taken = record { reply = RunReply.Page p; zone = run_taken z w h n }
+    taken : Outcome
+    taken = record { reply = Reply.Page p; zone = run_taken z w h n }
 
-    full : (t : Bool) → has_pages z.area.free h n ≡ t → z.base ≤ p → h + n ≤ pages_of z → P (cond t (record { reply = RunReply.Page p; zone = run_taken z w h n }) (refuse_run z not_free))
-    full false e le room = none not_free
+    full : (t : Bool) → has_pages z.area.free h n ≡ t → z.base ≤ p → h + n ≤ pages_of z → P (cond t (record { reply = Reply.Page p; zone = run_taken z w h n }) (refuse z NotFree))
+    full false e le room = none NotFree
     full true e le room = some le (record { inside = room; full = λ i q. let r = within-to h n i q in has_pages-to z.area.free h n e i r.0 r.1 })
 
     inside : (t : Bool) → (leb z.base p && is_run (pages_of z) h n) ≡ t →
-        P (cond t (cond (has_pages z.area.free h n) (record { reply = RunReply.Page p; zone = run_taken z w h n }) (refuse_run z not_free)) (refuse_run z bad_run))
-    inside false e = none bad_run
+        P (cond t (cond (has_pages z.area.free h n) (record { reply = Reply.Page p; zone = run_taken z w h n }) (refuse z NotFree)) (refuse z BadRun))
+    inside false e = none BadRun
     inside true e =
         let a = and_parts (leb z.base p) (is_run (pages_of z) h n) e in
         let b = and_parts _ _ a.1 in
@@ -90,26 +91,12 @@ free_run_by P z w h n l x some =
     let e = x.around (h + n - 1) (within-from h n (h + n - 1) (omega (arith, x.some)) (omega (arith, x.some))) in
     rw (around-from z l w h b.0 b.1, around-from z l w (h + n - 1) e.0 e.1) (some b.0 e.0 b.1 e.1)
 
-pub run_step_lawful : (z : PlainZone) (w : ℕ) (q : RunRequest) → IsLawful z → w < workers_of z → may_ask_run z w q ≡ true → IsLawful (run_step z w q).zone
-run_step_lawful z w (RunRequest.AllocRun n a m) l lt e = alloc_run_by (λ o. IsLawful o.zone) z w n a m (λ r. l) (λ h x. run_taken_lawful z w h n l lt x)
-run_step_lawful z w (RunRequest.AllocRunAt p n) l lt e =
-    alloc_run_at_by (λ o. IsLawful o.zone) z w p n (λ r. l) (λ le x. run_taken_lawful z w (p - z.base) n l lt x)
-run_step_lawful z w (RunRequest.FreeRun p n) l lt e =
-    let x = may_free-to z w p n e in
-    free_run_by IsLawful z w (p - z.base) n l x.1 (λ b c s t. freed_run_lawful z l w (p - z.base) n x.1 b c s t lt)
-
--- a refusal changes nothing
-abbrev IsFair : PlainZone → RunOutcome → Type 0
-IsFair z o = (r : ℕ) → o.reply ≡ RunReply.Refused r → o.zone ≡ z
-
-pub run_refusal-same : (z : PlainZone) (w : ℕ) (q : RunRequest) → IsFair z (run_step z w q)
-run_refusal-same z w (RunRequest.AllocRun n a m) = alloc_run_by (IsFair z) z w n a m (λ r s e. refl) (λ h x s e. absurd (cc))
-run_refusal-same z w (RunRequest.AllocRunAt p n) = alloc_run_at_by (IsFair z) z w p n (λ r s e. refl) (λ le x s e. absurd (cc))
-run_refusal-same z w (RunRequest.FreeRun p n) = λ r e. absurd (cc)
+pub run_freed_lawful : (z : PlainZone) → IsLawful z → (w h n : ℕ) → w < workers_of z → IsLent z w h n → IsLawful (run_freed z w h n)
+run_freed_lawful z l w h n lt x = free_run_by IsLawful z w h n l x (λ b e s t. freed_run_lawful z l w h n x b e s t lt)
 
 -- the free pages move
-taken_moves : (z : PlainZone) (w h n : ℕ) → IsFree z h n → IsMove z (run_taken z w h n) (is_within (z.base + h) n) none
-taken_moves z w h n x =
+pub run_taken_moves : (z : PlainZone) (w h n : ℕ) → IsFree z h n → IsMove z (run_taken z w h n) (is_within (z.base + h) n) none
+run_taken_moves z w h n x =
     let r = run_taken_rest z w h n in
     move_out_run z (run_taken z w h n) h n r.base (ap (λ (a : Area). a.free) r.area ∙ free-leave_run z.area h n) x.full
 
@@ -128,28 +115,15 @@ lent_inside z w h n l x =
     let b = block-inside z.area.largest (pages_of z) e.0.0 e.0.1.order (h + n - 1) (l.out e.0.0 e.0.1 e.1.at).0 e.1.page in
     omega (arith, b.2, x.some)
 
-freed_moves : (z : PlainZone) (w h n : ℕ) → IsLawful z → IsLent z w h n → IsMove z (run_freed z w h n) none (is_within (z.base + h) n)
-freed_moves z w h n l x =
+pub run_freed_moves : (z : PlainZone) (w h n : ℕ) → IsLawful z → IsLent z w h n → IsMove z (run_freed z w h n) none (is_within (z.base + h) n)
+run_freed_moves z w h n l x =
     let r = freed_run_rest z w h n in
     move_back_run z (run_freed z w h n) h n r.base (ap (λ (a : Area). a.free) r.area ∙ free-give_run z.area h n) (lent_inside z w h n l x)
     (λ i q. let c = x.around i q in lent-not_free z w i c.0 l c.1)
 
-pub run_step_moves : (z : PlainZone) (w : ℕ) (q : RunRequest) → IsLawful z → w < workers_of z → may_ask_run z w q ≡ true →
-    IsMove z (run_step z w q).zone (handed_out_run q (run_step z w q).reply) (given_back_run q)
-run_step_moves z w (RunRequest.AllocRun n a m) l lt e =
-    alloc_run_by (λ o. IsMove z o.zone (handed_out_run (RunRequest.AllocRun n a m) o.reply) none) z w n a m (λ r. move_none z z refl refl) (λ h x. taken_moves z w h n x)
-run_step_moves z w (RunRequest.AllocRunAt p n) l lt e =
-    alloc_run_at_by (λ o. IsMove z o.zone (handed_out_run (RunRequest.AllocRunAt p n) o.reply) none) z w p n (λ r. move_none z z refl refl) (λ le x.
-    let at : z.base + (p - z.base) ≡ p = omega arith in
-    rw at at (taken_moves z w (p - z.base) n x))
-run_step_moves z w (RunRequest.FreeRun p n) l lt e =
-    let x = may_free-to z w p n e in
-    let at : z.base + (p - z.base) ≡ p = omega (arith, x.0) in
-    rw at at (freed_moves z w (p - z.base) n l x.1)
-
 -- what no request for a run changes
-taken-same : (z : PlainZone) (w h n : ℕ) → IsSameZone z (run_taken z w h n)
-taken-same z w h n =
+pub run_taken-same : (z : PlainZone) (w h n : ℕ) → IsSameZone z (run_taken z w h n)
+run_taken-same z w h n =
     let r = run_taken_rest z w h n in
     record {
       largest = ap (λ (a : Area). a.largest) r.area ∙ largest-leave_run z.area h n;
@@ -159,14 +133,8 @@ taken-same z w h n =
       workers = ap length r.posted;
     }
 
-same : (z : PlainZone) → IsSameZone z z
-same z = record { largest = refl; pages = refl; base = refl; min = refl; workers = refl }
-
-pub run_step-same : (z : PlainZone) (w : ℕ) (q : RunRequest) → IsSameZone z (run_step z w q).zone
-run_step-same z w (RunRequest.AllocRun n a m) = alloc_run_by (λ o. IsSameZone z o.zone) z w n a m (λ r. same z) (λ h x. taken-same z w h n)
-run_step-same z w (RunRequest.AllocRunAt p n) = alloc_run_at_by (λ o. IsSameZone z o.zone) z w p n (λ r. same z) (λ le x. taken-same z w (p - z.base) n)
-run_step-same z w (RunRequest.FreeRun p n) =
-    let h : ℕ = p - z.base in
+pub run_freed-same : (z : PlainZone) (w h n : ℕ) → IsSameZone z (run_freed z w h n)
+run_freed-same z w h n =
     let r = freed_run_rest z w h n in
     record {
       largest = ap (λ (a : Area). a.largest) r.area ∙ largest-give_run z.area h n;

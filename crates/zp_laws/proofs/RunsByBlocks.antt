@@ -23,8 +23,8 @@ use Rattle.zp_laws.proofs.Around.{IsAround, around-from, around-to, out_apart}
 use Rattle.zp_laws.proofs.HandedOut.{held_below}
 use Rattle.zp_laws.proofs.KeepingRuns.{IsLent, left_at, length-left, meets-from, meets-to, out_rest}
 use Rattle.zp_laws.proofs.Counting.{same_tests}
-use Rattle.zp_laws.proofs.RunBooks.{before_lent, rest_from, run_freed_lawful}
-use Rattle.zp_laws.proofs.RunSteps.{lent-not_free, lent-to, lent_inside}
+use Rattle.zp_laws.proofs.RunBooks.{before_lent, rest_from}
+use Rattle.zp_laws.proofs.RunSteps.{lent-not_free, lent-to, lent_inside, run_freed_lawful}
 
 -- what goes out does not hang on the area
 out_beside : (w : ℕ) (kind : ℕ → MigrateType) (bs : List (ℕ × ℕ)) (z : PlainZone) (a : Area) → hand_out_blocks (record z { area = a }) w kind bs ≡ record (hand_out_blocks z w kind bs) { area = a }

@@ -16,7 +16,7 @@ use Rattle.zp_model.specs.Zone.{PlainZone, Holding, holding_at, pages_of, worker
 use Rattle.zp_model.proofs.Cuts.{cut_tiles}
 use Rattle.zp_model.proofs.RunParts.{within-to, within-from}
 use Rattle.zp_laws.proofs.Around.{IsAround, around-from, around-to}
-use Rattle.zp_laws.proofs.BooksOthers.{own-taken}
+use Rattle.zp_laws.proofs.BooksOut.{own-taken}
 use Rattle.zp_laws.proofs.HandedOut.{in_run-head}
 use Rattle.zp_laws.proofs.RunsOut.{IsLawfulBut, IsReady, block_out, nowhere-not_out, within_parts}
 

@@ -5,12 +5,13 @@ use Rattle.std.proofs.lemmas.List.{ext_get_or, length-map}
 use Rattle.zp_model.specs.declared.migrate_type.MigrateType.{MigrateType}
 use Rattle.zp_model.specs.Block.{head}
 use Rattle.zp_model.specs.BlockSet.{first_of, orders_from}
-use Rattle.zp_model.specs.Books.{only, own}
-use Rattle.zp_model.specs.Runs.{block_around, block_of, cut, give_run, hand_out_blocks, kept_before, kept_from, meets, without_blocks}
+use Rattle.zp_model.specs.Books.{only, own, type_of_page}
+use Rattle.zp_model.specs.Area.{Area}
+use Rattle.zp_model.specs.Runs.{block_around, block_of, cut, give_run, hand_out_blocks, hand_out_run, kept_before, kept_from, leave_run, meets, run_taken, without_blocks}
 use Rattle.zp_model.specs.Zone.{PlainZone, Holding, hand_out, holding_at, is_of}
 use Rattle.zp_laws.specs.RunsByBlocks.{FreedRunsTellTheirPart}
-use Rattle.zp_laws.proofs.BooksOut.{own-at}
-use Rattle.zp_laws.proofs.BooksOwn.{own_set}
+use Rattle.zp_laws.proofs.Areas.{largest-leave_run}
+use Rattle.zp_laws.proofs.BooksOut.{own-at, own_set}
 use Rattle.zp_laws.proofs.KeepingRuns.{left_at, length-left}
 
 -- the zone as worker w knows it: what is out in others' names is left away
@@ -73,6 +74,18 @@ before_own z w h (Some b) = out_own w (λ g. b.1.kind) (cut z.area.largest b.0 (
 from_own : (z : PlainZone) (w e : ℕ) (o : Option (ℕ × Holding)) → seen (kept_from z w e o) w ≡ kept_from (seen z w) w e o
 from_own z w e None = refl
 from_own z w e (Some b) = out_own w (λ g. b.1.kind) (cut z.area.largest e (b.0 + 2 ^ b.1.order - e)) z
+
+-- what goes out does not hang on the area
+out_beside : (w : ℕ) (kind : ℕ → MigrateType) (bs : List (ℕ × ℕ)) (z : PlainZone) (a : Area) → (hand_out_blocks (record z { area = a }) w kind bs).out ≡ (hand_out_blocks z w kind bs).out
+out_beside w kind [] z a = refl
+out_beside w kind (b ∷ bs) z a = out_beside w kind bs (hand_out z w b.0 b.1 (kind b.0)) a
+
+pub taken_own : (z : PlainZone) (w h n : ℕ) → own w (run_taken z w h n).out ≡ (hand_out_run (seen z w) w (type_of_page z) h n).out
+taken_own z w h n =
+    let a : Area = leave_run z.area h n in
+    ap (λ m. own w (hand_out_blocks (record z { area = a }) w (type_of_page z) (cut m h n)).out) (largest-leave_run z.area h n)
+    ∙ ap (λ (v : PlainZone). v.out) (out_own w (type_of_page z) (cut z.area.largest h n) (record z { area = a }))
+    ∙ out_beside w (type_of_page z) (cut z.area.largest h n) (seen z w) a
 
 pub freed_own : FreedRunsTellTheirPart
 freed_own z w h n =

@@ -13,6 +13,7 @@ use Rattle.zp_model.specs.Step.{alloc_chosen, freed, handed_on, drained, with_ki
 use Rattle.zp_model.proofs.Covers.{length-without, length-with}
 use Rattle.zp_laws.specs.FreePages.{IsSameZone}
 use Rattle.zp_laws.proofs.Areas.{free-taken, free-leave, free-give, free-retype, largest-taken, largest-leave, largest-give, largest-retype}
+use Rattle.zp_laws.proofs.RunSteps.{alloc_run_by, alloc_run_at_by, run_freed-same, run_taken-same}
 use Rattle.zp_laws.proofs.Outcomes.{alloc_by, low_by, collected_by, isolated_by, released_by, refill_by}
 
 same : (z : PlainZone) → IsSameZone z z
@@ -59,3 +60,6 @@ step-same z w (Request.Drain t ps) = drained-same z ps
 step-same z w (Request.Isolate b) = isolated_by (λ o. IsSameZone z o.zone) z b (slice_get z.area.kinds b) (λ r. same z) (with_kind-same z b Isolate)
 step-same z w (Request.Release b t) =
     released_by (λ o. IsSameZone z o.zone) z b t (slice_get z.area.kinds b) (λ r. same z) (with_kind-same z b (pageblock_type t))
+step-same z w (Request.AllocRun n a m) = alloc_run_by (λ o. IsSameZone z o.zone) z w n a m (λ r. same z) (λ h x. run_taken-same z w h n)
+step-same z w (Request.AllocRunAt p n) = alloc_run_at_by (λ o. IsSameZone z o.zone) z w p n (λ r. same z) (λ le x. run_taken-same z w (p - z.base) n)
+step-same z w (Request.FreeRun p n) = run_freed-same z w (p - z.base) n

@@ -21,6 +21,7 @@ use Rattle.zp_laws.proofs.Areas.{free-taken, free-leave, free-give, free-retype}
 use Rattle.zp_laws.proofs.Choosing.{choose_found, take_low_found, found_free}
 use Rattle.zp_laws.proofs.Held.{IsHolding, out-to, out_held, held_block, held-not_free}
 use Rattle.zp_laws.proofs.Moves.{none, move_by, move_none, move_out, move_back, move_out_out, move_back_back}
+use Rattle.zp_laws.proofs.RunSteps.{alloc_run_by, alloc_run_at_by, may_free-to, run_freed_moves, run_taken_moves}
 use Rattle.zp_laws.proofs.Outcomes.{alloc_by, low_by, collected_by, isolated_by, released_by, refill_by}
 use Rattle.zp_laws.proofs.Steps.{chosen_lawful, drained_by}
 
@@ -91,3 +92,13 @@ step_moves z w (Request.Isolate b) l lt e =
 step_moves z w (Request.Release b t) l lt e =
     released_by (λ o. IsMove z o.zone (handed_out (Request.Release b t) o.reply) none) z b t (slice_get z.area.kinds b) (λ r. nothing z)
     (with_kind-moves z b (pageblock_type t))
+step_moves z w (Request.AllocRun n a m) l lt e =
+    alloc_run_by (λ o. IsMove z o.zone (handed_out (Request.AllocRun n a m) o.reply) none) z w n a m (λ r. nothing z) (λ h x. run_taken_moves z w h n x)
+step_moves z w (Request.AllocRunAt p n) l lt e =
+    alloc_run_at_by (λ o. IsMove z o.zone (handed_out (Request.AllocRunAt p n) o.reply) none) z w p n (λ r. nothing z) (λ le x.
+    let at : z.base + (p - z.base) ≡ p = omega arith in
+    rw at at (run_taken_moves z w (p - z.base) n x))
+step_moves z w (Request.FreeRun p n) l lt e =
+    let x = may_free-to z w p n e in
+    let at : z.base + (p - z.base) ≡ p = omega (arith, x.0) in
+    rw at at (run_freed_moves z w (p - z.base) n l x.1)

@@ -25,6 +25,8 @@ use Rattle.zp_laws.proofs.Choosing.{choose_found, take_low_found}
 use Rattle.zp_laws.proofs.HandedOut.{times-parts}
 use Rattle.zp_laws.proofs.Held.{IsHolding, out-to, out_held}
 use Rattle.zp_laws.proofs.Keeping.{goes_out, comes_back, posted_lawful, front_lawful}
+use Rattle.zp_laws.proofs.KeepingRuns.{run_taken_lawful}
+use Rattle.zp_laws.proofs.RunSteps.{alloc_run_by, alloc_run_at_by, may_free-to, run_freed_lawful}
 use Rattle.zp_laws.proofs.Outcomes.{alloc_by, low_by, collected_by, isolated_by, released_by, refill_by}
 
 -- a block that is chosen goes out
@@ -111,6 +113,9 @@ step_lawful z w (Request.Drain t ps) l lt e = let a = and_parts _ _ e in drained
 step_lawful z w (Request.Isolate b) l lt e = isolated_by (λ o. IsLawful o.zone) z b (slice_get z.area.kinds b) (λ r. l) (retyped_lawful z b Isolate l)
 step_lawful z w (Request.Release b t) l lt e =
     released_by (λ o. IsLawful o.zone) z b t (slice_get z.area.kinds b) (λ r. l) (retyped_lawful z b (pageblock_type t) l)
+step_lawful z w (Request.AllocRun n a m) l lt e = alloc_run_by (λ o. IsLawful o.zone) z w n a m (λ r. l) (λ h x. run_taken_lawful z w h n l lt x)
+step_lawful z w (Request.AllocRunAt p n) l lt e = alloc_run_at_by (λ o. IsLawful o.zone) z w p n (λ r. l) (λ le x. run_taken_lawful z w (p - z.base) n l lt x)
+step_lawful z w (Request.FreeRun p n) l lt e = run_freed_lawful z l w (p - z.base) n lt (may_free-to z w p n e).1
 
 pub run_lawful : (z : PlainZone) (es : List Entry) → IsLawful z → IsLegal z es → IsLawful (run z es)
 run_lawful z [] l legal = l

@@ -5,6 +5,7 @@ use Rattle.zp_model.specs.declared.request.Reply.{Reply}
 use Rattle.zp_model.specs.declared.refused.Refused.{Refused}
 use Rattle.zp_model.specs.Block.{has, in_run, size}
 use Rattle.zp_model.specs.Rows.{stands_in}
+use Rattle.zp_model.specs.Runs.{is_within}
 use Rattle.zp_model.specs.Zone.{PlainZone, pages_of, workers_of, out_pages, posted_pages}
 use Rattle.zp_model.specs.Step.{step}
 use Rattle.zp_model.specs.Run.{IsDefined}
@@ -19,12 +20,15 @@ abbrev pub handed_out : Request → Reply → ℕ → Bool
 handed_out (Request.Alloc k t m) (Reply.Page a) p = in_run a k p
 handed_out (Request.AllocLow k) (Reply.Block b) p = in_run b.page k p
 handed_out (Request.Refill t m n) (Reply.Pages ps) p = stands_in p ps
+handed_out (Request.AllocRun n a m) (Reply.Page h) p = is_within h n p
+handed_out (Request.AllocRunAt b n) (Reply.Page h) p = is_within h n p
 handed_out q r p = false
 
 -- whether the request gives back page p
 abbrev pub given_back : Request → ℕ → Bool
 given_back (Request.Free a k) p = in_run a k p
 given_back (Request.Drain t ps) p = stands_in p ps
+given_back (Request.FreeRun h n) p = is_within h n p
 given_back q p = false
 
 -- between two moments of a zone the pages that go were free and are free no more, those that come were not and are, and no

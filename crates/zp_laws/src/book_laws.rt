@@ -3,6 +3,7 @@ ghost use Rattle.zp_laws.specs.KeptBooks.{
   RequestsLeaveOthers,
   RepliesTellTheirPart,
   PartsTellWhatIsOut,
+  PartsTellWhatIsLent,
   PartsKeepTheirPlaces,
   RequestsMakeOneEntry,
 };
@@ -12,7 +13,7 @@ pub fn requests_leave_others()
     ensures { RequestsLeaveOthers }
 {}
 
-/// Request and reply say what becomes of the worker's own part.
+/// Request and reply say what becomes of the worker's own part, with the types of the pageblocks where a run is allocated.
 pub fn replies_tell_their_part()
     ensures { RepliesTellTheirPart }
 {}
@@ -20,6 +21,11 @@ pub fn replies_tell_their_part()
 /// A worker's part says which blocks are out in its name.
 pub fn parts_tell_what_is_out()
     ensures { PartsTellWhatIsOut }
+{}
+
+/// And which runs of pages are lent to the worker.
+pub fn parts_tell_what_is_lent()
+    ensures { PartsTellWhatIsLent }
 {}
 
 /// A part keeps its base and the number of its pages.

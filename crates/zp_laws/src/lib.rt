@@ -9,8 +9,8 @@ mod run_laws;
 mod zone_laws;
 
 pub use book_laws::{
-    parts_keep_their_places, parts_tell_what_is_out, replies_tell_their_part,
-    requests_leave_others, requests_make_one_entry,
+    parts_keep_their_places, parts_tell_what_is_lent, parts_tell_what_is_out,
+    replies_tell_their_part, requests_leave_others, requests_make_one_entry,
 };
 pub use cut_laws::{
     blocks_leave_by_halving, cuts_are_maximal, cuts_are_short, cuts_lie_in_the_zone, cuts_tile,
@@ -22,9 +22,8 @@ pub use journal_laws::{
 };
 pub use page_laws::{pages_add_up, refusals_change_nothing, steps_keep_the_zone, steps_move_pages};
 pub use run_laws::{
-    freed_runs_tell_their_part, run_refusals_change_nothing, run_steps_keep_lawful,
-    run_steps_keep_the_zone, run_steps_leave_others, run_steps_move_lent, run_steps_move_pages,
-    runs_are_freed_in_a_block, runs_are_freed_in_parts, runs_are_taken_by_cut,
+    freed_runs_tell_their_part, run_steps_move_lent, runs_are_freed_in_a_block,
+    runs_are_freed_in_parts, runs_are_taken_by_cut,
 };
 pub use zone_laws::{
     alloc_keeps_lawful, choosing_finds_free, choosing_misses_none, choosing_passes_isolated,

@@ -19,6 +19,9 @@ const FRONT_PAGEBLOCK: u32 = 3;
 /// How many pages a refill asks for.
 const BATCH: u8 = 4;
 
+/// How many pages a run has: no power of two.
+const RUN: u32 = 37;
+
 /// The zone with two workers, who make so many rounds of requests.
 pub fn zone(alloc: Global, calls: u32) -> Result<(), Unmade> {
     match two_workers(alloc) {
@@ -59,7 +62,7 @@ impl SeatedZone {
         Ok(())
     }
 
-    /// Each of the nine requests, and what the zone reports. All pages are free after it, as before.
+    /// Each of the twelve requests, and what the zone reports. All pages are free after it, as before.
     fn round(&mut self) -> Result<(), Unmade> {
         let SeatedZone {
             zone,
@@ -68,6 +71,7 @@ impl SeatedZone {
             ..
         } = self;
         lowest(zone, first)?;
+        run_of_pages(zone, first)?;
         isolated(zone, second)?;
         passed(zone, first, second)?;
         refilled(zone, second)?;
@@ -84,6 +88,19 @@ fn lowest(zone: &mut Zone, seat: &mut Seat) -> Result<(), Unmade>
     let block = zone.alloc_low(seat, Order::largest())?;
     zone.free(seat, block.page, block.order);
     expect(block.page.number() == 0)
+}
+
+/// Allocates a run of pages at a place, and the lowest run of as many, and frees each.
+fn run_of_pages(zone: &mut Zone, seat: &mut Seat) -> Result<(), Unmade>
+    requires { IsSeatOf zone.old seat.old }
+    ensures zone { zone.new.tie ≡ zone.old.tie }
+    ensures seat { seat.new.tie ≡ seat.old.tie }
+{
+    let taken = zone.alloc_run_at(seat, PageNo::new(FRONT + 3), RUN)?;
+    zone.free_run(seat, taken, RUN);
+    let lowest = zone.alloc_run(seat, RUN, 0, Mark::Any)?;
+    zone.free_run(seat, lowest, RUN);
+    expect(taken.number() == FRONT + 3 && lowest.number() == 0)
 }
 
 /// The pageblock of the front page is isolated and released, which makes it the front one again.

@@ -15,7 +15,7 @@ use Rattle.zp_model.proofs.Pages.{In, in_run-to, in_run-from, is_order-to, is_or
 use Rattle.zp_model.proofs.Split.{AfterSplit, Outside, split-normal}
 use Rattle.zp_model.proofs.Join.{AfterJoin, Joined, IsGrown, join-normal}
 
-some_below-decides : (test : ℕ → Bool) (n : ℕ) → Decides (some_below test n) ((k : ℕ) × (k < n) × (test k ≡ true))
+pub some_below-decides : (test : ℕ → Bool) (n : ℕ) → Decides (some_below test n) ((k : ℕ) × (k < n) × (test k ≡ true))
 some_below-decides test n =
     Decides-below_or test (λ k. test k ≡ true) (some_below test) (λ k. (λ e. e, λ e. e)) refl (λ _. refl) n
 

@@ -24,3 +24,4 @@ pub mod BlockLists
 pub mod FreeAround
 pub mod RunBlocks
 pub mod Restating
+pub mod EntryParts

@@ -5,7 +5,7 @@ use Rattle.zp_model.specs.declared.entry.Asked.TheVariants as asked
 use Rattle.zp_model.specs.declared.entry.Answered.{Answered}
 use Rattle.zp_model.specs.declared.entry.Answered.TheVariants as answered
 use Rattle.zp_model.specs.declared.request.Request.{Request}
-use Rattle.zp_model.specs.declared.request.Request.TheVariants.{Alloc, AllocLow, Free, Post, Collect, Refill, Drain, Isolate, Release}
+use Rattle.zp_model.specs.declared.request.Request.TheVariants.{Alloc, AllocLow, Free, Post, Collect, Refill, Drain, Isolate, Release, AllocRun, AllocRunAt, FreeRun}
 use Rattle.zp_model.specs.declared.request.Reply.{Reply}
 use Rattle.zp_model.specs.declared.request.Reply.TheVariants.{Page, Block, Freed, Posted, Pages, Drained, Isolated, Released, Refused}
 
@@ -48,6 +48,9 @@ asked_of (Refill t m n) = asked.Refill t m n
 asked_of (Drain t ps) = asked.Drain t
 asked_of (Isolate b) = asked.Isolate b
 asked_of (Release b t) = asked.Release b t
+asked_of (AllocRun n a m) = asked.AllocRun n a m
+asked_of (AllocRunAt p n) = asked.AllocRunAt p n
+asked_of (FreeRun p n) = asked.FreeRun p n
 
 abbrev pub request_of : Asked → List ℕ → Request
 request_of (asked.Alloc k t m) ps = Alloc k t m
@@ -59,6 +62,9 @@ request_of (asked.Refill t m n) ps = Refill t m n
 request_of (asked.Drain t) ps = Drain t ps
 request_of (asked.Isolate b) ps = Isolate b
 request_of (asked.Release b t) ps = Release b t
+request_of (asked.AllocRun n a m) ps = AllocRun n a m
+request_of (asked.AllocRunAt p n) ps = AllocRunAt p n
+request_of (asked.FreeRun p n) ps = FreeRun p n
 
 -- a reply without its list, and with it again
 abbrev pub answered_of : Reply → Answered

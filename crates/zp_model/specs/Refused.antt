@@ -1,7 +1,7 @@
 -- The numbers of the refusals.
 use Rattle.std.specs.Prelude.{ℕ}
 use Rattle.zp_model.specs.declared.refused.Refused.{Refused}
-use Rattle.zp_model.specs.declared.refused.Refused.TheVariants.{BadName, BadBase, BadPages, BadMark, BadWorkers, Memory, BelowMark, NoBlock, NothingPosted, BadPageblock, AlreadyIsolated, NotIsolated, NotLent, ListFull, JournalFull, NoThread}
+use Rattle.zp_model.specs.declared.refused.Refused.TheVariants.{BadName, BadBase, BadPages, BadMark, BadWorkers, Memory, BelowMark, NoBlock, NothingPosted, BadPageblock, AlreadyIsolated, NotIsolated, BadRun, NotFree, NotLent, ListFull, JournalFull, NoThread}
 
 abbrev pub refused_number : Refused → ℕ
 refused_number BadName = 1
@@ -16,6 +16,8 @@ refused_number NothingPosted = 12
 refused_number BadPageblock = 13
 refused_number AlreadyIsolated = 14
 refused_number NotIsolated = 15
+refused_number BadRun = 16
+refused_number NotFree = 17
 refused_number NotLent = 20
 refused_number ListFull = 21
 refused_number JournalFull = 30

@@ -4,9 +4,10 @@ use Rattle.std.specs.List.{list_all}
 use Rattle.zp_model.specs.declared.constants.TheConstants.{MAX_BATCH}
 use Rattle.zp_model.specs.Entries.{Entry}
 use Rattle.zp_model.specs.declared.request.Request.{Request}
-use Rattle.zp_model.specs.declared.request.Request.TheVariants.{Alloc, AllocLow, Free, Post, Collect, Refill, Drain, Isolate, Release}
+use Rattle.zp_model.specs.declared.request.Request.TheVariants.{Alloc, AllocLow, Free, Post, Collect, Refill, Drain, Isolate, Release, AllocRun, AllocRunAt, FreeRun}
 use Rattle.zp_model.specs.Rows.{stands_in}
 use Rattle.zp_model.specs.Zone.{PlainZone, holds, pages_of, workers_of, zone_opening}
+use Rattle.zp_model.specs.Runs.{may_alloc_run, may_free_run}
 use Rattle.zp_model.specs.Step.{step}
 
 abbrev pub is_distinct : List ℕ → Bool
@@ -28,6 +29,9 @@ may_ask z w (Refill t m n) = leb 1 n && leb n MAX_BATCH
 may_ask z w (Drain t ps) = list_all (λ p. is_out z w p 0) ps && is_distinct ps
 may_ask z w (Isolate b) = true
 may_ask z w (Release b t) = true
+may_ask z w (AllocRun n a m) = may_alloc_run n a
+may_ask z w (AllocRunAt p n) = true
+may_ask z w (FreeRun p n) = may_free_run z w p n
 
 abbrev pub run : PlainZone → List Entry → PlainZone
 run z [] = z

@@ -3,17 +3,16 @@
 use Rattle.std.specs.Prelude.{ℕ, suc, zero, ◌+◌, ◌-◌, ◌%◌, ◌^◌, ◌≡◌, ◌==◌, ◌&&◌, ◌||◌, not, Bool, true, false, List, [], ◌∷◌, length, map, cond, leb, ltb, Option, None, Some, unwrap_or}
 use Rattle.std.specs.List.{range_with_len, find, list_all}
 use Rattle.std.specs.Option.{is_some, option_map}
+use Rattle.zp_model.specs.declared.constants.TheConstants.{LARGEST_ALIGNMENT}
 use Rattle.zp_model.specs.declared.migrate_type.MigrateType.{MigrateType}
 use Rattle.zp_model.specs.declared.mark.Mark.{Mark}
 use Rattle.zp_model.specs.declared.mark.Mark.TheVariants.{Low, Min, Any}
-use Rattle.zp_model.specs.declared.refused.Refused.TheVariants.{BelowMark, NoBlock}
 use Rattle.zp_model.specs.Block.{has, head}
 use Rattle.zp_model.specs.BlockSet.{first_of, orders_from}
 use Rattle.zp_model.specs.PageblockType.{noted_type}
 use Rattle.zp_model.specs.Area.{Area, available, falling, kind_at, settle}
 use Rattle.zp_model.specs.Zone.{PlainZone, Holding, hand_out, holding_at, holds, pages_of}
-use Rattle.zp_model.specs.Mark.{low_mark, pages_at_hand}
-use Rattle.zp_model.specs.Refused.{refused_number}
+use Rattle.zp_model.specs.Mark.{low_mark}
 
 -- whether page i is one of the n pages from h on
 abbrev pub is_within : ℕ → ℕ → ℕ → Bool
@@ -129,56 +128,9 @@ abbrev pub run_freed : PlainZone → ℕ → ℕ → ℕ → PlainZone
 run_freed z w h n =
     kept_from (kept_before (without_blocks (record z { area = give_run z.area h n }) h n) w h (block_around z w h)) w (h + n) (block_around z w (h + n - 1))
 
--- what a request for a run is answered. Pages are absolute, and a refusal goes by its number
-pub data RunReply : Type 0 where
-  Page : ℕ → RunReply
-  Freed : RunReply
-  Refused : ℕ → RunReply
-
--- the numbers of the refusals that runs alone have: the run is not a zone's, and one of its pages is not free
-abbrev pub bad_run : ℕ
-bad_run = 16
-
-abbrev pub not_free : ℕ
-not_free = 17
-
--- what a request for a run is answered, and the zone that it leaves
-pub record RunOutcome : Type 0 where
-  pub reply : RunReply
-  pub zone : PlainZone
-
--- a refusal leaves the zone as it was
-abbrev pub refuse_run : PlainZone → ℕ → RunOutcome
-refuse_run z r = record { reply = RunReply.Refused r; zone = z }
-
--- the run at h, where there is one, is out in w's name
-abbrev pub alloc_run_found : PlainZone → ℕ → ℕ → Option ℕ → RunOutcome
-alloc_run_found z w n None = refuse_run z (refused_number NoBlock)
-alloc_run_found z w n (Some h) = record { reply = RunReply.Page (z.base + h); zone = run_taken z w h n }
-
--- the lowest run of n pages that is aligned to 2 to the a pages, after the mark's test
-abbrev pub alloc_run_step : PlainZone → ℕ → ℕ → ℕ → Mark → RunOutcome
-alloc_run_step z w n a m =
-    cond (is_above_by z.min (pages_at_hand z) n m) (alloc_run_found z w n (lowest_run z n a)) (refuse_run z (refused_number BelowMark))
-
--- the run of n pages at page p, in isolated pageblocks too, held to no mark
-abbrev pub alloc_run_at_step : PlainZone → ℕ → ℕ → ℕ → RunOutcome
-alloc_run_at_step z w p n =
-    cond (leb z.base p && is_run (pages_of z) (p - z.base) n)
-    (cond (has_pages z.area.free (p - z.base) n) (record { reply = RunReply.Page p; zone = run_taken z w (p - z.base) n }) (refuse_run z not_free))
-    (refuse_run z bad_run)
-
--- the run of n pages at page p, which is lent to w, by whatever blocks, becomes free
-abbrev pub free_run_step : PlainZone → ℕ → ℕ → ℕ → RunOutcome
-free_run_step z w p n = record { reply = RunReply.Freed; zone = run_freed z w (p - z.base) n }
-
--- a run may be asked aligned to 2 to the 24 pages at most
-abbrev pub largest_alignment : ℕ
-largest_alignment = 24
-
 -- whether a worker of the zone may ask for a run of n pages so aligned, and whether w may free one
 abbrev pub may_alloc_run : ℕ → ℕ → Bool
-may_alloc_run n a = leb 1 n && leb a largest_alignment
+may_alloc_run n a = leb 1 n && leb a LARGEST_ALIGNMENT
 
 abbrev pub may_free_run : PlainZone → ℕ → ℕ → ℕ → Bool
 may_free_run z w p n = leb z.base p && leb 1 n && is_lent_run z w (p - z.base) n

@@ -1,9 +1,9 @@
 -- The step of a plain zone: what a worker's request is answered, and what it leaves. Pages in requests and replies are absolute.
-use Rattle.std.specs.Prelude.{ℕ, suc, zero, ◌+◌, ◌-◌, List, [], ◌∷◌, ◌++◌, cond, Option, None, Some, slice_get, slice_set}
+use Rattle.std.specs.Prelude.{ℕ, suc, zero, ◌+◌, ◌-◌, ◌&&◌, leb, List, [], ◌∷◌, ◌++◌, cond, Option, None, Some, slice_get, slice_set}
 use Rattle.zp_model.specs.declared.migrate_type.MigrateType.{MigrateType}
 use Rattle.zp_model.specs.declared.mark.Mark.{Mark}
 use Rattle.zp_model.specs.declared.refused.Refused.{Refused}
-use Rattle.zp_model.specs.declared.refused.Refused.TheVariants.{BelowMark, NoBlock, NothingPosted, BadPageblock, AlreadyIsolated, NotIsolated}
+use Rattle.zp_model.specs.declared.refused.Refused.TheVariants.{BelowMark, NoBlock, NothingPosted, BadPageblock, AlreadyIsolated, NotIsolated, BadRun, NotFree}
 use Rattle.zp_model.specs.declared.request.Request.{Request}
 use Rattle.zp_model.specs.declared.request.Reply.{Reply}
 use Rattle.zp_model.specs.declared.pageblock_type.PageblockType.{PageblockType}
@@ -12,8 +12,9 @@ use Rattle.zp_model.specs.PageblockType.{is_isolate, noted_type, pageblock_type}
 use Rattle.zp_model.specs.Area.{kind_at}
 use Rattle.zp_model.specs.Choose.{Chosen, choose}
 use Rattle.zp_model.specs.Take.{taken, leave, give, retype, take_low_answer}
-use Rattle.zp_model.specs.Zone.{PlainZone, Holding, PostedBlock, hand_out, take_back, holding_at, posted_to}
-use Rattle.zp_model.specs.Mark.{passes}
+use Rattle.zp_model.specs.Zone.{PlainZone, Holding, PostedBlock, hand_out, take_back, holding_at, pages_of, posted_to}
+use Rattle.zp_model.specs.Mark.{passes, pages_at_hand}
+use Rattle.zp_model.specs.Runs.{has_pages, is_above_by, is_run, lowest_run, run_freed, run_taken}
 
 pub record Outcome : Type 0 where
   pub reply : Reply
@@ -97,6 +98,22 @@ released z b t None = refuse z BadPageblock
 released z b t (Some now) =
     cond (is_isolate now) (record { reply = Reply.Released; zone = with_kind z b (pageblock_type t) }) (refuse z NotIsolated)
 
+-- the run at h, where there is one, is out in w's name
+abbrev pub alloc_run_found : PlainZone → ℕ → ℕ → Option ℕ → Outcome
+alloc_run_found z w n None = refuse z NoBlock
+alloc_run_found z w n (Some h) = record { reply = Reply.Page (z.base + h); zone = run_taken z w h n }
+
+-- the lowest run of n pages that is aligned to 2 to the a pages, after the mark's test
+abbrev pub alloc_run : PlainZone → ℕ → ℕ → ℕ → Mark → Outcome
+alloc_run z w n a m = cond (is_above_by z.min (pages_at_hand z) n m) (alloc_run_found z w n (lowest_run z n a)) (refuse z BelowMark)
+
+-- the run of n pages at page p, in isolated pageblocks too, held to no mark
+abbrev pub alloc_run_at : PlainZone → ℕ → ℕ → ℕ → Outcome
+alloc_run_at z w p n =
+    cond (leb z.base p && is_run (pages_of z) (p - z.base) n)
+    (cond (has_pages z.area.free (p - z.base) n) (record { reply = Reply.Page p; zone = run_taken z w (p - z.base) n }) (refuse z NotFree))
+    (refuse z BadRun)
+
 abbrev pub step : PlainZone → ℕ → Request → Outcome
 step z w (Request.Alloc k t m) = alloc z w k t m
 step z w (Request.AllocLow k) = alloc_low_at z w k (take_low_answer z.area k)
@@ -108,3 +125,6 @@ step z w (Request.Refill t m n) = refill z w t m [] n
 step z w (Request.Drain t ps) = record { reply = Reply.Drained; zone = drained z ps }
 step z w (Request.Isolate b) = isolated z b (slice_get z.area.kinds b)
 step z w (Request.Release b t) = released z b t (slice_get z.area.kinds b)
+step z w (Request.AllocRun n a m) = alloc_run z w n a m
+step z w (Request.AllocRunAt p n) = alloc_run_at z w p n
+step z w (Request.FreeRun p n) = record { reply = Reply.Freed; zone = run_freed z w (p - z.base) n }

@@ -32,6 +32,9 @@ pub const MAX_ZONES: usize = 64;
 /// The most zones that a trace declares.
 pub const TRACE_ZONES: usize = 4;
 
+/// A run may be asked for at a multiple of two to this power at most, in absolute pages.
+pub const LARGEST_ALIGNMENT: u8 = 24;
+
 /// What the base of a zone is a multiple of, so that blocks of all orders start at their multiples in absolute numbers too.
 pub const BASE_STEP: u32 = LARGEST_BLOCK_PAGES;
 

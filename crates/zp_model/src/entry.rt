@@ -20,6 +20,9 @@ pub enum Asked {
     Drain(MigrateType),
     Isolate(u32),
     Release(u32, MigrateType),
+    AllocRun(u32, u8, Mark),
+    AllocRunAt(PageNo, u32),
+    FreeRun(PageNo, u32),
 }
 
 /// A reply, without the pages of a refill.
@@ -168,6 +171,9 @@ impl Entry {
             Asked::Drain(kind) => Request::Drain(kind, self.pages.copied()),
             Asked::Isolate(pageblock) => Request::Isolate(pageblock),
             Asked::Release(pageblock, kind) => Request::Release(pageblock, kind),
+            Asked::AllocRun(pages, align, mark) => Request::AllocRun(pages, align, mark),
+            Asked::AllocRunAt(page, pages) => Request::AllocRunAt(page, pages),
+            Asked::FreeRun(page, pages) => Request::FreeRun(page, pages),
         }
     }
 
@@ -219,6 +225,9 @@ fn asked_of(request: &Request) -> Asked
         Request::Drain(kind, _) => Asked::Drain(*kind),
         Request::Isolate(pageblock) => Asked::Isolate(*pageblock),
         Request::Release(pageblock, kind) => Asked::Release(*pageblock, *kind),
+        Request::AllocRun(pages, align, mark) => Asked::AllocRun(*pages, *align, *mark),
+        Request::AllocRunAt(page, pages) => Asked::AllocRunAt(*page, *pages),
+        Request::FreeRun(page, pages) => Asked::FreeRun(*page, *pages),
     }
 }
 

@@ -29,6 +29,10 @@ pub enum Refused {
     AlreadyIsolated,
     /// 15: the pageblock is not isolated.
     NotIsolated,
+    /// 16: the run has no page, or is not wholly the zone's.
+    BadRun,
+    /// 17: one of the run's pages is not free.
+    NotFree,
     /// 20: the block is not lent.
     NotLent,
     /// 21: the worker's list is full.
@@ -57,6 +61,8 @@ impl Refused {
             Refused::BadPageblock => 13,
             Refused::AlreadyIsolated => 14,
             Refused::NotIsolated => 15,
+            Refused::BadRun => 16,
+            Refused::NotFree => 17,
             Refused::NotLent => 20,
             Refused::ListFull => 21,
             Refused::JournalFull => 30,

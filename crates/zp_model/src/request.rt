@@ -24,6 +24,12 @@ pub enum Request {
     Isolate(u32),
     /// Gives the pageblock of this number, which is isolated, a migrate type.
     Release(u32, MigrateType),
+    /// The lowest run of so many pages that begins at a multiple of two to this power, held to this mark.
+    AllocRun(u32, u8, Mark),
+    /// The run of so many pages that begins at this page.
+    AllocRunAt(PageNo, u32),
+    /// Frees so many pages from this one on, by whatever blocks they are out.
+    FreeRun(PageNo, u32),
 }
 
 /// A zone's reply. Pages are absolute.
@@ -55,6 +61,9 @@ impl Request {
             Request::Drain(kind, pages) => Request::Drain(*kind, pages.copied()),
             Request::Isolate(pageblock) => Request::Isolate(*pageblock),
             Request::Release(pageblock, kind) => Request::Release(*pageblock, *kind),
+            Request::AllocRun(pages, align, mark) => Request::AllocRun(*pages, *align, *mark),
+            Request::AllocRunAt(page, pages) => Request::AllocRunAt(*page, *pages),
+            Request::FreeRun(page, pages) => Request::FreeRun(*page, *pages),
         }
     }
 }

@@ -17,7 +17,10 @@ use Rattle.zp_laws.proofs.Choosing.{max_blocks-to, found_block, found_free}
 use Rattle.zp_model.proofs.MaximalBlocks.{length-restated, max_block_some, max_has, state-restated}
 use Rattle.zp_model.specs.Take.{give, retype}
 use Rattle.zp_laws.specs.Found.{IsFound}
-use Rattle.zp_laws.proofs.Areas.{free-give, kinds-give, largest-give, free-retype, kinds-retype, largest-retype}
+use Rattle.zp_model.specs.Runs.{give_run, leave_run}
+use Rattle.zp_model.proofs.RunParts.{length-with_pages, length-without_pages, with_pages-to, without_pages-to}
+use Rattle.zp_laws.proofs.Areas.{free-give, kinds-give, largest-give, free-give_run, kinds-give_run, largest-give_run, free-leave_run, kinds-leave_run, largest-leave_run, free-retype, kinds-retype, largest-retype}
+use Rattle.zp_plain.specs.Clear.{IsClearRun}
 
 restate_free : (o : Option ℕ) (s : State) (k : ℕ) → restate o s ≡ Free k → o ≡ Some k
 restate_free (Some j) s k e = let d : Free j ≡ Free k = e in cc
@@ -97,6 +100,20 @@ pub kept_left : (f : Frames) (a : Area) (h k : ℕ) → IsFramed f → a.largest
 kept_left f a h k x top free kinds =
     framed_with f a (rw (free, length-without) x.pages) (rw (kinds, top) x.typed) (λ r p e. rw free (false_from_ne_true _ (λ t.
     both_ways _ (x.beside r p e) ((without-decides f.area.free h k p (omega (arith, has_below (without f.area.free h k) p t, length-without f.area.free h k))).0 t).0)))
+
+-- a run of pages leaves, and one of clear pages comes
+pub kept_left_run : (f : Frames) (h n : ℕ) → IsFramed f → IsFramed (with_area f (leave_run f.area h n))
+kept_left_run f h n x =
+    framed_with f (leave_run f.area h n) (rw (free-leave_run f.area h n, length-without_pages) x.pages) (rw (kinds-leave_run f.area h n, largest-leave_run f.area h n) x.typed)
+    (λ r p e. rw (free-leave_run f.area h n) (false_from_ne_true _ (λ t. both_ways _ (x.beside r p e) (without_pages-to f.area.free h n p t).0)))
+
+pub kept_given_run : (f : Frames) (h n : ℕ) → IsFramed f → IsClearRun f.area.free f.sides h n → IsFramed (with_area f (give_run f.area h n))
+kept_given_run f h n x clear =
+    framed_with f (give_run f.area h n) (rw (free-give_run f.area h n, length-with_pages) x.pages) (rw (kinds-give_run f.area h n, largest-give_run f.area h n) x.typed) (λ r p e.
+    rw (free-give_run f.area h n) (false_from_ne_true _ (λ t. elim (with_pages-to f.area.free h n p t) [
+      | inl old ↦ both_ways _ (x.beside r p e) old
+      | inr run ↦ both_ways _ ((clear p run.0 run.1).1 r) e
+    ])))
 
 -- a pageblock gets another type
 pub kept_retyped : (f : Frames) (b : ℕ) (t : PageblockType) → IsFramed f → IsFramed (with_area f (retype f.area b t))

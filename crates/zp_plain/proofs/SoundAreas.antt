@@ -3,11 +3,12 @@ use Rattle.std.proofs.Common.{ℕ, ◌≡◌, ◌≤◌, refl, sym, ◌∙◌, a
 use Rattle.zp_plain.specs.declared.room.TheConstants.{PLAIN_PAGES}
 use Rattle.zp_model.specs.declared.pageblock_type.PageblockType.{PageblockType}
 use Rattle.zp_model.specs.Area.{Area, pageblocks_of, settle, lists_count, opening}
-use Rattle.zp_model.specs.Take.{give, leave, retype}
+use Rattle.zp_model.specs.Runs.{give_run, leave_run}
+use Rattle.zp_model.specs.Take.{retype}
 use Rattle.zp_model.specs.Lawful.{IsListedArea}
-use Rattle.zp_model.proofs.Covers.{length-with, length-without}
+use Rattle.zp_model.proofs.RunParts.{length-with_pages, length-without_pages}
 use Rattle.zp_laws.proofs.Settling.{belongs_below, opening_lists}
-use Rattle.zp_laws.proofs.Areas.{free-give, kinds-give, lists-give, free-leave, kinds-leave, lists-leave, free-retype, kinds-retype, lists-retype, largest-give, largest-leave, largest-retype}
+use Rattle.zp_laws.proofs.Areas.{free-give_run, kinds-give_run, lists-give_run, free-leave_run, kinds-leave_run, lists-leave_run, free-retype, kinds-retype, lists-retype, largest-give_run, largest-leave_run, largest-retype}
 use Rattle.zp_plain.specs.Sound.{IsSoundArea, IsTable}
 use Rattle.std.specs.List.{IsDistinct}
 use Rattle.std.proofs.lemmas.Bool.{false≢true}
@@ -39,13 +40,13 @@ settled_as m u v ks js ls xs e f g = rw (g, e, f) refl
 sound_as : (a b : Area) → IsSoundArea a → b.largest ≡ a.largest → length b.free ≡ length a.free → length b.kinds ≡ length a.kinds → IsListedArea b → IsSoundArea b
 sound_as a b x top n m l = record { small = omega (arith, x.small); typed = rw (m, top, n) x.typed; lists = l }
 
-pub sound_give : (a : Area) (h k : ℕ) → IsSoundArea a → IsSoundArea (give a h k)
-sound_give a h k x =
-    sound_as a (give a h k) x (largest-give a h k) (ap length (free-give a h k) ∙ length-with a.free h k) (ap length (kinds-give a h k)) (lists-give a h k x.lists)
+pub sound_give_run : (a : Area) (h n : ℕ) → IsSoundArea a → IsSoundArea (give_run a h n)
+sound_give_run a h n x =
+    sound_as a (give_run a h n) x (largest-give_run a h n) (ap length (free-give_run a h n) ∙ length-with_pages a.free h n) (ap length (kinds-give_run a h n)) (lists-give_run a h n x.lists)
 
-pub sound_leave : (a : Area) (h k : ℕ) → IsSoundArea a → IsSoundArea (leave a h k)
-sound_leave a h k x =
-    sound_as a (leave a h k) x (largest-leave a h k) (ap length (free-leave a h k) ∙ length-without a.free h k) (ap length (kinds-leave a h k)) (lists-leave a h k x.lists)
+pub sound_leave_run : (a : Area) (h n : ℕ) → IsSoundArea a → IsSoundArea (leave_run a h n)
+sound_leave_run a h n x =
+    sound_as a (leave_run a h n) x (largest-leave_run a h n) (ap length (free-leave_run a h n) ∙ length-without_pages a.free h n) (ap length (kinds-leave_run a h n)) (lists-leave_run a h n x.lists)
 
 pub sound_retype : (a : Area) (b : ℕ) (t : PageblockType) → IsSoundArea a → IsSoundArea (retype a b t)
 sound_retype a b t x =

@@ -2,7 +2,8 @@
 ghost use Rattle.std.specs.Prelude.{◌≡◌, ◌<◌, ◌≤◌, ◌+◌, length};
 ghost use Rattle.zp_model.specs.declared.constants.TheConstants.{LARGEST_ORDER};
 ghost use Rattle.zp_plain.specs.declared.room.TheConstants.{PLAIN_PAGES};
-ghost use Rattle.zp_model.specs.Block.{has, has_run, in_run, is_max, head as head_of, size, with_run, without};
+ghost use Rattle.zp_model.specs.Block.{has, has_run, is_max, head as head_of, size};
+ghost use Rattle.zp_model.specs.Runs.{is_within, with_pages, without_pages};
 
 use zp_model::{Largest, Order, PageAt};
 
@@ -57,28 +58,28 @@ pub fn order_of(number: usize) -> Order
     Order::at(number as u8)
 }
 
-/// Whether a page lies in the run.
-fn in_run(head: PageAt, order: Order, page: usize) -> bool
-    ensures { result ≡ in_run head order page }
+/// Whether a page is one of so many from this one on.
+fn is_within(first: PageAt, pages: u32, page: usize) -> bool
+    ensures { result ≡ is_within first pages page }
 {
-    head.index() <= page && page < head.index() + order.pages() as usize
+    first.index() <= page && page < first.index() + pages as usize
 }
 
-/// Puts the pages of a run into the set.
-pub fn add_run(set: &mut Vec<bool>, head: PageAt, order: Order)
-    ensures { set.new.items ≡ with_run set.old.items head order }
+/// Puts so many pages from this one on into the set.
+pub fn add_pages(set: &mut Vec<bool>, first: PageAt, pages: u32)
+    ensures { set.new.items ≡ with_pages set.old.items first pages }
 {
     'pages: for i in 0..set.len() {
-        set[i] = set[i] || in_run(head, order, i);
+        set[i] = set[i] || is_within(first, pages, i);
     }
 }
 
-/// Takes the pages of a run out of the set.
-pub fn remove_run(set: &mut Vec<bool>, head: PageAt, order: Order)
-    ensures { set.new.items ≡ without set.old.items head order }
+/// Takes so many pages from this one on out of the set.
+pub fn remove_pages(set: &mut Vec<bool>, first: PageAt, pages: u32)
+    ensures { set.new.items ≡ without_pages set.old.items first pages }
 {
     'pages: for i in 0..set.len() {
-        set[i] = set[i] && !in_run(head, order, i);
+        set[i] = set[i] && !is_within(first, pages, i);
     }
 }
 

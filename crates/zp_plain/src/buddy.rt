@@ -1,5 +1,5 @@
 //! The free area of one zone.
-ghost use Rattle.std.specs.Prelude.{ℕ, ◌≡◌, ◌<◌, ◌≤◌, ◌*◌, ◌^◌, ◌↔◌, false, length, slice_index_or, slice_set, IfOk, IfSome, IsTrue};
+ghost use Rattle.std.specs.Prelude.{ℕ, ◌≡◌, ◌<◌, ◌≤◌, ◌+◌, ◌*◌, ◌^◌, ◌↔◌, false, length, slice_index_or, slice_set, IfOk, IfSome, IsTrue};
 ghost use Rattle.zp_model.specs.Block.{has, size};
 ghost use Rattle.zp_model.specs.Info.{counts_of};
 ghost use Rattle.zp_model.specs.Rows.{IsOn, after, front, state_at};
@@ -7,11 +7,13 @@ ghost use Rattle.zp_model.specs.Frames.{frames_opening, given, with_area, IsNote
 ghost use Rattle.zp_model.specs.Area.{available, list_number, free_list, kind_at, pageblock_pages, pageblocks_of, size_in};
 ghost use Rattle.zp_model.specs.BlockSet.{largest_in, max_blocks};
 ghost use Rattle.zp_model.specs.declared.pageblock_type.PageblockType.TheVariants.{Movable};
+ghost use Rattle.zp_model.specs.Runs.{give_run, leave_run};
+ghost use Rattle.zp_plain.specs.Clear.{IsClearRun};
 ghost use Rattle.zp_model.specs.Take.{retype, take_answer, take_after, take_low_answer, take_low_after};
 
 use crate::block::size;
 use crate::choose::choose;
-use crate::frames::{is_clear, restate_all};
+use crate::frames::{is_clear, is_clear_run, restate_all};
 use crate::info::counts;
 use crate::page_row::{PageRow, empty_rows};
 use crate::room::PLAIN_PAGES;
@@ -117,6 +119,31 @@ impl PlainBuddy {
     {
         self.area.give(at, order);
         self.notes[at.index()] = State::Tail;
+        restate_all(self.area.largest(), self.area.marks(), &mut self.notes);
+    }
+
+    /// Takes so many pages from this one on.
+    pub fn leave_run(&mut self, at: PageAt, pages: u32)
+        ensures { self.new ≡ with_area self.old (leave_run self.old.area at pages) }
+    {
+        self.area.leave_run(at, pages);
+        restate_all(self.area.largest(), self.area.marks(), &mut self.notes);
+    }
+
+    /// Whether none of so many pages from this one on is free or on a further list.
+    pub fn is_clear_run(&self, at: PageAt, pages: u32) -> bool
+        requires { at + pages ≤ PLAIN_PAGES }
+        ensures { IsTrue result ↔ IsClearRun self.now.area.free self.now.sides at pages }
+    {
+        is_clear_run(self.area.marks(), &self.sides, at, pages)
+    }
+
+    /// Frees so many pages from this one on. What is noted of them stays.
+    pub fn give_run(&mut self, at: PageAt, pages: u32)
+        requires { IsClearRun self.old.area.free self.old.sides at pages }
+        ensures { self.new ≡ with_area self.old (give_run self.old.area at pages) }
+    {
+        self.area.give_run(at, pages);
         restate_all(self.area.largest(), self.area.marks(), &mut self.notes);
     }
 

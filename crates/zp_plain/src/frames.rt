@@ -60,12 +60,12 @@ fn is_aside(sides: &[PageRow], page: PageAt) -> bool
     false
 }
 
-/// Whether no page of the run is free or on a further list.
-fn is_clear_run(free: &[bool], sides: &[PageRow], head: PageAt, order: Order) -> bool
-    requires { head + 2 ^ order ≤ PLAIN_PAGES }
-    ensures { IsTrue result ↔ IsClearRun free.now sides.now head order }
+/// Whether none of so many pages from this one on is free or on a further list.
+pub fn is_clear_run(free: &[bool], sides: &[PageRow], first: PageAt, pages: u32) -> bool
+    requires { first + pages ≤ PLAIN_PAGES }
+    ensures { IsTrue result ↔ IsClearRun free.now sides.now first pages }
 {
-    'pages: for i in head.index()..head.index() + order.pages() as usize {
+    'pages: for i in first.index()..first.index() + pages as usize {
         if has(free, i) || is_aside(sides, PageAt::at(i as u32)) {
             return false;
         }
@@ -84,5 +84,5 @@ pub fn is_clear(
     requires { length free.now ≤ PLAIN_PAGES }
     ensures { IsTrue result ↔ IsClear (open_frames largest free.now sides.now) head order }
 {
-    is_block(largest, free.len(), head, order) && is_clear_run(free, sides, head, order)
+    is_block(largest, free.len(), head, order) && is_clear_run(free, sides, head, order.pages())
 }

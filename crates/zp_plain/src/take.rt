@@ -7,12 +7,13 @@ ghost use Rattle.zp_model.specs.Area.{available, free_list, kind_at, opening, pa
 ghost use Rattle.zp_model.specs.Block.{size};
 ghost use Rattle.zp_model.specs.BlockSet.{largest_in, max_blocks};
 ghost use Rattle.zp_model.specs.declared.pageblock_type.PageblockType.TheVariants.{Movable};
+ghost use Rattle.zp_model.specs.Runs.{give_run, leave_run};
 ghost use Rattle.zp_model.specs.Take.{give, leave, retype, taken, take_low_after, take_low_answer};
 ghost use Rattle.zp_plain.specs.Chosen.{as_chosen};
 ghost use Rattle.zp_plain.specs.Sound.{IsSoundArea};
 
 use crate::area::{available_size, kind_at, list_of, settle, size_in};
-use crate::block::{add_run, remove_run};
+use crate::block::{add_pages, remove_pages};
 use crate::block_set::{largest_in, lowest};
 use crate::choose::PlainChoice;
 use crate::page_row::{PageRow, empty_rows};
@@ -162,11 +163,12 @@ impl PlainArea {
         );
     }
 
-    /// The pages of a run leave the free ones.
-    fn leave(&mut self, head: PageAt, order: Order)
-        ensures { self.new ≡ leave self.old head order }
+    /// So many pages from this one on leave the free ones.
+    pub fn leave_run(&mut self, first: PageAt, pages: u32)
+        ensures after { self.new ≡ leave_run self.old first pages }
+        ensures sound { IsSoundArea self.old }
     {
-        remove_run(&mut self.free, head, order);
+        remove_pages(&mut self.free, first, pages);
         settle(
             self.largest,
             &self.free,
@@ -176,12 +178,12 @@ impl PlainArea {
         );
     }
 
-    /// The pages of a run become free.
-    pub fn give(&mut self, head: PageAt, order: Order)
-        ensures after { self.new ≡ give self.old head order }
+    /// So many pages from this one on become free.
+    pub fn give_run(&mut self, first: PageAt, pages: u32)
+        ensures after { self.new ≡ give_run self.old first pages }
         ensures sound { IsSoundArea self.old }
     {
-        add_run(&mut self.free, head, order);
+        add_pages(&mut self.free, first, pages);
         settle(
             self.largest,
             &self.free,
@@ -189,6 +191,21 @@ impl PlainArea {
             &mut self.lists,
             &mut self.scratch,
         );
+    }
+
+    /// The pages of a block leave the free ones.
+    fn leave(&mut self, head: PageAt, order: Order)
+        ensures { self.new ≡ leave self.old head order }
+    {
+        self.leave_run(head, order.pages());
+    }
+
+    /// The pages of a block become free.
+    pub fn give(&mut self, head: PageAt, order: Order)
+        ensures after { self.new ≡ give self.old head order }
+        ensures sound { IsSoundArea self.old }
+    {
+        self.give_run(head, order.pages());
     }
 
     /// The type of a page's pageblock.

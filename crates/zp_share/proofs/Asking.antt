@@ -24,7 +24,7 @@ use Rattle.zp_share.specs.declared.page_use.PageUse.{PageUse}
 use Rattle.zp_share.specs.declared.page_use.PageUse.TheVariants.{Lent}
 use Rattle.zp_share.specs.declared.zone_share.ZoneShare.TheInside.{Inside}
 use Rattle.zp_share.specs.PageUses.{held, is_lent_as, use_of, uses_after}
-use Rattle.zp_share.specs.Sections.{HasPlaces, IsReplyTo, MayAsk}
+use Rattle.zp_share.specs.Sections.{HasPlaces, IsForNoRun, IsReplyTo, MayAsk}
 use Rattle.zp_share.proofs.OneUse.{IsIn, use-set}
 use Rattle.zp_share.proofs.Listing.{All-by_standing}
 use Rattle.zp_share.proofs.Closing.{IsFit, lent_in, IsWhole, held_at, new_page, new_pages, share_of, back_distinct, back_has, back_in, places}
@@ -78,12 +78,14 @@ few n most high (Request.Refill u v c) s room a = let le : c ≤ most = a.2 in l
 few n most high r s room a = tt
 
 -- then so may the seat
-pub may_seat : (n : ℕ) (r : Request) (o : Inside) → IsAsking n r o → MaySeatAsk n r o.seat
-may_seat n (Request.Free p k) o x = lent_has (share_of o) p k x.whole.1 x.lent
-may_seat n (Request.Post p k to) o x = (lent_has (share_of o) p k x.whole.1 x.lent, x.may)
-may_seat n (Request.Refill t m c) o x = (x.may.1, x.may.2)
-may_seat n (Request.Drain t ps) o x = (back_has o t ps x.whole x.may, back_distinct o t ps x.whole x.may)
-may_seat n r o x = tt
+pub may_seat : (n : ℕ) (r : Request) (o : Inside) → IsForNoRun r → IsAsking n r o → MaySeatAsk n r o.seat
+may_seat n (Request.Free p k) o plain x = lent_has (share_of o) p k x.whole.1 x.lent
+may_seat n (Request.Post p k to) o plain x = (lent_has (share_of o) p k x.whole.1 x.lent, x.may)
+may_seat n (Request.Refill t m c) o plain x = (x.may.1, x.may.2)
+may_seat n (Request.Drain t ps) o plain x = (back_has o t ps x.whole x.may, back_distinct o t ps x.whole x.may)
+may_seat n (Request.AllocRun c a m) o plain x = absurd plain
+may_seat n (Request.FreeRun p c) o plain x = absurd plain
+may_seat n r o plain x = tt
 
 -- the page that a block's request is answered is given to the seat
 pub given_page : (k : ℕ) (t : MigrateType) (m : Mark) (got : Result ℕ Refused) (a b : SeatState) → IfOk got (λ p. IsTrue (has b p k)) → IfOk got (IsNewTo a) →
@@ -127,29 +129,32 @@ lent_now j k p t s u r q n us jk e =
     ap (λ v. is_lent v p j) e ∙ ap (λ l. is_lent_as j (use_of s.seat.part.base l p)) us ∙ ap (is_lent_as j) (use-set s.seat.part.base p (Lent k t) s.uses n.place) ∙ eq-eqb k j (sym jk)
 
 -- why a zone refuses is one of the reasons that a section may be refused for
-zone_why : (a b e : Refused) → (e ≡ a) ⊎ (e ≡ b) → (e ≡ a) ⊎ ((e ≡ b) ⊎ (e ≡ JournalFull))
+pub zone_why : (a b e : Refused) → (e ≡ a) ⊎ (e ≡ b) → (e ≡ a) ⊎ ((e ≡ b) ⊎ (e ≡ JournalFull))
 zone_why a b e (inl x) = inl x
 zone_why a b e (inr x) = inr (inl x)
 
 -- the reply is one to the request
-pub reply_to : (r : Request) (q : Reply) (z : PlainZone) (w : ℕ) (a b : SeatState) (s u : ZoneShareState) → IsFit r q s → u ≡ answered r q s → q ≡ (step z w r).reply → IsGiven r q a b →
+pub reply_to : (r : Request) (q : Reply) (z : PlainZone) (w : ℕ) (a b : SeatState) (s u : ZoneShareState) → IsForNoRun r → IsFit r q s → u ≡ answered r q s → q ≡ (step z w r).reply → IsGiven r q a b →
     IsReplyTo r q s u
-reply_to r q z w a b s u f e is g = go r q f e g (subst (IfRefused (IsWhy r)) (sym is) (step-why z w r))
+reply_to r q z w a b s u plain f e is g = go r q plain f e g (subst (IfRefused (IsWhy r)) (sym is) (step-why z w r))
   where
-    go : (r : Request) (q : Reply) → IsFit r q s → u ≡ answered r q s → IsGiven r q a b → IfRefused (IsWhy r) q → IsReplyTo r q s u
-    go (Request.Alloc k t m) (Reply.Page p) f e g y = record { fresh = f; lent = lent_now k k p t s u (Request.Alloc k t m) (Reply.Page p) f refl refl e }
-    go (Request.Alloc k t m) (Reply.Refused v) f e g y = zone_why BelowMark NoBlock v y
-    go (Request.AllocLow k) (Reply.Block x) f e g y = (g.0, record { fresh = f; lent = lent_now x.order k x.page x.kind s u (Request.AllocLow k) (Reply.Block x) f refl g.0 e })
-    go (Request.AllocLow k) (Reply.Refused v) f e g y = inl y
-    go (Request.Free p k) Reply.Freed f e g y = tt
-    go (Request.Post p k to) Reply.Posted f e g y = tt
-    go Request.Collect (Reply.Block x) f e g y = record { fresh = f; lent = lent_now x.order x.order x.page x.kind s u Request.Collect (Reply.Block x) f refl refl e }
-    go Request.Collect (Reply.Refused v) f e g y = inl y
-    go (Request.Refill t m n) (Reply.Pages ps) f e g y = record { some = g.some; most = g.most; fresh = All-by_standing (IsNew s) ps f.each }
-    go (Request.Refill t m n) (Reply.Refused v) f e g y = zone_why BelowMark NoBlock v y
-    go (Request.Drain t ps) Reply.Drained f e g y = tt
-    go (Request.Isolate p) Reply.Isolated f e g y = tt
-    go (Request.Isolate p) (Reply.Refused v) f e g y = zone_why BadPageblock AlreadyIsolated v y
-    go (Request.Release p t) Reply.Released f e g y = tt
-    go (Request.Release p t) (Reply.Refused v) f e g y = zone_why BadPageblock NotIsolated v y
-    go r q f e g y = absurd g
+    go : (r : Request) (q : Reply) → IsForNoRun r → IsFit r q s → u ≡ answered r q s → IsGiven r q a b → IfRefused (IsWhy r) q → IsReplyTo r q s u
+    go (Request.Alloc k t m) (Reply.Page p) plain f e g y = record { fresh = f; lent = lent_now k k p t s u (Request.Alloc k t m) (Reply.Page p) f refl refl e }
+    go (Request.Alloc k t m) (Reply.Refused v) plain f e g y = zone_why BelowMark NoBlock v y
+    go (Request.AllocLow k) (Reply.Block x) plain f e g y = (g.0, record { fresh = f; lent = lent_now x.order k x.page x.kind s u (Request.AllocLow k) (Reply.Block x) f refl g.0 e })
+    go (Request.AllocLow k) (Reply.Refused v) plain f e g y = inl y
+    go (Request.Free p k) Reply.Freed plain f e g y = tt
+    go (Request.Post p k to) Reply.Posted plain f e g y = tt
+    go Request.Collect (Reply.Block x) plain f e g y = record { fresh = f; lent = lent_now x.order x.order x.page x.kind s u Request.Collect (Reply.Block x) f refl refl e }
+    go Request.Collect (Reply.Refused v) plain f e g y = inl y
+    go (Request.Refill t m n) (Reply.Pages ps) plain f e g y = record { some = g.some; most = g.most; fresh = All-by_standing (IsNew s) ps f.each }
+    go (Request.Refill t m n) (Reply.Refused v) plain f e g y = zone_why BelowMark NoBlock v y
+    go (Request.Drain t ps) Reply.Drained plain f e g y = tt
+    go (Request.Isolate p) Reply.Isolated plain f e g y = tt
+    go (Request.Isolate p) (Reply.Refused v) plain f e g y = zone_why BadPageblock AlreadyIsolated v y
+    go (Request.Release p t) Reply.Released plain f e g y = tt
+    go (Request.Release p t) (Reply.Refused v) plain f e g y = zone_why BadPageblock NotIsolated v y
+    go (Request.AllocRun n a m) q plain f e g y = absurd plain
+    go (Request.AllocRunAt p n) q plain f e g y = absurd plain
+    go (Request.FreeRun p n) q plain f e g y = absurd plain
+    go r q plain f e g y = absurd g

@@ -7,12 +7,13 @@ use Rattle.std.proofs.lemmas.List.{map-set, set-get_or, get_or-set_same, get_or-
 use Rattle.zp_model.specs.declared.refused.Refused.{Refused}
 use Rattle.zp_model.specs.declared.request.Request.{Request}
 use Rattle.zp_model.specs.declared.request.Reply.{Reply}
+use Rattle.zp_model.specs.Zone.{PlainZone}
 use Rattle.zp_zone.specs.NamedZone.{NamedZone}
 use Rattle.zp_zone.specs.Seats.{SeatState}
 use Rattle.zp_share.specs.PlainShares.{PlainZoneShare, PlainShare, own_at, with_own}
-use Rattle.zp_share.specs.ZoneShares.{ZoneShareState, is_lent, answered, plain_share, opening_share}
+use Rattle.zp_share.specs.ZoneShares.{ZoneShareState, is_lent, answered, answered_in, plain_share, opening_share}
 use Rattle.zp_share.specs.Commands.{World, Done, done, told_as, and_then}
-use Rattle.zp_share.specs.Shares.{ShareState, HasSameLent, HasSameLentBut, ZoneKey, IsShareOf, IsDone, share_at, with_zone_share, is_section, noted_at, no_seat, plain, world, ties_of}
+use Rattle.zp_share.specs.Shares.{ShareState, HasSameLent, HasSameLentBut, ZoneKey, IsNotedAt, IsShareOf, IsDone, share_at, with_zone_share, is_section, noted_at, noted_in, no_seat, plain, world, ties_of}
 
 -- what the share has of the zone that changes, and of another
 pub here : (s : ShareState) (i : ℕ) (x : ZoneShareState) → i < length s.zones → share_at (with_zone_share i x s) i ≡ x
@@ -43,12 +44,23 @@ same_lent_but s i q x lt f j p k ne =
 pub put_back : (s : ShareState) (i : ℕ) → with_zone_share i (share_at s i) s ≡ s
 put_back s i = rw (set-get_or {A = ZoneShareState}) refl
 
+one_or_same : (s : ShareState) (i : ℕ) (x : ZoneShareState) (b : Bool) → cond b (with_zone_share i x s) s ≡ with_zone_share i (cond b x (share_at s i)) s
+one_or_same s i x true = refl
+one_or_same s i x false = sym (put_back s i)
+
 pub noted_one : (s : ShareState) (i : ℕ) (r : Request) (q : Reply) → noted_at i r q s ≡ with_zone_share i (cond (is_section q) (answered r q (share_at s i)) (share_at s i)) s
-noted_one s i r q = go (is_section q)
-  where
-    go : (b : Bool) → cond b (with_zone_share i (answered r q (share_at s i)) s) s ≡ with_zone_share i (cond b (answered r q (share_at s i)) (share_at s i)) s
-    go true = refl
-    go false = sym (put_back s i)
+noted_one s i r q = one_or_same s i (answered r q (share_at s i)) (is_section q)
+
+pub noted_one_in : (z : PlainZone) (s : ShareState) (i : ℕ) (r : Request) (q : Reply) →
+    noted_in z i r q s ≡ with_zone_share i (cond (is_section q) (answered_in z r q (share_at s i)) (share_at s i)) s
+noted_one_in z s i r q = one_or_same s i (answered_in z r q (share_at s i)) (is_section q)
+
+-- so it is noted
+pub noted_by : (z : PlainZone) (i : ℕ) (r : Request) (q : Reply) (s t : ShareState) → t ≡ noted_in z i r q s → IsNotedAt i r q s t
+noted_by z i (Request.AllocRun n a m) q s t e = (z, e)
+noted_by z i (Request.AllocRunAt p n) q s t e = (z, e)
+noted_by z i (Request.FreeRun p n) q s t e = (z, e)
+noted_by z i r q s t e = e
 
 -- what the plain share has of a zone is what the share has there, made plain
 pub own-plain : (s : ShareState) (i : ℕ) → own_at (plain s) i ≡ plain_share (share_at s i)

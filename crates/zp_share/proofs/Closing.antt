@@ -15,20 +15,20 @@ use Rattle.zp_model.specs.declared.request.Request.{Request}
 use Rattle.zp_model.specs.declared.request.Reply.{Reply}
 use Rattle.zp_model.specs.MigrateType.{type_number, types_count}
 use Rattle.zp_model.specs.Rows.{stands_in, list_at, front, rest}
-use Rattle.zp_model.specs.Zone.{Holding, holding_at, is_of, workers_of}
-use Rattle.zp_model.specs.Books.{blocks_after}
+use Rattle.zp_model.specs.Zone.{PlainZone, Holding, holding_at, is_of, workers_of}
+use Rattle.zp_model.specs.Books.{blocks_after, blocks_after_in}
 use Rattle.zp_model.specs.Step.{step}
 use Rattle.zp_model.specs.Run.{is_distinct}
 use Rattle.zp_model.proofs.Settles.{stands_cases, stands_first}
 use Rattle.zp_model.proofs.RowLists.{replicated}
 use Rattle.zp_laws.proofs.Sameness.{step-same}
-use Rattle.zp_zone.specs.Seats.{ZoneState, SeatState, IsSeatOf, Agrees, IsNewTo, HasPages, has, asked, replied, IsUnused}
+use Rattle.zp_zone.specs.Seats.{ZoneState, SeatState, IsSeatOf, Agrees, IsNewTo, HasPages, has, asked, replied, replied_in, IsUnused}
 use Rattle.zp_share.specs.declared.page_use.PageUse.{PageUse}
 use Rattle.zp_share.specs.declared.page_use.PageUse.TheVariants.{Away, Lent, Cached}
-use Rattle.zp_share.specs.PageUses.{held, is_cached_as, all_as, uses_after, IsPlace, UsesState, use_of, is_lent_as, use_at}
+use Rattle.zp_share.specs.PageUses.{HasSameCached, held, is_cached_as, all_as, uses_after, uses_after_in, IsPlace, UsesState, use_of, is_lent_as, use_at}
 use Rattle.zp_share.specs.PlainShares.{back, without_back, lists_after, SectionsState}
-use Rattle.zp_share.specs.Sections.{IsBack}
-use Rattle.zp_share.specs.ZoneShares.{ZoneShareState, IsShare, IsNew, use_in, is_lent, cached_of, last_of, answered, SharesIn, IsSection, HasAtMost, opening_share}
+use Rattle.zp_share.specs.Sections.{IsBack, IsForNoRun}
+use Rattle.zp_share.specs.ZoneShares.{ZoneShareState, IsShare, IsNew, use_in, is_lent, cached_of, last_of, answered, answered_in, SharesIn, IsSection, HasAtMost, opening_share}
 use Rattle.zp_share.specs.declared.zone_share.ZoneShare.TheInside.{Inside}
 use Rattle.zp_share.proofs.OneUse.{IsIn, in_by_use, length-all_as, held-cached, held-away, in_at, use-set}
 use Rattle.zp_share.proofs.Listing.{IsListing, lent-uncached, lent_there, unlisted, added, back_removed, standing_of_all, distinct-by_test, All-by_standing, is_distinct-true, distinct-back, back_stands, number_in, standing_cached, standing_in, front_removed, distinct_nil}
@@ -142,6 +142,64 @@ answered_parts r q o m w x f es eu el en ew =
       same = same;
     }
 
+-- a request that is for no run says itself what it makes of the share, and of the seat
+pub answered-plainly : (z : PlainZone) (r : Request) (q : Reply) (s : ZoneShareState) → IsForNoRun r → answered r q s ≡ answered_in z r q s
+answered-plainly z r q s none = go r none
+  where
+    go : (r : Request) → IsForNoRun r → answered r q s ≡ answered_in z r q s
+    go (Request.AllocRun n a m) none = absurd none
+    go (Request.AllocRunAt p n) none = absurd none
+    go (Request.FreeRun p n) none = absurd none
+    go r none = refl
+
+pub replied-plainly : (z : PlainZone) (r : Request) (q : Reply) (s : SeatState) → IsForNoRun r → replied_in z r q s ≡ replied r q s
+replied-plainly z r q s none = go r none
+  where
+    go : (r : Request) → IsForNoRun r → replied_in z r q s ≡ replied r q s
+    go (Request.AllocRun n a m) none = absurd none
+    go (Request.AllocRunAt p n) none = absurd none
+    go (Request.FreeRun p n) none = absurd none
+    go r none = refl
+
+-- uses with the same pages cached are listed alike
+cached_alike : (base r p : ℕ) (us vs : List PageUse) → HasSameCached us vs → is_cached_as r (use_of base vs p) ≡ is_cached_as r (use_of base us p)
+cached_alike base r p us vs x = go (leb base p)
+  where
+    go : (b : Bool) → is_cached_as r (cond b (use_at vs (p - base)) Away) ≡ is_cached_as r (cond b (use_at us (p - base)) Away)
+    go true = x r (p - base)
+    go false = refl
+
+-- a request for a run that changed what is out in the worker's name so, and what is out is what the uses vs stand for
+pub record IsRunUsed (z : PlainZone) (r : Request) (q : Reply) (base w : ℕ) (us vs : List PageUse) : Type 0 where
+  pub cached : HasSameCached us vs
+  pub blocks : blocks_after_in z base w r q (map (held w) us) ≡ map (held w) vs
+  pub uses : vs ≡ uses_after_in z base w r q us
+
+-- the parts m are the parts o, when their request for a run was answered so
+pub run_parts_answered : (z : PlainZone) (r : Request) (q : Reply) (o m : Inside) (w : ℕ) → IsWhole o → IsRunUsed z r q o.seat.part.base o.seat.worker o.uses.uses m.uses.uses →
+    m.seat ≡ replied_in z r q o.seat → m.uses.base ≡ o.uses.base → m.cached ≡ lists_after r q o.cached → lists_after r q o.cached ≡ o.cached →
+    m.sections ≡ record { made = o.sections.made + 1; last = Some (record { worker = w; request = r; reply = q }) } →
+    w ≡ o.seat.worker → IsWhole m × (share_of m ≡ answered_in z r q (share_of o))
+run_parts_answered z r q o m w x used es eb el same_lists en ew =
+    let V : SeatState → List PageUse → List (List ℕ) → SectionsState → ZoneShareState = λ s us ls n. record { seat = s; uses = us; cached = ls; sections = n } in
+    let W : ℕ → ZoneShareState =
+    λ v. V (replied_in z r q o.seat) (uses_after_in z o.seat.part.base o.seat.worker r q o.uses.uses) (lists_after r q o.cached) (record { made = o.sections.made + 1; last = Some (record { worker = v; request = r; reply = q }) }) in
+    let same : share_of m ≡ answered_in z r q (share_of o) = (λ i. V (es i) (used.uses i) (el i) (en i)) ∙ ap W ew in
+    let l : IsListing o.seat.part.base o.uses.uses o.cached = listing (share_of o) x.1 in
+    let e : Entry = record { worker = o.seat.worker; request = r; reply = q } in
+    let whole : IsShare (answered_in z r q (share_of o)) = record {
+      blocks = ap (blocks_after_in z o.seat.part.base o.seat.worker r q) x.1.blocks ∙ used.blocks ∙ ap (map (held o.seat.worker)) used.uses;
+      lists = ap (λ (k : List (List ℕ)). length k) same_lists ∙ l.lists;
+      distinct = λ k. subst (λ c. IsDistinct (λ a b. a == b) (list_at c k)) (sym same_lists) (l.distinct k);
+      cached = λ k p.
+          ap (λ c. stands_in p (list_at c k)) same_lists
+          ∙ l.cached k p
+          ∙ sym (cached_alike o.seat.part.base k p o.uses.uses (uses_after_in z o.seat.part.base o.seat.worker r q o.uses.uses) (subst (HasSameCached o.uses.uses) used.uses used.cached));
+      sections = omega (arith, x.1.sections, length-append o.seat.part.entries (e ∷ []));
+      last = sym (last-of o.seat.part.entries e);
+    } in
+    ((eb ∙ x.0 ∙ sym (ap (λ s. s.part.base) es), subst (λ s. IsShare s) (sym same) whole), same)
+
 -- a share that agrees with its zone has what is out in the worker's name there, and its sections are the worker's entries
 shares_in : (z : ZoneState) (s : ZoneShareState) → IsShare s → IsSeatOf z s.seat → s.seat.worker < workers_of z.plain → Agrees z s.seat → SharesIn z s
 shares_in z s x fit known a = record {
@@ -152,21 +210,21 @@ shares_in z s x fit known a = record {
   last = x.last ∙ ap (λ p. last_of p.entries) a;
 }
 
-pub section_is : (r : Request) (q : Reply) (z y : ZoneState) (o m : Inside) (s : ZoneShareState) → IsWhole o → share_of o ≡ s → IsAnswered r q o m →
+pub section_is : (r : Request) (q : Reply) (z y : ZoneState) (o m : Inside) (s : ZoneShareState) → IsWhole o → share_of o ≡ s → IsWhole m → share_of m ≡ answered_in z.plain r q (share_of o) →
     q ≡ (step z.plain o.seat.worker r).reply → y ≡ asked o.seat.worker r z →
     IsSeatOf z s.seat → IsSeatOf y m.seat → o.seat.worker < workers_of z.plain → Agrees z o.seat × Agrees y m.seat →
     IsSection r q z y s (share_of m)
-section_is r q z y o m s x view n reply zone fit0 fit1 known agree =
-    let same : workers_of y.plain ≡ workers_of z.plain = ap (λ v. workers_of v.plain) zone ∙ (step-same z.plain o.seat.worker r).workers in
-    let who : m.seat.worker ≡ o.seat.worker = ap (λ v. v.seat.worker) n.same in
+section_is r q z y o m s x view n same reply zone fit0 fit1 known agree =
+    let workers : workers_of y.plain ≡ workers_of z.plain = ap (λ v. workers_of v.plain) zone ∙ (step-same z.plain o.seat.worker r).workers in
+    let who : m.seat.worker ≡ o.seat.worker = ap (λ v. v.seat.worker) same in
     let fit : IsSeatOf z o.seat = ap (λ v. v.seat.tie) view ∙ fit0 in
     subst (λ v. IsSection r q z y v (share_of m)) view
     (record {
       reply = reply;
       zone = zone;
-      share = n.same;
+      share = same;
       before = shares_in z (share_of o) x.1 fit known agree.0;
-      after = shares_in y (share_of m) n.whole.1 fit1 (omega (arith, same, who, known)) agree.1;
+      after = shares_in y (share_of m) n.1 fit1 (omega (arith, workers, who, known)) agree.1;
     })
 
 -- a page at which the seat has a block after the answer is one of the zone
@@ -198,7 +256,7 @@ held_at s p k x i =
     ∙ ap (held s.seat.worker) (in_at s.seat.part.base p s.uses i) in
     ap (λ b. b && is_of s.seat.worker k (holding_at s.seat.part.blocks (p - s.seat.part.base))) (le-leb s.seat.part.base p i.from) ∙ ap (is_of s.seat.worker k) at
 
-away_by_none : (w : ℕ) (u : PageUse) → ((k : ℕ) → is_of w k (held w u) ≡ false) → u ≡ Away
+pub away_by_none : (w : ℕ) (u : PageUse) → ((k : ℕ) → is_of w k (held w u) ≡ false) → u ≡ Away
 away_by_none w Away f = refl
 away_by_none w (Lent j t) f = grind (arith, nat_tests, f j)
 away_by_none w (Cached t) f = grind (arith, nat_tests, f 0)

@@ -39,7 +39,7 @@ put_others s u i p t lt e o f j q k ne =
 -- a lent page of order 0 is put on its list, where that has room
 put_done : (x : PlainZoneShare) (p high : ℕ) (t : MigrateType) → lent_kind (used_as x p) 0 ≡ Some t → length (list_of x t) < high →
     putting x p high ≡ record { answer = Ok tt; share = put p t x }
-put_done x p high t e lt = rw (lent_use (used_as x p) t e, lt-ltb (length (list_of x t)) high lt) refl
+put_done x p high t e lt = rw (lent_use (used_as x p) 0 t e, lt-ltb (length (list_of x t)) high lt) refl
 
 pub puts : (rows : List NamedZone) (s u : ShareState) (i p : ℕ) (t : MigrateType) (told : Option (List NamedZone)) → told ≡ Some rows →
     lent_kind (use_in (share_at s i) p) 0 ≡ Some t → length (cached_of (share_at s i) t) < s.high_len → u ≡ with_zone_share i (share_at u i) s →

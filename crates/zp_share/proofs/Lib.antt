@@ -1,4 +1,6 @@
 pub mod OneUse
+pub mod RunUses
+pub mod RunSections
 pub mod Listing
 pub mod Closing
 pub mod Tried

@@ -82,8 +82,8 @@ one_more_use o m n u i p ps lt at e f =
     ∙ ap (λ (x : UsesState). let y : UsesState = record x { uses = slice_set x.uses (p - x.base) u } in y) e
     ∙ sym (ap (with_all o u) grown ∙ ap (λ us. let y : UsesState = record o { uses = us } in y) (all_as-push o.base p u (take i ps) o.uses))
 
--- a page whose block of order 0 has a type is lent with it
-pub lent_use : (u : PageUse) (t : MigrateType) → lent_kind u 0 ≡ Some t → u ≡ Lent 0 t
-lent_use Away t e = absurd cc
-lent_use (Cached k) t e = absurd cc
-lent_use (Lent j k) t e = elim (eqb_tells j 0) [ inl w ↦ let same = rw w.0 at e in cc | inr w ↦ let none = rw w.0 at e in absurd cc ]
+-- a page whose block of some order has a type is lent with that order and it
+pub lent_use : (u : PageUse) (k : ℕ) (t : MigrateType) → lent_kind u k ≡ Some t → u ≡ Lent k t
+lent_use Away k t e = absurd cc
+lent_use (Cached s) k t e = absurd cc
+lent_use (Lent j s) k t e = elim (eqb_tells j k) [ inl w ↦ let same = rw w.0 at e in cc | inr w ↦ let none = rw w.0 at e in absurd cc ]

@@ -13,12 +13,12 @@ use Rattle.zp_laws.proofs.Sameness.{step-same}
 use Rattle.zp_zone.specs.NamedZone.{NamedZone}
 use Rattle.zp_zone.specs.Seats.{ZoneState, IsSeatOf}
 use Rattle.zp_share.specs.declared.sections_made.TheConstants.{LAST_SECTION}
-use Rattle.zp_share.specs.PlainShares.{PlainZoneShare, lends_for, refusal_of, share_after, own_at, with_own}
+use Rattle.zp_share.specs.PlainShares.{PlainZoneShare, lends_for, refusal_of, share_after_in, own_at, with_own}
 use Rattle.zp_share.specs.ZoneShares.{ZoneShareState, plain_share, opening_share}
 use Rattle.zp_share.specs.Commands.{no_zone, zone_at, section, section_as}
 use Rattle.zp_share.specs.Shares.{ShareState, ZoneKey, IsAskedAt, IsDone, IsShareOf, key_of, named_zone, no_seat, no_tie, plain, share_at, ties_of, with_zone_share, world}
 use Rattle.zp_share.specs.Sections.{ComesOf, IsAsked}
-use Rattle.zp_share.proofs.Carrying.{noted_one, own-plain, plain-with, put_back}
+use Rattle.zp_share.proofs.Carrying.{noted_by, noted_one_in, own-plain, plain-with, put_back}
 use Rattle.zp_share.proofs.Tried.{not_lent_alone, tried}
 
 -- the zones of a share are as many as the row's
@@ -73,8 +73,8 @@ comes_told None r q zs s t i z y c x =
           ap plain c.others
           ∙ plain-with i (share_at t i) s
           ∙ ap (λ v. with_own i (plain_share v) (plain s)) x.share
-          ∙ ap (λ v. with_own i (share_after r v (plain_share (share_at s i))) (plain s)) x.reply
-          ∙ (λ j. with_own i (share_after r (step (n j).plain (o j).worker r).reply (o j)) (plain s));
+          ∙ ap (λ v. with_own i (share_after_in z.plain r v (plain_share (share_at s i))) (plain s)) x.reply
+          ∙ (λ j. with_own i (share_after_in (n j).plain r (step (n j).plain (o j).worker r).reply (o j)) (plain s));
     }
 
 -- what comes of a request is the section, over the zones that the row tells
@@ -100,9 +100,10 @@ asked_at r q zs s t i z y c x =
           ∙ c.fits
           ∙ ap (map (λ (k : ZoneKey). k.tie)) (sym same);
       share =
-          c.others
+          noted_by z.plain i r q s t
+          (c.others
           ∙ ap (λ v. with_zone_share i v s) (tried (lends_for r own) (own.sections.made == LAST_SECTION) r q z y (share_at s i) (share_at t i) x.made)
-          ∙ sym (noted_one s i r q);
+          ∙ sym (noted_one_in z.plain s i r q));
       reply = x.reply;
       not_lent = not_lent_alone (lends_for r own) (own.sections.made == LAST_SECTION) r q z y (share_at s i) (share_at t i) x.made;
       told = told_section r q zs s t i z y c x.made;

@@ -1,24 +1,25 @@
 -- What a request to a zone may come to: one section, or no section, with nothing changed.
 use Rattle.std.specs.Prelude.{◌↔◌, slice_get}
 use Rattle.std.proofs.lemmas.Bool.{eqb-true}
-use Rattle.std.proofs.Common.{ℕ, suc, zero, ◌==◌, ◌≡◌, ◌⊎◌, ◌++◌, inl, inr, refl, sym, ◌∙◌, ap, arith, Bool, true, false, cond, List, [], ◌∷◌, Option, Some, None}
+use Rattle.std.proofs.Common.{ℕ, suc, zero, ◌-◌, ◌&&◌, leb, ◌==◌, ◌≡◌, ◌⊎◌, ◌++◌, inl, inr, refl, sym, ◌∙◌, ap, arith, Bool, true, false, cond, List, [], ◌∷◌, Option, Some, None}
 use Rattle.zp_model.specs.declared.mark.Mark.{Mark}
 use Rattle.zp_model.specs.declared.migrate_type.MigrateType.{MigrateType}
 use Rattle.zp_model.specs.declared.refused.Refused.{Refused}
-use Rattle.zp_model.specs.declared.refused.Refused.TheVariants.{BelowMark, NoBlock, NothingPosted, BadPageblock, AlreadyIsolated, NotIsolated, NotLent, JournalFull}
+use Rattle.zp_model.specs.declared.refused.Refused.TheVariants.{BelowMark, NoBlock, NothingPosted, BadPageblock, AlreadyIsolated, NotIsolated, BadRun, NotFree, NotLent, JournalFull}
 use Rattle.zp_model.specs.declared.request.Request.{Request}
 use Rattle.zp_model.specs.declared.request.Reply.{Reply}
 use Rattle.zp_model.specs.declared.pageblock_type.PageblockType.{PageblockType}
 use Rattle.zp_model.specs.Choose.{Chosen, choose}
 use Rattle.zp_model.specs.Take.{take_low_answer}
-use Rattle.zp_model.specs.Mark.{passes}
-use Rattle.zp_model.specs.Zone.{PlainZone, PostedBlock, posted_to}
-use Rattle.zp_model.specs.Step.{Outcome, alloc, alloc_chosen, alloc_low_at, refuse, collected, isolated, refill, refill_end, page_of, released, step}
+use Rattle.zp_model.specs.Mark.{pages_at_hand, passes}
+use Rattle.zp_model.specs.Runs.{has_pages, is_above_by, is_run, lowest_run, run_taken}
+use Rattle.zp_model.specs.Zone.{PlainZone, PostedBlock, pages_of, posted_to}
+use Rattle.zp_model.specs.Step.{Outcome, alloc, alloc_chosen, alloc_low_at, alloc_run_found, refuse, collected, isolated, refill, refill_end, page_of, released, step}
 use Rattle.zp_zone.specs.Seats.{ZoneState}
 use Rattle.zp_share.specs.declared.sections_made.TheConstants.{LAST_SECTION}
 use Rattle.zp_share.specs.PlainShares.{lends_for, refusal, refusal_of}
 use Rattle.zp_share.specs.Sections.{ComesOf}
-use Rattle.zp_share.specs.ZoneShares.{ZoneShareState, IsLeft, answered, plain_share}
+use Rattle.zp_share.specs.ZoneShares.{ZoneShareState, IsLeft, answered_in, plain_share}
 use Rattle.zp_share.specs.Shares.{is_section}
 
 -- why a zone gives no block
@@ -33,6 +34,8 @@ IsWhy Request.Collect e = e ≡ NothingPosted
 IsWhy (Request.Refill t m n) e = IsNoneWhy e
 IsWhy (Request.Isolate b) e = (e ≡ BadPageblock) ⊎ (e ≡ AlreadyIsolated)
 IsWhy (Request.Release b t) e = (e ≡ BadPageblock) ⊎ (e ≡ NotIsolated)
+IsWhy (Request.AllocRun n a m) e = IsNoneWhy e
+IsWhy (Request.AllocRunAt p n) e = (e ≡ BadRun) ⊎ (e ≡ NotFree)
 IsWhy r e = ⊥
 
 abbrev pub IfRefused : (Refused → Type 0) → Reply → Type 0
@@ -85,6 +88,20 @@ step-why z w (Request.Release b t) = go (slice_get z.area.kinds b)
   where
     go : (now : Option PageblockType) → IfRefused (IsWhy (Request.Release b t)) (released z b t now).reply
     go now = grind arith
+step-why z w (Request.AllocRun n a m) = go (is_above_by z.min (pages_at_hand z) n m) (lowest_run z n a)
+  where
+    go : (b : Bool) (o : Option ℕ) → IfRefused IsNoneWhy (cond b (alloc_run_found z w n o) (refuse z BelowMark)).reply
+    go true None = inr refl
+    go true (Some h) = tt
+    go false o = inl refl
+step-why z w (Request.AllocRunAt p n) = go (leb z.base p && is_run (pages_of z) (p - z.base) n) (has_pages z.area.free (p - z.base) n)
+  where
+    go : (inside free : Bool) →
+        IfRefused (IsWhy (Request.AllocRunAt p n)) (cond inside (cond free (record { reply = Reply.Page p; zone = run_taken z w (p - z.base) n }) (refuse z NotFree)) (refuse z BadRun)).reply
+    go true true = tt
+    go true false = inr refl
+    go false free = inl refl
+step-why z w (Request.FreeRun p n) = tt
 
 -- so each step's reply is a section
 pub step-section : (z : PlainZone) (w : ℕ) (r : Request) → is_section (step z w r).reply ≡ true
@@ -94,10 +111,10 @@ step-section z w r = go r (step z w r).reply (step-why z w r)
     go r q x = grind arith
 
 -- the share of the zone has one section more where the answer is a section, and else is as it was
-pub tried : (lent full : Bool) (r : Request) (q : Reply) (z y : ZoneState) (a b : ZoneShareState) → ComesOf (refusal lent full) r q z y a b → b ≡ cond (is_section q) (answered r q a) a
-tried false full r q z y a b x = x.1.share ∙ sym (ap (λ v. cond (is_section v) (answered r v a) a) x.0)
-tried true true r q z y a b x = x.1.share ∙ sym (ap (λ v. cond (is_section v) (answered r v a) a) x.0)
-tried true false r q z y a b x = x.share ∙ sym (ap (λ c. cond c (answered r q a) a) (ap is_section x.reply ∙ step-section z.plain a.seat.worker r))
+pub tried : (lent full : Bool) (r : Request) (q : Reply) (z y : ZoneState) (a b : ZoneShareState) → ComesOf (refusal lent full) r q z y a b → b ≡ cond (is_section q) (answered_in z.plain r q a) a
+tried false full r q z y a b x = x.1.share ∙ sym (ap (λ v. cond (is_section v) (answered_in z.plain r v a) a) x.0)
+tried true true r q z y a b x = x.1.share ∙ sym (ap (λ v. cond (is_section v) (answered_in z.plain r v a) a) x.0)
+tried true false r q z y a b x = x.share ∙ sym (ap (λ c. cond c (answered_in z.plain r q a) a) (ap is_section x.reply ∙ step-section z.plain a.seat.worker r))
 
 -- a refusal 20 exactly where the block is not lent
 pub not_lent_alone : (lent full : Bool) (r : Request) (q : Reply) (z y : ZoneState) (a b : ZoneShareState) → ComesOf (refusal lent full) r q z y a b → (q ≡ Reply.Refused NotLent) ↔ (lent ≡ false)

@@ -16,7 +16,7 @@ use Rattle.zp_model.specs.Zone.{zone_opening}
 use Rattle.zp_model.specs.Step.{Outcome, step}
 use Rattle.zp_zone.specs.NamedZone.{NamedZone}
 use Rattle.zp_share.specs.declared.commands.Lent.{Lent}
-use Rattle.zp_share.specs.PlainShares.{PlainZoneShare, PlainShare, refusal_of, used_as, lent_kind, list_of, back, share_after, taken, putting, own_at, with_own}
+use Rattle.zp_share.specs.PlainShares.{PlainZoneShare, PlainShare, refusal_of, used_as, lent_kind, list_of, back, share_after_in, taken, putting, own_at, with_own}
 
 -- a row of zones, the lowest first, and one worker's share of them
 pub record World : Type 0 where
@@ -59,7 +59,8 @@ with_share i x w = record { zones = w.zones; share = with_own i x w.share }
 
 -- the request is a step of zone i, and the share changes as the reply says
 abbrev pub stepped : World → ℕ → Request → Outcome → Done Reply
-stepped w i r o = done o.reply (record { zones = row_with w.zones i o; share = with_own i (share_after r o.reply (own_at w.share i)) w.share })
+stepped w i r o =
+    done o.reply (record { zones = row_with w.zones i o; share = with_own i (share_after_in (zone_at w.zones i).plain r o.reply (own_at w.share i)) w.share })
 
 -- one section, where it is not refused
 abbrev pub section_as : Option Refused → World → ℕ → Request → Done Reply

@@ -11,7 +11,8 @@ use Rattle.zp_model.specs.Rows.{list_at}
 use Rattle.zp_share.specs.declared.sections_made.TheConstants.{LAST_SECTION}
 use Rattle.zp_share.specs.declared.page_use.PageUse.{PageUse}
 use Rattle.zp_share.specs.declared.page_use.PageUse.TheVariants.{Away, Lent, Cached}
-use Rattle.zp_share.specs.PageUses.{use_of, is_lent_as, uses_after}
+use Rattle.zp_model.specs.Zone.{PlainZone}
+use Rattle.zp_share.specs.PageUses.{use_of, is_lent_as, is_lent_run, uses_after, uses_after_in}
 
 pub record SectionsState : Type 0 where
   -- how many were made, and the last one
@@ -48,13 +49,14 @@ used_as s p = use_of s.base s.uses p
 abbrev pub lends : PlainZoneShare → ℕ → ℕ → Bool
 lends s p k = is_lent_as k (used_as s p)
 
--- whether the block that a request names, if it names one, is lent
+-- whether the block that a request names, or each page of a run that it frees, is lent
 abbrev pub lends_for : Request → PlainZoneShare → Bool
 lends_for (Request.Free p k) s = lends s p k
 lends_for (Request.Post p k to) s = lends s p k
+lends_for (Request.FreeRun p n) s = is_lent_run s.base s.uses p n
 lends_for r s = true
 
--- why no section is made, if none is: 20 where the block named is not lent, else 30 where there is no room for one more
+-- why no section is made, if none is: 20 where what is named is not lent, else 30 where there is no room for one more
 abbrev pub refusal : Bool → Bool → Option Refused
 refusal false full = Some NotLent
 refusal true true = Some JournalFull
@@ -96,6 +98,17 @@ share_after r q s =
       worker = s.worker;
       base = s.base;
       uses = uses_after s.base r q s.uses;
+      cached = lists_after r q s.cached;
+      sections = record { made = s.sections.made + 1; last = Some (record { worker = s.worker; request = r; reply = q }) };
+    }
+
+-- and when any request of its is answered so in the zone z as it was
+abbrev pub share_after_in : PlainZone → Request → Reply → PlainZoneShare → PlainZoneShare
+share_after_in z r q s =
+    record {
+      worker = s.worker;
+      base = s.base;
+      uses = uses_after_in z s.base s.worker r q s.uses;
       cached = lists_after r q s.cached;
       sections = record { made = s.sections.made + 1; last = Some (record { worker = s.worker; request = r; reply = q }) };
     }

@@ -1,5 +1,5 @@
 -- One section of a share with a zone, whatever is asked: when it may be made, and what comes of it (this profile).
-use Rattle.std.specs.Prelude.{ℕ, ◌≡◌, ◌<◌, ◌≤◌, ◌+◌, ◌⊎◌, IsTrue, All, List, [], length, Option, None, Some, Result, Ok, Err}
+use Rattle.std.specs.Prelude.{ℕ, ◌≡◌, ◌<◌, ◌≤◌, ◌+◌, ◌⊎◌, IsTrue, true, All, List, [], length, Option, None, Some, Result, Ok, Err}
 use Rattle.zp_model.specs.declared.constants.TheConstants.{LONGEST_LIST}
 use Rattle.zp_model.specs.declared.migrate_type.MigrateType.{MigrateType}
 use Rattle.zp_model.specs.declared.refused.Refused.{Refused}
@@ -9,14 +9,22 @@ use Rattle.zp_model.specs.declared.request.Reply.{Reply}
 use Rattle.zp_model.specs.MigrateType.{type_number}
 use Rattle.zp_model.specs.Rows.{list_at}
 use Rattle.zp_zone.specs.Seats.{ZoneState, IsSeatOf, KeepsSeats}
-use Rattle.zp_share.specs.PageUses.{UsesState, IsPlace}
+use Rattle.zp_model.specs.Runs.{is_within, may_alloc_run}
+use Rattle.zp_share.specs.PageUses.{UsesState, IsPlace, is_lent_run}
 use Rattle.zp_share.specs.PlainShares.{back, refusal_of}
-use Rattle.zp_share.specs.ZoneShares.{ZoneShareState, IsAllocRefusal, IsIsolateRefusal, IsLeft, IsNew, IsReleaseRefusal, IsSameSeat, IsSection, cached_of, is_lent, plain_share}
+use Rattle.zp_share.specs.ZoneShares.{ZoneShareState, IsAllocRefusal, IsIsolateRefusal, IsLeft, IsNew, IsReleaseRefusal, IsRunRefusal, IsSameSeat, IsSection, cached_of, is_lent, plain_share}
 
 -- these pages are those at the back of a type's list, the last one first
 pub record IsBack (s : ZoneShareState) (t : MigrateType) (ps : List ℕ) : Type 0 where
   pub within : length ps ≤ length (cached_of s t)
   pub pages : ps ≡ back (length ps) (cached_of s t)
+
+-- the request is for no run of pages
+abbrev pub IsForNoRun : Request → Type 0
+IsForNoRun (Request.AllocRun n a m) = ⊥
+IsForNoRun (Request.AllocRunAt p n) = ⊥
+IsForNoRun (Request.FreeRun p n) = ⊥
+IsForNoRun r = Unit {0}
 
 -- what a share needs to ask a zone of so many workers, beside the block that is named: a refill asks for so many pages at most, for a list
 -- that is empty, and a drain gives back the pages at the back of a list
@@ -24,12 +32,18 @@ abbrev pub MayAsk : ℕ → ℕ → Request → ZoneShareState → Type 0
 MayAsk workers most (Request.Post p k to) s = to < workers
 MayAsk workers most (Request.Refill t m n) s = (cached_of s t ≡ []) × (1 ≤ n) × (n ≤ most)
 MayAsk workers most (Request.Drain t ps) s = IsBack s t ps
+MayAsk workers most (Request.AllocRun n a m) s = IsTrue (may_alloc_run n a)
 MayAsk workers most r s = Unit {0}
 
 -- a block answered was not the share's, and is then lent
 pub record IsLentBlock (p k : ℕ) (s t : ZoneShareState) : Type 0 where
   pub fresh : IsNew s p
   pub lent : IsTrue (is_lent t p k)
+
+-- none of the pages of a run answered was the share's, and all are then lent
+pub record IsRunLent (p n : ℕ) (s t : ZoneShareState) : Type 0 where
+  pub fresh : (q : ℕ) → is_within p n q ≡ true → IsNew s q
+  pub lent : IsTrue (is_lent_run t.seat.part.base t.uses p n)
 
 -- pages answered are some, so many at most, and were not the share's
 pub record AreCachedPages (n : ℕ) (ps : List ℕ) (s : ZoneShareState) : Type 0 where
@@ -57,6 +71,12 @@ IsReplyTo (Request.Isolate b) Reply.Isolated s u = Unit {0}
 IsReplyTo (Request.Isolate b) (Reply.Refused e) s u = IsIsolateRefusal e
 IsReplyTo (Request.Release b t) Reply.Released s u = Unit {0}
 IsReplyTo (Request.Release b t) (Reply.Refused e) s u = IsReleaseRefusal e
+IsReplyTo (Request.AllocRun n a m) (Reply.Page p) s u = IsRunLent p n s u
+IsReplyTo (Request.AllocRun n a m) (Reply.Refused e) s u = IsAllocRefusal e
+IsReplyTo (Request.AllocRunAt b n) (Reply.Page p) s u = IsRunLent p n s u
+IsReplyTo (Request.AllocRunAt b n) (Reply.Refused e) s u = IsRunRefusal e
+IsReplyTo (Request.FreeRun p n) Reply.Freed s u = Unit {0}
+IsReplyTo (Request.FreeRun p n) (Reply.Refused e) s u = (e ≡ NotLent) ⊎ (e ≡ JournalFull)
 IsReplyTo r q s u = ⊥
 
 -- where it is refused, nothing was asked of the zone and nothing changed; else it is one section

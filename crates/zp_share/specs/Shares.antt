@@ -16,7 +16,7 @@ use Rattle.zp_zone.specs.Seats.{ZoneState, SeatState}
 use Rattle.zp_share.specs.declared.commands.Lent.{Lent}
 use Rattle.zp_share.specs.PlainShares.{PlainShare, back, lends_for, lent_kind, put, taken}
 use Rattle.zp_share.specs.Sections.{IsReplyTo}
-use Rattle.zp_share.specs.ZoneShares.{ZoneShareState, plain_share, answered, opening_share, is_lent, cached_of, use_in}
+use Rattle.zp_share.specs.ZoneShares.{ZoneShareState, plain_share, answered, answered_in, opening_share, is_lent, cached_of, use_in}
 use Rattle.zp_share.specs.Commands.{World, Done, is_listed, section}
 
 pub record ShareState : Type 0 where
@@ -107,6 +107,17 @@ is_section q = true
 abbrev pub noted_at : ℕ → Request → Reply → ShareState → ShareState
 noted_at i r q s = cond (is_section q) (with_zone_share i (answered r q (share_at s i)) s) s
 
+-- and after any request to it, in the zone z as it was
+abbrev pub noted_in : PlainZone → ℕ → Request → Reply → ShareState → ShareState
+noted_in z i r q s = cond (is_section q) (with_zone_share i (answered_in z r q (share_at s i)) s) s
+
+-- the share after a request to zone i that was answered so. What a run makes of it hangs on the zone's largest order and the types of its pageblocks
+abbrev pub IsNotedAt : ℕ → Request → Reply → ShareState → ShareState → Type 0
+IsNotedAt i (Request.AllocRun n a m) q s t = (z : PlainZone) × (t ≡ noted_in z i (Request.AllocRun n a m) q s)
+IsNotedAt i (Request.AllocRunAt p n) q s t = (z : PlainZone) × (t ≡ noted_in z i (Request.AllocRunAt p n) q s)
+IsNotedAt i (Request.FreeRun p n) q s t = (z : PlainZone) × (t ≡ noted_in z i (Request.FreeRun p n) q s)
+IsNotedAt i r q s t = t ≡ noted_at i r q s
+
 -- what was to be done is what was answered and left; the zones are told here
 pub record IsDone {A : Type 0} (d : Done A) (a : A) (rows : Option (List NamedZone)) (s : ShareState) : Type 0 where
   pub answer : a ≡ d.answer
@@ -117,7 +128,7 @@ pub record IsDone {A : Type 0} (d : Done A) (a : A) (rows : Option (List NamedZo
 pub record IsAskedAt (i : ℕ) (r : Request) (q : Reply) (ks ls : List ZoneKey) (zs ys : Option (List NamedZone)) (s t : ShareState) : Type 0 where
   pub keys : ls ≡ ks
   pub fits : IsShareOf ls t
-  pub share : t ≡ noted_at i r q s
+  pub share : IsNotedAt i r q s t
   pub reply : IsReplyTo r q (share_at s i) (share_at t i)
   pub not_lent : (q ≡ Reply.Refused NotLent) ↔ (lends_for r (plain_share (share_at s i)) ≡ false)
   pub told : (rows : List NamedZone) → zs ≡ Some rows → IsDone (section (world rows s) i r) q ys t

@@ -4,20 +4,20 @@ use Rattle.std.specs.Prelude.{ℕ, ◌≡◌, ◌==◌, ◌<◌, ◌≤◌, ◌�
 use Rattle.std.specs.List.{IsDistinct}
 use Rattle.zp_model.specs.declared.migrate_type.MigrateType.{MigrateType}
 use Rattle.zp_model.specs.declared.refused.Refused.{Refused}
-use Rattle.zp_model.specs.declared.refused.Refused.TheVariants.{BelowMark, NoBlock, BadPageblock, AlreadyIsolated, NotIsolated, JournalFull}
+use Rattle.zp_model.specs.declared.refused.Refused.TheVariants.{BelowMark, NoBlock, BadPageblock, AlreadyIsolated, NotIsolated, BadRun, NotFree, JournalFull}
 use Rattle.zp_model.specs.Entries.{Entry}
 use Rattle.zp_model.specs.declared.request.Request.{Request}
 use Rattle.zp_model.specs.declared.request.Reply.{Reply}
 use Rattle.zp_model.specs.MigrateType.{types_count}
 use Rattle.zp_model.specs.Rows.{list_at, stands_in}
-use Rattle.zp_model.specs.Zone.{workers_of}
+use Rattle.zp_model.specs.Zone.{PlainZone, workers_of}
 use Rattle.zp_model.specs.Books.{own, made_by}
 use Rattle.zp_model.specs.Step.{step}
-use Rattle.zp_zone.specs.Seats.{ZoneState, SeatState, asked, replied}
+use Rattle.zp_zone.specs.Seats.{ZoneState, SeatState, asked, replied, replied_in}
 use Rattle.zp_share.specs.declared.page_use.PageUse.{PageUse}
 use Rattle.zp_share.specs.declared.page_use.PageUse.TheVariants.{Away}
 use Rattle.zp_share.specs.PageUses.{UsesState, IsPlace, held, is_cached_as}
-use Rattle.zp_share.specs.PlainShares.{SectionsState, PlainZoneShare, used_as, lends, list_of, share_after, opening_own}
+use Rattle.zp_share.specs.PlainShares.{SectionsState, PlainZoneShare, used_as, lends, list_of, share_after, share_after_in, opening_own}
 
 pub record ZoneShareState : Type 0 where
   -- the worker, what ties it to the zone, and its part of the zone's books
@@ -93,11 +93,17 @@ answered r q s =
     let after : PlainZoneShare = share_after r q (plain_share s) in
     record { seat = replied r q s.seat; uses = after.uses; cached = after.cached; sections = after.sections }
 
+-- and when any request of its is answered so in the zone z as it was
+abbrev pub answered_in : PlainZone → Request → Reply → ZoneShareState → ZoneShareState
+answered_in z r q s =
+    let after : PlainZoneShare = share_after_in z r q (plain_share s) in
+    record { seat = replied_in z r q s.seat; uses = after.uses; cached = after.cached; sections = after.sections }
+
 -- one section: the request is a step of the lent zone, the share changes as the reply says, and the two agree before and after
 pub record IsSection (r : Request) (q : Reply) (z y : ZoneState) (s t : ZoneShareState) : Type 0 where
   pub reply : q ≡ (step z.plain s.seat.worker r).reply
   pub zone : y ≡ asked s.seat.worker r z
-  pub share : t ≡ answered r q s
+  pub share : t ≡ answered_in z.plain r q s
   pub before : SharesIn z s
   pub after : SharesIn y t
 
@@ -116,6 +122,10 @@ IsIsolateRefusal e = (e ≡ BadPageblock) ⊎ ((e ≡ AlreadyIsolated) ⊎ (e �
 
 abbrev pub IsReleaseRefusal : Refused → Type 0
 IsReleaseRefusal e = (e ≡ BadPageblock) ⊎ ((e ≡ NotIsolated) ⊎ (e ≡ JournalFull))
+
+-- why a run at a place is not given: it is not the zone's, one of its pages is not free, or that no section can be made
+abbrev pub IsRunRefusal : Refused → Type 0
+IsRunRefusal e = (e ≡ BadRun) ⊎ ((e ≡ NotFree) ⊎ (e ≡ JournalFull))
 
 -- nothing was asked of the zone, and nothing changed
 pub record IsLeft (z y : ZoneState) (s t : ZoneShareState) : Type 0 where

@@ -7,6 +7,8 @@ ghost use Rattle.zp_share.specs.PageUses.{use_of, all_as, uses_after, is_lent_as
 ghost use Rattle.zp_share.specs.PlainShares.{lent_kind};
 ghost use Rattle.zp_share.specs.Sections.{HasPlaces};
 
+mod runs;
+
 use crate::packed_use::PackedUse;
 use crate::page_use::PageUse;
 use std::alloc::{AllocError, Global};
@@ -122,7 +124,7 @@ impl PageUses {
         }
     }
 
-    /// What a request, with this reply, makes of the pages.
+    /// What a request that is for no run, with this reply, makes of the pages.
     #[inline(always)]
     pub fn note(&mut self, request: &Request, reply: &Reply)
         requires { HasPlaces request.now reply.now self.old }
@@ -166,6 +168,8 @@ impl PageUses {
             }
             // a page is to the worker what it was, whatever the type of its pageblock
             Request::Isolate(_) | Request::Release(_, _) => {}
+            // runs are noted with the zone at hand
+            Request::AllocRun(_, _, _) | Request::AllocRunAt(_, _) | Request::FreeRun(_, _) => {}
         }
     }
 }

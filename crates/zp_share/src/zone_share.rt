@@ -21,6 +21,7 @@ use zp_model::{Entry, LONGEST_LIST, MigrateType, Order, PageList, PageNo, Refuse
 use zp_zone::{Seat, Zone};
 
 mod asking;
+mod runs;
 
 /// What one worker has of a zone: its lists of pages of order 0, one for each type, the blocks lent to it, and its sections.
 #[derive(Drop)]

@@ -1,6 +1,7 @@
 //! A row of zones to which a worker turns with its share.
-ghost use Rattle.std.specs.Prelude.{ℕ, ◌≡◌, ◌≢◌, ◌<◌, ◌≤◌, List, [], length, true, Option, Some};
+ghost use Rattle.std.specs.Prelude.{ℕ, ◌≡◌, ◌≢◌, ◌<◌, ◌≤◌, List, [], length, IsTrue, true, Option, Some};
 ghost use Rattle.zp_model.specs.declared.counts.Counts.{Counts};
+ghost use Rattle.zp_model.specs.Runs.{may_alloc_run};
 ghost use Rattle.zp_model.specs.declared.refused.Refused.TheVariants.{JournalFull};
 ghost use Rattle.zp_model.specs.declared.request.Reply.{Reply};
 ghost use Rattle.zp_model.specs.declared.request.Request.TheVariants as request;
@@ -20,7 +21,7 @@ use zp_model::{
 
 /// A row of zones. A section makes one request to the zone at a place of the row, and the same change in the share: one section
 /// more, of this request and this reply, or a refusal 20 or 30 with nothing changed. Where the row shows what its zones are, they and
-/// the reply are exactly those of one step of that zone. Each of the nine typed calls is the section of its request, and
+/// the reply are exactly those of one step of that zone. Each of the twelve typed calls is the section of its request, and
 /// `fill` is that of a refill. The row says what each of them leaves of its readings (`reads`): after a section the readings of its zone
 /// cover it.
 pub trait Zones {
@@ -223,6 +224,62 @@ pub trait Zones {
     {
         let request = Request::Release(pageblock, kind);
         answered!(self.section(share, zone, &request), Reply::Released => ())
+    }
+
+    /// Allocates the lowest run of so many pages outside isolated pageblocks that begins at an absolute page which is a multiple of two to the power
+    /// `align`, held to this mark: its first page. All of it is then lent. Refused 10, 11 or 30.
+    fn alloc_run(
+        &mut self,
+        share: &mut Share,
+        zone: usize,
+        pages: u32,
+        align: u8,
+        mark: Mark,
+    ) -> Result<PageNo, Refused>
+        requires fits { IsShareOf (keys self.old) share.old }
+        requires zone { zone < length share.old.zones }
+        requires run { IsTrue (may_alloc_run pages align) }
+        ensures asked { IsAskedAt zone (request.AllocRun pages align mark) (page_reply result) (keys self.old) (keys self.new) (told self.old) (told self.new) share.old share.new }
+        ensures read { reads self.old self.new zone (page_reply result) share.new }
+    {
+        let request = Request::AllocRun(pages, align, mark);
+        answered!(self.section(share, zone, &request), Reply::Page(page) => page)
+    }
+
+    /// Allocates the run of so many pages that begins at this page, in isolated pageblocks too, held to no mark: its first page. All of it is then
+    /// lent. Refused 16, 17 or 30.
+    fn alloc_run_at(
+        &mut self,
+        share: &mut Share,
+        zone: usize,
+        page: PageNo,
+        pages: u32,
+    ) -> Result<PageNo, Refused>
+        requires fits { IsShareOf (keys self.old) share.old }
+        requires zone { zone < length share.old.zones }
+        ensures asked { IsAskedAt zone (request.AllocRunAt page pages) (page_reply result) (keys self.old) (keys self.new) (told self.old) (told self.new) share.old share.new }
+        ensures read { reads self.old self.new zone (page_reply result) share.new }
+    {
+        let request = Request::AllocRunAt(page, pages);
+        answered!(self.section(share, zone, &request), Reply::Page(first) => first)
+    }
+
+    /// Frees so many pages from this one on, by whatever blocks they are lent. What the blocks around the first and the last of them have beyond
+    /// the run stays lent. Refused 20 where one of them is not lent, or there is none, and 30.
+    fn free_run(
+        &mut self,
+        share: &mut Share,
+        zone: usize,
+        page: PageNo,
+        pages: u32,
+    ) -> Result<(), Refused>
+        requires fits { IsShareOf (keys self.old) share.old }
+        requires zone { zone < length share.old.zones }
+        ensures asked { IsAskedAt zone (request.FreeRun page pages) (done_reply reply.Freed result) (keys self.old) (keys self.new) (told self.old) (told self.new) share.old share.new }
+        ensures read { reads self.old self.new zone (done_reply reply.Freed result) share.new }
+    {
+        let request = Request::FreeRun(page, pages);
+        answered!(self.section(share, zone, &request), Reply::Freed => ())
     }
 
     // A section is covered by the readings after it, and what was covered is so still.

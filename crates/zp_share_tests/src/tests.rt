@@ -1,6 +1,7 @@
 //! Workers' lists: what is not proved of them.
 
 mod lists;
+mod runs;
 mod sequences;
 
 use std::test::*;

@@ -1,5 +1,5 @@
 -- A request of a share to the guarded zone at its place: what the zone, its journal, its board and the share are after it.
-use Rattle.std.proofs.Common.{ℕ, ◌≡◌, ◌≢◌, ◌<◌, ◌≤◌, ◌==◌, ◌+◌, ◌++◌, Bool, true, false, leb, refl, sym, ◌∙◌, ap, subst, arith, cond, List, [], ◌∷◌, get_or, length, length-append, None, Some, ◌↔◌}
+use Rattle.std.proofs.Common.{ℕ, ◌≡◌, ◌≢◌, ◌⊎◌, inl, inr, ◌<◌, ◌≤◌, ◌==◌, ◌+◌, ◌++◌, Bool, true, false, leb, refl, sym, ◌∙◌, ap, subst, arith, cond, List, [], ◌∷◌, get_or, length, length-append, None, Some, ◌↔◌}
 use Rattle.std.proofs.lemmas.Bool.{eqb-true, leb-false, leb-true}
 use Rattle.std.specs.Prelude.{IsTrue}
 use Rattle.std.proofs.Math.ListN.{get_or-map}
@@ -13,7 +13,7 @@ use Rattle.zp_model.specs.declared.request.Request.{Request}
 use Rattle.zp_model.specs.declared.request.Reply.{Reply}
 use Rattle.zp_model.specs.Books.{entry_of, made_by}
 use Rattle.zp_model.specs.Info.{counts_of}
-use Rattle.zp_model.specs.Zone.{PlainZone, pages_of}
+use Rattle.zp_model.specs.Zone.{PlainZone, pages_of, zone_opening}
 use Rattle.zp_model.specs.Step.{step}
 use Rattle.zp_model.specs.Run.{IsHistory, opening_of, run}
 use Rattle.zp_laws.proofs.Histories.{opening-step, run_more}
@@ -24,10 +24,11 @@ use Rattle.zp_counts.specs.CountBoards.{CountTie, CountsPublished, HoldsCounts}
 use Rattle.zp_model.specs.declared.constants.TheConstants.{NARROW_PAGES}
 use Rattle.zp_journal.specs.Journals.{counts_after}
 use Rattle.zp_share.specs.declared.sections_made.TheConstants.{LAST_SECTION}
-use Rattle.zp_share.specs.PlainShares.{lends_for, refusal}
+use Rattle.zp_share.specs.PlainShares.{PlainZoneShare, lends_for, refusal, refused_full}
 use Rattle.zp_share.specs.Sections.{ComesOf, IsAsked, IsReplyTo}
-use Rattle.zp_share.specs.ZoneShares.{ZoneShareState, SharesIn, IsLeft, IsSection, answered, opening_share, plain_share}
-use Rattle.zp_share.specs.Shares.{ShareState, ZoneKey, IsAskedAt, IsShareOf, no_key, no_tie, key_of, ties_of, share_at, with_zone_share, is_section, noted_at, no_seat}
+use Rattle.zp_share.specs.ZoneShares.{ZoneShareState, SharesIn, IsLeft, IsSection, answered_in, opening_share, plain_share}
+use Rattle.zp_share.specs.Shares.{ShareState, ZoneKey, IsAskedAt, IsNotedAt, IsShareOf, no_key, no_tie, key_of, ties_of, share_at, with_zone_share, is_section, noted_in, no_seat}
+use Rattle.zp_share.proofs.Carrying.{noted_by}
 use Rattle.zp_share.proofs.Telling.{same-key}
 use Rattle.zp_share.proofs.Tried.{not_lent_alone, step-section}
 use Rattle.zp_shared.proofs.Publishing.{counts_more}
@@ -62,11 +63,11 @@ share_kept keys r q z y s t i fits others made =
 
 -- it has one section more
 share_noted : (r : Request) (q : Reply) (z y : ZoneState) (s t : ShareState) (i : ℕ) → t ≡ with_zone_share i (share_at t i) s →
-    IsSection r q z y (share_at s i) (share_at t i) → t ≡ noted_at i r q s
+    IsSection r q z y (share_at s i) (share_at t i) → t ≡ noted_in z.plain i r q s
 share_noted r q z y s t i others made =
     others
     ∙ ap (λ v. with_zone_share i v s) made.share
-    ∙ sym (ap (λ v. cond v (with_zone_share i (answered r q (share_at s i)) s) s) (ap is_section made.reply ∙ step-section z.plain (share_at s i).seat.worker r))
+    ∙ sym (ap (λ v. cond v (with_zone_share i (answered_in z.plain r q (share_at s i)) s) s) (ap is_section made.reply ∙ step-section z.plain (share_at s i).seat.worker r))
 
 pub filter_few : {X : Type 0} (p : X → Bool) (xs : List X) → length (filter p xs) ≤ length xs
 filter_few p [] = omega arith
@@ -147,9 +148,34 @@ unasked keys r q g s key fits none reply made = record {
         others = sym (ap (λ l. let u : ShareState = record s { zones = l } in u) (set-get_or s.zones g.place (opening_share no_seat 0)));
         fits = fits;
       };
-  share = sym (ap (λ b. cond b (with_zone_share g.place (answered r q (share_at s g.place)) s) s) none);
+  share = sym (ap (λ b. cond b (with_zone_share g.place (answered_in g.zone.plain r q (share_at s g.place)) s) s) none);
   reply = reply;
 }
+
+-- a request that was refused 20 or 30 leaves the share as it was
+unnoted : (i : ℕ) (r : Request) (q : Reply) (s : ShareState) → is_section q ≡ false → IsNotedAt i r q s s
+unnoted i r q s none =
+    let z : PlainZone = zone_opening 0 0 0 0 0 in
+    noted_by z i r q s s (sym (ap (λ b. cond b (with_zone_share i (answered_in z r q (share_at s i)) s) s) none))
+
+-- such a refusal is a reply to each request
+lent_or_full : (b : Bool) → (cond b JournalFull NotLent ≡ NotLent) ⊎ (cond b JournalFull NotLent ≡ JournalFull)
+lent_or_full true = inr refl
+lent_or_full false = inl refl
+
+full_reply : (r : Request) (s : PlainZoneShare) (x y : ZoneShareState) → IsReplyTo r (refused_full r s) x y
+full_reply (Request.Alloc k t m) s x y = inr (inr refl)
+full_reply (Request.AllocLow k) s x y = inr refl
+full_reply (Request.Free p k) s x y = lent_or_full (lends_for (Request.Free p k) s)
+full_reply (Request.Post p k to) s x y = lent_or_full (lends_for (Request.Post p k to) s)
+full_reply Request.Collect s x y = inr refl
+full_reply (Request.Refill t m n) s x y = inr (inr refl)
+full_reply (Request.Drain t ps) s x y = refl
+full_reply (Request.Isolate b) s x y = inr (inr refl)
+full_reply (Request.Release b t) s x y = inr (inr refl)
+full_reply (Request.AllocRun n a m) s x y = inr (inr refl)
+full_reply (Request.AllocRunAt p n) s x y = inr (inr refl)
+full_reply (Request.FreeRun p n) s x y = lent_or_full (lends_for (Request.FreeRun p n) s)
 
 pub full_section : (lent : Bool) → is_section (Reply.Refused (cond lent JournalFull NotLent)) ≡ false
 full_section true = refl
@@ -326,6 +352,23 @@ module _ {X : Type 0} (capacity : X → ℕ → ℕ) (bounds : ℕ → ℕ → T
             (subst (λ b. ComesOf (refusal b (is_journal_full (guarded_of boards p))) r q p.zone p.zone (share_at s i) (share_at s i)) (sym was.0) (was.1.0, record { zone = refl; share = refl }));
       })))
 
+-- a row that has strayed refuses each request so, and tells no zones
+pub refused_at : (keys : List ZoneKey) (i : ℕ) (r : Request) (q : Reply) (s : ShareState) → IsShareOf keys s → q ≡ refused_full r (plain_share (share_at s i)) → IsAskedAt i r q keys keys None None s s
+refused_at keys i r q s fits is =
+    subst (λ v. IsAskedAt i r v keys keys None None s s) (sym is)
+    (record {
+      keys = refl;
+      fits = fits;
+      share = unnoted i r (refused_full r (plain_share (share_at s i))) s (full_section (lends_for r (plain_share (share_at s i))));
+      reply = full_reply r (plain_share (share_at s i)) (share_at s i) (share_at s i);
+      not_lent = alone (lends_for r (plain_share (share_at s i)));
+      told = λ rows e. absurd (cc);
+    })
+  where
+    alone : (b : Bool) → (Reply.Refused (cond b JournalFull NotLent) ≡ Reply.Refused NotLent) ↔ (b ≡ false)
+    alone true = (λ e. absurd cc, λ e. absurd cc)
+    alone false = (λ e. refl, λ e. refl)
+
 -- under the lock of a place it says what came of it there
 pub viewed : (keys : List ZoneKey) (i : ℕ) (r : Request) (q : Reply) (g h : GuardedZone) (s t : ShareState) → g.place ≡ i → IsAskedUnderLock keys r q g h s t → IsAskedAt i r q keys keys None None s t
 viewed keys i r q g h s t at x =
@@ -333,7 +376,7 @@ viewed keys i r q g h s t at x =
     (record {
       keys = refl;
       fits = x.kept.fits;
-      share = x.share;
+      share = noted_by g.zone.plain g.place r q s t x.share;
       reply = x.reply;
       not_lent = not_lent_alone (lends_for r (plain_share (share_at s g.place))) (is_journal_full g) r q g.zone h.zone (share_at s g.place) (share_at t g.place) x.made;
       told = λ rows e. absurd (cc);

@@ -18,7 +18,7 @@ use Rattle.zp_zone.specs.Seats.{ZoneState, KeepsSeats}
 use Rattle.zp_share.specs.PlainShares.{lends_for, refusal}
 use Rattle.zp_share.specs.Sections.{ComesOf, IsReplyTo}
 use Rattle.zp_share.specs.ZoneShares.{IsSameSeat, plain_share}
-use Rattle.zp_share.specs.Shares.{ShareState, ZoneKey, IsShareOf, is_section, key_of, no_key, no_tie, noted_at, opening_by, sections_at, share_at, with_zone_share}
+use Rattle.zp_share.specs.Shares.{ShareState, ZoneKey, IsShareOf, is_section, key_of, no_key, no_tie, noted_in, opening_by, sections_at, share_at, with_zone_share}
 
 -- how many free blocks of each order the zone has, and how many free pages
 abbrev pub zone_counts : ZoneState → Counts
@@ -183,7 +183,7 @@ pub record IsAskedUnderLock (keys : List ZoneKey) (r : Request) (q : Reply) (g h
   pub made : ComesOf (refusal (lends_for r (plain_share (share_at s g.place))) (is_journal_full g)) r q g.zone h.zone (share_at s g.place) (share_at t g.place)
   pub published : IsPublishedOnce g h
   pub kept : IsKeptAt keys g h s t
-  pub share : t ≡ noted_at g.place r q s
+  pub share : t ≡ noted_in g.zone.plain g.place r q s
   pub reply : IsReplyTo r q (share_at s g.place) (share_at t g.place)
 
 -- whether a request was refused as the block that it names is not lent

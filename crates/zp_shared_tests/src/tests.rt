@@ -5,3 +5,4 @@ mod full_lists;
 mod one_zone;
 mod places;
 mod readings;
+mod runs;

@@ -4,7 +4,7 @@ use Rattle.std.specs.List.{flat_map, range_with_len, zip}
 use Rattle.std.specs.Fmt.{decimal}
 use Rattle.zp_model.specs.Entries.{Entry}
 use Rattle.zp_model.specs.declared.request.Request.{Request}
-use Rattle.zp_model.specs.declared.request.Request.TheVariants.{Alloc, AllocLow, Free, Post, Collect, Refill, Drain, Isolate, Release}
+use Rattle.zp_model.specs.declared.request.Request.TheVariants.{Alloc, AllocLow, Free, Post, Collect, Refill, Drain, Isolate, Release, AllocRun, AllocRunAt, FreeRun}
 use Rattle.zp_model.specs.declared.request.Reply.{Reply}
 use Rattle.zp_model.specs.declared.request.Reply.TheVariants.{Page, Block, Freed, Posted, Pages, Drained, Isolated, Released, Refused}
 use Rattle.zp_model.specs.Refused.{refused_number}
@@ -23,6 +23,9 @@ request_words (Refill kind mark count) = codes "refill" ∷ kind_word kind ∷ d
 request_words (Drain kind pages) = codes "drain" ∷ kind_word kind ∷ map decimal pages
 request_words (Isolate pageblock) = codes "isolate" ∷ decimal pageblock ∷ []
 request_words (Release pageblock kind) = codes "release" ∷ decimal pageblock ∷ kind_word kind ∷ []
+request_words (AllocRun pages align mark) = codes "run" ∷ decimal pages ∷ decimal align ∷ mark_word mark ∷ []
+request_words (AllocRunAt page pages) = codes "runat" ∷ decimal page ∷ decimal pages ∷ []
+request_words (FreeRun page pages) = codes "freerun" ∷ decimal page ∷ decimal pages ∷ []
 
 -- the lowest block was asked for
 abbrev pub is_low : Request → Bool
@@ -35,6 +38,9 @@ is_low (Refill kind mark count) = false
 is_low (Drain kind pages) = false
 is_low (Isolate pageblock) = false
 is_low (Release pageblock kind) = false
+is_low (AllocRun pages align mark) = false
+is_low (AllocRunAt page pages) = false
+is_low (FreeRun page pages) = false
 
 -- what was answered; who asked for the lowest block knows its order
 abbrev pub reply_words : Bool → Reply → List (List ℕ)

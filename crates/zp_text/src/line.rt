@@ -97,6 +97,22 @@ fn push_request<const CAP: usize>(line: &mut TextBuffer<CAP>, asked: &Asked, giv
             push_spaced_number(line, *pageblock);
             push_word(line, kind_word(*kind));
         }
+        Asked::AllocRun(pages, align, mark) => {
+            push_word(line, "run");
+            push_spaced_number(line, *pages);
+            push_spaced_number(line, u32::from(*align));
+            push_word(line, mark_word(*mark));
+        }
+        Asked::AllocRunAt(page, pages) => {
+            push_word(line, "runat");
+            push_spaced_number(line, page.number());
+            push_spaced_number(line, *pages);
+        }
+        Asked::FreeRun(page, pages) => {
+            push_word(line, "freerun");
+            push_spaced_number(line, page.number());
+            push_spaced_number(line, *pages);
+        }
     }
 }
 

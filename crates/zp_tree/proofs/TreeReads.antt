@@ -1,11 +1,12 @@
 -- What a status tree tells of its block set.
-use Rattle.std.proofs.Common.{ℕ, suc, ◌+◌, ◌-◌, ◌/◌, ◌%◌, ◌^◌, ◌≡◌, ◌≢◌, ◌≤◌, ◌<◌, ◌⊎◌, inl, inr, refl, sym, arith, false, List, get_or, length, leb, rules, slice_index, Option, Some, None, IfSome}
+use Rattle.std.proofs.Common.{ℕ, suc, ◌+◌, ◌-◌, ◌/◌, ◌%◌, ◌^◌, ◌≡◌, ◌≢◌, ◌≤◌, ◌<◌, ◌⊎◌, ◌*◌, ◌↔◌, inl, inr, refl, sym, subst, arith, false, List, get_or, length, leb, rules, slice_index, Option, Some, None, IfSome}
 use Rattle.std.proofs.lemmas.Nat.{pow_pos}
 use Rattle.std.proofs.lemmas.Bool.{cases_eq, leb-true, le-leb, false_from_ne_true}
 use Rattle.zp_model.specs.BlockSet.{Starts, block_if, largest, largest_in, lowest}
 use Rattle.zp_model.proofs.FirstFound.{first_none, first_some}
 use Rattle.zp_model.proofs.Heads.{head_room}
 use Rattle.zp_tree.specs.declared.constants.TheConstants.{WORD_LEVELS, GROUP_ORDER, GROUP_PAGES}
+use Rattle.zp_tree.specs.Blocks.{IsBare, IsBlockSet}
 use Rattle.zp_tree.specs.Marks.{HasMark, IsNearRank, IsRankOf, IsFirstMark, IsLargestMark}
 use Rattle.zp_tree.specs.RankRows.{IsFirstRank, IsTopRank}
 use Rattle.zp_tree.specs.Ranks.{order_ranked}
@@ -126,3 +127,29 @@ marks_read m pages ls hs rs x s a r None t z = largest_told s a r 0 (λ i o st f
 marks_read m pages ls hs rs x s a r (Some j) t z =
     largest_told s a r (suc j) (λ i o st from to. omega (arith, z.1 i o (mark_in m pages ls hs rs x s i o t st) from to)) (λ w e.
     let y = z.0 in let is : j ≡ w = omega arith in rw (← is) (y.0, start_of m pages ls hs rs x s y.0 j t y.1, y.2, y.3))
+
+-- groups of lower ranks have no block of order k or more
+pub bare_ranked : (m pages : ℕ) (ls hs rs : List ℕ) (x : ℕ) (s : List (Option ℕ)) (k g e : ℕ) → IsTreeOf m pages ls hs rs x s → ((h : ℕ) → g ≤ h → h < e → slice_index rs h < k + 1) → IsBare s k g e
+bare_ranked m pages ls hs rs x s k g e t less i j st from to = let h = i / GROUP_PAGES in omega (arith, kept_most s x h (slice_index rs h) (t.ranked h) i j refl st, less h from to)
+
+-- a group is one block where its rank is that of a block of all its pages
+pub whole_ranked : (m : ℕ) (s : List (Option ℕ)) (g r : ℕ) → IsBlockSet m s → m ≤ GROUP_ORDER → IsRankIn s g r → (r ≡ GROUP_ORDER + 1) ↔ Starts s (GROUP_PAGES * g) GROUP_ORDER
+whole_ranked m s g r x few y = (
+  λ e.
+      let w = y.some GROUP_ORDER e in
+      let al : w.0 % GROUP_PAGES ≡ 0 = (x.block w.0 GROUP_ORDER w.2).aligned in
+      let same : w.0 ≡ GROUP_PAGES * g = omega (arith, w.1, al) in
+      let P : ℕ → Type 0 = λ i. Starts s i GROUP_ORDER in
+      subst P same w.2,
+  λ st.
+      let more = y.most (GROUP_PAGES * g) GROUP_ORDER (omega arith) st in
+      let w = y.some (r - 1) (omega (arith, more)) in
+      omega (arith, more, (x.block w.0 (r - 1) w.2).order, few),
+)
+
+-- a rank that is not the stale one is exact, and so is what its words tell of any group
+pub kept_exact : (m pages : ℕ) (ls hs rs : List ℕ) (x : ℕ) (s : List (Option ℕ)) (g : ℕ) → IsTreeOf m pages ls hs rs x s → g ≢ x → IsRankIn s g (slice_index rs g)
+kept_exact m pages ls hs rs x s g t ne = elim (t.ranked g) [ inl exact ↦ exact | inr z ↦ absurd (ne z.0) ]
+
+pub words_exact : (m pages : ℕ) (ls hs rs : List ℕ) (x : ℕ) (s : List (Option ℕ)) (g r : ℕ) → IsTreeOf m pages ls hs rs x s → IsRankOf ls hs g r → IsRankIn s g r
+words_exact m pages ls hs rs x s g r t y = rank_in ls hs s g r t.marked (λ i o. block_in_groups m pages ls hs rs x s i o t) y

@@ -4,7 +4,7 @@ use Rattle.std.specs.Prelude.{ℕ, suc, zero, ◌+◌, ◌-◌, ◌*◌, ◌/◌
 use Rattle.std.specs.List.{range_with_len}
 use Rattle.zp_model.specs.Block.{IsBlock, head, in_run}
 use Rattle.zp_model.specs.BlockSet.{Starts, is_covered}
-use Rattle.zp_tree.specs.declared.constants.TheConstants.{GROUP_PAGES}
+use Rattle.zp_tree.specs.declared.constants.TheConstants.{GROUP_ORDER, GROUP_PAGES}
 
 -- each block lies in the zone and has an order of at most m, and no two have a page in common
 pub record IsBlockSet (m : ℕ) (s : List (Option ℕ)) : Type 0 where
@@ -59,3 +59,11 @@ is_in_group g i = i / GROUP_PAGES == g
 -- the set without the blocks of group g
 abbrev pub without_group : List (Option ℕ) → ℕ → List (Option ℕ)
 without_group s g = map (λ i. cond (is_in_group g i) None (slice_index_or s i None)) (range_with_len 0 (length s))
+
+-- none of the groups from g on to before group e has a block of order k or more
+abbrev pub IsBare : List (Option ℕ) → ℕ → ℕ → ℕ → Type 0
+IsBare s k g e = (h j : ℕ) → Starts s h j → g ≤ h / GROUP_PAGES → h / GROUP_PAGES < e → j < k
+
+-- each of them is one block
+abbrev pub IsWhole : List (Option ℕ) → ℕ → ℕ → Type 0
+IsWhole s g e = (x : ℕ) → g ≤ x → x < e → Starts s (GROUP_PAGES * x) GROUP_ORDER

@@ -186,6 +186,20 @@ impl RankTree {
         self.nodes.read(ROOT, &mut meter)
     }
 
+    /// The first group from this one on, before `end`, of this rank or more; else `end`. One rank is read of each group that is passed.
+    pub fn first_from(&self, group: usize, end: usize, rank: Rank) -> usize
+        requires order { group ≤ end }
+        requires inside { end ≤ length self.now }
+        ensures from { group ≤ result }
+        ensures to { result ≤ end }
+        ensures less { (g : ℕ) → group ≤ g → g < result → slice_index self.now g < rank }
+        ensures enough { result < end → rank ≤ slice_index self.now result }
+    {
+        (group..end)
+            .find(|&it| self.rank(it).is_at_least(rank))
+            .unwrap_or(end)
+    }
+
     /// The first group of this rank or more, and its rank. The meter rises by one for each word of ranks read, one of a row at most.
     pub fn first(&self, rank: Rank, meter: &mut Meter) -> Option<(usize, Rank)>
         requires rank { 0 < rank }

@@ -9,6 +9,8 @@ mod pair;
 #[cfg(test)]
 mod random;
 #[cfg(test)]
+mod runs;
+#[cfg(test)]
 mod scattered;
 #[cfg(test)]
 mod worked;

@@ -17,26 +17,26 @@ use zp_plain::{PLAIN_PAGES, PlainBuddy};
 use zp_zone::{Zone, ZoneConfig};
 
 /// The zone's first page.
-const BASE: u32 = 2_048;
+pub const BASE: u32 = 2_048;
 
 /// How many requests a zone gets.
 const REQUESTS: u32 = 300;
 
 /// How many refills take all that is left of the largest zone.
-const REFILLS: u32 = 170;
+pub const REFILLS: u32 = 170;
 
 /// How many pages a drain has at most: a power of two, so that the bits of a place can be turned.
 const PICKED: usize = 32;
 
 /// The page of the zone at this place.
-fn absolute(at: PageAt) -> PageNo {
+pub fn absolute(at: PageAt) -> PageNo {
     PageNo::new(BASE + at.number())
 }
 
 /// A zone by its definitions, asked page by page, and the journal of its refills and drains.
 #[derive(Drop)]
-struct Asked {
-    plain: PlainBuddy,
+pub struct Asked {
+    pub plain: PlainBuddy,
     min: u32,
     /// The pages that are out, in the order in which they went out.
     out: Vec<PageAt>,
@@ -44,26 +44,44 @@ struct Asked {
 }
 
 impl Asked {
-    fn log(&mut self, rt: &impl Abort, request: &Request, reply: &Reply) {
+    /// A new zone of so many pages, and a journal for so many requests and the last refills.
+    pub fn new(
+        rt: &(impl Abort + AllocGlobal),
+        largest: Largest,
+        pages: u32,
+        min: u32,
+        requests: u32,
+    ) -> Result<Asked, Fail> {
+        assert!(rt; pages <= PLAIN_PAGES && requests <= 1_000);
+        Ok(Asked {
+            plain: PlainBuddy::new(rt.alloc(), pages, largest, 0)?,
+            min,
+            out: Vec::new(rt.alloc()),
+            journal: Journal::new(rt.alloc(), requests + REFILLS)?,
+        })
+    }
+
+    pub fn log(&mut self, rt: &impl Abort, request: &Request, reply: &Reply) {
         let entry = Entry::new(Worker::first(), request, reply).expect(rt, "two lists");
         assert!(rt; !self.journal.is_full());
         self.journal.append(&entry);
     }
 
-    /// Whether one page may go out at a mark.
-    fn is_above(&self, mark: Mark) -> bool {
+    /// Whether so many pages may go out at a mark.
+    pub fn is_above(&self, mark: Mark, pages: u32) -> bool {
         let free = u64::from(self.plain.available_pages());
         let min = u64::from(self.min);
+        let pages = u64::from(pages);
         match mark {
-            Mark::Low => free > min + min / 4,
-            Mark::Min => free > min,
+            Mark::Low => free >= min + min / 4 + pages,
+            Mark::Min => free >= min + pages,
             Mark::Any => true,
         }
     }
 
     /// One page, which is out then.
     fn take_page(&mut self, kind: MigrateType, mark: Mark) -> Result<PageAt, Refused> {
-        if !self.is_above(mark) {
+        if !self.is_above(mark, 1) {
             return Err(Refused::BelowMark);
         }
         let Some(at) = self.plain.take(Order::zero(), kind) else {
@@ -101,6 +119,14 @@ impl Asked {
             _ => Reply::Pages(PageList::of(got.as_slice())),
         };
         self.log(rt, &Request::Refill(kind, mark, count), &reply);
+        Ok(())
+    }
+
+    /// All that is left goes out, which is in the order of the lists.
+    pub fn refill_all(&mut self, rt: &impl Abort) -> Result<(), AllocError> {
+        for _ in 0..REFILLS {
+            self.refill(rt, MigrateType::Movable, Mark::Any, MAX_BATCH as u8)?;
+        }
         Ok(())
     }
 
@@ -154,7 +180,7 @@ impl Asked {
     }
 
     /// A pageblock is isolated, or where it is released it gets this type.
-    fn retype(&mut self, rt: &impl Abort, pageblock: usize, kind: MigrateType) {
+    pub fn retype(&mut self, rt: &impl Abort, pageblock: usize, kind: MigrateType) {
         assert!(rt; pageblock < self.plain.pageblocks());
         let number = u32::try_from(pageblock).expect(rt, "no pageblock");
         if self.plain.pageblock_type(pageblock) == PageblockType::Isolate {
@@ -168,7 +194,7 @@ impl Asked {
 }
 
 /// A type, by a random word.
-fn kind_of(word: u32) -> MigrateType {
+pub fn kind_of(word: u32) -> MigrateType {
     match word % 4 {
         0 => MigrateType::Unmovable,
         1 => MigrateType::Reclaimable,
@@ -177,7 +203,7 @@ fn kind_of(word: u32) -> MigrateType {
 }
 
 /// A mark, by a random word.
-fn mark_of(word: u32) -> Mark {
+pub fn mark_of(word: u32) -> Mark {
     match word % 3 {
         0 => Mark::Low,
         1 => Mark::Min,
@@ -210,22 +236,25 @@ fn asked_at_random(
     pages: u32,
     min: u32,
 ) -> Result<Asked, Fail> {
-    assert!(rt; pages <= PLAIN_PAGES);
-    let mut asked = Asked {
-        plain: PlainBuddy::new(rt.alloc(), pages, largest, 0)?,
-        min,
-        out: Vec::new(rt.alloc()),
-        journal: Journal::new(rt.alloc(), REQUESTS + REFILLS)?,
-    };
+    let mut asked = Asked::new(rt, largest, pages, min, REQUESTS)?;
     let mut random = Pcg32::new(u64::from(pages), u64::from(min));
     for _ in 0..REQUESTS {
         ask_at_random(rt, &mut asked, &mut random)?;
     }
-    // what is left comes in the order of the lists
-    for _ in 0..REFILLS {
-        asked.refill(rt, MigrateType::Movable, Mark::Any, MAX_BATCH as u8)?;
-    }
+    asked.refill_all(rt)?;
     Ok(asked)
+}
+
+/// A new zone replays a journal, and is as the definitions leave it.
+pub fn compare_replayed(
+    rt: &(impl Abort + AllocGlobal),
+    largest: Largest,
+    pages: u32,
+    asked: &Asked,
+) -> Result<(), Fail> {
+    let zone = replayed(rt, largest, pages, asked)?;
+    compare(rt, &zone, &asked.plain);
+    Ok(())
 }
 
 /// A new zone that replays a journal.
@@ -277,8 +306,7 @@ fn batches_are_as_pages_one_by_one(rt: HostRuntime) -> Result<(), Fail> {
         let largest = Largest::new(number).expect(&rt, "no largest order");
         let pages = (5 << number) - 1;
         let asked = asked_at_random(&rt, largest, pages, pages / 5)?;
-        let zone = replayed(&rt, largest, pages, &asked)?;
-        compare(&rt, &zone, &asked.plain);
+        compare_replayed(&rt, largest, pages, &asked)?;
     }
     Ok(())
 }

@@ -16,3 +16,6 @@ pub mod RetypeSteps
 pub mod RunsTaken
 pub mod RunsFreed
 pub mod FallingDrains
+pub mod RunsGiven
+pub mod LowestRuns
+pub mod PassedBlocks

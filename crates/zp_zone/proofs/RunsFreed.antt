@@ -30,8 +30,8 @@ use Rattle.zp_laws.proofs.Around.{IsAround, around-from, around-to, out_apart}
 use Rattle.zp_laws.proofs.Counting.{has-with_any, in_run-no}
 use Rattle.zp_laws.proofs.Held.{IsHolding}
 use Rattle.zp_laws.proofs.KeepingRuns.{IsLent, freed_run_rest, meets-to, out_rest}
-use Rattle.zp_laws.proofs.RunBooks.{before_lent, behind_lent, rest_from, run_freed_lawful}
-use Rattle.zp_laws.proofs.RunSteps.{free_run_by, lent-to, lent_inside}
+use Rattle.zp_laws.proofs.RunBooks.{before_lent, behind_lent, rest_from}
+use Rattle.zp_laws.proofs.RunSteps.{free_run_by, lent-to, lent_inside, run_freed_lawful}
 use Rattle.zp_laws.proofs.RunsByBlocks.{freed_in_block, freed_in_parts}
 use Rattle.zp_buddy.specs.Runs.{AreClear}
 use Rattle.zp_zone.specs.Kept.{IsKept, IsPostedAside, holding_of, plain_of}

@@ -10,7 +10,10 @@ use Rattle.zp_model.specs.Frames.{Frames, restated, with_area}
 use Rattle.zp_model.specs.Lawful.{IsLawful}
 use Rattle.zp_model.specs.PageblockType.{noted_type}
 use Rattle.zp_model.specs.RunLaws.{IsFitting}
-use Rattle.zp_model.specs.Runs.{IsFreeRun, RunOutcome, RunReply, alloc_run_at_step, bad_run, cut, cut_up_to, fitting_order, has_pages, is_run, is_within, leave_run, not_free, refuse_run, run_taken}
+use Rattle.zp_model.specs.Runs.{IsFreeRun, cut, cut_up_to, fitting_order, has_pages, is_run, is_within, leave_run, run_taken}
+use Rattle.zp_model.specs.declared.refused.Refused.TheVariants.{BadRun, NotFree}
+use Rattle.zp_model.specs.declared.request.Reply.{Reply}
+use Rattle.zp_model.specs.Step.{Outcome, alloc_run_at, refuse}
 use Rattle.zp_model.specs.Take.{leave}
 use Rattle.zp_model.specs.Zone.{PlainZone, hand_out, pages_of, posted_pages, workers_of}
 use Rattle.zp_model.proofs.Covers.{length-without}
@@ -142,7 +145,7 @@ module _ (f : Frames) (base min w h k : ℕ) (t : MigrateType) (x : IsAsked f ba
 
 -- what a request for a run at a place comes to
 module _ (z : PlainZone) (w p n : ℕ) where
-  pub at_no_place : (z.base ≤ p → 0 < n → p - z.base + n ≤ pages_of z → ⊥) → alloc_run_at_step z w p n ≡ refuse_run z bad_run
+  pub at_no_place : (z.base ≤ p → 0 < n → p - z.base + n ≤ pages_of z → ⊥) → alloc_run_at z w p n ≡ refuse z BadRun
   at_no_place none = rw (false_from_ne_true _ (λ e.
       let a = and_parts _ _ e in
       let b = and_parts _ _ a.1 in
@@ -151,9 +154,9 @@ module _ (z : PlainZone) (w p n : ℕ) where
   placed : z.base ≤ p → 0 < n → p - z.base + n ≤ pages_of z → (leb z.base p && is_run (pages_of z) (p - z.base) n) ≡ true
   placed le some room = and_from _ _ (le-leb z.base p le) (and_from _ _ (le-leb 1 n some) (le-leb (p - z.base + n) (pages_of z) room))
 
-  pub at_not_free : z.base ≤ p → 0 < n → p - z.base + n ≤ pages_of z → has_pages z.area.free (p - z.base) n ≡ false → alloc_run_at_step z w p n ≡ refuse_run z not_free
+  pub at_not_free : z.base ≤ p → 0 < n → p - z.base + n ≤ pages_of z → has_pages z.area.free (p - z.base) n ≡ false → alloc_run_at z w p n ≡ refuse z NotFree
   at_not_free le some room f = rw (placed le some room, f) refl
 
   pub at_got : z.base ≤ p → 0 < n → p - z.base + n ≤ pages_of z → has_pages z.area.free (p - z.base) n ≡ true →
-      alloc_run_at_step z w p n ≡ (let o : RunOutcome = record { reply = RunReply.Page p; zone = run_taken z w (p - z.base) n } in o)
+      alloc_run_at z w p n ≡ (let o : Outcome = record { reply = Reply.Page p; zone = run_taken z w (p - z.base) n } in o)
   at_got le some room f = rw (placed le some room, f) refl

@@ -4,7 +4,8 @@ use Rattle.zp_model.specs.declared.constants.TheConstants.{MAX_BATCH}
 use Rattle.zp_model.specs.declared.request.Request.{Request}
 use Rattle.zp_model.specs.declared.request.Reply.{Reply}
 use Rattle.zp_model.specs.Run.{is_distinct}
-use Rattle.zp_zone.specs.Seats.{SeatState, HasPages, IsNewTo, has}
+use Rattle.zp_model.specs.Runs.{may_alloc_run}
+use Rattle.zp_zone.specs.Seats.{SeatState, AreNewTo, HasPages, IsNewTo, has, has_run}
 
 -- the seat may ask a zone of so many workers: it has each block that it names
 abbrev pub MaySeatAsk : ℕ → Request → SeatState → Type 0
@@ -17,6 +18,9 @@ MaySeatAsk n (Request.Refill t m c) s = (1 ≤ c) × (c ≤ MAX_BATCH)
 MaySeatAsk n (Request.Drain t ps) s = HasPages s ps × IsTrue (is_distinct ps)
 MaySeatAsk n (Request.Isolate p) s = Unit {0}
 MaySeatAsk n (Request.Release p t) s = Unit {0}
+MaySeatAsk n (Request.AllocRun c a m) s = IsTrue (may_alloc_run c a)
+MaySeatAsk n (Request.AllocRunAt p c) s = Unit {0}
+MaySeatAsk n (Request.FreeRun p c) s = IsTrue (has_run s p c)
 
 -- a block answered is the seat's, and was not before
 pub record IsGivenBlock (p k : ℕ) (a b : SeatState) : Type 0 where
@@ -29,6 +33,11 @@ pub record AreGivenPages (n : ℕ) (ps : List ℕ) (a b : SeatState) : Type 0 wh
   pub has : HasPages b ps
   pub distinct : IsTrue (is_distinct ps)
   pub fresh : All (IsNewTo a) ps
+
+-- a run answered is the seat's, and no block of the seat started there before
+pub record IsGivenRun (p n : ℕ) (a b : SeatState) : Type 0 where
+  pub has : IsTrue (has_run b p n)
+  pub fresh : AreNewTo a p n
 
 -- what the reply to a request gives the seat; there are no replies but these
 abbrev pub IsGiven : Request → Reply → SeatState → SeatState → Type 0
@@ -47,4 +56,9 @@ IsGiven (Request.Isolate p) Reply.Isolated a b = Unit {0}
 IsGiven (Request.Isolate p) (Reply.Refused e) a b = Unit {0}
 IsGiven (Request.Release p t) Reply.Released a b = Unit {0}
 IsGiven (Request.Release p t) (Reply.Refused e) a b = Unit {0}
+IsGiven (Request.AllocRun n k m) (Reply.Page p) a b = IsGivenRun p n a b
+IsGiven (Request.AllocRun n k m) (Reply.Refused e) a b = Unit {0}
+IsGiven (Request.AllocRunAt q n) (Reply.Page p) a b = IsGivenRun p n a b
+IsGiven (Request.AllocRunAt q n) (Reply.Refused e) a b = Unit {0}
+IsGiven (Request.FreeRun p n) Reply.Freed a b = Unit {0}
 IsGiven r q a b = ⊥

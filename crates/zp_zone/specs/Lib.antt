@@ -5,3 +5,4 @@ pub mod Seats
 pub mod Asking
 pub mod Runs
 pub mod RunsAt
+pub mod Lowest

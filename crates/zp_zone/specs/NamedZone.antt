@@ -1,5 +1,5 @@
 -- A zone without its seats, as contracts see it, and what a call leaves of it for the calls after it (this profile).
-use Rattle.std.specs.Prelude.{ℕ, ◌≡◌, ◌≢◌, ◌<◌, ◌≤◌, ◌+◌, ◌-◌, ◌*◌, slice_index_or, List, All, Option, Result, Ok, Err, IsTrue, false}
+use Rattle.std.specs.Prelude.{ℕ, ◌≡◌, ◌≢◌, ◌<◌, ◌≤◌, ◌+◌, ◌-◌, ◌*◌, slice_index_or, List, All, Option, Result, Ok, Err, IsTrue, true, false}
 use Rattle.std.specs.Option.{option_map}
 use Rattle.arrayvec.specs.ArrayVec.{ArrayVec}
 use Rattle.zp_model.specs.declared.block.Block.{Block}
@@ -13,6 +13,7 @@ use Rattle.zp_zone.specs.declared.pageblock.Pageblock.{Pageblock}
 use Rattle.zp_model.specs.Rows.{stands_in}
 use Rattle.zp_model.specs.Zone.{PlainZone, pages_of}
 use Rattle.zp_model.specs.Run.{is_out}
+use Rattle.zp_model.specs.Runs.{is_within, may_free_run}
 use Rattle.zp_model.specs.Described.{IsDescribedAt}
 
 pub record NamedZone : Type 0 where
@@ -22,6 +23,14 @@ pub record NamedZone : Type 0 where
 -- no block out starts at the absolute page
 abbrev pub IsFresh : PlainZone → ℕ → Type 0
 IsFresh z p = (w k : ℕ) → is_out z w p k ≡ false
+
+-- no block out starts at one of the n pages from an absolute page on
+abbrev pub AreFresh : PlainZone → ℕ → ℕ → Type 0
+AreFresh z p n = (q : ℕ) → is_within p n q ≡ true → IsFresh z q
+
+-- each page that is lent to worker w is so still, but for the n pages from page p on
+abbrev pub KeepsLentBut : ℕ → ℕ → ℕ → PlainZone → PlainZone → Type 0
+KeepsLentBut w p n before after = (q : ℕ) → is_within p n q ≡ false → IsTrue (may_free_run before w q 1) → IsTrue (may_free_run after w q 1)
 
 -- each block out is out still
 abbrev pub KeepsOut : PlainZone → PlainZone → Type 0

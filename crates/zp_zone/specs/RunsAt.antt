@@ -1,25 +1,13 @@
--- Runs at any place: what a request for one is replied, and one block of it that goes out (this profile).
-use Rattle.std.specs.Prelude.{ℕ, ◌≡◌, length, Result, Ok, Err}
+-- Runs at any place: one block of a run that goes out, and what a part of one leaves (this profile).
+use Rattle.std.specs.Prelude.{ℕ, ◌≡◌, length}
 use Rattle.zp_model.specs.declared.migrate_type.MigrateType.{MigrateType}
 use Rattle.zp_model.specs.Area.{kind_at}
 use Rattle.zp_model.specs.Frames.{Frames}
 use Rattle.zp_model.specs.PageblockType.{noted_type}
-use Rattle.zp_model.specs.Runs.{RunReply, bad_run, give_run, hand_out_run, not_free}
+use Rattle.zp_model.specs.Runs.{give_run, hand_out_run}
 use Rattle.zp_model.specs.Take.{leave}
 use Rattle.zp_model.specs.Zone.{PlainZone, hand_out}
 use Rattle.zp_zone.specs.Kept.{IsPostedAside, plain_of}
-use Rattle.zp_zone.specs.declared.untied_zone.runs.RunRefused.{RunRefused}
-use Rattle.zp_zone.specs.declared.untied_zone.runs.RunRefused.TheVariants.{BadRun, NotFree}
-
--- a refusal's number
-abbrev pub run_refused_number : RunRefused → ℕ
-run_refused_number BadRun = bad_run
-run_refused_number NotFree = not_free
-
--- a request's answer as a reply of the plain zone
-abbrev pub run_reply : Result ℕ RunRefused → RunReply
-run_reply (Ok p) = RunReply.Page p
-run_reply (Err r) = RunReply.Refused (run_refused_number r)
 
 -- the block of order k at h has left the free pages and is out in w's name, with its pageblock's type
 abbrev pub block_taken : PlainZone → ℕ → ℕ → ℕ → PlainZone

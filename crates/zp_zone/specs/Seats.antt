@@ -1,5 +1,5 @@
 -- A zone and its seats as contracts see them, and what a request leaves of them for the calls after it (this profile).
-use Rattle.std.specs.Prelude.{ℕ, ◌≡◌, ◌≢◌, Bool, false, IsTrue, List, [], All, length, map, replicate, None}
+use Rattle.std.specs.Prelude.{ℕ, ◌≡◌, ◌≢◌, Bool, true, false, IsTrue, List, [], All, length, map, replicate, None}
 use Rattle.std.specs.List.{range_with_len}
 use Rattle.atomic_table.specs.Seated.{TableId}
 use Rattle.zp_model.specs.Entries.{Entry}
@@ -8,7 +8,9 @@ use Rattle.zp_model.specs.declared.request.Reply.{Reply}
 use Rattle.zp_model.specs.Rows.{stands_in}
 use Rattle.zp_model.specs.Zone.{PlainZone, workers_of}
 use Rattle.zp_model.specs.Run.{IsHistory}
-use Rattle.zp_model.specs.Books.{Books, Part, part, has_block, entered, noted}
+use Rattle.zp_model.specs.Books as part_of
+use Rattle.zp_model.specs.Books.{Books, Part, part, has_block, entered, noted, noted_in}
+use Rattle.zp_model.specs.Runs.{is_within}
 use Rattle.zp_tie.specs.Ties.{Kept}
 
 -- the zone's tie is what tells its seats from those of other zones; the entries are those of all requests made so far
@@ -47,6 +49,10 @@ asked w r z = let b : Books = entered w r (books z) in record { tie = z.tie; nam
 abbrev pub replied : Request → Reply → SeatState → SeatState
 replied r q s = record { tie = s.tie; worker = s.worker; part = noted s.worker r q s.part }
 
+-- the seat, when any request of its is answered so in the zone z as it was
+abbrev pub replied_in : PlainZone → Request → Reply → SeatState → SeatState
+replied_in z r q s = record { tie = s.tie; worker = s.worker; part = noted_in z s.worker r q s.part }
+
 -- the seat has what is its worker's in the zone
 abbrev pub Agrees : ZoneState → SeatState → Type 0
 Agrees z s = s.part ≡ part s.worker (books z)
@@ -55,6 +61,10 @@ Agrees z s = s.part ≡ part s.worker (books z)
 abbrev pub has : SeatState → ℕ → ℕ → Bool
 has s p k = has_block s.worker s.part p k
 
+-- whether the seat has the n pages from an absolute page on: there is one at least, and each lies in a block of the seat's
+abbrev pub has_run : SeatState → ℕ → ℕ → Bool
+has_run s p n = part_of.has_run s.worker s.part p n
+
 -- each of the pages is the seat's, as a block of order 0
 abbrev pub HasPages : SeatState → List ℕ → Type 0
 HasPages s pages = All (λ page. IsTrue (has s page 0)) pages
@@ -62,6 +72,14 @@ HasPages s pages = All (λ page. IsTrue (has s page 0)) pages
 -- no block of the seat starts at the absolute page
 abbrev pub IsNewTo : SeatState → ℕ → Type 0
 IsNewTo s p = (k : ℕ) → has s p k ≡ false
+
+-- nor at one of the n pages from it on
+abbrev pub AreNewTo : SeatState → ℕ → ℕ → Type 0
+AreNewTo s p n = (q : ℕ) → is_within p n q ≡ true → IsNewTo s q
+
+-- each page of the seat is the seat's still, but for the n pages from page p on
+abbrev pub KeepsPagesBut : ℕ → ℕ → SeatState → SeatState → Type 0
+KeepsPagesBut p n before after = (q : ℕ) → is_within p n q ≡ false → IsTrue (has_run before q 1) → IsTrue (has_run after q 1)
 
 -- each block of the seat is the seat's still
 abbrev pub KeepsBlocks : SeatState → SeatState → Type 0

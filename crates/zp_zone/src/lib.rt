@@ -13,4 +13,5 @@ pub use config::ZoneConfig;
 pub use page::ZonePage;
 pub use pageblock::Pageblock;
 pub use seat::Seat;
+pub use untied_zone::fitting_order;
 pub use zone::{Zone, page_reply};

@@ -4,7 +4,7 @@ ghost use Rattle.zp_model.specs.Zone.{workers_of};
 ghost use Rattle.zp_model.specs.Step.{step};
 ghost use Rattle.zp_model.specs.Books.{entered, part};
 ghost use Rattle.zp_zone.specs.Asking.{MaySeatAsk};
-ghost use Rattle.zp_zone.specs.Seats.{KeepsBooks, replied, seats_of};
+ghost use Rattle.zp_zone.specs.Seats.{KeepsBooks, replied_in, seats_of};
 
 use crate::books::{Asks, Books, Enters, Part, Parts};
 use crate::untied_zone::UntiedZone;
@@ -72,7 +72,7 @@ impl Seat {
         ensures keeper { keeper.new ≡ record keeper.old { whole = entered self.old.worker Q.request keeper.old.whole } }
         ensures zone { keeper.new.whole.plain ≡ (step zone.now.plain self.old.worker Q.request).zone }
         ensures books { KeepsBooks keeper.new }
-        ensures seat { self.new ≡ replied Q.request (step zone.now.plain self.old.worker Q.request).reply self.old }
+        ensures seat { self.new ≡ replied_in zone.now.plain Q.request (step zone.now.plain self.old.worker Q.request).reply self.old }
         ensures known { self.old.worker < keeper.old.dealt }
         ensures agrees { (self.old.part ≡ part self.old.worker keeper.old.whole) × (self.new.part ≡ part self.new.worker keeper.new.whole) }
     {

@@ -7,6 +7,7 @@ ghost use Rattle.zp_zone.specs.Kept.{holding_of};
 ghost use Rattle.zp_model.specs.Mark.{level_of, level_above};
 ghost use Rattle.zp_model.specs.Info.{counts_by_type, counts_of};
 ghost use Rattle.zp_model.specs.Run.{is_out};
+ghost use Rattle.zp_model.specs.Books.{type_of_page};
 ghost use Rattle.zp_model.specs.Lawful.{IsLawful};
 ghost use Rattle.zp_model.specs.Naming.{IsName};
 ghost use Rattle.zp_model.specs.Area.{pageblocks_of};
@@ -17,6 +18,7 @@ mod batches;
 mod blocks;
 mod cuts;
 mod falling;
+mod lowest;
 mod pageblocks;
 mod parts;
 mod runs;
@@ -25,12 +27,13 @@ mod turned;
 use crate::config::{ZoneBounds, ZoneConfig, checked_name};
 use crate::page::ZonePage;
 use crate::pageblock::Pageblock;
+pub use cuts::fitting_order;
 use std::alloc::Global;
 use std::marker::Model;
 use zp_buddy::Buddy;
 use zp_model::{
-    BASE_LIMIT, Counts, CountsByType, Largest, Level, MAX_PAGES, Name, Order, PageAt, PageNo,
-    Refused, State, Worker,
+    BASE_LIMIT, Counts, CountsByType, Largest, Level, MAX_PAGES, MigrateType, Name, Order, PageAt,
+    PageNo, Refused, State, Worker,
 };
 
 /// A zone without its seats: whoever calls names the worker. Contracts see its name and the plain zone, which is always
@@ -115,6 +118,16 @@ impl UntiedZone {
         ensures named { IsName result.now }
     {
         self.name.as_str()
+    }
+
+    /// The type that is noted of a block at this page of the zone, the first being 0, when a run goes out: its pageblock's.
+    pub fn noted_type(&self, at: PageAt) -> MigrateType
+        requires { at < pages_of self.now.plain }
+        ensures { result ≡ type_of_page self.now.plain at }
+    {
+        // a clause of this call says how many pages there can be
+        let _pages = self.buddy.pages();
+        self.buddy.type_of(at).noted()
     }
 
     /// The order of the zone's largest block, and of its pageblocks.

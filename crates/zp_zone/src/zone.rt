@@ -7,17 +7,20 @@ ghost use Rattle.zp_model.specs.Zone.{zone_opening, pages_of, posted_pages, work
 ghost use Rattle.zp_model.specs.Mark.{level_of};
 ghost use Rattle.zp_model.specs.Info.{counts_by_type, counts_of};
 ghost use Rattle.zp_model.specs.Run.{IsHistory, is_out};
+ghost use Rattle.zp_model.specs.Runs.{may_free_run};
 ghost use Rattle.zp_model.specs.Lawful.{IsLawful};
+ghost use Rattle.zp_model.specs.Books.{type_of_page};
 ghost use Rattle.zp_model.specs.Naming.{IsName};
 ghost use Rattle.zp_model.specs.Area.{pageblocks_of};
 ghost use Rattle.zp_zone.specs.NamedZone.{IsPageOf, IsPageblockOf, IsToldOf};
-ghost use Rattle.zp_zone.specs.Seats.{IsSeatOf, IsUnused, Agrees, books, has, seats_of};
+ghost use Rattle.zp_zone.specs.Seats.{IsSeatOf, IsUnused, Agrees, books, has, has_run, seats_of};
 ghost use Rattle.zp_zone.specs.Making.{wanted, AreBounds, IsGood, IsGoodWithin, IsWhy, IsWhyWithin, IsWideGood, IsWideWhy};
 
 mod asking;
 mod batches;
 mod blocks;
 mod pageblocks;
+mod runs;
 
 use crate::books::{Books, Opens, Part, Parts};
 use crate::config::{NARROW, WIDE, ZoneBounds, ZoneConfig};
@@ -29,7 +32,8 @@ pub use asking::page_reply;
 use std::alloc::Global;
 use std::marker::Model;
 use zp_model::{
-    Counts, CountsByType, LONGEST_NAME, Largest, Level, MAX_PAGES, Order, PageNo, Refused,
+    Counts, CountsByType, LONGEST_NAME, Largest, Level, MAX_PAGES, MigrateType, Order, PageAt,
+    PageNo, Refused,
 };
 use zp_tie::Keeper;
 
@@ -141,6 +145,16 @@ impl Zone {
         self.untied.held_by(seat.worker(), page, order)
     }
 
+    /// Whether each of so many pages from this one on, one at least, is out to the seat's worker, by whatever blocks.
+    pub fn run_held_by(&self, seat: &Seat, page: PageNo, pages: u32) -> bool
+        requires { IsSeatOf self.now seat.now }
+        ensures out { result ≡ may_free_run self.now.plain seat.now.worker page pages }
+        ensures has { Agrees self.now seat.now → result ≡ has_run seat.now page pages }
+    {
+        self.untied.lawful();
+        self.untied.holds_run(seat.worker(), page, pages)
+    }
+
     /// The zone's name.
     pub fn name(&self) -> &str
         ensures name { result.now ≡ self.now.name }
@@ -158,11 +172,22 @@ impl Zone {
         self.untied.largest()
     }
 
-    /// How many pages the zone has.
+    /// The type for which a block at this page of the zone, the first being 0, is out when a run goes out: its pageblock's, and Movable where the
+    /// pageblock is isolated.
+    pub fn noted_type(&self, at: PageAt) -> MigrateType
+        requires { at < pages_of self.now.plain }
+        ensures { result ≡ type_of_page self.now.plain at }
+    {
+        self.untied.noted_type(at)
+    }
+
+    /// How many pages the zone has. Each zone is lawful.
     pub fn pages(&self) -> u32
         ensures pages { result ≡ pages_of self.now.plain }
         ensures within { result ≤ MAX_PAGES }
+        ensures lawful { IsLawful self.now.plain }
     {
+        self.untied.lawful();
         self.untied.pages()
     }
 

@@ -8,6 +8,7 @@ mod isolating;
 mod pageblocks;
 mod pieces;
 mod requests;
+mod runs;
 
 use std::alloc::Global;
 use std::process::Abort;

@@ -63,6 +63,9 @@ extern "C" {
     pub fn zonealloc_alloc(worker: &mut Handle, zone: u32, order: u32, kind: u32, mark: u32, page: &mut u32) -> u32;
     pub fn zonealloc_alloc_low(worker: &mut Handle, zone: u32, order: u32, page: &mut u32) -> u32;
     pub fn zonealloc_free(worker: &mut Handle, zone: u32, page: u32, order: u32) -> u32;
+    pub fn zonealloc_alloc_run(worker: &mut Handle, zone: u32, pages: u32, align: u32, mark: u32, page: &mut u32) -> u32;
+    pub fn zonealloc_alloc_run_at(worker: &mut Handle, zone: u32, page: u32, pages: u32) -> u32;
+    pub fn zonealloc_free_run(worker: &mut Handle, zone: u32, page: u32, pages: u32) -> u32;
     pub fn zonealloc_post(worker: &mut Handle, zone: u32, page: u32, order: u32, to: u32) -> u32;
     pub fn zonealloc_collect(worker: &mut Handle, zone: u32, page: &mut u32, order: &mut u32) -> u32;
     pub fn zonealloc_isolate(worker: &mut Handle, zone: u32, pageblock: u32) -> u32;

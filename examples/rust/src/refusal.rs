@@ -34,6 +34,8 @@ refusals! {
     BadPageblock = 13,
     AlreadyIsolated = 14,
     NotIsolated = 15,
+    BadRun = 16,
+    NotFree = 17,
     NotLent = 20,
     ListFull = 21,
     Ended = 30,

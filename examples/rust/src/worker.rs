@@ -74,6 +74,23 @@ impl Worker<'_> {
         answered(unsafe { raw::zonealloc_free(&mut self.handle, zone, page, order) })
     }
 
+    /// *Zone.* The first page of the lowest run of so many free pages that begins at a multiple of 2^align pages. All of them are then lent.
+    pub fn alloc_run(&mut self, zone: u32, pages: u32, align: u32, mark: Mark) -> Result<u32, Refusal> {
+        let mut page = 0;
+        answered(unsafe { raw::zonealloc_alloc_run(&mut self.handle, zone, pages, align, mark as u32, &mut page) })?;
+        Ok(page)
+    }
+
+    /// *Zone.* Takes so many pages from this one on, which are then lent: also in isolated pageblocks, and held to no mark.
+    pub fn alloc_run_at(&mut self, zone: u32, page: u32, pages: u32) -> Result<(), Refusal> {
+        answered(unsafe { raw::zonealloc_alloc_run_at(&mut self.handle, zone, page, pages) })
+    }
+
+    /// *Zone.* Gives back so many lent pages from this one on, by whatever blocks they are lent: a run, a part of one, or of several.
+    pub fn free_run(&mut self, zone: u32, page: u32, pages: u32) -> Result<(), Refusal> {
+        answered(unsafe { raw::zonealloc_free_run(&mut self.handle, zone, page, pages) })
+    }
+
     /// *Zone.* Posts a lent block to the worker of this number.
     pub fn post(&mut self, zone: u32, page: u32, order: u32, to: u32) -> Result<(), Refusal> {
         answered(unsafe { raw::zonealloc_post(&mut self.handle, zone, page, order, to) })

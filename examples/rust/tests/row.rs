@@ -78,6 +78,28 @@ fn an_isolated_pageblock_lends_nothing() {
 }
 
 #[test]
+fn a_run_is_any_pages_in_a_row() {
+    let mut row = row();
+    let mut workers: Vec<_> = row.workers().collect();
+    assert_eq!(workers[0].alloc_run_at(1, 5000, 100), Ok(()));
+    assert_eq!(workers[1].alloc_run_at(1, 5099, 2), Err(Refusal::NotFree));
+    assert_eq!(workers[1].alloc_run_at(1, 4095, 2), Err(Refusal::BadRun));
+    assert_eq!(workers[1].alloc_run(1, 905, 0, Mark::Low), Ok(5100));
+    assert_eq!(workers[1].alloc_run(1, 10, 11, Mark::Low), Ok(4096));
+    assert_eq!(workers[1].alloc_run(1, 4096, 0, Mark::Any), Err(Refusal::NoBlock));
+    assert_eq!(workers[1].alloc_run(1, 4096, 0, Mark::Low), Err(Refusal::BelowMark));
+    assert_eq!(workers[1].alloc_run(1, 0, 0, Mark::Any), Err(Refusal::BadArgument));
+    assert_eq!(workers[1].alloc_run(1, 1, 25, Mark::Any), Err(Refusal::BadArgument));
+    assert_eq!(workers[0].free_run(1, 5090, 11), Err(Refusal::NotLent));
+    assert_eq!(workers[0].free_run(1, 5037, 63), Ok(()));
+    assert_eq!(workers[0].free_run(1, 5000, 37), Ok(()));
+    assert_eq!(workers[1].free_run(1, 5100, 905), Ok(()));
+    assert_eq!(workers[1].free_run(1, 4096, 10), Ok(()));
+    let (counts, _) = workers[0].counts(1).unwrap();
+    assert_eq!((counts.free, counts.by_order[10]), (4096, 4));
+}
+
+#[test]
 fn where_the_pages_are_is_told_in_the_end() {
     let mut row = row();
     let mut workers: Vec<_> = row.workers().collect();

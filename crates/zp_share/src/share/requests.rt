@@ -1,6 +1,7 @@
 //! The requests of a share to the lent zone at a place of the row: each is one section, a request on the zone and the same change in
 //! the share.
-ghost use Rattle.std.specs.Prelude.{◌≡◌, ◌<◌, ◌≤◌, length, []};
+ghost use Rattle.std.specs.Prelude.{◌≡◌, ◌<◌, ◌≤◌, length, [], IsTrue};
+ghost use Rattle.zp_model.specs.Runs.{may_alloc_run};
 ghost use Rattle.zp_model.specs.Zone.{workers_of};
 ghost use Rattle.zp_model.specs.declared.request.Request.TheVariants as request;
 ghost use Rattle.zp_model.specs.declared.request.Reply.TheVariants as reply;
@@ -194,5 +195,56 @@ impl Share {
     {
         let request = Request::Release(pageblock, kind);
         answered!(self.section(zone, place, &request), Reply::Released => ())
+    }
+
+    /// Allocates the lowest run of so many pages outside isolated pageblocks that begins at a multiple of two to the power `align`, held to this mark:
+    /// its first page. All of it is then lent. Refused 10, 11 or 30.
+    pub fn alloc_run(
+        &mut self,
+        zone: &mut Zone,
+        place: usize,
+        pages: u32,
+        align: u8,
+        mark: Mark,
+    ) -> Result<PageNo, Refused>
+        requires place { place < length self.old.zones }
+        requires seat { IsSeatOf zone.old (share_at self.old place).seat }
+        requires run { IsTrue (may_alloc_run pages align) }
+        ensures section { IsAsked (request.AllocRun pages align mark) (page_reply result) zone.old zone.new (share_at self.old place) (share_at self.new place) }
+        ensures others { self.new ≡ with_zone_share place (share_at self.new place) self.old }
+    {
+        self.zones[place].alloc_run(zone, pages, align, mark)
+    }
+
+    /// Allocates the run of so many pages that begins at this page: its first page. All of it is then lent. Refused 16, 17 or 30.
+    pub fn alloc_run_at(
+        &mut self,
+        zone: &mut Zone,
+        place: usize,
+        page: PageNo,
+        pages: u32,
+    ) -> Result<PageNo, Refused>
+        requires place { place < length self.old.zones }
+        requires seat { IsSeatOf zone.old (share_at self.old place).seat }
+        ensures section { IsAsked (request.AllocRunAt page pages) (page_reply result) zone.old zone.new (share_at self.old place) (share_at self.new place) }
+        ensures others { self.new ≡ with_zone_share place (share_at self.new place) self.old }
+    {
+        self.zones[place].alloc_run_at(zone, page, pages)
+    }
+
+    /// Frees so many pages from this one on, by whatever blocks they are lent. Refused 20 where one of them is not lent, or there is none, and 30.
+    pub fn free_run(
+        &mut self,
+        zone: &mut Zone,
+        place: usize,
+        page: PageNo,
+        pages: u32,
+    ) -> Result<(), Refused>
+        requires place { place < length self.old.zones }
+        requires seat { IsSeatOf zone.old (share_at self.old place).seat }
+        ensures section { IsAsked (request.FreeRun page pages) (done_reply reply.Freed result) zone.old zone.new (share_at self.old place) (share_at self.new place) }
+        ensures others { self.new ≡ with_zone_share place (share_at self.new place) self.old }
+    {
+        self.zones[place].free_run(zone, page, pages)
     }
 }

@@ -9,7 +9,7 @@ ghost use Rattle.zp_model.specs.declared.request.Reply.TheVariants as reply;
 ghost use Rattle.zp_zone.specs.NamedZone.{page_reply};
 ghost use Rattle.zp_zone.specs.Seats.{IsSeatOf};
 ghost use Rattle.zp_share.specs.PlainShares.{back, lends_for, lists_after, without_back};
-ghost use Rattle.zp_share.specs.Sections.{HaveRoom, IsAsked, IsRefilled, MayAsk, done_reply};
+ghost use Rattle.zp_share.specs.Sections.{HaveRoom, IsAsked, IsForNoRun, IsRefilled, MayAsk, done_reply};
 ghost use Rattle.zp_share.specs.ZoneShares.{HasAtMost, IsShare, RefillsAtMost, cached_of, plain_share};
 
 use super::ZoneShare;
@@ -19,7 +19,7 @@ use zp_model::{Mark, MigrateType, Order, PageNo, Refused, Reply, Request, TYPES}
 use zp_zone::{Zone, page_reply};
 
 impl ZoneShare {
-    /// Whether the block that a request names, if it names one, is lent.
+    /// Whether the block that a request names, if it names one, is lent, and each page of a run that it frees.
     #[inline(always)]
     pub fn lends_for(&self, request: &Request) -> bool
         ensures lent { result ≡ lends_for request.now (plain_share self.now) }
@@ -30,6 +30,7 @@ impl ZoneShare {
         match request {
             Request::Free(page, order) => self.is_lent(*page, *order),
             Request::Post(page, order, _) => self.is_lent(*page, *order),
+            Request::FreeRun(page, pages) => self.is_lent_run(*page, *pages),
             _ => true,
         }
     }
@@ -53,6 +54,27 @@ impl ZoneShare {
         if let Request::Refill(kind, mark, count) = request {
             return self.refill(zone, *kind, *mark, *count);
         }
+        if let Request::AllocRun(pages, align, mark) = request {
+            return page_reply(self.alloc_run(zone, *pages, *align, *mark));
+        }
+        if let Request::AllocRunAt(page, pages) = request {
+            return page_reply(self.alloc_run_at(zone, *page, *pages));
+        }
+        if let Request::FreeRun(page, pages) = request {
+            return freed_reply(self.free_run(zone, *page, *pages));
+        }
+        self.ask(zone, request)
+    }
+
+    /// One request to the zone that is for no run, whichever it is.
+    #[inline(always)]
+    fn ask(&mut self, zone: &mut Zone, request: &Request) -> Reply
+        requires seat { IsSeatOf zone.old self.old.seat }
+        requires may { MayAsk (workers_of zone.old.plain) MAX_BATCH request.now self.old }
+        requires plain { IsForNoRun request.now }
+        ensures section { IsAsked request.now result zone.old zone.new self.old self.new }
+        ensures lists { (n : ℕ) → RefillsAtMost n request.now → HasAtMost n self.old → HasAtMost n self.new }
+    {
         if !self.lends_for(request) {
             return Reply::Refused(Refused::NotLent);
         }

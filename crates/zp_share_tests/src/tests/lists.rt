@@ -132,9 +132,9 @@ const SEQUENCES: [Sequence<'static>; 13] = [
         zone: (4096, 0),
         lists: (31, 64),
         steps: &[
-            (Step::AllocRun(3072, 65), Replied::Done),
+            (Step::AllocPages(3072, 65), Replied::Done),
             (Step::Look, Replied::Left(4003, [0, 0, 28], 3)),
-            (Step::FreeRun(3072, 35), Replied::Done),
+            (Step::FreePages(3072, 35), Replied::Done),
             (Step::Look, Replied::Left(4003, [0, 0, 63], 3)),
             (Step::Free(3107, 0), Replied::Done),
             (Step::Look, Replied::Left(4034, [0, 0, 33], 4)),

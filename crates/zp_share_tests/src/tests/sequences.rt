@@ -6,7 +6,7 @@ ghost use Rattle.zp_share.specs.Shares.{IsShareOf, key_of};
 use std::alloc::{AllocGlobal, Global};
 use std::process::Abort;
 use std::test::*;
-use zp_model::{Largest, Mark, MigrateType, Order, PageNo, Refused};
+use zp_model::{LARGEST_ALIGNMENT, Largest, Mark, MigrateType, Order, PageNo, Refused};
 use zp_share::{ListConfig, PlainZones, Share, Zones, alloc, drain_all, free};
 use zp_zone::{Zone, ZoneConfig};
 
@@ -17,7 +17,11 @@ pub(super) enum Step {
     Low(u8),
     Free(u32, u8),
     /// Takes so many single Movable pages, which are these, from this one on; gives so many back.
-    AllocRun(u32, u32),
+    AllocPages(u32, u32),
+    FreePages(u32, u32),
+    /// The lowest run of so many pages that is aligned so; the run of so many at a page; frees so many from a page on.
+    AllocRun(u32, u8, Mark),
+    AllocRunAt(u32, u32),
     FreeRun(u32, u32),
     /// Puts a page on its list by hand.
     Put(u32),
@@ -103,7 +107,7 @@ fn freed(hand: &mut Hand, page: PageNo, order: Order) -> Replied {
     }
 }
 
-fn allocated_run(hand: &mut Hand, first: u32, pages: u32) -> Replied {
+fn allocated_pages(hand: &mut Hand, first: u32, pages: u32) -> Replied {
     for page in first..first.saturating_add(pages) {
         let said = allocated(hand, Order::zero(), MigrateType::Movable, Mark::Low);
         if said != Replied::Page(page) {
@@ -113,7 +117,7 @@ fn allocated_run(hand: &mut Hand, first: u32, pages: u32) -> Replied {
     Replied::Done
 }
 
-fn freed_run(hand: &mut Hand, first: u32, pages: u32) -> Replied {
+fn freed_pages(hand: &mut Hand, first: u32, pages: u32) -> Replied {
     for page in first..first.saturating_add(pages) {
         let said = freed(hand, PageNo::new(page), Order::zero());
         if said != Replied::Done {
@@ -121,6 +125,31 @@ fn freed_run(hand: &mut Hand, first: u32, pages: u32) -> Replied {
         }
     }
     Replied::Done
+}
+
+fn lowest_run(hand: &mut Hand, pages: u32, align: u8, mark: Mark) -> Replied {
+    if pages == 0 || align > LARGEST_ALIGNMENT {
+        return Replied::Empty;
+    }
+    said_of(hand.zones.alloc_run(&mut hand.share, 0, pages, align, mark))
+}
+
+fn run_at(hand: &mut Hand, page: PageNo, pages: u32) -> Replied {
+    said_of(hand.zones.alloc_run_at(&mut hand.share, 0, page, pages))
+}
+
+fn said_of(got: Result<PageNo, Refused>) -> Replied {
+    match got {
+        Ok(page) => Replied::Page(page.number()),
+        Err(refused) => Replied::Refused(refused),
+    }
+}
+
+fn freed_run(hand: &mut Hand, page: PageNo, pages: u32) -> Replied {
+    match hand.zones.free_run(&mut hand.share, 0, page, pages) {
+        Ok(()) => Replied::Done,
+        Err(refused) => Replied::Refused(refused),
+    }
 }
 
 fn put(hand: &mut Hand, page: PageNo) -> Replied {
@@ -163,8 +192,11 @@ fn carry_out(hand: &mut Hand, step: Step) -> Option<Replied> {
         Step::Alloc(order, kind, mark) => allocated(hand, Order::new(order)?, kind, mark),
         Step::Low(order) => lowest(hand, Order::new(order)?),
         Step::Free(page, order) => freed(hand, PageNo::new(page), Order::new(order)?),
-        Step::AllocRun(first, pages) => allocated_run(hand, first, pages),
-        Step::FreeRun(first, pages) => freed_run(hand, first, pages),
+        Step::AllocPages(first, pages) => allocated_pages(hand, first, pages),
+        Step::FreePages(first, pages) => freed_pages(hand, first, pages),
+        Step::AllocRun(pages, align, mark) => lowest_run(hand, pages, align, mark),
+        Step::AllocRunAt(page, pages) => run_at(hand, PageNo::new(page), pages),
+        Step::FreeRun(page, pages) => freed_run(hand, PageNo::new(page), pages),
         Step::Put(page) => put(hand, PageNo::new(page)),
         Step::Take(kind) => taken(hand, kind),
         Step::DrainAll => drained(hand),

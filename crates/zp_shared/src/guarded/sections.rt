@@ -1,7 +1,8 @@
 //! One section of a share with a guarded zone: a request on the zone, the same change in the share, one entry to be kept, and then
 //! the zone's counts published once, also where the zone refuses the request. Where there is no room for an entry the zone is not asked,
-//! and nothing is published. Each of the nine typed calls is the section of its request.
-ghost use Rattle.std.specs.Prelude.{◌≡◌, ◌<◌, ◌≤◌, length, []};
+//! and nothing is published. Each of the twelve typed calls is the section of its request.
+ghost use Rattle.std.specs.Prelude.{◌≡◌, ◌<◌, ◌≤◌, length, [], IsTrue};
+ghost use Rattle.zp_model.specs.Runs.{may_alloc_run};
 ghost use Rattle.zp_model.specs.declared.request.Request.TheVariants as request;
 ghost use Rattle.zp_model.specs.declared.request.Reply.TheVariants as reply;
 ghost use Rattle.zp_zone.specs.NamedZone.{page_reply, block_reply, isolate_reply, release_reply};
@@ -205,5 +206,59 @@ impl<J: Naming, K: Keeps> Guarded<J, K> {
     {
         let request = Request::Release(pageblock, kind);
         answered!(self.section(board, share, &request), Reply::Released => ())
+    }
+
+    /// Allocates the lowest run of so many pages outside isolated pageblocks that begins at an absolute page which is a multiple of two to the power
+    /// `align`, held to this mark: its first page. All of it is then lent. Refused 10, 11 or 30.
+    pub fn alloc_run(
+        &mut self,
+        board: &Board,
+        share: &mut Share,
+        pages: u32,
+        align: u8,
+        mark: Mark,
+    ) -> Result<PageNo, Refused>
+        requires fits { IsShareOf J.zones share.old }
+        requires place { self.old.place < length share.old.zones }
+        requires board { board.now ≡ board_at J.boards self.old.place }
+        requires run { IsTrue (may_alloc_run pages align) }
+        ensures { IsAskedUnderLock J.zones (request.AllocRun pages align mark) (page_reply result) self.old self.new share.old share.new }
+    {
+        let request = Request::AllocRun(pages, align, mark);
+        answered!(self.section(board, share, &request), Reply::Page(page) => page)
+    }
+
+    /// Allocates the run of so many pages that begins at this page: its first page. All of it is then lent. Refused 16, 17 or 30.
+    pub fn alloc_run_at(
+        &mut self,
+        board: &Board,
+        share: &mut Share,
+        page: PageNo,
+        pages: u32,
+    ) -> Result<PageNo, Refused>
+        requires fits { IsShareOf J.zones share.old }
+        requires place { self.old.place < length share.old.zones }
+        requires board { board.now ≡ board_at J.boards self.old.place }
+        ensures { IsAskedUnderLock J.zones (request.AllocRunAt page pages) (page_reply result) self.old self.new share.old share.new }
+    {
+        let request = Request::AllocRunAt(page, pages);
+        answered!(self.section(board, share, &request), Reply::Page(first) => first)
+    }
+
+    /// Frees so many pages from this one on, by whatever blocks they are lent. Refused 20 where one of them is not lent, or there is none, and 30.
+    pub fn free_run(
+        &mut self,
+        board: &Board,
+        share: &mut Share,
+        page: PageNo,
+        pages: u32,
+    ) -> Result<(), Refused>
+        requires fits { IsShareOf J.zones share.old }
+        requires place { self.old.place < length share.old.zones }
+        requires board { board.now ≡ board_at J.boards self.old.place }
+        ensures { IsAskedUnderLock J.zones (request.FreeRun page pages) (done_reply reply.Freed result) self.old self.new share.old share.new }
+    {
+        let request = Request::FreeRun(page, pages);
+        answered!(self.section(board, share, &request), Reply::Freed => ())
     }
 }

@@ -5,10 +5,11 @@
 //! block. So one split serves for them all. Pages of a block come back by one join, too, as what is free at last, and in which order the
 //! lists have it, does not depend on the order of the pages. Where all pages of a drain are those of a run, the highest first, they come back
 //! as a run. Linux takes and frees each page by itself.
-ghost use Rattle.std.specs.Prelude.{ℕ, ◌≡◌, ◌<◌, ◌≤◌, ◌+◌, ◌-◌, ◌^◌, ◌++◌, length, take, slice_index_or, true, false, IfErr, IfOk, IsTrue};
+ghost use Rattle.std.specs.Prelude.{ℕ, ◌≡◌, ◌<◌, ◌≤◌, ◌+◌, ◌-◌, ◌^◌, ◌++◌, length, take, slice_index_or, true, false, ◌↔◌, IfErr, IfOk, IsTrue};
 ghost use Rattle.std.specs.List.{range_with_len};
 ghost use Rattle.zp_model.specs.Zone.{workers_of};
 ghost use Rattle.zp_model.specs.Mark.{is_above};
+ghost use Rattle.zp_model.specs.Runs.{is_above_by};
 ghost use Rattle.zp_model.specs.Step.{alloc, drained, refuse};
 ghost use Rattle.zp_model.specs.Run.{is_distinct};
 ghost use Rattle.zp_zone.specs.NamedZone.{AreOut};
@@ -120,11 +121,12 @@ impl UntiedZone {
     }
 }
 
-/// How many pages may go out one by one at a mark, with so many free pages.
-fn room_above(min: u32, free: u32, mark: Mark) -> u32
+/// How many pages may go out at a mark, one by one or as a run, with so many free pages.
+pub fn room_above(min: u32, free: u32, mark: Mark) -> u32
     requires { min ≤ MAX_PAGES }
     ensures some { (i : ℕ) → i < result → is_above min (free - i) 0 mark ≡ true }
     ensures none { result ≡ 0 → is_above min free 0 mark ≡ false }
+    ensures run { (n : ℕ) → 0 < n → n < 2 ^ 32 → (n ≤ result) ↔ (is_above_by min free n mark ≡ true) }
 {
     match mark {
         Mark::Low => free.saturating_sub(min + min / 4),

@@ -4,34 +4,28 @@
 //! and the largest order allow. Taking them in rising order leaves what taking the run at once does.
 //!
 //! In Linux: `alloc_contig_range`, and `memblock_reserve` while a kernel boots.
-ghost use Rattle.std.specs.Prelude.{ℕ, ◌≡◌, ◌≤◌, ◌<◌, ◌+◌, ◌-◌, ◌^◌, IfNone, IfSome, Some, None, true};
+ghost use Rattle.std.specs.Prelude.{ℕ, ◌≡◌, ◌≤◌, ◌<◌, ◌+◌, ◌-◌, ◌^◌, IfNone, IfOk, IfSome, IsTrue, Some, None, true};
 ghost use Rattle.zp_model.specs.declared.constants.TheConstants.{MAX_PAGES};
 ghost use Rattle.zp_model.specs.Block.{IsBlock, head};
 ghost use Rattle.zp_model.specs.Zone.{Holding, holds, pages_of, workers_of};
 ghost use Rattle.zp_model.specs.Runs.{
   IsFreeRun,
-  alloc_run_at_step,
   block_around,
-  free_run_step,
   is_lent_run,
+  may_alloc_run,
   may_free_run,
   run_freed,
   run_taken,
 };
-ghost use Rattle.zp_zone.specs.RunsAt.{block_taken, run_reply};
+ghost use Rattle.zp_model.specs.declared.request.Request.TheVariants as request;
+ghost use Rattle.zp_model.specs.Step.{step};
+ghost use Rattle.zp_zone.specs.NamedZone.{AreFresh, KeepsLentBut, KeepsOut, page_reply};
+ghost use Rattle.zp_zone.specs.RunsAt.{block_taken};
 
 use super::cuts::{fitting_order, give_cut, note_cut};
+use super::parts::room_above;
 use super::{UntiedZone, is_out_to, place_of};
-use zp_model::{MigrateType, Order, PageAt, PageNo, State, Worker};
-
-/// Why a run is refused.
-#[derive(Clone, Copy, PartialEq, Eq, Debug, Drop)]
-pub(crate) enum RunRefused {
-    /// It has no page, or is not wholly the zone's.
-    BadRun,
-    /// One of its pages is not free.
-    NotFree,
-}
+use zp_model::{Mark, MigrateType, Order, PageAt, PageNo, Refused, State, Worker};
 
 impl UntiedZone {
     /// The run of so many pages that begins at this page, in isolated pageblocks too, held to no mark: its first page. Each block of its cut is
@@ -41,17 +35,54 @@ impl UntiedZone {
         worker: Worker,
         page: PageNo,
         pages: u32,
-    ) -> Result<PageNo, RunRefused>
+    ) -> Result<PageNo, Refused>
         requires { worker < workers_of self.old.plain }
-        ensures reply { run_reply result ≡ (alloc_run_at_step self.old.plain worker page pages).reply }
-        ensures after { self.new ≡ record self.old { plain = (alloc_run_at_step self.old.plain worker page pages).zone } }
+        ensures reply { page_reply result ≡ (step self.old.plain worker (request.AllocRunAt page pages)).reply }
+        ensures after { self.new ≡ record self.old { plain = (step self.old.plain worker (request.AllocRunAt page pages)).zone } }
+
+        // What the calls after it can rest on.
+        ensures lent { IfOk result (λ first. IsTrue (may_free_run self.new.plain worker first pages)) }
+        ensures fresh { IfOk result (λ first. AreFresh self.old.plain first pages) }
+        ensures kept { KeepsOut self.old.plain self.new.plain }
     {
         let Some(at) = run_place(page, pages, self.base, self.buddy.pages()) else {
-            return Err(RunRefused::BadRun);
+            return Err(Refused::BadRun);
         };
         if !self.buddy.is_free_run(at, pages) {
-            return Err(RunRefused::NotFree);
+            return Err(Refused::NotFree);
         }
+        self.take_run_at(worker, at, pages);
+        Ok(page)
+    }
+
+    /// The lowest run of so many pages outside isolated pageblocks that begins at an absolute page which is a multiple of two to the power
+    /// `align`, held to this mark: its first page. Each block of its cut is out, with its pageblock's type noted. Refused 10 or 11.
+    pub fn alloc_run(
+        &mut self,
+        worker: Worker,
+        pages: u32,
+        align: u8,
+        mark: Mark,
+    ) -> Result<PageNo, Refused>
+        requires worker { worker < workers_of self.old.plain }
+        requires may { may_alloc_run pages align ≡ true }
+        ensures reply { page_reply result ≡ (step self.old.plain worker (request.AllocRun pages align mark)).reply }
+        ensures after { self.new ≡ record self.old { plain = (step self.old.plain worker (request.AllocRun pages align mark)).zone } }
+
+        // What the calls after it can rest on.
+        ensures lent { IfOk result (λ first. IsTrue (may_free_run self.new.plain worker first pages)) }
+        ensures fresh { IfOk result (λ first. AreFresh self.old.plain first pages) }
+        ensures kept { KeepsOut self.old.plain self.new.plain }
+    {
+        self.lawful();
+        let room = room_above(self.min, self.buddy.available_pages(), mark);
+        if room < pages {
+            return Err(Refused::BelowMark);
+        }
+        let Some(at) = self.lowest_run(pages, align) else {
+            return Err(Refused::NoBlock);
+        };
+        let page = PageNo::new(self.base + at.number());
         self.take_run_at(worker, at, pages);
         Ok(page)
     }
@@ -98,7 +129,11 @@ impl UntiedZone {
     pub fn free_run(&mut self, worker: Worker, page: PageNo, pages: u32)
         requires worker { worker < workers_of self.old.plain }
         requires lent { may_free_run self.old.plain worker page pages ≡ true }
-        ensures { self.new ≡ record self.old { plain = (free_run_step self.old.plain worker page pages).zone } }
+        ensures after { self.new ≡ record self.old { plain = (step self.old.plain worker (request.FreeRun page pages)).zone } }
+
+        // What the calls after it can rest on.
+        ensures gone { AreFresh self.new.plain page pages }
+        ensures kept { KeepsLentBut worker page pages self.old.plain self.new.plain }
     {
         self.lawful();
         // a clause of this call says how many pages there can be
@@ -137,6 +172,37 @@ impl UntiedZone {
         let count = pages.min(end - at.number());
         self.free_part_of(worker, head, order, kind, at, count);
         count
+    }
+
+    /// Whether each of so many pages from this one on, one at least, is out to the worker, by whatever blocks.
+    pub fn holds_run(&self, worker: Worker, page: PageNo, pages: u32) -> bool
+        ensures { result ≡ may_free_run self.now.plain worker page pages }
+    {
+        self.lawful();
+        match run_place(page, pages, self.base, self.buddy.pages()) {
+            None => false,
+            Some(at) => self.is_lent_run(worker, at, pages),
+        }
+    }
+
+    /// Whether each of so many pages from this one on is out to the worker. It goes from block to block.
+    fn is_lent_run(&self, worker: Worker, at: PageAt, pages: u32) -> bool
+        requires { at + pages ≤ pages_of self.now.plain }
+        ensures { result ≡ is_lent_run self.now.plain worker at pages }
+    {
+        self.lawful();
+        // a clause of this call says how many pages there can be
+        let _pages = self.pages();
+        let mut next = at.number();
+        let end = next + pages;
+        'looks: while next < end {
+            let place = PageAt::at(next);
+            let Some(order) = self.lent_order(worker, place) else {
+                return false;
+            };
+            next = place.head(order).number() + order.pages();
+        }
+        true
     }
 
     /// The order of the block out to the worker in which a page lies, where it lies in one: of the aligned heads around it one alone is that of such

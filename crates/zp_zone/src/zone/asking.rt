@@ -4,7 +4,7 @@ ghost use Rattle.zp_model.specs.Zone.{workers_of};
 ghost use Rattle.zp_model.specs.Step.{step};
 ghost use Rattle.zp_zone.specs.Asking.{MaySeatAsk, IsGiven};
 ghost use Rattle.zp_zone.specs.NamedZone.{block_reply, isolate_reply, page_reply, pages_reply, release_reply};
-ghost use Rattle.zp_zone.specs.Seats.{IsSeatOf, KeepsSeats, Agrees, asked, replied};
+ghost use Rattle.zp_zone.specs.Seats.{IsSeatOf, KeepsSeats, Agrees, asked, replied_in};
 
 use super::Zone;
 use crate::seat::Seat;
@@ -19,7 +19,7 @@ impl Zone {
         requires may { MaySeatAsk (workers_of self.old.plain) request.now seat.old }
         ensures reply { result ≡ (step self.old.plain seat.old.worker request.now).reply }
         ensures after { self.new ≡ asked seat.old.worker request.now self.old }
-        ensures seat { seat.new ≡ replied request.now result seat.old }
+        ensures seat { seat.new ≡ replied_in self.old.plain request.now result seat.old }
         ensures known { seat.old.worker < workers_of self.old.plain }
         ensures agrees { Agrees self.old seat.old × Agrees self.new seat.new }
 
@@ -53,6 +53,14 @@ impl Zone {
             Request::Isolate(pageblock) => isolate_reply(self.isolate(seat, *pageblock)),
             Request::Release(pageblock, kind) => {
                 release_reply(self.release(seat, *pageblock, *kind))
+            }
+            Request::AllocRun(pages, align, mark) => {
+                page_reply(self.alloc_run(seat, *pages, *align, *mark))
+            }
+            Request::AllocRunAt(page, pages) => page_reply(self.alloc_run_at(seat, *page, *pages)),
+            Request::FreeRun(page, pages) => {
+                self.free_run(seat, *page, *pages);
+                Reply::Freed
             }
         }
     }

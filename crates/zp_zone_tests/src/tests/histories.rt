@@ -21,6 +21,9 @@ pub(super) enum Ask<'a> {
     Drain(MigrateType, &'a [u32]),
     Isolate(u32),
     Release(u32, MigrateType),
+    Run(u32, u8, Mark),
+    RunAt(u32, u32),
+    FreeRun(u32, u32),
 }
 
 /// A reply, in numbers.
@@ -85,6 +88,9 @@ fn request(ask: Ask<'_>) -> Option<Request> {
         Ask::Drain(kind, pages) => Request::Drain(kind, list(pages)),
         Ask::Isolate(pageblock) => Request::Isolate(pageblock),
         Ask::Release(pageblock, kind) => Request::Release(pageblock, kind),
+        Ask::Run(pages, align, mark) => Request::AllocRun(pages, align, mark),
+        Ask::RunAt(page, pages) => Request::AllocRunAt(PageNo::new(page), pages),
+        Ask::FreeRun(page, pages) => Request::FreeRun(PageNo::new(page), pages),
     };
     Some(request)
 }

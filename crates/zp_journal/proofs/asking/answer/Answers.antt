@@ -27,3 +27,9 @@ returns-in-Isolate-clause-reply c = of_step c.args.zone.now.plain c.args.seat.no
 
 pub returns-in-Release-clause-reply : goal.returns-in-Release-clause-reply
 returns-in-Release-clause-reply c = of_step c.args.zone.now.plain c.args.seat.now.worker c.args.request.now _ c.args.pages.now _ c.release_answer.result c.in-Release.is c.release.ensures.reply (c.release_answer.ensures c.args.pages.now)
+
+pub returns-in-AllocRun-clause-reply : goal.returns-in-AllocRun-clause-reply
+returns-in-AllocRun-clause-reply c = of_step c.args.zone.now.plain c.args.seat.now.worker c.args.request.now _ c.args.pages.now _ c.page_answer-in-AllocRun.result c.in-AllocRun.is c.alloc_run.ensures.reply (c.page_answer-in-AllocRun.ensures c.args.pages.now)
+
+pub returns-in-AllocRunAt-clause-reply : goal.returns-in-AllocRunAt-clause-reply
+returns-in-AllocRunAt-clause-reply c = of_step c.args.zone.now.plain c.args.seat.now.worker c.args.request.now _ c.args.pages.now _ c.page_answer-in-AllocRunAt.result c.in-AllocRunAt.is c.alloc_run_at.ensures.reply (c.page_answer-in-AllocRunAt.ensures c.args.pages.now)

@@ -7,7 +7,7 @@ pub returns-then-has : goal.returns-then-has
 returns-then-has c = (
   λ t. absurd (false≢true t),
   λ f.
-      let y = f c.pages.i (omega (arith, c.index-i.ensures.same, c.pages-2.ensures.pages)) (omega (arith, c.index-i.ensures.same, c.pages-2.ensures.pages)) in
+      let y = f c.pages.i (omega (arith, c.index-i.ensures.same)) (omega (arith, c.index-i.ensures.same)) in
       absurd (elim c.then-has.branch [
         | then-has-via-then-has w ↦ both_ways _ y.0 (sym c.has.ensures ∙ w.if-has.true)
         | then-has-via-else-has+then-is_aside w ↦ let z = w.is_aside.ensures.0 w.if-is_aside.true in both_ways _ (y.1 z.0) (rw w.at.ensures at z.1)
@@ -23,4 +23,4 @@ pages-preserved c p ge lt = elim (cases_lt p c.pages.i) [
 ]
 
 pub returns : goal.returns
-returns c = (λ t i ge lt. c.pages.invariant i ge (omega (arith, c.index-i.ensures.same, c.pages-2.ensures.pages)), λ f. refl)
+returns c = (λ t i ge lt. c.pages.invariant i ge (omega (arith, c.index-i.ensures.same)), λ f. refl)

@@ -1,24 +1,6 @@
-use Rattle.std.proofs.Common.{◌≡◌, length, ◌∙◌, ap, sym, subst}
-use Rattle.zp_model.specs.Area.{Area}
-use Rattle.zp_model.specs.Take.{leave}
-use Rattle.zp_model.proofs.Covers.{length-without}
-use Rattle.zp_plain.specs.Sound.{IsSoundArea}
-use Rattle.zp_plain.proofs.SoundAreas.{table_of, settled_as, sound_leave}
+use Rattle.std.proofs.Common.{sym, ◌∙◌}
+use Rattle.zp_model.proofs.RunGiven.{leave_block}
 use Rattle.zp_plain.proofs.take.PlainArea.leave.Goals as goal
 
-pub settle-requires : goal.settle-requires
-settle-requires c =
-    table_of _ _ _ c.self.invariant (ap length (c.deref.ensures.value ∙ c.remove_run.ensures) ∙ length-without c.self.inside.free.items c.args.head c.args.order)
-    (ap length c.deref-2.ensures.value)
-
-after : (c : goal.After-settle) →
-    (let a : Area = record { largest = c.self.inside.largest; free = c.remove_run.new.set.items; kinds = c.self.inside.kinds.items; lists = c.settle.new.lists.items } in a)
-    ≡ leave (record { largest = c.self.inside.largest; free = c.self.inside.free.items; kinds = c.self.inside.kinds.items; lists = c.self.inside.lists.items }) c.args.head c.args.order
-unfolding leave
-after c = rw c.remove_run.ensures (settled_as c.self.inside.largest _ _ _ _ _ _ (c.deref.ensures.value ∙ c.remove_run.ensures) c.deref-2.ensures.value c.settle.ensures)
-
 pub returns : goal.returns
-returns c = after c ∙ ap (λ a. leave a c.args.head c.args.order) c.self.view_is
-
-pub invariant_of-self : goal.invariant_of-self
-invariant_of-self c = subst IsSoundArea (sym (after c)) (sound_leave _ c.args.head c.args.order c.self.invariant)
+returns c = rw c.pages.ensures.pages at c.leave_run.ensures.after ∙ sym (leave_block c.args.self.now c.args.head c.args.order)

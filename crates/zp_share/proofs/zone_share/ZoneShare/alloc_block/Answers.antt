@@ -44,13 +44,13 @@ invariant_of-self c = (made c).whole
 pub returns-clause-section : goal.returns-clause-section
 returns-clause-section c =
     let full : (c.args.self.now.sections.made == LAST_SECTION) ≡ false = ap (λ s. s.sections.made == LAST_SECTION) (sym c.self.view_is) ∙ sym c.are_full.ensures.full ∙ c.if-are_full.false in
-    let one = section_is (asked c) (reply c) c.args.zone.now c.alloc-got.new.self c.self.inside (after c) c.args.self.now c.self.invariant c.self.view_is (made c)
+    let one = section_is (asked c) (reply c) c.args.zone.now c.alloc-got.new.self c.self.inside (after c) c.args.self.now c.self.invariant c.self.view_is (made c).whole (made c).same
     c.alloc-got.ensures.reply c.alloc-got.ensures.after c.requires.seat c.alloc-got.ensures.fits c.alloc-got.ensures.known c.alloc-got.ensures.agrees in
     record {
       made = subst (λ b. ComesOf (refusal true b) (asked c) (reply c) c.args.zone.now c.alloc-got.new.self c.args.self.now (share_of (after c))) (sym full) one;
       reply =
           subst (λ s. IsReplyTo (asked c) (reply c) s (share_of (after c))) c.self.view_is
-          (reply_to (asked c) (reply c) c.args.zone.now.plain c.self.inside.seat.worker c.self.inside.seat c.alloc-got.new.seat (share_of c.self.inside) (share_of (after c)) (fit c) (made c).same
+          (reply_to (asked c) (reply c) c.args.zone.now.plain c.self.inside.seat.worker c.self.inside.seat c.alloc-got.new.seat (share_of c.self.inside) (share_of (after c)) tt (fit c) (made c).same
           c.alloc-got.ensures.reply (given c));
       same = record { tie = search rules; worker = search rules };
       fits = c.alloc-got.ensures.fits;

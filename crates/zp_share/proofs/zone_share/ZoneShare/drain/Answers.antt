@@ -61,7 +61,7 @@ invariant_of-self-2 c = (made c).whole
 pub returns-clause-section : goal.returns-clause-section
 returns-clause-section c =
     let full : (c.args.self.now.sections.made == LAST_SECTION) ≡ false = ap (λ s. s.sections.made == LAST_SECTION) (sym c.self.view_is) ∙ sym c.are_full.ensures.full ∙ c.if-are_full.false in
-    let one = section_is (asked c) reply.Drained c.args.zone.now c.drain.new.self c.self.inside (after c) c.args.self.now c.self.invariant c.self.view_is (made c)
+    let one = section_is (asked c) reply.Drained c.args.zone.now c.drain.new.self c.self.inside (after c) c.args.self.now c.self.invariant c.self.view_is (made c).whole (made c).same
     refl c.drain.ensures.after c.requires.seat c.drain.ensures.fits c.drain.ensures.known c.drain.ensures.agrees in
     subst (λ ps. IsAsked (request.Drain c.args.kind ps) reply.Drained c.args.zone.now c.drain.new.self c.args.self.now (share_of (after c))) (named c)
     (record {

@@ -72,14 +72,14 @@ invariant_of-self c = (made c).whole
 pub returns-in-Ok-clause-section : goal.returns-in-Ok-clause-section
 returns-in-Ok-clause-section c =
     let full : (c.args.self.now.sections.made == LAST_SECTION) ≡ false = ap (λ s. s.sections.made == LAST_SECTION) (sym c.self.view_is) ∙ sym c.are_full.ensures.full ∙ c.if-are_full.false in
-    let one = section_is (asked c) (pages c) c.args.zone.now c.refill.new.self c.self.inside (after c) c.args.self.now c.self.invariant c.self.view_is (made c)
+    let one = section_is (asked c) (pages c) c.args.zone.now c.refill.new.self c.self.inside (after c) c.args.self.now c.self.invariant c.self.view_is (made c).whole (made c).same
     (stepped c) c.refill.ensures.after c.requires.seat c.refill.ensures.fits c.refill.ensures.known c.refill.ensures.agrees in (
       c.as_slice-got.result.now,
       record {
         made = subst (λ b. ComesOf (refusal true b) (asked c) (pages c) c.args.zone.now c.refill.new.self c.args.self.now (share_of (after c))) (sym full) one;
         reply =
             subst (λ s. IsReplyTo (asked c) (pages c) s (share_of (after c))) c.self.view_is
-            (reply_to (asked c) (pages c) c.args.zone.now.plain c.self.inside.seat.worker c.self.inside.seat c.refill.new.seat (share_of c.self.inside) (share_of (after c)) (fit c) (made c).same
+            (reply_to (asked c) (pages c) c.args.zone.now.plain c.self.inside.seat.worker c.self.inside.seat c.refill.new.seat (share_of c.self.inside) (share_of (after c)) tt (fit c) (made c).same
             (stepped c) (given c));
         same = record { tie = search rules; worker = search rules };
         fits = c.refill.ensures.fits;
@@ -109,13 +109,13 @@ invariant_of-self-in-Err c = (made_in_vain c).whole
 pub returns-in-Err-clause-section : goal.returns-in-Err-clause-section
 returns-in-Err-clause-section c =
     let full : (c.args.self.now.sections.made == LAST_SECTION) ≡ false = ap (λ s. s.sections.made == LAST_SECTION) (sym c.self.view_is) ∙ sym c.are_full.ensures.full ∙ c.if-are_full.false in
-    let one = section_is (asked_in_vain c) (refused c) c.args.zone.now c.refill.new.self c.self.inside (after_refusal c) c.args.self.now c.self.invariant c.self.view_is (made_in_vain c)
+    let one = section_is (asked_in_vain c) (refused c) c.args.zone.now c.refill.new.self c.self.inside (after_refusal c) c.args.self.now c.self.invariant c.self.view_is (made_in_vain c).whole (made_in_vain c).same
     c.in-Err.ensures.reply c.refill.ensures.after c.requires.seat c.refill.ensures.fits c.refill.ensures.known c.refill.ensures.agrees in
     record {
       made = subst (λ b. ComesOf (refusal true b) (asked_in_vain c) (refused c) c.args.zone.now c.refill.new.self c.args.self.now (share_of (after_refusal c))) (sym full) one;
       reply =
           subst (λ s. IsReplyTo (asked_in_vain c) (refused c) s (share_of (after_refusal c))) c.self.view_is
-          (reply_to (asked_in_vain c) (refused c) c.args.zone.now.plain c.self.inside.seat.worker c.self.inside.seat c.refill.new.seat (share_of c.self.inside) (share_of (after_refusal c)) tt (made_in_vain c).same
+          (reply_to (asked_in_vain c) (refused c) c.args.zone.now.plain c.self.inside.seat.worker c.self.inside.seat c.refill.new.seat (share_of c.self.inside) (share_of (after_refusal c)) tt tt (made_in_vain c).same
           c.in-Err.ensures.reply tt);
       same = record { tie = search rules; worker = search rules };
       fits = c.refill.ensures.fits;

@@ -13,7 +13,7 @@ use Rattle.zp_share.proofs.zone_share.ZoneShare.free_block.Goals as goal
 
 pub free-requires-clause-has : goal.free-requires-clause-has
 free-requires-clause-has c =
-    may_seat (workers_of c.args.zone.now.plain) (request.Free c.args.page c.args.order) c.self.inside
+    may_seat (workers_of c.args.zone.now.plain) (request.Free c.args.page c.args.order) c.self.inside tt
     (asking _ (request.Free c.args.page c.args.order) c.self.inside _ _ c.self.view_is c.self.invariant tt c.is_lent.ensures.lent c.if-not-is_lent.false)
 
 pub note-requires : goal.note-requires
@@ -38,7 +38,7 @@ invariant_of-self c = (made c).whole
 pub returns-clause-section : goal.returns-clause-section
 returns-clause-section c =
     let full : (c.args.self.now.sections.made == LAST_SECTION) ≡ false = ap (λ s. s.sections.made == LAST_SECTION) (sym c.self.view_is) ∙ sym c.are_full.ensures.full ∙ c.if-are_full.false in
-    let one = section_is (asked c) reply.Freed c.args.zone.now c.free.new.self c.self.inside (after c) c.args.self.now c.self.invariant c.self.view_is (made c)
+    let one = section_is (asked c) reply.Freed c.args.zone.now c.free.new.self c.self.inside (after c) c.args.self.now c.self.invariant c.self.view_is (made c).whole (made c).same
     refl c.free.ensures.after c.requires.seat c.free.ensures.fits c.free.ensures.known c.free.ensures.agrees in
     record {
       made =

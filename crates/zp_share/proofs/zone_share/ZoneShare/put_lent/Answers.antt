@@ -6,4 +6,4 @@ use Rattle.zp_share.proofs.zone_share.ZoneShare.put_lent.Goals as goal
 pub invariant_of-self : goal.invariant_of-self
 invariant_of-self c =
     put_whole c.self.inside c.set.new.self c.args.kind c.number.result c.args.page c.index-self-number.result c.push_front.new.self c.self.invariant c.number.ensures.number
-    (lent_use (use_in (share_of c.self.inside) c.args.page) c.args.kind (rw (← c.self.view_is) at c.requires.lent)) c.push_front.ensures c.set.ensures
+    (lent_use (use_in (share_of c.self.inside) c.args.page) 0 c.args.kind (rw (← c.self.view_is) at c.requires.lent)) c.push_front.ensures c.set.ensures

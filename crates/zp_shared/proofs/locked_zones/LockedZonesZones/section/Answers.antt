@@ -9,13 +9,16 @@ use Rattle.zp_share.specs.Shares.{IsShareOf, ShareState, ZoneKey, is_section, sh
 use Rattle.zp_share.specs.ZoneShares.{ZoneShareState, plain_share}
 use Rattle.zp_shared.specs.Rows.{GuardedZone, HasReadAfter, IsReadAfter, ViewState, board_at}
 use Rattle.zp_shared.proofs.Readers.{reader_tie, readers_length, readers_set, seen_set}
-use Rattle.zp_shared.proofs.Guarding.{full_section, viewed}
+use Rattle.zp_shared.proofs.Guarding.{full_section, refused_at, viewed}
 use Rattle.zp_shared.proofs.Viewing.{asked_after, strayed_after}
 use Rattle.zp_shared.proofs.locked_zones.LockedZonesZones.section.Goals as goal
 
 -- the row has as many zones as the share
 as_many : (keys : List ZoneKey) (s : ShareState) → IsShareOf keys s → length s.zones ≡ length keys
 as_many keys s fits = sym (length-map s.zones (λ (v : ZoneShareState). v.seat.tie)) ∙ ap length fits ∙ length-map keys (λ (k : ZoneKey). k.tie)
+
+pub returns-in_default-clause-asked : goal.returns-in_default-clause-asked
+returns-in_default-clause-asked g c = refused_at g.J.Naming.zones c.args.zone c.args.request.now c.refuse.result c.args.share.now c.requires.fits c.refuse.ensures
 
 pub returns-in_default-clause-read : goal.returns-in_default-clause-read
 returns-in_default-clause-read g c =

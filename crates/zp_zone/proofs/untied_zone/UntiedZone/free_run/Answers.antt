@@ -3,6 +3,7 @@ use Rattle.zp_model.specs.Zone.{pages_of}
 use Rattle.zp_laws.proofs.RunSteps.{lent_inside, may_free-to}
 use Rattle.zp_zone.specs.NamedZone.{NamedZone}
 use Rattle.zp_zone.proofs.RunsFreed.{freeing_begins, freeing_goes, freeing_inside}
+use Rattle.zp_zone.proofs.RunsGiven.{freed_gone, freed_keeps}
 use Rattle.zp_zone.proofs.untied_zone.UntiedZone.free_run.Goals.{After-pages-pages}
 use Rattle.zp_zone.proofs.untied_zone.UntiedZone.free_run.Goals as goal
 
@@ -60,8 +61,20 @@ parts-preserved c =
 pub parts-smaller : goal.parts-smaller
 parts-smaller c = omega (arith, c.free_in_block-freed.ensures.some)
 
-pub returns : goal.returns
-returns c =
+pub returns-clause-after : goal.returns-clause-after
+returns-clause-after c =
     let x = c.parts.invariant in
     let last : c.parts.next ≡ c.number.result - c.self.inside.base + c.args.pages = omega (arith, x.freeing.upto) in
     λ i. record { name = x.name i; plain = x.freeing.done last i }
+
+pub returns-clause-gone : goal.returns-clause-gone
+returns-clause-gone c =
+    let x = c.parts.invariant in
+    let last : c.parts.next ≡ c.number.result - c.self.inside.base + c.args.pages = omega (arith, x.freeing.upto) in
+    rw (x.freeing.done last) (freed_gone c.args.self.now.plain c.args.worker c.args.page c.args.pages c.lawful.ensures c.requires.worker c.requires.lent)
+
+pub returns-clause-kept : goal.returns-clause-kept
+returns-clause-kept c =
+    let x = c.parts.invariant in
+    let last : c.parts.next ≡ c.number.result - c.self.inside.base + c.args.pages = omega (arith, x.freeing.upto) in
+    rw (x.freeing.done last) (freed_keeps c.args.self.now.plain c.args.worker c.args.page c.args.pages c.lawful.ensures c.requires.worker c.requires.lent)
