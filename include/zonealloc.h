@@ -176,6 +176,29 @@ uint32_t zonealloc_alloc_low(zone_worker_t *worker, uint32_t zone, uint32_t orde
  *   ZONE_BUSY              another is in the zone
  *   ZONE_ENDED             the worker made its last request to the zone */
 uint32_t zonealloc_free(zone_worker_t *worker, uint32_t zone, uint32_t page, uint32_t order);
+/* ZONE. So many blocks of 2^order pages in one passage of the zone's gate: as many calls of zonealloc_alloc, one after another up to the first
+ * that is refused, with no other in the zone between them. Whatever is answered, *got is how many were got; pages[0] to pages[*got - 1] are
+ * their first pages, which are then lent, and the places behind them have not changed. With ZONE_OK it is room.
+ *   ZONE_BAD_ARGUMENT      the order is above 10, the type or the mark above 2, or the room is 0
+ *   ZONE_BAD_HANDLE        nothing is in the handle
+ *   ZONE_BAD_ARGUMENT      the row has no such zone
+ *   ZONE_BUSY              another is in the zone. With this and the numbers above nothing has changed, and *got is 0
+ *   ZONE_ENDED             the worker made its last request to the zone. What was got before stays lent, as with the two below
+ *   ZONE_BELOW_MARK        for the next of the blocks, so many pages less would be below the mark
+ *   ZONE_NO_BLOCK          no free block is so large as the next of them is to be */
+uint32_t zonealloc_alloc_many(zone_worker_t *worker, uint32_t zone, uint32_t order, uint32_t type, uint32_t mark, uint32_t *pages, size_t room,
+                              size_t *got);
+/* ZONE. Gives back so many blocks in one passage of the zone's gate, pages[i] with orders[i]: as many calls of zonealloc_free, one after another
+ * up to the first that is refused, with no other in the zone between them. Whatever is answered, *freed is how many were given back: those in
+ * front. With ZONE_OK it is n_pages. A block that is named twice is not lent the second time.
+ *   ZONE_BAD_ARGUMENT      there are not as many orders as pages, or none; or one of the orders is above 10
+ *   ZONE_BAD_HANDLE        nothing is in the handle
+ *   ZONE_BAD_ARGUMENT      the row has no such zone
+ *   ZONE_BUSY              another is in the zone. With this and the numbers above nothing has changed, and *freed is 0
+ *   ZONE_NOT_LENT          the next of the blocks is not lent. Those before it were given back, as with the one below
+ *   ZONE_ENDED             the worker made its last request to the zone */
+uint32_t zonealloc_free_many(zone_worker_t *worker, uint32_t zone, const uint32_t *pages, size_t n_pages, const uint32_t *orders,
+                             size_t n_orders, size_t *freed);
 /* ZONE. The lowest run of so many free pages outside isolated pageblocks whose first page is a multiple of 2^align: its first page. A run may
  * begin and end anywhere in the zone. Its pages are then lent as aligned blocks, each as large as its place, the rest of the run and the zone's
  * largest order allow, and each of the type of its pageblock. They are freed by zonealloc_free_run in any parts, or block by block.

@@ -8,23 +8,28 @@
 #include <stdlib.h>
 #include <string.h>
 
-enum { MOST_HELD = 1 << 16, SWEEP_EACH = 4096, TIDE_EACH = 3000, WORKERS_MADE = 2 * ZONE_WORKERS, ALIGNMENTS = 25 };
+enum { MOST_HELD = 1 << 16, SWEEP_EACH = 4096, TIDE_EACH = 3000, WORKERS_MADE = 2 * ZONE_WORKERS, ALIGNMENTS = 25, MANY = 24 };
 
 typedef enum {
-    TAKE, PUT, IS_LENT, CACHED, ALLOC, ALLOC_LOW, FREE, ALLOC_RUN, ALLOC_RUN_AT, FREE_RUN, POST, COLLECT, ISOLATE, RELEASE, REFILL, DRAIN,
-    DRAIN_ALL, COUNTS, INFO, PAGE, PAGEBLOCK, DISMISS, UNMAKE, GATHER, CALLS
+    TAKE, PUT, IS_LENT, CACHED, ALLOC, ALLOC_LOW, FREE, ALLOC_RUN, ALLOC_RUN_AT, FREE_RUN, ALLOC_MANY, FREE_MANY, POST, COLLECT, ISOLATE, RELEASE,
+    REFILL, DRAIN, DRAIN_ALL, COUNTS, INFO, PAGE, PAGEBLOCK, DISMISS, UNMAKE, GATHER, CALLS
 } kind_t;
 
 static const char *const names[CALLS] = {
-    "take", "put", "is_lent", "cached", "alloc", "alloc_low", "free", "alloc_run", "alloc_run_at", "free_run", "post", "collect", "isolate",
-    "release", "refill", "drain", "drain_all", "counts", "info", "page", "pageblock", "dismiss", "unmake", "gather"
+    "take", "put", "is_lent", "cached", "alloc", "alloc_low", "free", "alloc_run", "alloc_run_at", "free_run", "alloc_many", "free_many",
+    "post", "collect", "isolate", "release", "refill", "drain", "drain_all", "counts", "info", "page", "pageblock", "dismiss", "unmake", "gather"
 };
 /* How often each is picked while a row lives. The last three are picked apart. */
-static const uint32_t weights[CALLS] = { 14, 20, 4, 2, 24, 4, 24, 3, 3, 6, 6, 6, 1, 4, 10, 3, 1, 3, 2, 2, 2, 0, 0, 0 };
+static const uint32_t weights[CALLS] = { 14, 20, 4, 2, 24, 4, 24, 3, 3, 6, 2, 2, 6, 6, 1, 4, 10, 3, 1, 3, 2, 2, 2, 0, 0, 0 };
 
-/* A call with all arguments that any of them has: the number is a pageblock, a count of pages or a receiver, and of a run the order is how it is
- * aligned. */
-typedef struct { kind_t kind; uint32_t worker, zone, order, type, mark, page, number; size_t room; } call_t;
+/* A call with all arguments that any of them has: the number is a pageblock, a count of pages or of blocks, or a receiver, and of a run the order
+ * is how it is aligned. */
+typedef struct {
+    kind_t kind;
+    uint32_t worker, zone, order, type, mark, page, number;
+    size_t room;
+    uint32_t pages[MANY], orders[MANY];
+} call_t;
 
 /* What a call answered, and all that any of them tells. */
 typedef struct {
@@ -36,6 +41,8 @@ typedef struct {
     zone_totals_t totals;
     size_t len;
     uint8_t line[ZONE_INFO_LINE];
+    size_t many;
+    uint32_t pages[MANY];
 } told_t;
 
 typedef struct { uint32_t worker, zone, page, order; } held_t;
@@ -89,6 +96,12 @@ static int one_in(uint32_t n)
         case ALLOC_RUN: t->answer = PREFIX##_alloc_run(WORKERS, c->zone, c->number, c->order, c->mark, &t->page); break; \
         case ALLOC_RUN_AT: t->answer = PREFIX##_alloc_run_at(WORKERS, c->zone, c->page, c->number); break;        \
         case FREE_RUN: t->answer = PREFIX##_free_run(WORKERS, c->zone, c->page, c->number); break;                \
+        case ALLOC_MANY:                                                                                          \
+            t->answer = PREFIX##_alloc_many(WORKERS, c->zone, c->order, c->type, c->mark, t->pages, c->room, &t->many); \
+            break;                                                                                                \
+        case FREE_MANY:                                                                                           \
+            t->answer = PREFIX##_free_many(WORKERS, c->zone, c->pages, c->number, c->orders, c->number, &t->many); \
+            break;                                                                                                \
         case POST: t->answer = PREFIX##_post(WORKERS, c->zone, c->page, c->order, c->number); break;              \
         case COLLECT: t->answer = PREFIX##_collect(WORKERS, c->zone, &t->page, &t->order); break;                 \
         case ISOLATE: t->answer = PREFIX##_isolate(WORKERS, c->zone, c->number); break;                           \
@@ -122,8 +135,8 @@ static void tell_side(const char *who, const told_t *t)
 {
     const uint8_t *bytes = (const uint8_t *)t;
     size_t i;
-    printf("  %s: answer %" PRIu32 ", page %" PRIu32 ", order %" PRIu32 ", number %" PRIu32 ", len %lu\n   ", who, t->answer, t->page,
-           t->order, t->number, (unsigned long)t->len);
+    printf("  %s: answer %" PRIu32 ", page %" PRIu32 ", order %" PRIu32 ", number %" PRIu32 ", len %lu, many %lu\n   ", who, t->answer,
+           t->page, t->order, t->number, (unsigned long)t->len, (unsigned long)t->many);
     for (i = offsetof(told_t, counts); i < offsetof(told_t, len); i += sizeof(uint32_t)) {
         uint32_t word;
         memcpy(&word, bytes + i, sizeof word);
@@ -214,8 +227,24 @@ static void forget(uint32_t worker)
             held[i] = held[--n_held];
 }
 
+/* Of many blocks those in front came or went, whatever was answered. */
+static void learn_many(const call_t *c, const told_t *t)
+{
+    call_t one = *c;
+    size_t i;
+    for (i = 0; i < t->many; i++) {
+        one.page = c->kind == ALLOC_MANY ? t->pages[i] : c->pages[i];
+        if (c->kind == ALLOC_MANY)
+            hold(&one, one.page, c->order);
+        else
+            let_go(&one);
+    }
+}
+
 static void learn(const call_t *c, const told_t *t)
 {
+    if (c->kind == ALLOC_MANY || c->kind == FREE_MANY)
+        learn_many(c, t);
     if (t->answer != ZONE_OK)
         return;
     if (c->kind == TAKE)
@@ -251,6 +280,8 @@ static uint32_t pick_kind(void)
         return kind == REFILL ? DRAIN : FREE;
     if (ebb && (kind == ALLOC_RUN || kind == ALLOC_RUN_AT) && !one_in(4))
         return FREE_RUN;
+    if (ebb && kind == ALLOC_MANY && !one_in(4))
+        return FREE_MANY;
     if (kind == FREE && (n_held == 0 || (!ebb && !one_in(3))))
         return ALLOC;
     return kind;
@@ -278,6 +309,22 @@ static void pick_held(call_t *c)
     c->zone = held[i].zone;
     c->page = held[i].page;
     c->order = held[i].order;
+}
+
+/* Blocks that are lent to one worker, in any order; now and then one of them twice, or of another. */
+static void pick_held_blocks(call_t *c)
+{
+    uint32_t tries, at, is_new;
+    pick_held(c);
+    for (tries = 1 + below(3 * MANY); n_held > 0 && tries > 0 && c->number < MANY; tries--) {
+        const held_t *it = &held[below(n_held)];
+        for (is_new = 1, at = 0; at < c->number; at++)
+            is_new = is_new && c->pages[at] != it->page;
+        if (((it->worker != c->worker || it->zone != c->zone) || !is_new) && !one_in(128))
+            continue;
+        c->pages[c->number] = it->page;
+        c->orders[c->number++] = it->order;
+    }
 }
 
 /* How many pages to drain: no more than there are, where the list has any. */
@@ -341,7 +388,7 @@ static uint32_t pick_worker(void)
 
 static call_t pick_good(void)
 {
-    call_t c = { (kind_t)pick_kind(), 0, 0, 0, 0, 0, 0, 0, ZONE_INFO_LINE };
+    call_t c = { (kind_t)pick_kind(), 0, 0, 0, 0, 0, 0, 0, ZONE_INFO_LINE, { 0 }, { 0 } };
     c.worker = pick_worker();
     c.zone = below(n_zones);
     c.page = specs[c.zone].base + below(specs[c.zone].pages);
@@ -358,6 +405,11 @@ static call_t pick_good(void)
         pick_free_run(&c);
     else if (c.kind == FREE_RUN)
         pick_lent_run(&c);
+    if (c.kind == FREE_MANY) {
+        c.number = 0;
+        pick_held_blocks(&c);
+    } else if (c.kind == ALLOC_MANY)
+        c.room = 1 + below(MANY);
     if (c.kind == INFO && one_in(2))
         c.room = below(ZONE_INFO_LINE + 1);
     return c;
@@ -382,6 +434,7 @@ static uint32_t other_page(const call_t *c)
 static uint32_t other_number(const call_t *c)
 {
     switch (c->kind) {
+    case FREE_MANY: return 0;
     case POST: return out_of(n_workers);
     case DRAIN: return one_in(2) ? 0 : out_of(65);
     case ALLOC_RUN: case ALLOC_RUN_AT: case FREE_RUN: return one_in(2) ? 0 : any32();
@@ -392,13 +445,17 @@ static uint32_t other_number(const call_t *c)
 /* One argument becomes another: out of its range, or of another block. A call that does not have it stays good. */
 static void spoil(call_t *c)
 {
-    switch (below(7)) {
+    uint32_t i = c->kind == FREE_MANY && c->number > 0 ? below(c->number) : 0;
+    switch (below(10)) {
     case 0: c->zone = out_of(n_zones); break;
     case 1: c->order = out_of(c->kind == ALLOC_RUN ? ALIGNMENTS : ZONE_ORDERS); break;
     case 2: c->type = out_of(ZONE_TYPES); break;
     case 3: c->mark = out_of(ZONE_LOW + 1); break;
     case 4: c->page = other_page(c); break;
     case 5: c->order = below(ZONE_ORDERS); break;
+    case 6: c->pages[i] = other_page(c); break;
+    case 7: c->orders[i] = one_in(2) ? below(ZONE_ORDERS) : out_of(ZONE_ORDERS); break;
+    case 8: c->room = c->kind == ALLOC_MANY ? 0 : c->room; break;
     default: c->number = other_number(c);
     }
 }
@@ -418,7 +475,7 @@ static call_t pick(void)
 
 static void read_zone(uint32_t reader, uint32_t zone)
 {
-    call_t c = { COUNTS, 0, 0, 0, 0, 0, 0, 0, ZONE_INFO_LINE };
+    call_t c = { COUNTS, 0, 0, 0, 0, 0, 0, 0, ZONE_INFO_LINE, { 0 }, { 0 } };
     c.worker = reader;
     c.zone = zone;
     (void)ask(&c);
@@ -512,7 +569,7 @@ static void make_row(void)
 
 static void dismiss(uint32_t worker)
 {
-    call_t c = { DISMISS, 0, 0, 0, 0, 0, 0, 0, 0 };
+    call_t c = { DISMISS, 0, 0, 0, 0, 0, 0, 0, 0, { 0 }, { 0 } };
     c.worker = worker;
     n_live -= is_live(worker) ? 1 : 0;
     (void)ask(&c);
@@ -522,7 +579,7 @@ static void dismiss(uint32_t worker)
 /* Unmaking and gathering are refused while a worker is left. */
 static void refuse_end(void)
 {
-    call_t c = { UNMAKE, 0, 0, 0, 0, 0, 0, 0, 0 };
+    call_t c = { UNMAKE, 0, 0, 0, 0, 0, 0, 0, 0, { 0 }, { 0 } };
     (void)ask(&c);
     c.kind = GATHER;
     (void)ask(&c);
@@ -530,7 +587,7 @@ static void refuse_end(void)
 
 static void gather(uint32_t zone)
 {
-    call_t c = { GATHER, 0, 0, 0, 0, 0, 0, 0, 0 };
+    call_t c = { GATHER, 0, 0, 0, 0, 0, 0, 0, 0, { 0 }, { 0 } };
     told_t told;
     c.zone = zone;
     told = ask(&c);
@@ -543,7 +600,7 @@ static void gather(uint32_t zone)
 
 static void end_row(void)
 {
-    call_t c = { UNMAKE, 0, 0, 0, 0, 0, 0, 0, 0 };
+    call_t c = { UNMAKE, 0, 0, 0, 0, 0, 0, 0, 0, { 0 }, { 0 } };
     uint32_t i;
     read_all();
     refuse_end();

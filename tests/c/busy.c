@@ -54,7 +54,7 @@ static void *fill_and_drain(void *nothing)
 
 /* What a call may write. */
 typedef struct {
-    uint32_t page, order;
+    uint32_t page, order, pages[2];
     zone_counts_t counts;
     zone_types_t types;
     uint8_t line[ZONE_INFO_LINE];
@@ -66,6 +66,7 @@ typedef struct {
 
 static told_t told, blank;
 static uint32_t lent;        /* the page at which a block of this order is lent */
+static size_t many;          /* how many blocks came or went, which is told whatever is answered */
 
 static uint32_t alloc(void) { return zonealloc_alloc(mine, 0, 10, ZONE_TYPE_MOVABLE, ZONE_ANY, &told.page); }
 static uint32_t alloc_low(void) { return zonealloc_alloc_low(mine, 0, 10, &told.page); }
@@ -73,6 +74,13 @@ static uint32_t give_back(void) { return zonealloc_free(mine, 0, lent, ORDER); }
 static uint32_t alloc_run(void) { return zonealloc_alloc_run(mine, 0, PAGES + 1, 0, ZONE_ANY, &told.page); }
 static uint32_t alloc_run_at(void) { return zonealloc_alloc_run_at(mine, 0, BASE, PAGES + 1); }
 static uint32_t free_run(void) { return zonealloc_free_run(mine, 0, lent, 1 << ORDER); }
+static uint32_t alloc_many(void) { many = 2; return zonealloc_alloc_many(mine, 0, 10, ZONE_TYPE_MOVABLE, ZONE_ANY, told.pages, 2, &many); }
+static uint32_t free_many(void)
+{
+    const uint32_t pages[] = { lent, lent }, orders[] = { ORDER, ORDER };
+    many = 2;
+    return zonealloc_free_many(mine, 0, pages, 2, orders, 2, &many);
+}
 static uint32_t post(void) { return zonealloc_post(mine, 0, lent, ORDER, 0); }
 static uint32_t collect(void) { return zonealloc_collect(mine, 0, &told.page, &told.order); }
 static uint32_t isolate(void) { return zonealloc_isolate(mine, 0, 1); }
@@ -95,7 +103,8 @@ static const struct { const char *name; uint32_t (*call)(void); uint32_t otherwi
     { "drain_all", drain_all, ZONE_OK },     { "counts", counts, ZONE_OK },                { "info", info, ZONE_OK },
     { "page", page, ZONE_OK },               { "pageblock", pageblock, ZONE_OK },          { "gather", gather, ZONE_HAS_WORKERS },
     { "counts_by_type", counts_by_type, ZONE_OK }, { "alloc_run", alloc_run, ZONE_NO_BLOCK },
-    { "alloc_run_at", alloc_run_at, ZONE_BAD_RUN }, { "free_run", free_run, ZONE_OK }
+    { "alloc_run_at", alloc_run_at, ZONE_BAD_RUN }, { "free_run", free_run, ZONE_OK },
+    { "alloc_many", alloc_many, ZONE_NO_BLOCK }, { "free_many", free_many, ZONE_NOT_LENT }
 };
 
 /* The block is lent: it is the one that was posted to the worker, or another. */
@@ -148,14 +157,15 @@ static int is_refused(uint32_t (*call)(void), uint32_t otherwise)
     own_t before = see_own(), after;
     uint32_t answer;
     memcpy(&told, &blank, sizeof told);
+    many = 0;
     answer = call();
     if (answer != ZONE_BUSY) {
-        CHECK(answer == otherwise);
+        CHECK(answer == otherwise && many == (call == free_many));
         furnish();
         return 0;
     }
     after = see_own();
-    CHECK(memcmp(&told, &blank, sizeof told) == 0);
+    CHECK(memcmp(&told, &blank, sizeof told) == 0 && many == 0);
     CHECK(handle.live == mine->live && handle.at == mine->at && whole.live == row.live && whole.at == row.at);
     CHECK(memcmp(&before, &after, sizeof after) == 0);
     return 1;

@@ -672,6 +672,45 @@ uint32_t reference_free(reference_worker_t *worker, uint32_t zone, uint32_t page
     return ZONE_OK;
 }
 
+uint32_t reference_alloc_many(reference_worker_t *worker, uint32_t zone, uint32_t order, uint32_t type, uint32_t mark, uint32_t *pages,
+                              size_t room, size_t *got)
+{
+    uint32_t answer;
+    uint32_t head;
+    zone_t *at = zone_of(worker, zone, order >= ZONE_ORDERS || type >= ZONE_TYPES || mark > ZONE_LOW || room == 0, &answer);
+    *got = 0;
+    if (!at)
+        return answer;
+    while (*got < room) {
+        answer = alloc(at, worker->number, order, type, mark, &head);
+        if (answer != ZONE_OK)
+            return answer;
+        pages[(*got)++] = at->spec.base + head;
+    }
+    return ZONE_OK;
+}
+
+uint32_t reference_free_many(reference_worker_t *worker, uint32_t zone, const uint32_t *pages, size_t n_pages, const uint32_t *orders,
+                             size_t n_orders, size_t *freed)
+{
+    uint32_t answer;
+    int is_wrong = n_pages == 0 || n_orders != n_pages;
+    size_t i;
+    zone_t *at;
+    for (i = 0; i < n_orders; i++)
+        is_wrong |= orders[i] >= ZONE_ORDERS;
+    at = zone_of(worker, zone, is_wrong, &answer);
+    *freed = 0;
+    if (!at)
+        return answer;
+    for (; *freed < n_pages; (*freed)++) {
+        if (!is_lent(worker, at, pages[*freed], orders[*freed]))
+            return ZONE_NOT_LENT;
+        give(at, pages[*freed] - at->spec.base, orders[*freed]);
+    }
+    return ZONE_OK;
+}
+
 uint32_t reference_alloc_run(reference_worker_t *worker, uint32_t zone, uint32_t pages, uint32_t align, uint32_t mark, uint32_t *page)
 {
     uint32_t answer;

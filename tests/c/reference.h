@@ -22,6 +22,10 @@ uint32_t reference_cached(reference_worker_t *worker, uint32_t zone, uint32_t ty
 uint32_t reference_alloc(reference_worker_t *worker, uint32_t zone, uint32_t order, uint32_t type, uint32_t mark, uint32_t *page);
 uint32_t reference_alloc_low(reference_worker_t *worker, uint32_t zone, uint32_t order, uint32_t *page);
 uint32_t reference_free(reference_worker_t *worker, uint32_t zone, uint32_t page, uint32_t order);
+uint32_t reference_alloc_many(reference_worker_t *worker, uint32_t zone, uint32_t order, uint32_t type, uint32_t mark, uint32_t *pages,
+                              size_t room, size_t *got);
+uint32_t reference_free_many(reference_worker_t *worker, uint32_t zone, const uint32_t *pages, size_t n_pages, const uint32_t *orders,
+                             size_t n_orders, size_t *freed);
 uint32_t reference_alloc_run(reference_worker_t *worker, uint32_t zone, uint32_t pages, uint32_t align, uint32_t mark, uint32_t *page);
 uint32_t reference_alloc_run_at(reference_worker_t *worker, uint32_t zone, uint32_t page, uint32_t pages);
 uint32_t reference_free_run(reference_worker_t *worker, uint32_t zone, uint32_t page, uint32_t pages);

@@ -11,7 +11,7 @@
 #include <string.h>
 #include <ucontext.h>
 
-enum { STACK = 16384, FILL = 0xa5, WORKERS = 3, LIVE = 4096, HIGH_LEN = 62, BATCH = 31, ZONES = 3 };
+enum { STACK = 16384, FILL = 0xa5, WORKERS = 3, LIVE = 4096, HIGH_LEN = 62, BATCH = 31, ZONES = 3, MANY = 24 };
 /* No request gets deeper, and no call at all: docs/kernels.md, and what this program adds to a call. */
 enum { MOST_OF_REQUESTS = 1600, MOST = 6144 };
 
@@ -54,7 +54,8 @@ static struct {
     union {
         zone_counts_t counts; zone_types_t types; zone_page_t page; zone_pageblock_t pageblock; zone_totals_t totals; uint8_t line[ZONE_INFO_LINE];
     } told;
-    size_t len;
+    uint32_t blocks[MANY], orders[MANY];
+    size_t len, room, many;
     uint64_t bytes;
 } it;
 
@@ -71,6 +72,8 @@ static uint32_t cached(void) { return zonealloc_cached(W, it.zone, it.type, &it.
 static uint32_t alloc(void) { return zonealloc_alloc(W, it.zone, it.order, it.type, it.mark, &it.page); }
 static uint32_t alloc_low(void) { return zonealloc_alloc_low(W, it.zone, it.order, &it.page); }
 static uint32_t give(void) { return zonealloc_free(W, it.zone, it.page, it.order); }
+static uint32_t alloc_many(void) { return zonealloc_alloc_many(W, it.zone, it.order, it.type, it.mark, it.blocks, it.room, &it.many); }
+static uint32_t free_many(void) { return zonealloc_free_many(W, it.zone, it.blocks, it.room, it.orders, it.room, &it.many); }
 static uint32_t alloc_run(void) { return zonealloc_alloc_run(W, it.zone, it.pages, it.order, it.mark, &it.page); }
 static uint32_t alloc_run_at(void) { return zonealloc_alloc_run_at(W, it.zone, it.page, it.pages); }
 static uint32_t free_run(void) { return zonealloc_free_run(W, it.zone, it.page, it.pages); }
@@ -88,12 +91,13 @@ static uint32_t page(void) { return zonealloc_page(W, it.zone, it.page, &it.told
 static uint32_t pageblock(void) { return zonealloc_pageblock(W, it.zone, it.number, &it.told.pageblock); }
 static uint32_t gather(void) { return zonealloc_gather(&row, it.zone, &it.told.totals); }
 
-typedef enum { NOTHING, BYTES, MAKE, DISMISS, UNMAKE, TAKE, PUT, IS_LENT, CACHED, ALLOC, ALLOC_LOW, FREE, ALLOC_RUN,
-               ALLOC_RUN_AT, FREE_RUN, POST, COLLECT, ISOLATE, RELEASE, REFILL, DRAIN, DRAIN_ALL, COUNTS, COUNTS_BY_TYPE, INFO, PAGE, PAGEBLOCK, GATHER, CALLS } call_t;
+typedef enum { NOTHING, BYTES, MAKE, DISMISS, UNMAKE, TAKE, PUT, IS_LENT, CACHED, ALLOC, ALLOC_LOW, FREE, ALLOC_MANY,
+               FREE_MANY, ALLOC_RUN, ALLOC_RUN_AT, FREE_RUN, POST, COLLECT, ISOLATE, RELEASE, REFILL, DRAIN, DRAIN_ALL, COUNTS, COUNTS_BY_TYPE, INFO, PAGE, PAGEBLOCK, GATHER, CALLS } call_t;
 static struct { const char *name; uint32_t (*call)(void); unsigned long times, deepest; } calls[CALLS] = {
     { "nothing", nothing, 0, 0 }, { "bytes", bytes, 0, 0 }, { "make", make, 0, 0 }, { "dismiss", dismiss, 0, 0 }, { "unmake", unmake, 0, 0 },
     { "take", take, 0, 0 }, { "put", put, 0, 0 }, { "is_lent", is_lent, 0, 0 }, { "cached", cached, 0, 0 }, { "alloc", alloc, 0, 0 },
-    { "alloc_low", alloc_low, 0, 0 }, { "free", give, 0, 0 }, { "alloc_run", alloc_run, 0, 0 }, { "alloc_run_at", alloc_run_at, 0, 0 },
+    { "alloc_low", alloc_low, 0, 0 }, { "free", give, 0, 0 }, { "alloc_many", alloc_many, 0, 0 },
+    { "free_many", free_many, 0, 0 }, { "alloc_run", alloc_run, 0, 0 }, { "alloc_run_at", alloc_run_at, 0, 0 },
     { "free_run", free_run, 0, 0 }, { "post", post, 0, 0 }, { "collect", collect, 0, 0 }, { "isolate", isolate, 0, 0 },
     { "release", release, 0, 0 }, { "refill", refill, 0, 0 }, { "drain", drain, 0, 0 }, { "drain_all", drain_all, 0, 0 }, { "counts", counts, 0, 0 },
     { "counts_by_type", counts_by_type, 0, 0 }, { "info", info, 0, 0 }, { "page", page, 0, 0 }, { "pageblock", pageblock, 0, 0 },
@@ -225,6 +229,20 @@ static void run_of_pages(void)
     DEMAND(ask(FREE_RUN) == ZONE_OK);
 }
 
+/* Many blocks of one order, which are given back in one call, too. */
+static void many_blocks(void)
+{
+    size_t i;
+    it.room = 1 + next(MANY);
+    if (ask(ALLOC_MANY) != ZONE_OK)
+        DEMAND(answer == ZONE_BELOW_MARK || answer == ZONE_NO_BLOCK);
+    for (i = 0; i < MANY; i++)
+        it.orders[i] = it.order;
+    it.room = it.many;
+    if (it.room != 0)
+        DEMAND(ask(FREE_MANY) == ZONE_OK && it.many == it.room);
+}
+
 /* Requests, which fill the zones and then empty them, again and again. */
 static void request(uint32_t is_filling)
 {
@@ -240,6 +258,8 @@ static void request(uint32_t is_filling)
         drain_some();
     else if (kind < 8)
         run_of_pages();
+    else if (kind == 8)
+        many_blocks();
     else if (kind < 11)
         keep_answered(ask(COLLECT) == ZONE_OK ? it.order : 0);
     else if (kind < 40 ? is_filling : !is_filling) {

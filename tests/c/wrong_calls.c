@@ -131,8 +131,9 @@ static void unfurnish(world_t *w)
 /* --- a refused call --- */
 
 /* All that a call can tell. Before each call no bit of it is what a call would tell. */
+enum { ROOM = 3 };
 static struct {
-    uint32_t page, order, number;
+    uint32_t page, order, number, pages[ROOM];
     zone_counts_t counts;
     zone_types_t types;
     zone_page_t noted;
@@ -184,6 +185,13 @@ static void refused(uint32_t answer, uint32_t wanted, const char *call, int line
 /* The call answers this number, and has changed nothing. */
 #define REFUSED(wanted, call) (forget(), refused((call), (wanted), #call, __LINE__))
 
+/* How many blocks came or went. It is told whatever is answered. */
+static size_t many;
+static const uint32_t no_orders[ROOM] = { 0, 0, 0 };
+
+/* The call answers this number, has changed nothing, and tells that no block came or went. */
+#define REFUSED_ALL(wanted, call) (many = 77, REFUSED((wanted), call), check(many == 0, #call, __LINE__))
+
 /* --- arguments out of their range --- */
 
 static const uint32_t past[] = { 0, 1, 2, 253, 256, 257, 258, 65536, 0x7FFFFFFF, 0xFFFFFFFF };   /* by how much, or the number itself */
@@ -212,6 +220,8 @@ static void wrong_zones(zone_worker_t *w)
         REFUSED(ZONE_BAD_ARGUMENT, zonealloc_alloc(w, zone, 0, ZONE_TYPE_MOVABLE, ZONE_ANY, &told.page));
         REFUSED(ZONE_BAD_ARGUMENT, zonealloc_alloc_low(w, zone, 0, &told.page));
         REFUSED(ZONE_BAD_ARGUMENT, zonealloc_free(w, zone, known.lent, 0));
+        REFUSED_ALL(ZONE_BAD_ARGUMENT, zonealloc_alloc_many(w, zone, 0, ZONE_TYPE_MOVABLE, ZONE_ANY, told.pages, ROOM, &many));
+        REFUSED_ALL(ZONE_BAD_ARGUMENT, zonealloc_free_many(w, zone, &known.lent, 1, no_orders, 1, &many));
         REFUSED(ZONE_BAD_ARGUMENT, zonealloc_alloc_run(w, zone, 1, 0, ZONE_ANY, &told.page));
         REFUSED(ZONE_BAD_ARGUMENT, zonealloc_alloc_run_at(w, zone, known.given, 1));
         REFUSED(ZONE_BAD_ARGUMENT, zonealloc_free_run(w, zone, known.lent, 1));
@@ -232,9 +242,14 @@ static void wrong_zones(zone_worker_t *w)
 
 static void wrong_orders(zone_worker_t *w)
 {
-    uint32_t i, order;
+    uint32_t i, order, pages[2], orders[2] = { 0, 0 };
+    pages[0] = known.lent;
+    pages[1] = known.order4;
     for (i = 0; i < PASTS; i++) {
         order = beyond(ZONE_ORDERS, i);
+        orders[1] = order;
+        REFUSED_ALL(ZONE_BAD_ARGUMENT, zonealloc_alloc_many(w, 1, order, ZONE_TYPE_MOVABLE, ZONE_ANY, told.pages, ROOM, &many));
+        REFUSED_ALL(ZONE_BAD_ARGUMENT, zonealloc_free_many(w, 1, pages, 2, orders, 2, &many));
         REFUSED(ZONE_BAD_ARGUMENT, zonealloc_is_lent(w, 1, known.lent, order, &told.number));
         REFUSED(ZONE_BAD_ARGUMENT, zonealloc_alloc(w, 1, order, ZONE_TYPE_MOVABLE, ZONE_ANY, &told.page));
         REFUSED(ZONE_BAD_ARGUMENT, zonealloc_alloc_low(w, 1, order, &told.page));
@@ -251,6 +266,7 @@ static void wrong_types(zone_worker_t *w)
         REFUSED(ZONE_BAD_ARGUMENT, zonealloc_take(w, 1, type, &told.page));
         REFUSED(ZONE_BAD_ARGUMENT, zonealloc_cached(w, 1, type, &told.number));
         REFUSED(ZONE_BAD_ARGUMENT, zonealloc_alloc(w, 1, 0, type, ZONE_ANY, &told.page));
+        REFUSED_ALL(ZONE_BAD_ARGUMENT, zonealloc_alloc_many(w, 1, 0, type, ZONE_ANY, told.pages, ROOM, &many));
         REFUSED(ZONE_BAD_ARGUMENT, zonealloc_release(w, 0, 4, type));
         REFUSED(ZONE_BAD_ARGUMENT, zonealloc_refill(w, 1, type, ZONE_ANY));
         REFUSED(ZONE_BAD_ARGUMENT, zonealloc_drain(w, 1, type, 1));
@@ -262,6 +278,8 @@ static void wrong_numbers(zone_worker_t *w)
     uint32_t i;
     for (i = 0; i < PASTS; i++) {
         REFUSED(ZONE_BAD_ARGUMENT, zonealloc_alloc(w, 1, 0, ZONE_TYPE_MOVABLE, beyond(ZONE_LOW + 1, i), &told.page));
+        REFUSED_ALL(ZONE_BAD_ARGUMENT, zonealloc_alloc_many(w, 1, 0, ZONE_TYPE_MOVABLE, beyond(ZONE_LOW + 1, i), told.pages, ROOM, &many));
+        REFUSED_ALL(ZONE_BAD_ARGUMENT, zonealloc_free_many(w, 1, &known.lent, 1, no_orders, 1 + (size_t)past[i] % 2 + 1, &many));
         REFUSED(ZONE_BAD_ARGUMENT, zonealloc_refill(w, 1, ZONE_TYPE_UNMOVABLE, beyond(ZONE_LOW + 1, i)));
         REFUSED(ZONE_BAD_ARGUMENT, zonealloc_alloc_run(w, 1, 1, beyond(MOST_ALIGN + 1, i), ZONE_ANY, &told.page));
         REFUSED(ZONE_BAD_ARGUMENT, zonealloc_alloc_run(w, 1, 1, 0, beyond(ZONE_LOW + 1, i), &told.page));
@@ -276,6 +294,10 @@ static void wrong_numbers(zone_worker_t *w)
         REFUSED(ZONE_BAD_PAGEBLOCK, zonealloc_release(w, 1, beyond(2, i), ZONE_TYPE_MOVABLE));
         REFUSED(ZONE_BAD_PAGEBLOCK, zonealloc_pageblock(w, 1, beyond(2, i), &told.block));
     }
+    REFUSED_ALL(ZONE_BAD_ARGUMENT, zonealloc_alloc_many(w, 1, 0, ZONE_TYPE_MOVABLE, ZONE_ANY, told.pages, 0, &many));
+    REFUSED_ALL(ZONE_BAD_ARGUMENT, zonealloc_free_many(w, 1, &known.lent, 0, no_orders, 0, &many));
+    REFUSED_ALL(ZONE_BAD_ARGUMENT, zonealloc_free_many(w, 1, &known.lent, 1, no_orders, 0, &many));
+    REFUSED_ALL(ZONE_BAD_ARGUMENT, zonealloc_free_many(w, 1, &known.lent, 0, no_orders, 1, &many));
     REFUSED(ZONE_BAD_ARGUMENT, zonealloc_alloc_run(w, 1, 0, 0, ZONE_ANY, &told.page));
     REFUSED(ZONE_BAD_RUN, zonealloc_alloc_run_at(w, 1, known.given, 0));
     REFUSED(ZONE_NOT_LENT, zonealloc_free_run(w, 1, known.lent, 0));
@@ -293,6 +315,7 @@ static void wrong_pages(zone_worker_t *w)
         REFUSED(ZONE_NOT_LENT, zonealloc_put(w, 1, pages[i]));
         REFUSED(ZONE_NOT_LENT, zonealloc_free(w, 1, pages[i], 0));
         REFUSED(ZONE_NOT_LENT, zonealloc_free(w, 1, pages[i], ZONE_ORDERS - 1));
+        REFUSED_ALL(ZONE_NOT_LENT, zonealloc_free_many(w, 1, &pages[i], 1, no_orders, 1, &many));
         REFUSED(ZONE_NOT_LENT, zonealloc_free_run(w, 1, pages[i], 1));
         REFUSED(ZONE_NOT_LENT, zonealloc_free_run(w, 1, pages[i], 0xFFFFFFFF));
         REFUSED(ZONE_BAD_RUN, zonealloc_alloc_run_at(w, 1, pages[i], 1));
@@ -319,6 +342,7 @@ static void not_lent(zone_worker_t *w)
     for (i = 0; i < 6; i++) {
         REFUSED(ZONE_NOT_LENT, zonealloc_put(w, 1, pages[i]));
         REFUSED(ZONE_NOT_LENT, zonealloc_free(w, 1, pages[i], 0));
+        REFUSED_ALL(ZONE_NOT_LENT, zonealloc_free_many(w, 1, &pages[i], 1, no_orders, 1, &many));
         REFUSED(ZONE_NOT_LENT, zonealloc_post(w, 1, pages[i], 0, 1));
         ANSWERS(ZONE_OK, zonealloc_is_lent(w, 1, pages[i], 0, &told.number));
         CHECK(told.number == 0);
@@ -345,8 +369,10 @@ static void no_block(zone_worker_t *w)
     uint32_t i;
     REFUSED(ZONE_BELOW_MARK, zonealloc_alloc(w, 0, 5, ZONE_TYPE_MOVABLE, ZONE_MIN, &told.page));
     REFUSED(ZONE_BELOW_MARK, zonealloc_alloc(w, 0, 10, ZONE_TYPE_UNMOVABLE, ZONE_LOW, &told.page));
+    REFUSED_ALL(ZONE_BELOW_MARK, zonealloc_alloc_many(w, 0, 5, ZONE_TYPE_MOVABLE, ZONE_MIN, told.pages, ROOM, &many));
     for (i = 4; i < ZONE_ORDERS; i++) {
         REFUSED(ZONE_NO_BLOCK, zonealloc_alloc(w, 0, i, ZONE_TYPE_MOVABLE, ZONE_ANY, &told.page));
+        REFUSED_ALL(ZONE_NO_BLOCK, zonealloc_alloc_many(w, 0, i, ZONE_TYPE_MOVABLE, ZONE_ANY, told.pages, ROOM, &many));
         REFUSED(ZONE_NO_BLOCK, zonealloc_alloc_low(w, 0, i, &told.page));
     }
     REFUSED(ZONE_BELOW_MARK, zonealloc_alloc_run(w, 0, 25, 0, ZONE_MIN, &told.page));
@@ -417,6 +443,8 @@ static void dead_handles(zone_worker_t *w, zone_row_t *row)
     REFUSED(ZONE_BAD_HANDLE, zonealloc_alloc(w, 1, 0, ZONE_TYPE_MOVABLE, ZONE_ANY, &told.page));
     REFUSED(ZONE_BAD_HANDLE, zonealloc_alloc_low(w, 1, 0, &told.page));
     REFUSED(ZONE_BAD_HANDLE, zonealloc_free(w, 1, known.lent, 0));
+    REFUSED_ALL(ZONE_BAD_HANDLE, zonealloc_alloc_many(w, 1, 0, ZONE_TYPE_MOVABLE, ZONE_ANY, told.pages, ROOM, &many));
+    REFUSED_ALL(ZONE_BAD_HANDLE, zonealloc_free_many(w, 1, &known.lent, 1, no_orders, 1, &many));
     REFUSED(ZONE_BAD_HANDLE, zonealloc_alloc_run(w, 1, 1, 0, ZONE_ANY, &told.page));
     REFUSED(ZONE_BAD_HANDLE, zonealloc_alloc_run_at(w, 1, known.given, 1));
     REFUSED(ZONE_BAD_HANDLE, zonealloc_free_run(w, 1, known.lent, 1));
@@ -650,10 +678,10 @@ static void little_memory(uint32_t workers, uint32_t zones)
 /* --- each number that the header states --- */
 
 /* What a call is made with. A page is one of those that are known, or none of the zone's. Of a run the number is its pages, and the order how it is
- * aligned. */
+ * aligned; of many blocks it is for how many there is room, or how many orders there are for one page. */
 typedef enum {
-    BYTES, MAKE, DISMISS, UNMAKE, TAKE, PUT, IS_LENT, CACHED, ALLOC, ALLOC_LOW, FREE, ALLOC_RUN, ALLOC_RUN_AT, FREE_RUN, POST, COLLECT, ISOLATE,
-    RELEASE, REFILL, DRAIN, DRAIN_ALL, COUNTS, COUNTS_BY_TYPE, INFO, PAGE, PAGEBLOCK, GATHER
+    BYTES, MAKE, DISMISS, UNMAKE, TAKE, PUT, IS_LENT, CACHED, ALLOC, ALLOC_LOW, FREE, ALLOC_MANY, FREE_MANY, ALLOC_RUN, ALLOC_RUN_AT, FREE_RUN,
+    POST, COLLECT, ISOLATE, RELEASE, REFILL, DRAIN, DRAIN_ALL, COUNTS, COUNTS_BY_TYPE, INFO, PAGE, PAGEBLOCK, GATHER
 } export_t;
 typedef enum { MINE, OF_FULL_LIST, WITHOUT_LISTS, EMPTY } handle_t;
 typedef enum { NO_PAGE, BELOW, ABOVE, LENT, ORDER4, OTHERS, SPARE } page_name_t;
@@ -712,6 +740,24 @@ static const stated_t stated[] = {
     { FREE, ZONE_NOT_LENT, .page = ABOVE },
     { FREE, ZONE_NOT_LENT, .page = ABOVE, .order = ABOVE_LARGEST },
     { FREE, ZONE_NOT_LENT, .page = LENT, .zone = UPPER, .order = 1 },
+
+    { ALLOC_MANY, ZONE_BAD_ARGUMENT, .number = ROOM, .order = NO_ORDER, .handle = EMPTY, .zone = NO_ZONE },
+    { ALLOC_MANY, ZONE_BAD_ARGUMENT, .number = ROOM, .type = NO_TYPE, .handle = EMPTY, .zone = NO_ZONE },
+    { ALLOC_MANY, ZONE_BAD_ARGUMENT, .number = ROOM, .mark = NO_MARK, .handle = EMPTY, .zone = NO_ZONE },
+    { ALLOC_MANY, ZONE_BAD_ARGUMENT, .number = 0, .handle = EMPTY, .zone = NO_ZONE },
+    { ALLOC_MANY, ZONE_BAD_HANDLE, .number = ROOM, .handle = EMPTY, .zone = NO_ZONE },
+    { ALLOC_MANY, ZONE_BAD_ARGUMENT, .number = ROOM, .zone = NO_ZONE },
+    { ALLOC_MANY, ZONE_BELOW_MARK, .number = ROOM, .mark = ZONE_MIN, .order = ABOVE_LARGEST + 1 },
+    { ALLOC_MANY, ZONE_NO_BLOCK, .number = ROOM, .order = ABOVE_LARGEST },
+
+    { FREE_MANY, ZONE_BAD_ARGUMENT, .number = 0, .handle = EMPTY, .zone = NO_ZONE },
+    { FREE_MANY, ZONE_BAD_ARGUMENT, .number = 2, .handle = EMPTY, .zone = NO_ZONE },
+    { FREE_MANY, ZONE_BAD_ARGUMENT, .number = 1, .order = NO_ORDER, .handle = EMPTY, .zone = NO_ZONE },
+    { FREE_MANY, ZONE_BAD_HANDLE, .number = 1, .handle = EMPTY, .zone = NO_ZONE },
+    { FREE_MANY, ZONE_BAD_ARGUMENT, .number = 1, .zone = NO_ZONE },
+    { FREE_MANY, ZONE_NOT_LENT, .number = 1, .page = BELOW },
+    { FREE_MANY, ZONE_NOT_LENT, .number = 1, .page = ABOVE, .order = ABOVE_LARGEST },
+    { FREE_MANY, ZONE_NOT_LENT, .number = 1, .page = LENT, .zone = UPPER, .order = 1 },
 
     { ALLOC_RUN, ZONE_BAD_ARGUMENT, .number = 0, .handle = EMPTY, .zone = NO_ZONE },
     { ALLOC_RUN, ZONE_BAD_ARGUMENT, .number = 1, .order = MOST_ALIGN + 1, .handle = EMPTY, .zone = NO_ZONE },
@@ -816,7 +862,11 @@ static uint32_t page_of(const stated_t *s, uint32_t spare)
 
 static uint32_t ask(const stated_t *s, zone_worker_t *w, zone_row_t *row, uint32_t page)
 {
+    uint32_t orders[2];
+    orders[0] = orders[1] = s->order;
     switch (s->call) {
+    case ALLOC_MANY: return zonealloc_alloc_many(w, s->zone, s->order, s->type, s->mark, told.pages, s->number, &many);
+    case FREE_MANY: return zonealloc_free_many(w, s->zone, &page, 1, orders, s->number, &many);
     case DISMISS: return zonealloc_dismiss(w);
     case UNMAKE: return zonealloc_unmake(row);
     case TAKE: return zonealloc_take(w, s->zone, s->type, &told.page);
@@ -854,8 +904,9 @@ static void state_row(const stated_t *s, uint32_t spare)
     char what[64];
     (void)snprintf(what, sizeof what, "row %u of the numbers stated", (unsigned)(s - stated));
     forget();
+    many = 0;
     refused(ask(s, of[s->handle], s->handle == EMPTY ? &no_row : &world.row, page_of(s, spare)), s->wanted, what, __LINE__);
-    CHECK(are_no_workers(&none, 1) && is_no_row(&no_row));
+    CHECK(are_no_workers(&none, 1) && is_no_row(&no_row) && many == 0);
 }
 
 /* Each row of the numbers stated, while worker 1 has its full list and a page more, and worker 2 all other pages of the lower zone that are

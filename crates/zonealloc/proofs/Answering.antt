@@ -12,9 +12,11 @@ use Rattle.zp_model.specs.declared.refused.Refused.TheVariants as refusal
 use Rattle.zp_model.specs.Refused.{refused_number}
 use Rattle.zp_gate.specs.declared.call_error.CallError.{CallError}
 use Rattle.zp_gate.specs.declared.call_error.CallError.TheVariants.{NoZone, Busy, NoWorker, Refused}
-use Rattle.zp_gate.specs.GatedWorkers.{AreDrainedTill, GatedShareState, WorkerState, HasZone, IsAtShare, IsDenial, IsDeniedAt, IsOfSection, IsSectionAt, IsUnasked, LacksBlock, LacksWorker, gated_at, no_gated_share, worker_share}
+use Rattle.zp_gate.specs.declared.granted.Granted.{Granted}
+use Rattle.zp_gate.specs.GatedWorkers.{AreDrainedTill, AreMadeAt, GatedShareState, WorkerState, HasZone, IsAtShare, IsDenial, IsDeniedAt, IsOfSection, IsSectionAt, IsUnasked, LacksBlock, LacksWorker, gated_at, no_gated_share, worker_share}
 use Rattle.zp_gate.specs.GatedZones.{drain_request}
 use Rattle.zonealloc.specs.Numbers.{error_number}
+use Rattle.zonealloc.specs.ManyCalls.{IsManyCall, end_number}
 use Rattle.zonealloc.specs.Calls.{HasNoZone, IsAskDenied, IsCall, IsDenied, IsDrainAllCall, IsOf, IsOfBoth, IsRefusedAt, IsRefusedOrBusy}
 
 -- where the one share stayed, so did all
@@ -185,3 +187,9 @@ drained_denied i e code b v w zone till was is = elim (till_or i e v w zone till
       let n = x.0 in
       record { argument = (λ _. inr (v, was, x.1), λ _. is ∙ n); handle = (λ m. absurd (omega (arith, n, is, m)), λ y. absurd (none_is (sym was ∙ y.1))); codes = inr (inl (is ∙ n)) }
 ]
+
+-- what comes of many requests in one visit
+pub many_call : (asks : (ℕ → Request) → Type 0) (gives : ℕ → Reply) (most told i code : ℕ) (b a : Option WorkerState) (f : ℕ → Request) (g : Granted) (v w : WorkerState) → asks f → g.count ≡ told → code ≡ end_number g.refused → code < 40
+    → AreMadeAt i f gives most g v w → b ≡ Some v → a ≡ Some w → IsManyCall asks gives most told i code b a
+many_call asks gives most told i code b a f g v w is count end small made was now =
+    record { made = λ low. (f, g, is, count, sym end, (v, w, was, now, made)); unasked = λ high. absurd (omega (arith, small, high)) }

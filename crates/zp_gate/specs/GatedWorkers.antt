@@ -15,9 +15,10 @@ use Rattle.zp_share.specs.Shares.{ShareState, ZoneKey, no_key, share_at, with_zo
 use Rattle.zp_share.specs.ZoneShares.{cached_of, opening_share, plain_share}
 use Rattle.zp_gate.specs.declared.call_error.CallError.{CallError}
 use Rattle.zp_gate.specs.declared.call_error.CallError.TheVariants.{Busy, NoLists, NoWorker, NoZone, NotEmpty, Refused, TooFew}
+use Rattle.zp_gate.specs.declared.granted.Granted.{Granted}
 use Rattle.zp_gate.specs.declared.visit_view.VisitView.{VisitView}
 use Rattle.zp_gate.specs.GatedZones.{drain_request}
-use Rattle.zp_gate.specs.Visits.{HasKept, IsAnswer}
+use Rattle.zp_gate.specs.Visits.{AreAnswers, HasKept, IsAnswer}
 
 -- what never changes of a zone, and a worker's share of it alone
 pub record GatedShareState : Type 0 where
@@ -162,6 +163,10 @@ pub record IsSectionAt {A : Type 0} (i : ℕ) (r : Request) (given : A → Reply
   pub lent : (result ≡ Err (Refused NotLent)) ↔ (HasZone i v × LacksBlock r (gated_at v i))
   pub why : IfErr result (λ e. HasZone i v → IsOfSection e)
   pub denied : IfErr result (λ e. IsDeniedAt i r e v w)
+
+-- so many requests were made of the zone at place i in one visit, one after another up to the first that was refused
+abbrev pub AreMadeAt : ℕ → (ℕ → Request) → (ℕ → Reply) → ℕ → Granted → WorkerState → WorkerState → Type 0
+AreMadeAt i asks gives most g v w = IsAt i (AreAnswers (gated_at v i).key asks gives most g) v w
 
 -- the page in front of a type's list was taken, and is lent
 pub record IsTaken (k : MigrateType) (page : ℕ) (s t : ShareState) : Type 0 where

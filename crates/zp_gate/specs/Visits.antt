@@ -1,14 +1,15 @@
 -- What one visit behind a lock comes to (this profile). What stands there is not seen between visits: each of them speaks of it as it is then.
-use Rattle.std.specs.Prelude.{◌≡◌, Some}
+use Rattle.std.specs.Prelude.{ℕ, ◌≡◌, Some}
 use Rattle.zp_model.specs.declared.request.Request.{Request}
 use Rattle.zp_model.specs.declared.request.Reply.{Reply}
 use Rattle.zp_share.specs.Gathering.{IsCrewOf}
 use Rattle.zp_share.specs.declared.gathering.Totals.{Totals}
 use Rattle.zp_share.specs.Shares.{ShareState, ZoneKey}
+use Rattle.zp_gate.specs.declared.granted.Granted.{Granted}
 use Rattle.zp_gate.specs.declared.try_lock.GatherError.{GatherError}
 use Rattle.zp_gate.specs.declared.try_lock.GatherError.TheVariants.{Busy, HasWorkers}
 use Rattle.zp_gate.specs.declared.visit_view.VisitView.{VisitView}
-use Rattle.zp_gate.specs.GatedZones.{GatedState, IsBehind, IsGatheredIn, IsLeavingOf, IsSectionOf}
+use Rattle.zp_gate.specs.GatedZones.{AreSectionsTill, GatedState, IsBehind, IsGatheredIn, IsLeavingOf, IsSectionOf}
 
 -- the visitor found the one behind the lock with this key, and left the other
 pub record IsVisit (key : ZoneKey) (y z : GatedState) (v : VisitView) : Type 0 where
@@ -18,6 +19,10 @@ pub record IsVisit (key : ZoneKey) (y z : GatedState) (v : VisitView) : Type 0 w
 -- a share made one section with the zone of this key, whatever it was, and this is the zone's answer; the rest of the share stays
 abbrev pub IsAnswer : ZoneKey → Request → Reply → ShareState → ShareState → Type 0
 IsAnswer key r q s t = (y : GatedState) × (z : GatedState) × IsBehind key y × IsSectionOf r q y z s t
+
+-- many requests were made of one zone with this key, in one visit, one after another up to the first that was refused
+abbrev pub AreAnswers : ZoneKey → (ℕ → Request) → (ℕ → Reply) → ℕ → Granted → ShareState → ShareState → Type 0
+AreAnswers key asks gives most g s t = (y : GatedState) × (z : GatedState) × IsBehind key y × AreSectionsTill asks gives most g y z s t
 
 -- this share was left, behind those that had been
 abbrev pub HasKept : ZoneKey → ShareState → VisitView → Type 0

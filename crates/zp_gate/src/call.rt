@@ -1,8 +1,8 @@
 //! What a worker asks of a zone, and what it gets, in a few bytes: a `Request` and a `Reply` have room for a list of pages.
 use zp_model::{Block, MigrateType, Order, PageNo, Worker};
 
-/// A request that names no list of pages, except the two that are made most, to allocate a block, and to free one; and except that for the
-/// lowest run, which not every number of pages may be asked for by.
+/// A request that names no list of pages, but for three that have calls of their own: to allocate a block and to free one, which are made most,
+/// and to allocate the lowest run, which lays conditions on its numbers.
 #[derive(Clone, Copy, Drop)]
 pub enum ZoneCall {
     AllocLow(Order),

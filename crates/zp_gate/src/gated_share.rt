@@ -1,6 +1,7 @@
 //! One worker's share of one zone behind its lock.
-ghost use Rattle.std.specs.Prelude.{◌≡◌, ◌<◌, ◌↔◌, true, false, IfOk, IfErr, IsTrue, OnOk, Err};
+ghost use Rattle.std.specs.Prelude.{◌≡◌, ◌<◌, ◌≤◌, ◌↔◌, true, false, All, IfOk, IfErr, IsTrue, OnOk, Err, length};
 ghost use Rattle.std.specs.Arc.{arc_value};
+ghost use Rattle.zp_model.specs.declared.constants.TheConstants.{LARGEST_ORDER};
 ghost use Rattle.zp_model.specs.declared.request.Request.TheVariants as request;
 ghost use Rattle.zp_model.specs.declared.request.Reply.TheVariants as reply;
 ghost use Rattle.zp_model.specs.declared.refused.Refused.TheVariants.{Memory};
@@ -10,15 +11,16 @@ ghost use Rattle.zp_share.specs.PlainShares.{lends_for};
 ghost use Rattle.zp_share.specs.Shares.{share_at};
 ghost use Rattle.zp_share.specs.ZoneShares.{plain_share};
 ghost use Rattle.zp_gate.specs.Calls.{reply_of, request_of};
-ghost use Rattle.zp_gate.specs.GatedZones.{IsOneShare, IsSeatBy, drain_request};
+ghost use Rattle.zp_gate.specs.GatedZones.{IsOneShare, IsSeatBy, IsWrittenTo, drain_request, each_is, free_of, freed_of, page_of};
 ghost use Rattle.zp_gate.specs.declared.call_error.CallError.TheVariants.{NoLists, NotEmpty, TooFew};
 ghost use Rattle.zp_gate.specs.GatedRows.{lock_key};
 ghost use Rattle.zp_gate.specs.GatedWorkers.{HasPages, HasTooFew, HasTurned, IsDenial, IsDrained, IsFilled, IsNewShare, IsOfSection, IsSection, LacksWorker};
 ghost use Rattle.zp_gate.specs.Readings.{HasPage, HasPageblock, IsThen, Tells};
-ghost use Rattle.zp_gate.specs.Visits.{HasKept};
+ghost use Rattle.zp_gate.specs.Visits.{AreAnswers, HasKept};
 
 use crate::call::{Given, ZoneCall};
 use crate::call_error::CallError;
+use crate::granted::Granted;
 use crate::question::{Answer, Question};
 use crate::try_lock::{Busy, TryLock, Visit};
 use std::alloc::Global;
@@ -104,6 +106,42 @@ impl GatedShare {
         let answer = zone.free(&mut self.share, page, order);
         lock.leave(visitor);
         answer.map_err(CallError::Refused)
+    }
+
+    /// Allocates a block of the one kind for each place of an array, in one visit, one after another up to the first that is refused: how many,
+    /// which are then lent, and that refusal, 10, 11 or 30.
+    pub(crate) fn alloc_many(
+        &mut self,
+        order: Order,
+        kind: MigrateType,
+        mark: Mark,
+        pages: &mut [u32],
+    ) -> Result<Granted, Busy>
+        ensures made { IfOk result (λ g. HasTurned (AreAnswers self.old.key (each_is (request.Alloc order kind mark)) (page_of pages.new) (length pages.old) g) self.old self.new) }
+        ensures written { IfOk result (λ g. IsWrittenTo g.count pages.old pages.new) }
+        ensures busy { IfErr result (λ b. (self.new ≡ self.old) × (pages.new ≡ pages.old)) }
+    {
+        let lock = &*self.lock;
+        let mut visitor = lock.enter()?;
+        let zone = visitor.slot_mut(&lock.table.shared, 0);
+        let granted = zone.alloc_many(&mut self.share, order, kind, mark, pages);
+        lock.leave(visitor);
+        Ok(granted)
+    }
+
+    /// Frees the blocks of two arrays, in one visit, one after another up to the first that is refused: how many, and that refusal, 20 or 30.
+    pub(crate) fn free_many(&mut self, pages: &[u32], orders: &[u32]) -> Result<Granted, Busy>
+        requires each { length orders.now ≡ length pages.now }
+        requires orders { All (λ k. k ≤ LARGEST_ORDER) orders.now }
+        ensures made { IfOk result (λ g. HasTurned (AreAnswers self.old.key (free_of pages.now orders.now) freed_of (length pages.now) g) self.old self.new) }
+        ensures busy { IfErr result (λ b. self.new ≡ self.old) }
+    {
+        let lock = &*self.lock;
+        let mut visitor = lock.enter()?;
+        let zone = visitor.slot_mut(&lock.table.shared, 0);
+        let granted = zone.free_many(&mut self.share, pages, orders);
+        lock.leave(visitor);
+        Ok(granted)
     }
 
     /// The lowest run of so many free pages that begins at a multiple of two to the power `align`, held to this mark: its first page. It is then

@@ -1,20 +1,21 @@
 //! A worker of a row. The calls that ask a zone return `CallError::Busy` at once where somebody is with it.
-ghost use Rattle.std.specs.Prelude.{◌≡◌, ◌<◌, ◌≤◌, ◌↔◌, length, IfOk, IfErr, IfSome, IfNone, IsTrue, OnOk, [], false, true, Err};
+ghost use Rattle.std.specs.Prelude.{◌≡◌, ◌<◌, ◌≤◌, ◌↔◌, All, length, IfOk, IfErr, IfSome, IfNone, IsTrue, OnOk, [], false, true, Err};
 ghost use Rattle.zp_model.specs.declared.request.Request.TheVariants as request;
 ghost use Rattle.zp_model.specs.declared.request.Reply.TheVariants as reply;
-ghost use Rattle.zp_model.specs.declared.constants.TheConstants.{LONGEST_LIST};
+ghost use Rattle.zp_model.specs.declared.constants.TheConstants.{LARGEST_ORDER, LONGEST_LIST};
 ghost use Rattle.zp_model.specs.Runs.{may_alloc_run};
 ghost use Rattle.zp_share.specs.Shares.{share_at};
 ghost use Rattle.zp_share.specs.ZoneShares.{cached_of, is_lent};
 ghost use Rattle.zp_gate.specs.declared.call_error.CallError.TheVariants.{NoLists, NotEmpty, NoZone, TooFew};
-ghost use Rattle.zp_gate.specs.GatedWorkers.{AreDrained, AreDrainedTill, HasLeftDownTo, HasLeftLast, HasPages, HasTooFew, HasZone, IsAt, IsDeniedAt, IsDrained, IsFilled, IsListDenied, IsListDrained, IsOfSection, IsPutDenial, IsPutOn, IsSectionAt, IsTaken, gated_at, worker_share};
+ghost use Rattle.zp_gate.specs.GatedWorkers.{AreDrained, AreDrainedTill, AreMadeAt, HasLeftDownTo, HasLeftLast, HasPages, HasTooFew, HasZone, IsAt, IsDeniedAt, IsDrained, IsFilled, IsListDenied, IsListDrained, IsOfSection, IsPutDenial, IsPutOn, IsSectionAt, IsTaken, gated_at, worker_share};
 ghost use Rattle.zp_gate.specs.Calls.{reply_of, request_of};
-ghost use Rattle.zp_gate.specs.GatedZones.{drain_request};
+ghost use Rattle.zp_gate.specs.GatedZones.{IsWrittenTo, drain_request, each_is, free_of, freed_of, page_of};
 ghost use Rattle.zp_gate.specs.Readings.{HasPage, HasPageblock, IsThen, Tells};
 
 use crate::call::{Given, ZoneCall};
 use crate::call_error::CallError;
 use crate::gated_share::GatedShare;
+use crate::granted::Granted;
 use crate::lists::{put_page, take_page};
 use crate::question::{Answer, Question};
 use crate::try_lock::{Busy, Visit};
@@ -67,6 +68,35 @@ impl GatedWorker {
             return Err(CallError::NoZone);
         };
         share.free(page, order)
+    }
+
+    /// Allocates a block of the one kind for each place of an array, in one visit, one after another up to the first that is refused: how many,
+    /// which are then lent, and that refusal, 10, 11 or 30.
+    pub fn alloc_many(
+        &mut self,
+        zone: usize,
+        order: Order,
+        kind: MigrateType,
+        mark: Mark,
+        pages: &mut [u32],
+    ) -> Result<Granted, Busy>
+        requires { HasZone zone self.old }
+        ensures made { IfOk result (λ g. AreMadeAt zone (each_is (request.Alloc order kind mark)) (page_of pages.new) (length pages.old) g self.old self.new) }
+        ensures written { IfOk result (λ g. IsWrittenTo g.count pages.old pages.new) }
+        ensures busy { IfErr result (λ b. (self.new ≡ self.old) × (pages.new ≡ pages.old)) }
+    {
+        self.shares[zone].alloc_many(order, kind, mark, pages)
+    }
+
+    /// Frees the blocks of two arrays, in one visit, one after another up to the first that is refused: how many, and that refusal, 20 or 30.
+    pub fn free_many(&mut self, zone: usize, pages: &[u32], orders: &[u32]) -> Result<Granted, Busy>
+        requires zone { HasZone zone self.old }
+        requires each { length orders.now ≡ length pages.now }
+        requires orders { All (λ k. k ≤ LARGEST_ORDER) orders.now }
+        ensures made { IfOk result (λ g. AreMadeAt zone (free_of pages.now orders.now) freed_of (length pages.now) g self.old self.new) }
+        ensures busy { IfErr result (λ b. self.new ≡ self.old) }
+    {
+        self.shares[zone].free_many(pages, orders)
     }
 
     /// The lowest run of so many free pages that begins at a multiple of two to the power `align`, held to this mark: its first page. It is then

@@ -2,6 +2,7 @@
 ghost use Rattle.std.specs.Prelude.{ℕ, ◌≡◌, ◌<◌, ◌≤◌, ◌==◌, [], All, IfErr, IfNone, IfOk, IfSome, IsTrue, OnOk, Ok, Err, false, length};
 ghost use Rattle.std.specs.List.{count_by};
 ghost use Rattle.zp_model.specs.declared.refused.Refused.TheVariants.{Memory};
+ghost use Rattle.zp_model.specs.declared.constants.TheConstants.{LARGEST_ORDER};
 ghost use Rattle.zp_model.specs.declared.request.Request.TheVariants as request;
 ghost use Rattle.zp_model.specs.Zone.{workers_of};
 ghost use Rattle.zp_model.specs.Runs.{may_alloc_run};
@@ -13,11 +14,12 @@ ghost use Rattle.zp_share.specs.Sections.{IsAsked, IsRefilled, MayAsk, done_repl
 ghost use Rattle.zp_share.specs.Shares.{ShareState, key_of, share_at, with_zone_share};
 ghost use Rattle.zp_share.specs.ZoneShares.{cached_of};
 ghost use Rattle.zp_gate.specs.Calls.{answer_of, request_of};
-ghost use Rattle.zp_gate.specs.GatedZones.{IsGatheredIn, IsLeavingOf, IsOneShare, IsSectionOf, drain_request};
+ghost use Rattle.zp_gate.specs.GatedZones.{AreSectionsTill, IsGatheredIn, IsLeavingOf, IsOneShare, IsSectionOf, IsWrittenTo, drain_request, each_is, free_of, freed_of, page_of};
 ghost use Rattle.zp_gate.specs.declared.call.Given.TheVariants.{Done};
 ghost use Rattle.zp_gate.specs.Readings.{IsZoneOf, Tells};
 
 use crate::call::{Given, ZoneCall};
+use crate::granted::Granted;
 use crate::question::{Answer, Question, ZoneTold};
 use std::alloc::Global;
 use std::marker::Model;
@@ -94,6 +96,61 @@ impl GatedZone {
         ensures { IsSectionOf (request.Free page order) (done_reply reply.Freed result) self.old self.new share.old share.new }
     {
         share.free_block(&mut self.zone, 0, page, order)
+    }
+
+    /// A block of the one kind for each place of an array, one after another up to the first that is refused.
+    pub(crate) fn alloc_many(
+        &mut self,
+        share: &mut Share,
+        order: Order,
+        kind: MigrateType,
+        mark: Mark,
+        pages: &mut [u32],
+    ) -> Granted
+        requires share { IsOneShare (key_of self.old.zone) share.old }
+        ensures made { AreSectionsTill (each_is (request.Alloc order kind mark)) (page_of pages.new) (length pages.old) result self.old self.new share.old share.new }
+        ensures written { IsWrittenTo result.count pages.old pages.new }
+    {
+        for count in 0..pages.len() {
+            match self.alloc(share, order, kind, mark) {
+                Ok(page) => pages[count] = page.number(),
+                Err(refused) => {
+                    return Granted {
+                        count,
+                        refused: Some(refused),
+                    };
+                }
+            }
+        }
+        Granted {
+            count: pages.len(),
+            refused: None,
+        }
+    }
+
+    /// The blocks of two arrays back, one after another up to the first that is refused.
+    pub(crate) fn free_many(&mut self, share: &mut Share, pages: &[u32], orders: &[u32]) -> Granted
+        requires share { IsOneShare (key_of self.old.zone) share.old }
+        requires each { length orders.now ≡ length pages.now }
+        requires orders { All (λ k. k ≤ LARGEST_ORDER) orders.now }
+        ensures { AreSectionsTill (free_of pages.now orders.now) freed_of (length pages.now) result self.old self.new share.old share.new }
+    {
+        for count in 0..pages.len() {
+            let order = Order::at(orders[count] as u8);
+            match self.free(share, PageNo::new(pages[count]), order) {
+                Ok(()) => {}
+                Err(refused) => {
+                    return Granted {
+                        count,
+                        refused: Some(refused),
+                    };
+                }
+            }
+        }
+        Granted {
+            count: pages.len(),
+            refused: None,
+        }
     }
 
     /// The lowest run of so many free pages for a share of the zone.

@@ -63,6 +63,25 @@ extern "C" {
     pub fn zonealloc_alloc(worker: &mut Handle, zone: u32, order: u32, kind: u32, mark: u32, page: &mut u32) -> u32;
     pub fn zonealloc_alloc_low(worker: &mut Handle, zone: u32, order: u32, page: &mut u32) -> u32;
     pub fn zonealloc_free(worker: &mut Handle, zone: u32, page: u32, order: u32) -> u32;
+    pub fn zonealloc_alloc_many(
+        worker: &mut Handle,
+        zone: u32,
+        order: u32,
+        kind: u32,
+        mark: u32,
+        pages: *mut u32,
+        room: usize,
+        got: &mut usize,
+    ) -> u32;
+    pub fn zonealloc_free_many(
+        worker: &mut Handle,
+        zone: u32,
+        pages: *const u32,
+        n_pages: usize,
+        orders: *const u32,
+        n_orders: usize,
+        freed: &mut usize,
+    ) -> u32;
     pub fn zonealloc_alloc_run(worker: &mut Handle, zone: u32, pages: u32, align: u32, mark: u32, page: &mut u32) -> u32;
     pub fn zonealloc_alloc_run_at(worker: &mut Handle, zone: u32, page: u32, pages: u32) -> u32;
     pub fn zonealloc_free_run(worker: &mut Handle, zone: u32, page: u32, pages: u32) -> u32;

@@ -74,6 +74,26 @@ impl Worker<'_> {
         answered(unsafe { raw::zonealloc_free(&mut self.handle, zone, page, order) })
     }
 
+    /// *Zone.* A block of 2^order pages for each place of an array, one after another in one passage of the zone's gate: how many were got, which
+    /// are then lent, and where that is not all, the refusal of the next. Their first pages stand in front.
+    pub fn alloc_many(&mut self, zone: u32, order: u32, kind: MigrateType, mark: Mark, pages: &mut [u32]) -> (usize, Result<(), Refusal>) {
+        let (room, mut got) = (pages.len(), 0);
+        let told = unsafe {
+            raw::zonealloc_alloc_many(&mut self.handle, zone, order, kind as u32, mark as u32, pages.as_mut_ptr(), room, &mut got)
+        };
+        (got, answered(told))
+    }
+
+    /// *Zone.* Gives back lent blocks, by their first pages and their orders, one after another in one passage of the zone's gate: how many were given
+    /// back, and where that is not all, the refusal of the next.
+    pub fn free_many(&mut self, zone: u32, pages: &[u32], orders: &[u32]) -> (usize, Result<(), Refusal>) {
+        let mut freed = 0;
+        let told = unsafe {
+            raw::zonealloc_free_many(&mut self.handle, zone, pages.as_ptr(), pages.len(), orders.as_ptr(), orders.len(), &mut freed)
+        };
+        (freed, answered(told))
+    }
+
     /// *Zone.* The first page of the lowest run of so many free pages that begins at a multiple of 2^align pages. All of them are then lent.
     pub fn alloc_run(&mut self, zone: u32, pages: u32, align: u32, mark: Mark) -> Result<u32, Refusal> {
         let mut page = 0;

@@ -78,6 +78,22 @@ fn an_isolated_pageblock_lends_nothing() {
 }
 
 #[test]
+fn many_blocks_come_and_go_up_to_the_first_that_is_refused() {
+    let mut row = row();
+    let mut workers: Vec<_> = row.workers().collect();
+    let (mut pages, mut alone) = ([u32::MAX; 6], [0]);
+    assert_eq!(workers[0].alloc_many(1, 10, Movable, Mark::Any, &mut pages), (4, Err(Refusal::NoBlock)));
+    assert_eq!(pages[4..], [u32::MAX; 2]);
+    assert_eq!(workers[1].alloc_many(1, 0, Movable, Mark::Any, &mut alone), (0, Err(Refusal::NoBlock)));
+    assert_eq!(workers[1].alloc_many(1, 0, Movable, Mark::Any, &mut []), (0, Err(Refusal::BadArgument)));
+    assert_eq!(workers[0].free_many(1, &pages[..3], &[10, 10, 9]), (2, Err(Refusal::NotLent)));
+    assert_eq!(workers[0].free_many(1, &pages[2..4], &[10]), (0, Err(Refusal::BadArgument)));
+    assert_eq!(workers[0].free_many(1, &pages[2..4], &[10, 10]), (2, Ok(())));
+    let (counts, _) = workers[1].counts(1).unwrap();
+    assert_eq!((counts.free, counts.by_order[10]), (4096, 4));
+}
+
+#[test]
 fn a_run_is_any_pages_in_a_row() {
     let mut row = row();
     let mut workers: Vec<_> = row.workers().collect();
