@@ -1,3 +1,4 @@
+pub mod Boards
 pub mod Keeping
 pub mod Refusals
 pub mod Leaving

@@ -4,24 +4,26 @@ ghost use Rattle.std.specs.Prelude.{◌≡◌, ◌<◌, IfErr, IfOk, length};
 ghost use Rattle.zp_model.specs.Area.{pageblocks_of};
 ghost use Rattle.zp_model.specs.declared.refused.Refused.TheVariants.{Memory};
 ghost use Rattle.zp_share.specs.Shares.{key_of};
+ghost use Rattle.zp_gate.specs.Boards.{IsBoardOf, IsWideAt};
 ghost use Rattle.zp_gate.specs.GatedZones.{IsOneShare};
 ghost use Rattle.zp_gate.specs.Locks.{IsIn, MayLeave, first_held};
 ghost use Rattle.zp_gate.specs.Visits.{HasGathered, HasKept, IsUngathered};
 
 use crate::gated_zone::GatedZone;
 use crate::visit_view::VisitView;
-use crate::zone_facts::ZoneFacts;
+use crate::zone_facts::{GateFacts, ZoneFacts};
 use atomic_table::{Play, Seat as Place, Table, TableRule};
 use std::alloc::Global;
 use std::marker::Model;
+use zp_counts::{Board, Publisher};
 use zp_model::Refused;
 use zp_share::{Share, Totals};
-use zp_zone::Zone;
+use zp_zone::{Seat, Zone};
 
 /// The rule of a lock.
 pub(crate) struct Gated;
 
-impl TableRule<GatedZone, VisitView, ZoneFacts> for Gated {
+impl TableRule<GatedZone, VisitView, GateFacts> for Gated {
     ghost use Rattle.zp_gate.specs.Locks.{IsGated, outside};
 
     ghost holds = { IsGated };
@@ -99,44 +101,78 @@ const FREE: u64 = 0;
 
 const TAKEN: u64 = 1;
 
-/// A zone that one caller at a time may enter.
+/// A zone that one caller at a time may enter, and the board beside it, where it has one, for which nobody enters.
 #[derive(Drop)]
 pub struct TryLock {
-    pub(crate) table: Table<GatedZone, VisitView, ZoneFacts, Gated, Global>,
+    pub(crate) table: Table<GatedZone, VisitView, GateFacts, Gated, Global>,
     pub(crate) base: u32,
     pub(crate) pages: u32,
     pub(crate) pageblocks: usize,
     pub(crate) workers: u32,
+    pub(crate) board: Option<Board>,
     ghost words: { table.shared.table_id.words ≡ 1 },
     ghost slots: { table.shared.table_id.slots ≡ 1 },
-    ghost first: { base ≡ table.shared.key.base },
-    ghost length: { pages ≡ table.shared.key.pages },
-    ghost blocks: { pageblocks ≡ pageblocks_of table.shared.key.largest table.shared.key.pages },
-    ghost crew: { workers ≡ table.shared.key.workers },
+    ghost first: { base ≡ table.shared.key.zone.base },
+    ghost length: { pages ≡ table.shared.key.zone.pages },
+    ghost blocks: { pageblocks ≡ pageblocks_of table.shared.key.zone.largest table.shared.key.zone.pages },
+    ghost crew: { workers ≡ table.shared.key.zone.workers },
+    ghost beside: { board ≡ table.shared.key.board },
+    ghost wide: { IsWideAt board },
+}
+
+/// A free lock, and behind it this zone, which no worker has left yet. Refused 6.
+fn shut_in(
+    alloc: Global,
+    zone: Zone,
+    publisher: Option<Publisher>,
+    key: &GateFacts,
+) -> Result<Table<GatedZone, VisitView, GateFacts, Gated, Global>, Refused>
+    requires key { key_of zone ≡ key.now.zone }
+    requires board { IsBoardOf key.now.board zone publisher }
+    ensures key { IfOk result (λ t. t.shared.key ≡ key.now) }
+    ensures words { IfOk result (λ t. t.shared.table_id.words ≡ 1) }
+    ensures slots { IfOk result (λ t. t.shared.table_id.slots ≡ 1) }
+    ensures why { IfErr result (λ e. e ≡ Memory) }
+{
+    // a clause of this call says that the zone is the run of its entries
+    zone.history();
+    let behind = GatedZone::new(alloc, zone, key.zone.workers, publisher)?;
+    let Ok(slots) = Vec::from_array(alloc, [behind]) else {
+        return Err(Refused::Memory);
+    };
+    match Table::new(alloc, &[FREE], slots, key) {
+        Ok((table, _place)) => Ok(table),
+        Err(_) => Err(Refused::Memory),
+    }
 }
 
 impl TryLock {
-    /// A lock with this zone behind it, which no worker has left yet. Refused 6.
-    pub(crate) fn new(alloc: Global, zone: Zone, key: &ZoneFacts) -> Result<TryLock, Refused>
-        requires key { key_of zone ≡ key.now }
-        ensures key { IfOk result (λ l. l.table.shared.key ≡ key.now) }
+    /// A lock with this zone behind it, which no worker has left yet, and its board beside it; and the seat that the key had. Refused 6.
+    pub(crate) fn new(
+        alloc: Global,
+        zone: Zone,
+        publisher: Option<Publisher>,
+        key: GateFacts,
+    ) -> Result<(TryLock, Seat), Refused>
+        requires key { key_of zone ≡ key.zone }
+        requires wide { IsWideAt key.board }
+        requires board { IsBoardOf key.board zone publisher }
+        ensures key { IfOk result (λ r. r.0.table.shared.key ≡ key) }
+        ensures seat { IfOk result (λ r. r.1 ≡ key.entry.zone.seat) }
         ensures why { IfErr result (λ e. e ≡ Memory) }
     {
-        let pageblocks = key.largest.pageblocks(zone.pages());
-        let behind = GatedZone::new(alloc, zone, key.workers)?;
-        let Ok(slots) = Vec::from_array(alloc, [behind]) else {
-            return Err(Refused::Memory);
+        let table = shut_in(alloc, zone, publisher, &key)?;
+        let GateFacts { zone: known, board } = key;
+        let pageblocks = known.largest.pageblocks(known.pages);
+        let lock = TryLock {
+            table,
+            base: known.base,
+            pages: known.pages,
+            pageblocks,
+            workers: known.workers,
+            board,
         };
-        match Table::new(alloc, &[FREE], slots, key) {
-            Ok((table, _place)) => Ok(TryLock {
-                table,
-                base: key.base,
-                pages: key.pages,
-                pageblocks,
-                workers: key.workers,
-            }),
-            Err(_) => Err(Refused::Memory),
-        }
+        Ok((lock, known.seat))
     }
 
     /// Enters where nobody is in.
@@ -165,7 +201,7 @@ impl TryLock {
 
     /// A worker leaves its share. It comes back where somebody is in, or where all workers left theirs.
     pub(crate) fn keep(&self, share: Share) -> Result<Visit, Share>
-        requires { IsOneShare self.now.table.shared.key share }
+        requires { IsOneShare self.now.table.shared.key.zone share }
         ensures kept { IfOk result (HasKept self.now.table.shared.key share) }
         ensures same { IfErr result (λ s. s ≡ share) }
     {
