@@ -1,13 +1,13 @@
 -- What is published of a zone behind a lock, once the zone was asked.
-use Rattle.std.proofs.Common.{ℕ, ◌≡◌, ◌==◌, ◌<◌, ◌≤◌, ◌+◌, ◌++◌, ◌⊎◌, inl, inr, Bool, true, false, List, [], ◌∷◌, length, length-append, get_or, refl, sym, ◌∙◌, ap, subst, arith}
-use Rattle.std.specs.Prelude.{Option, Some, None, Result, Ok, Err, IfErr, IsOk, ltb, cond}
-use Rattle.std.specs.List.{slice_get, take}
+use Rattle.std.proofs.Common.{ℕ, ◌≡◌, ◌==◌, ◌<◌, ◌≤◌, ◌+◌, ◌++◌, ◌⊎◌, inl, inr, Bool, true, false, List, [], ◌∷◌, length, length-append, get_or, refl, sym, take, ◌∙◌, ap, subst, arith}
+use Rattle.std.specs.Prelude.{Option, Some, None, IsTrue, ◌↔◌, ltb, cond}
+use Rattle.std.specs.List.{slice_get}
+use Rattle.std.specs.Option.{ForSome}
 use Rattle.std.proofs.Math.Seq.{get_or-append_seam}
-use Rattle.std.proofs.lemmas.Bool.{cases_lt, ltb-false, ltb-true}
+use Rattle.std.proofs.lemmas.Bool.{cases_lt, le-ltb, ltb-false, ltb-true}
 use Rattle.std.proofs.lemmas.List.{get_or_append_left, take-append-le, take_all}
 use Rattle.std.proofs.lemmas.Option.{get_or_from_slice_get, slice_get-get_or, slice_get_within}
 use Rattle.zp_model.specs.declared.counts.Counts.{Counts}
-use Rattle.zp_model.specs.declared.refused.Refused.{Refused}
 use Rattle.zp_model.specs.declared.request.Request.{Request}
 use Rattle.zp_model.specs.declared.request.Reply.{Reply}
 use Rattle.zp_model.specs.Books.{entry_of}
@@ -26,7 +26,7 @@ use Rattle.zp_share.specs.Shares.{is_section}
 use Rattle.zp_share.specs.ZoneShares.{IsSection, ZoneShareState, plain_share}
 use Rattle.zp_share.proofs.Tried.{step-section}
 use Rattle.zp_gate.specs.declared.publishing.TheConstants.{LAST_PLACE}
-use Rattle.zp_gate.specs.Boards.{AreCountsOf, IsBoardOf, IsPublished, IsTiedTo, IsWideAt, board_after, counts_after, with_counts, zone_counts}
+use Rattle.zp_gate.specs.Boards.{AreCountsOf, IsBoardOf, IsPublished, IsTiedTo, IsWide, board_after, counts_after, with_counts, zone_counts}
 
 -- the zone was not asked, and stays; or one section was made
 comes : (lent full : Bool) (r : Request) (q : Reply) (z y : ZoneState) (a b : ZoneShareState) → ComesOf (refusal lent full) r q z y a b → ((is_section q ≡ false) × (y ≡ z)) ⊎ ((is_section q ≡ true) × IsSection r q z y a b)
@@ -157,17 +157,24 @@ tied_stays None (Some p) asked z is = is
 tied_stays (Some b) None asked z is = is
 
 -- and is one where its board is that of the zone
-pub tied_of : (b k : Option BoardState) (p : Option CountsPublished) (z : ZoneState) → b ≡ k → IsWideAt b → IsBoardOf k z p → IsTiedTo b p
+pub tied_of : (b k : Option BoardState) (p : Option CountsPublished) (z : ZoneState) → b ≡ k → ForSome b IsWide → IsBoardOf k z p → IsTiedTo b p
 tied_of b k p z same wide is = go b p wide (subst (λ (v : Option BoardState). IsBoardOf v z p) (sym same) is)
   where
-    go : (b : Option BoardState) (p : Option CountsPublished) → IsWideAt b → IsBoardOf b z p → IsTiedTo b p
+    go : (b : Option BoardState) (p : Option CountsPublished) → ForSome b IsWide → IsBoardOf b z p → IsTiedTo b p
     go None None wide is = tt
-    go (Some b) (Some p) wide is = (is.0, wide)
+    go (Some b) (Some p) wide is = (is.0, wide b refl)
     go None (Some p) wide is = is
     go (Some b) None wide is = is
 
--- whether the zone was asked, by its answer
-pub asked_as : {A : Type 0} (f : Result A Refused → Reply) (answer : Result A Refused) (asked : Bool) → ((a : A) → is_section (f (Ok a)) ≡ true) → ((e : Refused) → f (Err e) ≡ Reply.Refused e) → (IsOk answer → asked ≡ true)
-    → IfErr answer (λ e. asked ≡ is_section (Reply.Refused e)) → is_section (f answer) ≡ asked
-asked_as f (Ok a) asked granted refused ok err = granted a ∙ sym (ok tt)
-asked_as f (Err e) asked granted refused ok err = ap is_section (refused e) ∙ sym err
+-- what is published once a zone's counts went on its board, or did not
+pub published_on : (b : Option BoardState) (board : BoardState) (p n : CountsPublished) (z : ZoneState) (c : Counts) (full : Bool) → b ≡ Some board → IsTiedTo b (Some p) → IsTrue full ↔ (board.capacity < length p.published) → full ≡ false →
+    n.tie ≡ p.tie → n.published ≡ p.published ++ c ∷ [] → c ≡ zone_counts z → n ≡ record p { published = with_counts z p.published }
+published_on b board p n z c full is tied when room_left tie more own =
+    let wide : IsWide board = (subst (λ (v : Option BoardState). IsTiedTo v (Some p)) is tied).1 in
+    let room : length p.published ≤ LAST_PLACE = elim (cases_lt LAST_PLACE (length p.published)) [
+      | inl over ↦ absurd (let told : full ≡ true = when.1 (subst (λ (k : ℕ). k < length p.published) (sym wide.0) over) in let bad : false ≡ true = sym room_left ∙ told in cc)
+      | inr le ↦ le
+    ] in
+    let now : n.published ≡ with_counts z p.published =
+    more ∙ ap (λ (d : Counts). p.published ++ d ∷ []) own ∙ sym (ap (λ (v : Bool). cond v p.published (p.published ++ zone_counts z ∷ [])) (le-ltb LAST_PLACE (length p.published) room)) in
+    λ i. record { tie = tie i; published = now i }

@@ -12,16 +12,16 @@ use Rattle.zp_laws.proofs.Sameness.{step-same}
 use Rattle.zp_zone.specs.Seats.{ZoneState}
 use Rattle.zp_share.specs.PlainShares.{refusal_of}
 use Rattle.zp_share.specs.Sections.{ComesOf, IsAsked, IsRefilled}
-use Rattle.zp_share.specs.Shares.{ShareState, ZoneKey, key_of, share_at}
+use Rattle.zp_share.specs.Shares.{ShareState, ZoneKey, is_section, key_of, share_at}
 use Rattle.zp_share.specs.ZoneShares.{ZoneShareState, plain_share}
 use Rattle.zp_share.proofs.Telling.{same-key}
-use Rattle.zp_counts.specs.CountBoards.{CountsPublished}
+use Rattle.zp_counts.specs.CountBoards.{BoardState, CountsPublished}
 use Rattle.zp_gate.specs.declared.granted.Granted.{Granted}
 use Rattle.zp_gate.specs.GatedWorkers.{AreMadeAt, GatedShareState, HasTurned, WorkerState, gated_at, no_gated_share}
 use Rattle.zp_gate.specs.Visits.{AreAnswers}
-use Rattle.zp_gate.specs.Boards.{IsBoardOf}
+use Rattle.zp_gate.specs.Boards.{IsBoardOf, IsTiedTo}
 use Rattle.zp_gate.specs.GatedZones.{AreSections, AreSectionsTill, EndsWith, GateKey, GatedState, IsBehind, IsOneCall, IsOneShare, IsSectionOf, IsWrittenTo, each_is, free_of, freed_of, page_of}
-use Rattle.zp_gate.proofs.Boards.{board_stays, made_stays}
+use Rattle.zp_gate.proofs.Boards.{board_stays, made_stays, tied_stays}
 
 -- whatever is asked, the zone's key stays, and the first page of the share
 came : (e : Option Refused) (r : Request) (q : Reply) (z y : ZoneState) (a b : ZoneShareState) → ComesOf e r q z y a b → (key_of y ≡ key_of z) × (b.seat.part.base ≡ a.seat.part.base)
@@ -139,3 +139,7 @@ made_at i asks gives most g v w d f lt at now made =
     let is : gated_at w i ≡ f = ap (λ (x : WorkerState). gated_at x i) now ∙ get_or-set_same v.shares i f no_gated_share lt in
     let turned : P (gated_at v i) (gated_at w i) = subst (λ (x : GatedShareState). P x (gated_at w i)) (sym was) (subst (λ (y : GatedShareState). P d y) (sym is) made) in
     (lt, turned, now ∙ ap (λ (y : GatedShareState). record v { shares = slice_set v.shares i y }) (sym is))
+
+-- and the right to publish is one for the same board
+pub still_tied : (b : Option BoardState) (r : Request) (q : Reply) (y z : GatedState) (s t : ShareState) → IsTiedTo b y.board → IsSectionOf r q y z s t → IsTiedTo b z.board
+still_tied b r q y z s t is x = subst (IsTiedTo b) (sym (ap (λ (g : GatedState). g.board) x.1)) (tied_stays b y.board (is_section q) z.zone is)

@@ -34,10 +34,6 @@ IsCountsOf z r = r.counts ≡ counts_after z r.place
 abbrev pub IsWide : BoardState → Type 0
 IsWide b = (b.capacity ≡ LAST_PLACE) × (b.tie.packed ≡ false)
 
-abbrev pub IsWideAt : Option BoardState → Type 0
-IsWideAt None = Unit {0}
-IsWideAt (Some b) = IsWide b
-
 -- the right to publish is one for this board; or there is neither
 abbrev pub IsTiedTo : Option BoardState → Option CountsPublished → Type 0
 IsTiedTo None None = Unit {0}

@@ -35,26 +35,26 @@ abbrev pub IsNewReader : GateKey → ReaderState → Type 0
 IsNewReader key r = (r.key ≡ key) × ((z : ZoneState) × HasSeenZone z r)
 
 -- what a reading comes to, with nobody asked: the last of the counts that the reader has then seen, with their place, and how fresh they are
-pub record IsRead (r s : ReaderState) (told : Reading) : Type 0 where
+pub record IsRead (r s : ReaderState) (reading : Reading) : Type 0 where
   pub key : s.key ≡ r.key
   pub tie : s.reader.tie ≡ r.reader.tie
   pub seen : IsPrefix r.reader.seen s.reader.seen
   pub some : 0 < length s.reader.seen
-  pub told : told ≡ last_reading s.reader.seen
+  pub told : reading ≡ last_reading s.reader.seen
   pub fresh : IsFreshRead r.reader s.reader
   -- what was read before is of what is seen still, and so is this
-  pub taken : IsReadingOf s.reader.seen told
+  pub taken : IsReadingOf s.reader.seen reading
   pub kept : (x : Reading) → IsReadingOf r.reader.seen x → IsReadingOf s.reader.seen x
 
 -- what one behind the lock comes to: the zone with the reader's key was visited, and the reader has seen all that is published of it; each reading
 -- that it ever took is the zone's counts after as many requests as its place says
-pub record IsReadInside (z : ZoneState) (r s : ReaderState) (told : Reading) : Type 0 where
+pub record IsReadInside (z : ZoneState) (r s : ReaderState) (reading : Reading) : Type 0 where
   pub key : s.key ≡ r.key
   pub tie : s.reader.tie ≡ r.reader.tie
   pub zone : HasSeenZone z s
   pub seen : IsPrefix r.reader.seen s.reader.seen
   pub known : r.reader.known ≤ s.reader.known
-  pub told : told ≡ last_reading s.reader.seen
+  pub told : reading ≡ last_reading s.reader.seen
   pub taken : (x : Reading) → IsReadingOf r.reader.seen x → IsCountsOf z x
 
 -- why there is no reader of the zone at place i: the worker has no such zone, or it has no board; else somebody is with it, or memory is wanting

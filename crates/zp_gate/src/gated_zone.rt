@@ -16,13 +16,13 @@ ghost use Rattle.zp_share.specs.ZoneShares.{cached_of};
 ghost use Rattle.zp_model.specs.Run.{IsHistory};
 ghost use Rattle.zp_counts.specs.CountBoards.{last_reading};
 ghost use mathlib.Core.List.{IsPrefix};
-ghost use Rattle.zp_gate.specs.Boards.{HasRead, IsTiedTo, board_after};
+ghost use Rattle.zp_gate.specs.Boards.{HasRead, IsTiedTo};
 ghost use Rattle.zp_gate.specs.Calls.{answer_of, request_of};
 ghost use Rattle.zp_gate.specs.GatedZones.{AreSectionsTill, IsGatheredIn, IsLeavingOf, IsOneShare, IsSectionOf, IsWrittenTo, drain_request, each_is, free_of, freed_of, page_of};
 ghost use Rattle.zp_gate.specs.declared.call.Given.TheVariants.{Done};
 ghost use Rattle.zp_gate.specs.Readings.{IsZoneOf, Tells};
 
-use crate::publishing::{publish_on, was_asked};
+use crate::publishing::{publish, was_asked};
 use crate::call::{Given, ZoneCall};
 use crate::granted::Granted;
 use crate::question::{Answer, Question, ZoneTold};
@@ -96,7 +96,7 @@ impl GatedZone {
         ensures { IsSectionOf (request.Alloc order kind mark) (page_reply result) self.old self.new share.old share.new }
     {
         let answer = share.alloc_block(&mut self.zone, 0, order, kind, mark);
-        self.publish(board, was_asked(&answer));
+        publish(&mut self.board, board, &self.zone, was_asked(&answer));
         answer
     }
 
@@ -115,7 +115,7 @@ impl GatedZone {
         ensures { IsSectionOf (request.Free page order) (done_reply reply.Freed result) self.old self.new share.old share.new }
     {
         let answer = share.free_block(&mut self.zone, 0, page, order);
-        self.publish(board, was_asked(&answer));
+        publish(&mut self.board, board, &self.zone, was_asked(&answer));
         answer
     }
 
@@ -198,7 +198,7 @@ impl GatedZone {
         ensures { IsSectionOf (request.AllocRun pages align mark) (page_reply result) self.old self.new share.old share.new }
     {
         let answer = share.alloc_run(&mut self.zone, 0, pages, align, mark);
-        self.publish(board, was_asked(&answer));
+        publish(&mut self.board, board, &self.zone, was_asked(&answer));
         answer
     }
 
@@ -217,7 +217,7 @@ impl GatedZone {
         ensures { IsSectionOf (request_of call) (answer_of call result) self.old self.new share.old share.new }
     {
         let answer = asked(&mut self.zone, share, call);
-        self.publish(board, was_asked(&answer));
+        publish(&mut self.board, board, &self.zone, was_asked(&answer));
         answer
     }
 
@@ -237,7 +237,7 @@ impl GatedZone {
         ensures { IsSectionOf (drain_request count kind share.old) (done_reply reply.Drained result) self.old self.new share.old share.new }
     {
         let answer = share.drain(&mut self.zone, 0, kind, count);
-        self.publish(board, was_asked(&answer));
+        publish(&mut self.board, board, &self.zone, was_asked(&answer));
         answer
     }
 
@@ -257,7 +257,7 @@ impl GatedZone {
         ensures { IsRefilled (λ q. IsSectionOf (request.Refill kind mark share.old.batch) q self.old self.new share.old share.new) result }
     {
         let answer = share.fill(&mut self.zone, 0, kind, mark);
-        self.publish(board, was_asked(&answer));
+        publish(&mut self.board, board, &self.zone, was_asked(&answer));
         answer
     }
 
@@ -285,17 +285,6 @@ impl GatedZone {
         }
         self.left.push_reserved(share);
         None
-    }
-
-    /// The zone's counts go on its board, where it has one and was asked.
-    #[inline(always)]
-    fn publish(&mut self, board: &Option<Board>, asked: bool)
-        requires { IsTiedTo board.now self.old.board }
-        ensures { self.new ≡ record self.old { board = board_after asked self.old.zone self.old.board } }
-    {
-        if let Some(publisher) = &mut self.board {
-            publish_on(publisher, board, &self.zone, asked);
-        }
     }
 
     /// A reader that has seen all that is published of the zone.

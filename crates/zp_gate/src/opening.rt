@@ -13,7 +13,7 @@ use crate::publishing::board_of;
 use crate::gated_row::GatedRow;
 use crate::gated_share::GatedShare;
 use crate::gated_worker::GatedWorker;
-use crate::try_lock::TryLock;
+use crate::try_lock::{TryLock, shut_in};
 use crate::zone_facts::{GateFacts, ZoneFacts};
 use std::alloc::Global;
 use std::sync::Arc;
@@ -118,8 +118,10 @@ fn opened_zone(
         workers,
     };
     let key = GateFacts { zone: known, board };
-    let (lock, seat) = TryLock::new(alloc, zone, publisher, key)?;
-    seats.push_reserved(seat);
+    let table = shut_in(alloc, zone, publisher, &key)?;
+    let GateFacts { zone: known, board } = key;
+    let lock = TryLock::of(table, board, &known);
+    seats.push_reserved(known.seat);
     let Ok(lock) = Arc::new(alloc, lock) else {
         return Err(Refused::Memory);
     };

@@ -1,9 +1,10 @@
 //! A zone's counts on a board beside its lock: they are published by whoever is with the zone, and read with no lock.
 ghost use Rattle.std.specs.Prelude.{◌≡◌, ◌↔◌, [], cond, false, true, IfErr, IfOk, IsOk, IsSome, Some};
+ghost use Rattle.std.specs.Option.{ForSome};
 ghost use Rattle.zp_model.specs.declared.refused.Refused.TheVariants.{Memory};
 ghost use Rattle.zp_model.specs.declared.request.Reply.TheVariants as reply;
 ghost use Rattle.zp_share.specs.Shares.{is_section};
-ghost use Rattle.zp_gate.specs.Boards.{IsBoardOf, IsTiedTo, IsWideAt, with_counts};
+ghost use Rattle.zp_gate.specs.Boards.{IsBoardOf, IsTiedTo, IsWide, board_after, with_counts};
 
 use std::alloc::Global;
 use zp_counts::{Board, Publisher, new_wide_board};
@@ -20,7 +21,7 @@ pub(crate) fn board_of(
     boards: bool,
 ) -> Result<(Option<Board>, Option<Publisher>), Refused>
     requires { zone.now.entries ≡ [] }
-    ensures wide { IfOk result (λ r. IsWideAt r.0) }
+    ensures wide { IfOk result (λ r. ForSome r.0 IsWide) }
     ensures of { IfOk result (λ r. IsBoardOf r.0 zone.now r.1) }
     ensures some { IfOk result (λ r. IsSome r.0 ↔ (boards ≡ true)) }
     ensures why { IfErr result (λ e. e ≡ Memory) }
@@ -45,9 +46,25 @@ pub(crate) fn was_asked<T>(answer: &Result<T, Refused>) -> bool
     !matches!(answer, Err(Refused::NotLent | Refused::JournalFull))
 }
 
+/// The counts of a zone go on its board, where it has one and was asked.
+#[inline(always)]
+pub(crate) fn publish(
+    publisher: &mut Option<Publisher>,
+    board: &Option<Board>,
+    zone: &Zone,
+    asked: bool,
+)
+    requires { IsTiedTo board.now publisher.old }
+    ensures { publisher.new ≡ board_after asked zone.now publisher.old }
+{
+    if let Some(publisher) = publisher {
+        publish_on(publisher, board, zone, asked);
+    }
+}
+
 /// The counts of a zone that was asked go on its board, if there is room. Out of line, so that a zone without a board pays for one test alone.
 #[inline(never)]
-pub(crate) fn publish_on(
+fn publish_on(
     publisher: &mut Publisher,
     board: &Option<Board>,
     zone: &Zone,

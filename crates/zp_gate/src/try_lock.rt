@@ -1,10 +1,12 @@
 //! A lock that nobody waits for, with a zone behind it. A visitor enters where nobody is in, makes one call of what stands there, and
 //! leaves.
-ghost use Rattle.std.specs.Prelude.{◌≡◌, ◌<◌, IfErr, IfOk, length};
+ghost use Rattle.std.specs.Prelude.{◌≡◌, ◌<◌, ◌≤◌, IfErr, IfOk, length};
+ghost use Rattle.std.specs.Option.{ForSome};
 ghost use Rattle.zp_model.specs.Area.{pageblocks_of};
+ghost use Rattle.zp_model.specs.declared.constants.TheConstants.{MAX_PAGES};
 ghost use Rattle.zp_model.specs.declared.refused.Refused.TheVariants.{Memory};
 ghost use Rattle.zp_share.specs.Shares.{key_of};
-ghost use Rattle.zp_gate.specs.Boards.{IsBoardOf, IsWideAt};
+ghost use Rattle.zp_gate.specs.Boards.{IsBoardOf, IsWide};
 ghost use Rattle.zp_gate.specs.GatedZones.{IsOneShare};
 ghost use Rattle.zp_gate.specs.Locks.{IsIn, MayLeave, first_held};
 ghost use Rattle.zp_gate.specs.Visits.{HasGathered, HasKept, IsUngathered};
@@ -18,7 +20,7 @@ use std::marker::Model;
 use zp_counts::{Board, Publisher};
 use zp_model::Refused;
 use zp_share::{Share, Totals};
-use zp_zone::{Seat, Zone};
+use zp_zone::Zone;
 
 /// The rule of a lock.
 pub(crate) struct Gated;
@@ -101,10 +103,13 @@ const FREE: u64 = 0;
 
 const TAKEN: u64 = 1;
 
+/// The word of a lock, and what stands behind it.
+pub(crate) type GateTable = Table<GatedZone, VisitView, GateFacts, Gated, Global>;
+
 /// A zone that one caller at a time may enter, and the board beside it, where it has one, for which nobody enters.
 #[derive(Drop)]
 pub struct TryLock {
-    pub(crate) table: Table<GatedZone, VisitView, GateFacts, Gated, Global>,
+    pub(crate) table: GateTable,
     pub(crate) base: u32,
     pub(crate) pages: u32,
     pub(crate) pageblocks: usize,
@@ -117,16 +122,16 @@ pub struct TryLock {
     ghost blocks: { pageblocks ≡ pageblocks_of table.shared.key.zone.largest table.shared.key.zone.pages },
     ghost crew: { workers ≡ table.shared.key.zone.workers },
     ghost beside: { board ≡ table.shared.key.board },
-    ghost wide: { IsWideAt board },
+    ghost wide: { ForSome board IsWide },
 }
 
 /// A free lock, and behind it this zone, which no worker has left yet. Refused 6.
-fn shut_in(
+pub(crate) fn shut_in(
     alloc: Global,
     zone: Zone,
     publisher: Option<Publisher>,
     key: &GateFacts,
-) -> Result<Table<GatedZone, VisitView, GateFacts, Gated, Global>, Refused>
+) -> Result<GateTable, Refused>
     requires key { key_of zone ≡ key.now.zone }
     requires board { IsBoardOf key.now.board zone publisher }
     ensures key { IfOk result (λ t. t.shared.key ≡ key.now) }
@@ -147,32 +152,23 @@ fn shut_in(
 }
 
 impl TryLock {
-    /// A lock with this zone behind it, which no worker has left yet, and its board beside it; and the seat that the key had. Refused 6.
-    pub(crate) fn new(
-        alloc: Global,
-        zone: Zone,
-        publisher: Option<Publisher>,
-        key: GateFacts,
-    ) -> Result<(TryLock, Seat), Refused>
-        requires key { key_of zone ≡ key.zone }
-        requires wide { IsWideAt key.board }
-        requires board { IsBoardOf key.board zone publisher }
-        ensures key { IfOk result (λ r. r.0.table.shared.key ≡ key) }
-        ensures seat { IfOk result (λ r. r.1 ≡ key.entry.zone.seat) }
-        ensures why { IfErr result (λ e. e ≡ Memory) }
+    /// The lock of this table, with its board beside it.
+    pub(crate) fn of(table: GateTable, board: Option<Board>, known: &ZoneFacts) -> TryLock
+        requires key { table.shared.key ≡ record { zone = known.now; board = board } }
+        requires words { table.shared.table_id.words ≡ 1 }
+        requires slots { table.shared.table_id.slots ≡ 1 }
+        requires wide { ForSome board IsWide }
+        requires pages { known.now.pages ≤ MAX_PAGES }
+        ensures { result.table ≡ table }
     {
-        let table = shut_in(alloc, zone, publisher, &key)?;
-        let GateFacts { zone: known, board } = key;
-        let pageblocks = known.largest.pageblocks(known.pages);
-        let lock = TryLock {
+        TryLock {
             table,
             base: known.base,
             pages: known.pages,
-            pageblocks,
+            pageblocks: known.largest.pageblocks(known.pages),
             workers: known.workers,
             board,
-        };
-        Ok((lock, known.seat))
+        }
     }
 
     /// Enters where nobody is in.
