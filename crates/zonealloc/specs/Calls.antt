@@ -26,7 +26,7 @@ HasNoZone i v = ¬ HasZone i v
 
 -- there is no such zone; or it has no worker of this number
 abbrev pub HasNoWorker : ℕ → ℕ → WorkerState → Type 0
-HasNoWorker i n v = HasNoZone i v ⊎ (HasZone i v × ((gated_at v i).key.workers ≤ n))
+HasNoWorker i n v = HasNoZone i v ⊎ (HasZone i v × ((gated_at v i).key.zone.workers ≤ n))
 
 -- what the worker has of the zone at place i
 abbrev pub IsAtZone : ℕ → (ShareState → Type 0) → WorkerState → Type 0

@@ -1,5 +1,5 @@
 //! A worker of a row. The calls that ask a zone return `CallError::Busy` at once where somebody is with it.
-ghost use Rattle.std.specs.Prelude.{◌≡◌, ◌<◌, ◌≤◌, ◌↔◌, All, length, IfOk, IfErr, IfSome, IfNone, IsTrue, OnOk, [], false, true, Err};
+ghost use Rattle.std.specs.Prelude.{◌≡◌, ◌<◌, ◌≤◌, ◌↔◌, All, length, IfOk, IfErr, IfSome, IfNone, IsTrue, OnOk, [], false, true, None, Err};
 ghost use Rattle.zp_model.specs.declared.request.Request.TheVariants as request;
 ghost use Rattle.zp_model.specs.declared.request.Reply.TheVariants as reply;
 ghost use Rattle.zp_model.specs.declared.constants.TheConstants.{LARGEST_ORDER, LONGEST_LIST};
@@ -10,14 +10,18 @@ ghost use Rattle.zp_gate.specs.declared.call_error.CallError.TheVariants.{NoList
 ghost use Rattle.zp_gate.specs.GatedWorkers.{AreDrained, AreDrainedTill, AreMadeAt, HasLeftDownTo, HasLeftLast, HasPages, HasTooFew, HasZone, IsAt, IsDeniedAt, IsDrained, IsFilled, IsListDenied, IsListDrained, IsOfSection, IsPutDenial, IsPutOn, IsSectionAt, IsTaken, gated_at, worker_share};
 ghost use Rattle.zp_gate.specs.Calls.{reply_of, request_of};
 ghost use Rattle.zp_gate.specs.GatedZones.{IsWrittenTo, drain_request, each_is, free_of, freed_of, page_of};
+ghost use Rattle.zp_gate.specs.declared.reader_error.ReaderError.TheVariants.{NoBoard, NoZone as NoReaderZone};
+ghost use Rattle.zp_gate.specs.Readers.{IsNewReader};
 ghost use Rattle.zp_gate.specs.Readings.{HasPage, HasPageblock, IsThen, Tells};
 
 use crate::call::{Given, ZoneCall};
 use crate::call_error::CallError;
+use crate::gated_reader::GatedReader;
 use crate::gated_share::GatedShare;
 use crate::granted::Granted;
 use crate::lists::{put_page, take_page};
 use crate::question::{Answer, Question};
+use crate::reader_error::ReaderError;
 use crate::try_lock::{Busy, Visit};
 use std::marker::Model;
 use zp_model::{Mark, MigrateType, Order, PageNo};
@@ -245,6 +249,18 @@ impl GatedWorker {
         ensures { (result ≡ true) ↔ HasPageblock (gated_at self.now zone).key pageblock }
     {
         self.shares[zone].has_pageblock(pageblock)
+    }
+
+    /// A reader of a zone's board that has seen all that is published.
+    pub fn reader(&self, zone: usize) -> Result<GatedReader, ReaderError>
+        ensures made { IfOk result (λ r. HasZone zone self.now × IsNewReader (gated_at self.now zone).key r) }
+        ensures zone { (result ≡ Err NoReaderZone) ↔ ¬ HasZone zone self.now }
+        ensures board { (result ≡ Err NoBoard) ↔ (HasZone zone self.now × ((gated_at self.now zone).key.board ≡ None)) }
+    {
+        let Some(share) = self.shares.get(zone) else {
+            return Err(ReaderError::NoZone);
+        };
+        share.reader()
     }
 
     /// What a zone reports.

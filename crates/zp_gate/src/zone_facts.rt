@@ -1,11 +1,13 @@
-//! What of a zone never changes.
+//! What never changes behind a lock.
 ghost use Rattle.zp_share.specs.Shares.{ZoneKey};
+ghost use Rattle.zp_gate.specs.GatedZones.{GateKey};
 
 use std::marker::Model;
+use zp_counts::Board;
 use zp_model::{Largest, Name};
 use zp_zone::Seat;
 
-/// What a lock is known by: what of its zone never changes, and a seat of it, for the tie alone. Contracts see the zone's key.
+/// What of a zone never changes, and a seat of it, for the tie alone. Contracts see the zone's key.
 #[derive(Drop)]
 pub struct ZoneFacts {
     pub(crate) seat: Seat,
@@ -23,4 +25,19 @@ impl Model for ZoneFacts {
     ghost Value = { ZoneKey };
 
     ghost view = { λ k. record { tie = k.seat.tie; name = k.name; base = k.base; pages = k.pages; min = k.min; largest = k.largest; workers = k.workers } };
+}
+
+/// What a lock is known by: what of its zone never changes, and the board beside it, where there is one.
+#[derive(Drop)]
+pub struct GateFacts {
+    pub(crate) zone: ZoneFacts,
+    pub(crate) board: Option<Board>,
+}
+
+impl Model for GateFacts {
+    ghost use Rattle.zp_gate.specs.GatedZones.{GateKey};
+
+    ghost Value = { GateKey };
+
+    ghost view = { λ k. record { zone = k.zone; board = k.board } };
 }

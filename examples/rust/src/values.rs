@@ -85,6 +85,15 @@ pub struct Counts {
     pub posted: u32,
 }
 
+/// How many free blocks a zone had of each order, and how many free pages, after so many requests to it.
+#[repr(C)]
+#[derive(Clone, Copy, Debug, Default, PartialEq, Eq)]
+pub struct Reading {
+    pub by_order: [u32; 11],
+    pub free: u32,
+    pub place: u64,
+}
+
 /// How many free blocks of each order a zone has in the pageblocks of each type, by the number of the type, and how many pageblocks of each:
 /// what `/proc/pagetypeinfo` has. Behind the migrate types come those of isolated pageblocks.
 #[repr(C)]

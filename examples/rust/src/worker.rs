@@ -1,7 +1,7 @@
 use crate::raw::{self, Handle};
 use crate::refusal::answered;
 use crate::values::{Counts, CountsByType, InfoLine, Level, Lists, Mark, MigrateType, PageState, PageblockState};
-use crate::{until_free, Refusal};
+use crate::{until_free, Reader, Refusal};
 use core::marker::PhantomData;
 
 /// One worker's share of a row. When it is dropped it is dismissed: what its lists have and what is lent to it stays noted with the row.
@@ -160,6 +160,13 @@ impl Worker<'_> {
         let mut told = CountsByType::default();
         answered(unsafe { raw::zonealloc_counts_by_type(&mut self.handle, zone, &mut told) })?;
         Ok(told)
+    }
+
+    /// *Zone.* A reader of the zone's board. In a row that was made without boards it is refused [`Refusal::NoBoard`].
+    pub fn reader(&mut self, zone: u32) -> Result<Reader, Refusal> {
+        let mut reader = Reader { handle: Handle::EMPTY };
+        answered(unsafe { raw::zonealloc_reader(&mut self.handle, zone, &mut reader.handle) })?;
+        Ok(reader)
     }
 
     /// *Zone.* The info line, without its line feed.
