@@ -43,6 +43,9 @@ enum { ZONE_BOARD_BYTES = 1024, ZONE_READER_BYTES = 128 };
 
 /* Migrate types; of a pageblock also ZONE_TYPE_ISOLATED. */
 enum { ZONE_TYPE_UNMOVABLE = 0, ZONE_TYPE_RECLAIMABLE = 1, ZONE_TYPE_MOVABLE = 2, ZONE_TYPE_ISOLATED = 3 };
+/* Where a block came from: a list of its own type, a list of another whose pageblock was then claimed for the type, or one whose pageblock keeps its
+ * type. */
+enum { ZONE_OWN = 0, ZONE_CLAIMED = 1, ZONE_BORROWED = 2 };
 /* Marks that a request is held to: ZONE_MIN leaves at least the zone's least mark of pages, ZONE_LOW a quarter more, ZONE_ANY is not tested. */
 enum { ZONE_ANY = 0, ZONE_MIN = 1, ZONE_LOW = 2 };
 /* The highest mark that the free pages outside isolated pageblocks are above. */
@@ -182,6 +185,8 @@ uint32_t zonealloc_cached(zone_worker_t *worker, uint32_t zone, uint32_t type, u
  *   ZONE_BELOW_MARK        so many pages less would be below the mark: ask the zone below
  *   ZONE_NO_BLOCK          no free block is so large, as ever where the order is above the zone's largest: ask the zone below */
 uint32_t zonealloc_alloc(zone_worker_t *worker, uint32_t zone, uint32_t order, uint32_t type, uint32_t mark, uint32_t *page);
+/* ZONE. As zonealloc_alloc, and where the block came from: ZONE_OWN, ZONE_CLAIMED or ZONE_BORROWED. */
+uint32_t zonealloc_alloc_told(zone_worker_t *worker, uint32_t zone, uint32_t order, uint32_t type, uint32_t mark, uint32_t *page, uint32_t *origin);
 /* ZONE. The lowest free block of this order, which is then lent. It is held to no mark.
  *   ZONE_BAD_ARGUMENT      the order is above 10
  *   ZONE_BAD_HANDLE        nothing is in the handle

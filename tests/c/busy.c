@@ -54,7 +54,7 @@ static void *fill_and_drain(void *nothing)
 
 /* What a call may write. */
 typedef struct {
-    uint32_t page, order, pages[2];
+    uint32_t page, order, pages[2], origin;
     zone_counts_t counts;
     zone_types_t types;
     uint8_t line[ZONE_INFO_LINE];
@@ -69,6 +69,7 @@ static uint32_t lent;        /* the page at which a block of this order is lent 
 static size_t many;          /* how many blocks came or went, which is told whatever is answered */
 
 static uint32_t alloc(void) { return zonealloc_alloc(mine, 0, 10, ZONE_TYPE_MOVABLE, ZONE_ANY, &told.page); }
+static uint32_t alloc_told(void) { return zonealloc_alloc_told(mine, 0, 10, ZONE_TYPE_MOVABLE, ZONE_ANY, &told.page, &told.origin); }
 static uint32_t alloc_low(void) { return zonealloc_alloc_low(mine, 0, 10, &told.page); }
 static uint32_t give_back(void) { return zonealloc_free(mine, 0, lent, ORDER); }
 static uint32_t alloc_run(void) { return zonealloc_alloc_run(mine, 0, PAGES + 1, 0, ZONE_ANY, &told.page); }
@@ -104,6 +105,7 @@ static uint32_t gather(void) { return zonealloc_gather(&row, 0, &told.totals); }
 
 /* Each call, and what it is answered where nobody else is in. */
 static const struct { const char *name; uint32_t (*call)(void); uint32_t otherwise; } calls[] = {
+    { "alloc_told", alloc_told, ZONE_NO_BLOCK },
     { "alloc", alloc, ZONE_NO_BLOCK },       { "alloc_low", alloc_low, ZONE_NO_BLOCK },    { "free", give_back, ZONE_OK },
     { "post", post, ZONE_OK },         { "collect", collect, ZONE_NOTHING_POSTED },  { "isolate", isolate, ZONE_BAD_PAGEBLOCK },
     { "release", release, ZONE_NOT_ISOLATED }, { "refill", refill, ZONE_BELOW_MARK },      { "drain", drain, ZONE_OK },

@@ -133,7 +133,7 @@ static void unfurnish(world_t *w)
 /* All that a call can tell. Before each call no bit of it is what a call would tell. */
 enum { ROOM = 3 };
 static struct {
-    uint32_t page, order, number, pages[ROOM];
+    uint32_t page, order, number, origin, pages[ROOM];
     zone_counts_t counts;
     zone_types_t types;
     zone_page_t noted;
@@ -219,6 +219,7 @@ static void wrong_zones(zone_worker_t *w)
         REFUSED(ZONE_BAD_ARGUMENT, zonealloc_is_lent(w, zone, known.lent, 0, &told.number));
         REFUSED(ZONE_BAD_ARGUMENT, zonealloc_cached(w, zone, ZONE_TYPE_MOVABLE, &told.number));
         REFUSED(ZONE_BAD_ARGUMENT, zonealloc_alloc(w, zone, 0, ZONE_TYPE_MOVABLE, ZONE_ANY, &told.page));
+        REFUSED(ZONE_BAD_ARGUMENT, zonealloc_alloc_told(w, zone, 0, ZONE_TYPE_MOVABLE, ZONE_ANY, &told.page, &told.origin));
         REFUSED(ZONE_BAD_ARGUMENT, zonealloc_alloc_low(w, zone, 0, &told.page));
         REFUSED(ZONE_BAD_ARGUMENT, zonealloc_free(w, zone, known.lent, 0));
         REFUSED_ALL(ZONE_BAD_ARGUMENT, zonealloc_alloc_many(w, zone, 0, ZONE_TYPE_MOVABLE, ZONE_ANY, told.pages, ROOM, &many));
@@ -253,6 +254,7 @@ static void wrong_orders(zone_worker_t *w)
         REFUSED_ALL(ZONE_BAD_ARGUMENT, zonealloc_free_many(w, 1, pages, 2, orders, 2, &many));
         REFUSED(ZONE_BAD_ARGUMENT, zonealloc_is_lent(w, 1, known.lent, order, &told.number));
         REFUSED(ZONE_BAD_ARGUMENT, zonealloc_alloc(w, 1, order, ZONE_TYPE_MOVABLE, ZONE_ANY, &told.page));
+        REFUSED(ZONE_BAD_ARGUMENT, zonealloc_alloc_told(w, 1, order, ZONE_TYPE_MOVABLE, ZONE_ANY, &told.page, &told.origin));
         REFUSED(ZONE_BAD_ARGUMENT, zonealloc_alloc_low(w, 1, order, &told.page));
         REFUSED(ZONE_BAD_ARGUMENT, zonealloc_free(w, 1, known.lent, order));
         REFUSED(ZONE_BAD_ARGUMENT, zonealloc_post(w, 1, known.lent, order, 1));
@@ -267,6 +269,7 @@ static void wrong_types(zone_worker_t *w)
         REFUSED(ZONE_BAD_ARGUMENT, zonealloc_take(w, 1, type, &told.page));
         REFUSED(ZONE_BAD_ARGUMENT, zonealloc_cached(w, 1, type, &told.number));
         REFUSED(ZONE_BAD_ARGUMENT, zonealloc_alloc(w, 1, 0, type, ZONE_ANY, &told.page));
+        REFUSED(ZONE_BAD_ARGUMENT, zonealloc_alloc_told(w, 1, 0, type, ZONE_ANY, &told.page, &told.origin));
         REFUSED_ALL(ZONE_BAD_ARGUMENT, zonealloc_alloc_many(w, 1, 0, type, ZONE_ANY, told.pages, ROOM, &many));
         REFUSED(ZONE_BAD_ARGUMENT, zonealloc_release(w, 0, 4, type));
         REFUSED(ZONE_BAD_ARGUMENT, zonealloc_refill(w, 1, type, ZONE_ANY));
@@ -279,6 +282,7 @@ static void wrong_numbers(zone_worker_t *w)
     uint32_t i;
     for (i = 0; i < PASTS; i++) {
         REFUSED(ZONE_BAD_ARGUMENT, zonealloc_alloc(w, 1, 0, ZONE_TYPE_MOVABLE, beyond(ZONE_LOW + 1, i), &told.page));
+        REFUSED(ZONE_BAD_ARGUMENT, zonealloc_alloc_told(w, 1, 0, ZONE_TYPE_MOVABLE, beyond(ZONE_LOW + 1, i), &told.page, &told.origin));
         REFUSED_ALL(ZONE_BAD_ARGUMENT, zonealloc_alloc_many(w, 1, 0, ZONE_TYPE_MOVABLE, beyond(ZONE_LOW + 1, i), told.pages, ROOM, &many));
         REFUSED_ALL(ZONE_BAD_ARGUMENT, zonealloc_free_many(w, 1, &known.lent, 1, no_orders, 1 + (size_t)past[i] % 2 + 1, &many));
         REFUSED(ZONE_BAD_ARGUMENT, zonealloc_refill(w, 1, ZONE_TYPE_UNMOVABLE, beyond(ZONE_LOW + 1, i)));
@@ -369,10 +373,13 @@ static void no_block(zone_worker_t *w)
 {
     uint32_t i;
     REFUSED(ZONE_BELOW_MARK, zonealloc_alloc(w, 0, 5, ZONE_TYPE_MOVABLE, ZONE_MIN, &told.page));
+    REFUSED(ZONE_BELOW_MARK, zonealloc_alloc_told(w, 0, 5, ZONE_TYPE_MOVABLE, ZONE_MIN, &told.page, &told.origin));
     REFUSED(ZONE_BELOW_MARK, zonealloc_alloc(w, 0, 10, ZONE_TYPE_UNMOVABLE, ZONE_LOW, &told.page));
+    REFUSED(ZONE_BELOW_MARK, zonealloc_alloc_told(w, 0, 10, ZONE_TYPE_UNMOVABLE, ZONE_LOW, &told.page, &told.origin));
     REFUSED_ALL(ZONE_BELOW_MARK, zonealloc_alloc_many(w, 0, 5, ZONE_TYPE_MOVABLE, ZONE_MIN, told.pages, ROOM, &many));
     for (i = 4; i < ZONE_ORDERS; i++) {
         REFUSED(ZONE_NO_BLOCK, zonealloc_alloc(w, 0, i, ZONE_TYPE_MOVABLE, ZONE_ANY, &told.page));
+        REFUSED(ZONE_NO_BLOCK, zonealloc_alloc_told(w, 0, i, ZONE_TYPE_MOVABLE, ZONE_ANY, &told.page, &told.origin));
         REFUSED_ALL(ZONE_NO_BLOCK, zonealloc_alloc_many(w, 0, i, ZONE_TYPE_MOVABLE, ZONE_ANY, told.pages, ROOM, &many));
         REFUSED(ZONE_NO_BLOCK, zonealloc_alloc_low(w, 0, i, &told.page));
     }
@@ -445,6 +452,7 @@ static void dead_handles(zone_worker_t *w, zone_row_t *row)
     REFUSED(ZONE_BAD_HANDLE, zonealloc_is_lent(w, 1, known.lent, 0, &told.number));
     REFUSED(ZONE_BAD_HANDLE, zonealloc_cached(w, 1, ZONE_TYPE_MOVABLE, &told.number));
     REFUSED(ZONE_BAD_HANDLE, zonealloc_alloc(w, 1, 0, ZONE_TYPE_MOVABLE, ZONE_ANY, &told.page));
+    REFUSED(ZONE_BAD_HANDLE, zonealloc_alloc_told(w, 1, 0, ZONE_TYPE_MOVABLE, ZONE_ANY, &told.page, &told.origin));
     REFUSED(ZONE_BAD_HANDLE, zonealloc_alloc_low(w, 1, 0, &told.page));
     REFUSED(ZONE_BAD_HANDLE, zonealloc_free(w, 1, known.lent, 0));
     REFUSED_ALL(ZONE_BAD_HANDLE, zonealloc_alloc_many(w, 1, 0, ZONE_TYPE_MOVABLE, ZONE_ANY, told.pages, ROOM, &many));
@@ -688,7 +696,7 @@ static void little_memory(uint32_t workers, uint32_t zones)
 /* What a call is made with. A page is one of those that are known, or none of the zone's. Of a run the number is its pages, and the order how it is
  * aligned; of many blocks it is for how many there is room, or how many orders there are for one page. */
 typedef enum {
-    BYTES, MAKE, MAKE_WITH_BOARDS, DISMISS, UNMAKE, TAKE, PUT, IS_LENT, CACHED, ALLOC, ALLOC_LOW, FREE, ALLOC_MANY, FREE_MANY, ALLOC_RUN, ALLOC_RUN_AT, FREE_RUN,
+    BYTES, MAKE, MAKE_WITH_BOARDS, DISMISS, UNMAKE, TAKE, PUT, IS_LENT, CACHED, ALLOC, ALLOC_TOLD, ALLOC_LOW, FREE, ALLOC_MANY, FREE_MANY, ALLOC_RUN, ALLOC_RUN_AT, FREE_RUN,
     POST, COLLECT, ISOLATE, RELEASE, REFILL, DRAIN, DRAIN_ALL, COUNTS, COUNTS_BY_TYPE, INFO, PAGE, PAGEBLOCK, GATHER,
     READER, READ, END_READER
 } export_t;
@@ -737,6 +745,13 @@ static const stated_t stated[] = {
     { ALLOC, ZONE_BELOW_MARK, .mark = ZONE_MIN, .order = ABOVE_LARGEST + 1 },
     { ALLOC, ZONE_NO_BLOCK, .order = ABOVE_LARGEST },
 
+    { ALLOC_TOLD, ZONE_BAD_ARGUMENT, .order = NO_ORDER, .handle = EMPTY, .zone = NO_ZONE },
+    { ALLOC_TOLD, ZONE_BAD_ARGUMENT, .type = NO_TYPE, .handle = EMPTY, .zone = NO_ZONE },
+    { ALLOC_TOLD, ZONE_BAD_ARGUMENT, .mark = NO_MARK, .handle = EMPTY, .zone = NO_ZONE },
+    { ALLOC_TOLD, ZONE_BAD_HANDLE, .handle = EMPTY, .zone = NO_ZONE },
+    { ALLOC_TOLD, ZONE_BAD_ARGUMENT, .zone = NO_ZONE },
+    { ALLOC_TOLD, ZONE_BELOW_MARK, .mark = ZONE_MIN, .order = ABOVE_LARGEST + 1 },
+    { ALLOC_TOLD, ZONE_NO_BLOCK, .order = ABOVE_LARGEST },
     { ALLOC_LOW, ZONE_BAD_ARGUMENT, .order = NO_ORDER, .handle = EMPTY, .zone = NO_ZONE },
     { ALLOC_LOW, ZONE_BAD_HANDLE, .handle = EMPTY, .zone = NO_ZONE },
     { ALLOC_LOW, ZONE_BAD_ARGUMENT, .zone = NO_ZONE },
@@ -892,6 +907,7 @@ static uint32_t ask(const stated_t *s, zone_worker_t *w, zone_row_t *row, uint32
     case IS_LENT: return zonealloc_is_lent(w, s->zone, page, s->order, &told.number);
     case CACHED: return zonealloc_cached(w, s->zone, s->type, &told.number);
     case ALLOC: return zonealloc_alloc(w, s->zone, s->order, s->type, s->mark, &told.page);
+    case ALLOC_TOLD: return zonealloc_alloc_told(w, s->zone, s->order, s->type, s->mark, &told.page, &told.origin);
     case ALLOC_LOW: return zonealloc_alloc_low(w, s->zone, s->order, &told.page);
     case FREE: return zonealloc_free(w, s->zone, page, s->order);
     case ALLOC_RUN: return zonealloc_alloc_run(w, s->zone, s->number, s->order, s->mark, &told.page);

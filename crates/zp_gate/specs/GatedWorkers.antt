@@ -10,6 +10,7 @@ use Rattle.zp_model.specs.declared.migrate_type.MigrateType.TheVariants.{Unmovab
 use Rattle.zp_model.specs.declared.mark.Mark.{Mark}
 use Rattle.zp_model.specs.Rows.{front}
 use Rattle.zp_zone.specs.Seats.{IsUnused, SeatState}
+use Rattle.zp_zone.specs.declared.told.Told.{Told}
 use Rattle.zp_share.specs.PlainShares.{lends_for, putting, taken}
 use Rattle.zp_share.specs.Shares.{ShareState, share_at, with_zone_share}
 use Rattle.zp_share.specs.ZoneShares.{cached_of, opening_share, plain_share}
@@ -18,7 +19,7 @@ use Rattle.zp_gate.specs.declared.call_error.CallError.TheVariants.{Busy, NoList
 use Rattle.zp_gate.specs.declared.granted.Granted.{Granted}
 use Rattle.zp_gate.specs.declared.visit_view.VisitView.{VisitView}
 use Rattle.zp_gate.specs.GatedZones.{GateKey, drain_request, no_gate}
-use Rattle.zp_gate.specs.Visits.{AreAnswers, HasKept, IsAnswer}
+use Rattle.zp_gate.specs.Visits.{AreAnswers, HasKept, IsAnswer, IsBlockTold}
 
 -- what never changes of a zone, and a worker's share of it alone
 pub record GatedShareState : Type 0 where
@@ -163,6 +164,10 @@ pub record IsSectionAt {A : Type 0} (i : ℕ) (r : Request) (given : A → Reply
   pub lent : (result ≡ Err (Refused NotLent)) ↔ (HasZone i v × LacksBlock r (gated_at v i))
   pub why : IfErr result (λ e. HasZone i v → IsOfSection e)
   pub denied : IfErr result (λ e. IsDeniedAt i r e v w)
+
+-- a block of the zone at place i was granted, and it is told where it came from
+abbrev pub IsToldAt : ℕ → ℕ → MigrateType → Mark → Told → WorkerState → WorkerState → Type 0
+IsToldAt i k t m x v w = IsAt i (IsBlockTold (gated_at v i).key k t m x) v w
 
 -- so many requests were made of the zone at place i in one visit, one after another up to the first that was refused
 abbrev pub AreMadeAt : ℕ → (ℕ → Request) → (ℕ → Reply) → ℕ → Granted → WorkerState → WorkerState → Type 0

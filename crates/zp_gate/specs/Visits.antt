@@ -1,7 +1,11 @@
 -- What one visit behind a lock comes to (this profile). What stands there is not seen between visits: each of them speaks of it as it is then.
 use Rattle.std.specs.Prelude.{ℕ, ◌≡◌, Some}
+use Rattle.zp_model.specs.declared.migrate_type.MigrateType.{MigrateType}
+use Rattle.zp_model.specs.declared.mark.Mark.{Mark}
 use Rattle.zp_model.specs.declared.request.Request.{Request}
 use Rattle.zp_model.specs.declared.request.Reply.{Reply}
+use Rattle.zp_model.specs.Choose.{origin}
+use Rattle.zp_zone.specs.declared.told.Told.{Told}
 use Rattle.zp_share.specs.Gathering.{IsCrewOf}
 use Rattle.zp_share.specs.declared.gathering.Totals.{Totals}
 use Rattle.zp_share.specs.Shares.{ShareState}
@@ -19,6 +23,11 @@ pub record IsVisit (key : GateKey) (y z : GatedState) (v : VisitView) : Type 0 w
 -- a share made one section with the zone of this key, whatever it was, and this is the zone's answer; the rest of the share stays
 abbrev pub IsAnswer : GateKey → Request → Reply → ShareState → ShareState → Type 0
 IsAnswer key r q s t = (y : GatedState) × (z : GatedState) × IsBehind key y × IsSectionOf r q y z s t
+
+-- a share was granted this block, and it is told from where the zone took it, as it was before the request
+abbrev pub IsBlockTold : GateKey → ℕ → MigrateType → Mark → Told → ShareState → ShareState → Type 0
+IsBlockTold key k t m x s u =
+    (y : GatedState) × (z : GatedState) × IsBehind key y × IsSectionOf (Request.Alloc k t m) (Reply.Page x.page) y z s u × (origin y.zone.plain.area k t ≡ Some x.origin)
 
 -- many requests were made of one zone with this key, in one visit, one after another up to the first that was refused
 abbrev pub AreAnswers : GateKey → (ℕ → Request) → (ℕ → Reply) → ℕ → Granted → ShareState → ShareState → Type 0

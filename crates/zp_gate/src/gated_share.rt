@@ -18,7 +18,7 @@ ghost use Rattle.zp_gate.specs.Readers.{IsNewReader};
 ghost use Rattle.zp_gate.specs.GatedRows.{lock_key};
 ghost use Rattle.zp_gate.specs.GatedWorkers.{HasPages, HasTooFew, HasTurned, IsDenial, IsDrained, IsFilled, IsNewShare, IsOfSection, IsSection, LacksWorker};
 ghost use Rattle.zp_gate.specs.Readings.{HasPage, HasPageblock, IsThen, Tells};
-ghost use Rattle.zp_gate.specs.Visits.{AreAnswers, HasKept};
+ghost use Rattle.zp_gate.specs.Visits.{AreAnswers, HasKept, IsBlockTold};
 
 use crate::call::{Given, ZoneCall};
 use crate::call_error::CallError;
@@ -32,7 +32,7 @@ use std::marker::Model;
 use std::sync::Arc;
 use zp_model::{Mark, MigrateType, Order, PageNo, Refused, Request};
 use zp_share::{ListConfig, Share};
-use zp_zone::Seat;
+use zp_zone::{Seat, Told};
 
 /// The lock of a zone, and a worker's share of the zone. Contracts see the zone's key and the share.
 #[derive(Drop)]
@@ -92,6 +92,24 @@ impl GatedShare {
         let mut visitor = lock.enter().map_err(CallError::Busy)?;
         let zone = visitor.slot_mut(&lock.table.shared, 0);
         let answer = zone.alloc(&lock.board, &mut self.share, order, kind, mark);
+        lock.leave(visitor);
+        answer.map_err(CallError::Refused)
+    }
+
+    /// As `alloc`, and tells where the block came from.
+    pub(crate) fn alloc_told(
+        &mut self,
+        order: Order,
+        kind: MigrateType,
+        mark: Mark,
+    ) -> Result<Told, CallError>
+        ensures section { IsSection (request.Alloc order kind mark) (λ t. reply.Page t.page) result self.old self.new }
+        ensures told { IfOk result (λ t. HasTurned (IsBlockTold self.old.key order kind mark t) self.old self.new) }
+    {
+        let lock = &*self.lock;
+        let mut visitor = lock.enter().map_err(CallError::Busy)?;
+        let zone = visitor.slot_mut(&lock.table.shared, 0);
+        let answer = zone.alloc_told(&lock.board, &mut self.share, order, kind, mark);
         lock.leave(visitor);
         answer.map_err(CallError::Refused)
     }

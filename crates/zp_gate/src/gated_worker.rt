@@ -7,7 +7,7 @@ ghost use Rattle.zp_model.specs.Runs.{may_alloc_run};
 ghost use Rattle.zp_share.specs.Shares.{share_at};
 ghost use Rattle.zp_share.specs.ZoneShares.{cached_of, is_lent};
 ghost use Rattle.zp_gate.specs.declared.call_error.CallError.TheVariants.{NoLists, NotEmpty, NoZone, TooFew};
-ghost use Rattle.zp_gate.specs.GatedWorkers.{AreDrained, AreDrainedTill, AreMadeAt, HasLeftDownTo, HasLeftLast, HasPages, HasTooFew, HasZone, IsAt, IsDeniedAt, IsDrained, IsFilled, IsListDenied, IsListDrained, IsOfSection, IsPutDenial, IsPutOn, IsSectionAt, IsTaken, gated_at, worker_share};
+ghost use Rattle.zp_gate.specs.GatedWorkers.{AreDrained, AreDrainedTill, AreMadeAt, HasLeftDownTo, HasLeftLast, HasPages, HasTooFew, HasZone, IsAt, IsDeniedAt, IsDrained, IsFilled, IsListDenied, IsListDrained, IsOfSection, IsPutDenial, IsPutOn, IsSectionAt, IsTaken, IsToldAt, gated_at, worker_share};
 ghost use Rattle.zp_gate.specs.Calls.{reply_of, request_of};
 ghost use Rattle.zp_gate.specs.GatedZones.{IsWrittenTo, drain_request, each_is, free_of, freed_of, page_of};
 ghost use Rattle.zp_gate.specs.declared.reader_error.ReaderError.TheVariants.{NoBoard, NoZone as NoReaderZone};
@@ -25,6 +25,7 @@ use crate::reader_error::ReaderError;
 use crate::try_lock::{Busy, Visit};
 use std::marker::Model;
 use zp_model::{Mark, MigrateType, Order, PageNo};
+use zp_zone::Told;
 
 /// A worker of a row, with a share of each of its zones. Contracts see of each zone its key and the worker's share, and the visits by which
 /// the worker left the zones that it has no more.
@@ -61,6 +62,23 @@ impl GatedWorker {
             return Err(CallError::NoZone);
         };
         share.alloc(order, kind, mark)
+    }
+
+    /// As `alloc`, and tells where the block came from: a function of the zone as it was before.
+    pub fn alloc_told(
+        &mut self,
+        zone: usize,
+        order: Order,
+        kind: MigrateType,
+        mark: Mark,
+    ) -> Result<Told, CallError>
+        ensures section { IsSectionAt zone (request.Alloc order kind mark) (λ t. reply.Page t.page) result self.old self.new }
+        ensures told { IfOk result (λ t. IsToldAt zone order kind mark t self.old self.new) }
+    {
+        let Some(share) = self.shares.get_mut(zone) else {
+            return Err(CallError::NoZone);
+        };
+        share.alloc_told(order, kind, mark)
     }
 
     /// Frees a lent block. Refused 20 or 30.

@@ -8,7 +8,8 @@ ghost use Rattle.zp_model.specs.Zone.{workers_of};
 ghost use Rattle.zp_model.specs.Runs.{may_alloc_run};
 ghost use Rattle.zp_share.specs.Gathering.{IsCrewOf};
 ghost use Rattle.zp_model.specs.declared.request.Reply.TheVariants as reply;
-ghost use Rattle.zp_zone.specs.NamedZone.{page_reply};
+ghost use Rattle.zp_model.specs.Choose.{origin};
+ghost use Rattle.zp_zone.specs.NamedZone.{page_reply, told_reply};
 ghost use Rattle.zp_zone.specs.Seats.{IsSeatOf};
 ghost use Rattle.zp_share.specs.Sections.{IsAsked, IsRefilled, MayAsk, done_reply};
 ghost use Rattle.zp_share.specs.Shares.{ShareState, key_of, share_at, with_zone_share};
@@ -32,7 +33,7 @@ use zp_counts::{Board, BoardReader, Publisher, Reading};
 use zp_info::{TextBuffer, push_counts};
 use zp_model::{Mark, MigrateType, Order, PageNo, Refused};
 use zp_share::{Share, Totals, gather_zone};
-use zp_zone::Zone;
+use zp_zone::{Told, Zone};
 
 /// A zone, the shares of it that workers left when they ended, for which there is room, and the right to publish its counts, where it has a board.
 #[derive(Drop)]
@@ -98,6 +99,28 @@ impl GatedZone {
         let answer = share.alloc_block(&mut self.zone, 0, order, kind, mark);
         publish(&mut self.board, board, &self.zone, was_asked(&answer));
         answer
+    }
+
+    /// A block for a share of the zone, and where it came from.
+    pub(crate) fn alloc_told(
+        &mut self,
+        board: &Option<Board>,
+        share: &mut Share,
+        order: Order,
+        kind: MigrateType,
+        mark: Mark,
+    ) -> Result<Told, Refused>
+        requires board { IsTiedTo board.now self.old.board }
+        requires share { IsOneShare (key_of self.old.zone) share.old }
+        ensures section { IsSectionOf (request.Alloc order kind mark) (told_reply result) self.old self.new share.old share.new }
+        ensures told { IfOk result (λ t. origin self.old.zone.plain.area order kind ≡ Some t.origin) }
+    {
+        let origin = self.zone.origin(order, kind);
+        let page = self.alloc(board, share, order, kind, mark)?;
+        let Some(origin) = origin else {
+            unreachable!()
+        };
+        Ok(Told { page, origin })
     }
 
     /// A block back from a share of the zone.

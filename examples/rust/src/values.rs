@@ -61,6 +61,22 @@ pub enum Mark {
     Low = 2,
 }
 
+/// Where a block came from: a list of its own type, a list of another whose pageblock was then claimed for the type, or one whose pageblock keeps
+/// its type.
+#[derive(Clone, Copy, Debug, PartialEq, Eq)]
+#[repr(u32)]
+pub enum Origin {
+    Own = 0,
+    Claimed = 1,
+    Borrowed = 2,
+}
+
+impl Origin {
+    pub(crate) fn of(number: u32) -> Origin {
+        [Origin::Own, Origin::Claimed, Origin::Borrowed][number as usize]
+    }
+}
+
 /// The highest mark that the available pages are above.
 #[derive(Clone, Copy, Debug, PartialEq, Eq)]
 pub enum Level {

@@ -1,6 +1,6 @@
 use crate::raw::{self, Handle};
 use crate::refusal::answered;
-use crate::values::{Counts, CountsByType, InfoLine, Level, Lists, Mark, MigrateType, PageState, PageblockState};
+use crate::values::{Counts, CountsByType, InfoLine, Level, Lists, Mark, MigrateType, Origin, PageState, PageblockState};
 use crate::{until_free, Reader, Refusal};
 use core::marker::PhantomData;
 
@@ -60,6 +60,13 @@ impl Worker<'_> {
         let mut page = 0;
         answered(unsafe { raw::zonealloc_alloc(&mut self.handle, zone, order, kind as u32, mark as u32, &mut page) })?;
         Ok(page)
+    }
+
+    /// *Zone.* As `alloc`, and where the block came from.
+    pub fn alloc_told(&mut self, zone: u32, order: u32, kind: MigrateType, mark: Mark) -> Result<(u32, Origin), Refusal> {
+        let (mut page, mut origin) = (0, 0);
+        answered(unsafe { raw::zonealloc_alloc_told(&mut self.handle, zone, order, kind as u32, mark as u32, &mut page, &mut origin) })?;
+        Ok((page, Origin::of(origin)))
     }
 
     /// *Zone.* The first page of the lowest free block of 2^order pages, which is then lent.
