@@ -109,6 +109,7 @@ published_more z y cs more was = go (ltb LAST_PLACE (length cs)) refl
   where
     long : length y.entries ≡ length z.entries + 1
     long = omega (arith, ap length more.entries, length-append z.entries (more.entry ∷ []))
+
     go : (full : Bool) → ltb LAST_PLACE (length cs) ≡ full → IsPublished y (cond full cs (cs ++ zone_counts y ∷ []))
     go true e =
         let over : LAST_PLACE < length cs = ltb-true LAST_PLACE (length cs) e in
