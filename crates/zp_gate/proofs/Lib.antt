@@ -1,7 +1,6 @@
 pub mod Boards
 pub mod Keeping
 pub mod Sections
-pub mod Seeing
 pub mod Refusals
 pub mod Leaving
 pub mod Steps

@@ -1,5 +1,5 @@
 -- What a request to the zone comes to, once it was made.
-use Rattle.std.proofs.Common.{ℕ, ◌≡◌, ◌==◌, Bool, true, false, refl, sym, ◌∙◌, ap, subst, inr}
+use Rattle.std.proofs.Common.{◌≡◌, ◌==◌, true, false, refl, sym, ◌∙◌, ap, subst, inr}
 use Rattle.std.specs.Prelude.{Result, Ok, Err}
 use Rattle.zp_model.specs.declared.refused.Refused.{Refused as Refusal}
 use Rattle.zp_model.specs.declared.refused.Refused.TheVariants.{NotLent}
@@ -11,7 +11,7 @@ use Rattle.zp_share.specs.Shares.{ShareState, share_at}
 use Rattle.zp_share.specs.ZoneShares.{plain_share}
 use Rattle.zp_share.proofs.Tried.{not_lent_alone}
 use Rattle.zp_gate.specs.declared.call_error.CallError.{CallError}
-use Rattle.zp_gate.specs.declared.call_error.CallError.TheVariants.{NoWorker, Refused}
+use Rattle.zp_gate.specs.declared.call_error.CallError.TheVariants.{Refused}
 use Rattle.zp_gate.specs.GatedZones.{GateKey, GatedState, IsBehind, IsSectionOf}
 use Rattle.zp_gate.specs.GatedWorkers.{GatedShareState, IsSection, LacksBlock, LacksWorker}
 

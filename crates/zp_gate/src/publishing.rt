@@ -1,5 +1,5 @@
 //! A zone's counts on a board beside its lock: they are published by whoever is with the zone, and read with no lock.
-ghost use Rattle.std.specs.Prelude.{◌≡◌, ◌↔◌, [], cond, false, true, IfErr, IfOk, IsOk, IsSome, Some};
+ghost use Rattle.std.specs.Prelude.{◌≡◌, ◌↔◌, [], cond, true, IfErr, IfOk, IsOk, IsSome, Some};
 ghost use Rattle.std.specs.Option.{ForSome};
 ghost use Rattle.zp_model.specs.declared.refused.Refused.TheVariants.{Memory};
 ghost use Rattle.zp_model.specs.declared.request.Reply.TheVariants as reply;
