@@ -2,7 +2,6 @@
 use Rattle.std.proofs.Common.{ℕ, ◌≡◌, ◌==◌, ◌<◌, ◌≤◌, ◌+◌, ◌++◌, ◌⊎◌, inl, inr, Bool, true, false, List, [], ◌∷◌, length, length-append, get_or, refl, sym, take, ◌∙◌, ap, subst, arith}
 use Rattle.std.specs.Prelude.{Option, Some, None, IsTrue, ◌↔◌, ltb, cond}
 use Rattle.std.specs.List.{slice_get}
-use Rattle.std.specs.Option.{ForSome}
 use Rattle.std.proofs.Math.Seq.{get_or-append_seam}
 use Rattle.std.proofs.lemmas.Bool.{cases_lt, le-ltb, ltb-false, ltb-true}
 use Rattle.std.proofs.lemmas.List.{get_or_append_left, take-append-le, take_all}
@@ -109,6 +108,7 @@ published_more z y cs more was = go (ltb LAST_PLACE (length cs)) refl
   where
     long : length y.entries ≡ length z.entries + 1
     long = omega (arith, ap length more.entries, length-append z.entries (more.entry ∷ []))
+
     go : (full : Bool) → ltb LAST_PLACE (length cs) ≡ full → IsPublished y (cond full cs (cs ++ zone_counts y ∷ []))
     go true e =
         let over : LAST_PLACE < length cs = ltb-true LAST_PLACE (length cs) e in
@@ -116,17 +116,6 @@ published_more z y cs more was = go (ltb LAST_PLACE (length cs)) refl
     go false e =
         let room : length cs ≤ LAST_PLACE = ltb-false LAST_PLACE (length cs) e in
         record { many = omega (arith, room, was.many, long, length-append cs (zone_counts y ∷ [])); each = pushed z y cs more (omega (arith, room, was.many)) was.each }
-
--- of a zone of which nothing was asked its counts are published
-pub published_opening : (z : ZoneState) → IsMade z → z.entries ≡ [] → IsPublished z (zone_counts z ∷ [])
-published_opening z made none =
-    record {
-      many = omega (arith, ap length none);
-      each = λ n c at.
-          let inside : n < length (zone_counts z ∷ []) = slice_get_within (zone_counts z ∷ []) n c at in
-          let here : n ≡ 0 = omega (arith, inside) in
-          sym (get_or_from_slice_get (zone_counts z ∷ []) n c c at) ∙ ap (λ k. get_or (zone_counts z ∷ []) k c) here ∙ sym (counts_now z n made (omega (arith, ap length none)));
-    }
 
 -- what is published on a board goes on to be of the zone
 board_more : (b : Option BoardState) (p : Option CountsPublished) (z y : ZoneState) → IsOneMore z y → IsBoardOf b z p → IsBoardOf b y (board_after true y p)
@@ -155,16 +144,6 @@ tied_stays (Some b) (Some p) true z is = is
 tied_stays (Some b) (Some p) false z is = is
 tied_stays None (Some p) asked z is = is
 tied_stays (Some b) None asked z is = is
-
--- and is one where its board is that of the zone
-pub tied_of : (b k : Option BoardState) (p : Option CountsPublished) (z : ZoneState) → b ≡ k → ForSome b IsWide → IsBoardOf k z p → IsTiedTo b p
-tied_of b k p z same wide is = go b p wide (subst (λ (v : Option BoardState). IsBoardOf v z p) (sym same) is)
-  where
-    go : (b : Option BoardState) (p : Option CountsPublished) → ForSome b IsWide → IsBoardOf b z p → IsTiedTo b p
-    go None None wide is = tt
-    go (Some b) (Some p) wide is = (is.0, wide b refl)
-    go None (Some p) wide is = is
-    go (Some b) None wide is = is
 
 -- what is published once a zone's counts went on its board, or did not
 pub published_on : (b : Option BoardState) (board : BoardState) (p n : CountsPublished) (z : ZoneState) (c : Counts) (full : Bool) → b ≡ Some board → IsTiedTo b (Some p) → IsTrue full ↔ (board.capacity < length p.published) → full ≡ false →

@@ -1,6 +1,6 @@
 pub mod Boards
 pub mod Keeping
-pub mod Seeing
+pub mod Sections
 pub mod Refusals
 pub mod Leaving
 pub mod Steps

@@ -1,16 +1,13 @@
 -- What a reader of a board has, beside a lock that it does not enter, and what it sees (this profile).
-use Rattle.std.specs.Prelude.{ℕ, ◌≡◌, ◌<◌, ◌≤◌, ◌⊎◌, [], length, IsSome, Option, None, Some}
+use Rattle.std.specs.Prelude.{◌≡◌, ◌<◌, ◌≤◌, [], length, Option, None, Some}
 use mathlib.Core.List.{IsPrefix}
 use Rattle.zp_model.specs.Run.{IsHistory}
 use Rattle.zp_counts.specs.CountBoards.{BoardState, CountsSeen, IsFreshRead, IsReadingOf, last_reading}
 use Rattle.zp_counts.specs.declared.reading.Reading.{Reading}
 use Rattle.zp_share.specs.Shares.{key_of}
 use Rattle.zp_zone.specs.Seats.{ZoneState}
-use Rattle.zp_gate.specs.declared.reader_error.ReaderError.{ReaderError}
-use Rattle.zp_gate.specs.declared.reader_error.ReaderError.TheVariants.{Busy, NoBoard, NoMemory, NoZone}
 use Rattle.zp_gate.specs.Boards.{IsCountsOf, IsPublished}
 use Rattle.zp_gate.specs.GatedZones.{GateKey}
-use Rattle.zp_gate.specs.GatedWorkers.{HasZone, WorkerState, gated_at}
 
 -- what never changes behind the lock, and what the reader has seen of the board
 pub record ReaderState : Type 0 where
@@ -56,9 +53,3 @@ pub record IsReadInside (z : ZoneState) (r s : ReaderState) (reading : Reading) 
   pub known : r.reader.known ≤ s.reader.known
   pub told : reading ≡ last_reading s.reader.seen
   pub taken : (x : Reading) → IsReadingOf r.reader.seen x → IsCountsOf z x
-
--- why there is no reader of the zone at place i: the worker has no such zone, or it has no board; else somebody is with it, or memory is wanting
-abbrev pub LacksReader : ℕ → WorkerState → ReaderError → Type 0
-LacksReader i v NoZone = ¬ HasZone i v
-LacksReader i v NoBoard = HasZone i v × ((gated_at v i).key.board ≡ None)
-LacksReader i v e = HasZone i v × IsSome (gated_at v i).key.board

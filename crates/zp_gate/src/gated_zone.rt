@@ -23,9 +23,9 @@ ghost use Rattle.zp_gate.specs.GatedZones.{AreSectionsTill, IsGatheredIn, IsLeav
 ghost use Rattle.zp_gate.specs.declared.call.Given.TheVariants.{Done};
 ghost use Rattle.zp_gate.specs.Readings.{IsZoneOf, Tells};
 
-use crate::publishing::{publish, was_asked};
 use crate::call::{Given, ZoneCall};
 use crate::granted::Granted;
+use crate::publishing::{publish, was_asked};
 use crate::question::{Answer, Question, ZoneTold};
 use std::alloc::Global;
 use std::marker::Model;

@@ -4,6 +4,7 @@
 
 mod call;
 mod call_error;
+mod gate_facts;
 mod gated_reader;
 mod gated_row;
 mod gated_share;
@@ -17,7 +18,6 @@ mod question;
 mod reader_error;
 mod try_lock;
 mod visit_view;
-mod zone_facts;
 
 pub use call::{Given, ZoneCall};
 pub use call_error::CallError;

@@ -9,12 +9,12 @@ ghost use Rattle.zp_gate.specs.GatedZones.{IsSeatBy};
 ghost use Rattle.zp_gate.specs.GatedRows.{HaveBoards, IsGoodConfig, IsWhyNoRow, key_for, lock_key, untied, wanted_by};
 ghost use Rattle.zp_gate.specs.GatedWorkers.{AllDown, AreInOrder, IsNewWorker};
 
-use crate::publishing::board_of;
+use crate::gate_facts::GateFacts;
 use crate::gated_row::GatedRow;
 use crate::gated_share::GatedShare;
 use crate::gated_worker::GatedWorker;
+use crate::publishing::board_of;
 use crate::try_lock::{TryLock, shut_in};
-use crate::zone_facts::{GateFacts, ZoneFacts};
 use std::alloc::Global;
 use std::sync::Arc;
 use zp_model::{Name, Refused};
@@ -108,7 +108,7 @@ fn opened_zone(
         unreachable!()
     };
     let (board, publisher) = board_of(alloc, &zone, boards)?;
-    let known = ZoneFacts {
+    let key = GateFacts {
         seat,
         name,
         base: config.base,
@@ -116,12 +116,18 @@ fn opened_zone(
         min: config.min,
         largest: config.largest,
         workers,
+        board,
     };
-    let key = GateFacts { zone: known, board };
     let table = shut_in(alloc, zone, publisher, &key)?;
-    let GateFacts { zone: known, board } = key;
-    let lock = TryLock::of(table, board, &known);
-    seats.push_reserved(known.seat);
+    seats.push_reserved(key.seat);
+    let lock = TryLock::of(
+        table,
+        key.board,
+        key.base,
+        key.pages,
+        key.largest,
+        key.workers,
+    );
     let Ok(lock) = Arc::new(alloc, lock) else {
         return Err(Refused::Memory);
     };

@@ -1,5 +1,5 @@
 //! A zone's counts on a board beside its lock: they are published by whoever is with the zone, and read with no lock.
-ghost use Rattle.std.specs.Prelude.{◌≡◌, ◌↔◌, [], cond, false, true, IfErr, IfOk, IsOk, IsSome, Some};
+ghost use Rattle.std.specs.Prelude.{◌≡◌, ◌↔◌, [], cond, true, IfErr, IfOk, IsOk, IsSome, Some};
 ghost use Rattle.std.specs.Option.{ForSome};
 ghost use Rattle.zp_model.specs.declared.refused.Refused.TheVariants.{Memory};
 ghost use Rattle.zp_model.specs.declared.request.Reply.TheVariants as reply;
@@ -64,12 +64,7 @@ pub(crate) fn publish(
 
 /// The counts of a zone that was asked go on its board, if there is room. Out of line, so that a zone without a board pays for one test alone.
 #[inline(never)]
-fn publish_on(
-    publisher: &mut Publisher,
-    board: &Option<Board>,
-    zone: &Zone,
-    asked: bool,
-)
+fn publish_on(publisher: &mut Publisher, board: &Option<Board>, zone: &Zone, asked: bool)
     requires { IsTiedTo board.now (Some publisher.old) }
     ensures { publisher.new ≡ cond asked (record publisher.old { published = with_counts zone.now publisher.old.published }) publisher.old }
 {

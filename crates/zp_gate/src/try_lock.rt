@@ -11,14 +11,14 @@ ghost use Rattle.zp_gate.specs.GatedZones.{IsOneShare};
 ghost use Rattle.zp_gate.specs.Locks.{IsIn, MayLeave, first_held};
 ghost use Rattle.zp_gate.specs.Visits.{HasGathered, HasKept, IsUngathered};
 
+use crate::gate_facts::GateFacts;
 use crate::gated_zone::GatedZone;
 use crate::visit_view::VisitView;
-use crate::zone_facts::{GateFacts, ZoneFacts};
 use atomic_table::{Play, Seat as Place, Table, TableRule};
 use std::alloc::Global;
 use std::marker::Model;
 use zp_counts::{Board, Publisher};
-use zp_model::Refused;
+use zp_model::{Largest, Refused};
 use zp_share::{Share, Totals};
 use zp_zone::Zone;
 
@@ -141,7 +141,7 @@ pub(crate) fn shut_in(
 {
     // a clause of this call says that the zone is the run of its entries
     zone.history();
-    let behind = GatedZone::new(alloc, zone, key.zone.workers, publisher)?;
+    let behind = GatedZone::new(alloc, zone, key.workers, publisher)?;
     let Ok(slots) = Vec::from_array(alloc, [behind]) else {
         return Err(Refused::Memory);
     };
@@ -153,20 +153,31 @@ pub(crate) fn shut_in(
 
 impl TryLock {
     /// The lock of this table, with its board beside it.
-    pub(crate) fn of(table: GateTable, board: Option<Board>, known: &ZoneFacts) -> TryLock
-        requires key { table.shared.key ≡ record { zone = known.now; board = board } }
+    pub(crate) fn of(
+        table: GateTable,
+        board: Option<Board>,
+        base: u32,
+        pages: u32,
+        largest: Largest,
+        workers: u32,
+    ) -> TryLock
+        requires board { board ≡ table.shared.key.board }
+        requires first { base ≡ table.shared.key.zone.base }
+        requires length { pages ≡ table.shared.key.zone.pages }
+        requires largest { largest ≡ table.shared.key.zone.largest }
+        requires crew { workers ≡ table.shared.key.zone.workers }
         requires words { table.shared.table_id.words ≡ 1 }
         requires slots { table.shared.table_id.slots ≡ 1 }
         requires wide { ForSome board IsWide }
-        requires pages { known.now.pages ≤ MAX_PAGES }
-        ensures { result.table ≡ table }
+        requires few { pages ≤ MAX_PAGES }
+        ensures { result.table.shared.key ≡ table.shared.key }
     {
         TryLock {
             table,
-            base: known.base,
-            pages: known.pages,
-            pageblocks: known.largest.pageblocks(known.pages),
-            workers: known.workers,
+            base,
+            pages,
+            pageblocks: largest.pageblocks(pages),
+            workers,
             board,
         }
     }
