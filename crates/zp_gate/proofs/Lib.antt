@@ -6,3 +6,4 @@ pub mod Leaving
 pub mod Steps
 pub mod Keys
 pub mod Putting
+pub mod Told
