@@ -1,4 +1,5 @@
-/* zonealloc_counts_by_type over three small zones: after each step what it tells stands in a table written by hand from docs/rules.md. By
+/* zonealloc_counts_by_type over three small zones: after each step what it tells stands in a table written by hand from docs/rules.md, and so does
+ * where a block came from that zonealloc_alloc_told allocates. By
  * order the types' blocks are together those of zonealloc_counts, and by type the pageblocks those that zonealloc_pageblock tells. A call
  * that is refused has told nothing. Prints one line and answers 0; or tells what was wrong and answers 1. */
 #include "zonealloc.h"
@@ -17,7 +18,7 @@ typedef enum { NOTHING, ALLOC, FREE, POST, ISOLATE, RELEASE, REFILL, DRAIN } act
 typedef struct {
     action_t action;
     uint32_t zone, at, order, type;
-    uint32_t free[ZONE_PAGEBLOCK_TYPES][COUNTED_ORDERS], pageblocks[ZONE_PAGEBLOCK_TYPES];
+    uint32_t free[ZONE_PAGEBLOCK_TYPES][COUNTED_ORDERS], pageblocks[ZONE_PAGEBLOCK_TYPES], origin;
 } step_t;
 
 #define UNMOVABLE ZONE_TYPE_UNMOVABLE
@@ -34,9 +35,9 @@ static const step_t steps[] = {
     { ISOLATE, 0, 2, 0, 0,            { { 0 },       { 0 },       { 1, 0, 4 },    { 0, 0, 1 } }, { 0, 0, 5, 1 } },
     { RELEASE, 0, 2, 0, RECLAIMABLE,  { { 0 },       { 0, 0, 1 }, { 1, 0, 4 },    { 0 } },       { 0, 1, 5, 0 } },
     /* a claim takes the pageblock with it, from the first foreign type */
-    { ALLOC, 0, A + 8, 0, UNMOVABLE,  { { 1, 1 },    { 0 },       { 1, 0, 4 },    { 0 } },       { 1, 0, 5, 0 } },
+    { ALLOC, 0, A + 8, 0, UNMOVABLE,  { { 1, 1 },    { 0 },       { 1, 0, 4 },    { 0 } },       { 1, 0, 5, 0 }, ZONE_CLAIMED },
     /* what is lent or posted is in no block */
-    { ALLOC, 0, A + 16, 1, MOVABLE,   { { 1, 1 },    { 0 },       { 1, 1, 3 },    { 0 } },       { 1, 0, 5, 0 } },
+    { ALLOC, 0, A + 16, 1, MOVABLE,   { { 1, 1 },    { 0 },       { 1, 1, 3 },    { 0 } },       { 1, 0, 5, 0 }, ZONE_OWN },
     { POST, 0, A + 8, 0, 0,           { { 1, 1 },    { 0 },       { 1, 1, 3 },    { 0 } },       { 1, 0, 5, 0 } },
     /* half of a pageblock is lent while it is isolated, and joins the other half there */
     { ISOLATE, 0, 4, 0, 0,            { { 1, 1 },    { 0 },       { 1, 0, 3 },    { 0, 1 } },    { 1, 0, 4, 1 } },
@@ -44,8 +45,8 @@ static const step_t steps[] = {
     { RELEASE, 0, 4, 0, UNMOVABLE,    { { 1, 1, 1 }, { 0 },       { 1, 0, 3 },    { 0 } },       { 2, 0, 4, 0 } },
     { ISOLATE, 0, 5, 0, 0,            { { 1, 1, 1 }, { 0 },       { 0, 0, 3 },    { 1 } },       { 2, 0, 3, 1 } },
     /* what is borrowed leaves the pageblock its type: the blocks left count as Movable, and so does what comes back */
-    { ALLOC, 2, C + 2, 0, UNMOVABLE,  { { 0 },       { 0 },       { 0, 1 },       { 0 } },       { 0, 0, 1, 0 } },
-    { ALLOC, 2, C, 0, RECLAIMABLE,    { { 0 },       { 0 },       { 1 },          { 0 } },       { 0, 0, 1, 0 } },
+    { ALLOC, 2, C + 2, 0, UNMOVABLE,  { { 0 },       { 0 },       { 0, 1 },       { 0 } },       { 0, 0, 1, 0 }, ZONE_BORROWED },
+    { ALLOC, 2, C, 0, RECLAIMABLE,    { { 0 },       { 0 },       { 1 },          { 0 } },       { 0, 0, 1, 0 }, ZONE_BORROWED },
     { FREE, 2, C + 2, 0, 0,           { { 0 },       { 0 },       { 2 },          { 0 } },       { 0, 0, 1, 0 } },
     { FREE, 2, C, 0, 0,               { { 0 },       { 0 },       { 1, 1 },       { 0 } },       { 0, 0, 1, 0 } },
     /* a batch of four pages on a worker's list is in no block, and drained it is one again */
@@ -60,9 +61,9 @@ enum { STEPS = sizeof steps / sizeof steps[0] };
 static uint32_t act(const step_t *s)
 {
     zone_worker_t *own = &crew[0];
-    uint32_t page = s->at, answer = ZONE_OK;
+    uint32_t page = s->at, origin = s->origin, answer = ZONE_OK;
     switch (s->action) {
-    case ALLOC: answer = zonealloc_alloc(own, s->zone, s->order, s->type, ZONE_ANY, &page); break;
+    case ALLOC: answer = zonealloc_alloc_told(own, s->zone, s->order, s->type, ZONE_ANY, &page, &origin); break;
     case FREE: answer = zonealloc_free(own, s->zone, s->at, s->order); break;
     case POST: answer = zonealloc_post(own, s->zone, s->at, s->order, 1); break;
     case ISOLATE: answer = zonealloc_isolate(own, s->zone, s->at); break;
@@ -71,7 +72,7 @@ static uint32_t act(const step_t *s)
     case DRAIN: answer = zonealloc_drain(own, s->zone, s->type, s->at); break;
     case NOTHING: break;
     }
-    CHECK(page == s->at);
+    CHECK(page == s->at && origin == s->origin);
     return answer;
 }
 

@@ -3,6 +3,7 @@
 //! In Linux: the `free_area` of a `struct zone`, `__rmqueue` and `__free_one_page`.
 ghost use Rattle.std.specs.Prelude.{ℕ, ◌≡◌, ◌<◌, ◌≤◌, ◌+◌, ◌++◌, ◌∷◌, [], ◌^◌, ◌*◌, ◌%◌, ◌↔◌, false, length, map, slice_get, slice_index_or, slice_set, IfNone, IfOk, IfSome, IsTrue, None};
 ghost use Rattle.std.specs.List.{range_with_len};
+ghost use Rattle.zp_model.specs.Choose.{origin};
 ghost use Rattle.zp_model.specs.Block.{IsBlock, has, in_run, size};
 ghost use Rattle.zp_model.specs.Info.{blocks_of_type, counts_by_type, counts_of};
 ghost use Rattle.zp_model.specs.Rows.{IsLoose, IsOn, after, front, list_at, rest, state_at, with_run};
@@ -19,6 +20,7 @@ ghost use Rattle.zp_buddy.specs.FallingRuns.{AreTails, falling_run};
 ghost use Rattle.zp_buddy.specs.Runs.{AreClear, gives, pages_taken, pages_left, run_length, run_pages};
 
 use crate::at::{is_free_run, take_at};
+use crate::choice;
 use crate::clear::{is_block, is_clear_run};
 use crate::falling::give_falling;
 use crate::join::join;
@@ -29,8 +31,8 @@ use std::alloc::{AllocError, Global};
 use std::marker::Model;
 use zp_area::{FreeArea, LinkedPage};
 use zp_model::{
-    Counts, CountsByType, Largest, MAX_PAGES, MigrateType, ORDERS, Order, PageAt, PageblockType,
-    State,
+    Counts, CountsByType, Largest, MAX_PAGES, MigrateType, ORDERS, Order, Origin, PageAt,
+    PageblockType, State,
 };
 use zp_tree::GROUP_PAGES;
 
@@ -85,6 +87,15 @@ impl Buddy {
         let head = take(&mut self.area, order, kind)?;
         self.free -= order.pages();
         Some(head)
+    }
+
+    /// Where the block comes from that such a request takes, where it takes one.
+    // (mutable, as what is noted of the blocks that can be claimed is brought up to date)
+    pub fn origin(&mut self, order: Order, kind: MigrateType) -> Option<Origin>
+        ensures answer { result ≡ origin self.old.area order kind }
+        ensures same { self.new ≡ self.old }
+    {
+        choice::origin(&mut self.area, order, kind)
     }
 
     /// Takes pages in a row for this type, as many as a block has, `most` of them or fewer: those that so many requests for one page, one

@@ -1,5 +1,5 @@
 use Rattle.std.proofs.Common.{ℕ, ◌<◌, ◌+◌, ◌-◌, ◌∷◌, List, [], length, slice_index_or, arith}
-use Rattle.zonealloc.proofs.making.zonealloc_make.Goals as goal
+use Rattle.zonealloc.proofs.making.make.Goals as goal
 
 one_of : {A : Type 0} (xs : List A) (n : ℕ) → n < length xs → A
 one_of [] n lt = absurd (omega (arith, lt))
@@ -17,6 +17,7 @@ returns-in-Ok-clause-call c =
         c.in-Ok.row_made.value,
         c.put_row.ensures,
         made.keys,
+        made.boards,
         (
           put.each,
           λ w none lt.
