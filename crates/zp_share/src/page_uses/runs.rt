@@ -53,13 +53,36 @@ impl PageUses {
         Some(at)
     }
 
-    /// The order of the lent block in which a page lies, where it lies in one. At most as many pages are looked at as there are orders.
+    /// The order of the lent block that a page heads, where it heads one.
+    #[inline(always)]
+    fn headed_order(&self, at: usize) -> Option<Order>
+        requires { at < length self.now.uses }
+        ensures below { IfSome result (λ o. o < ORDERS) }
+        ensures some { IfSome result (λ o. is_lent_as o (use_at self.now.uses (head at o)) ≡ true) }
+        ensures none { IfNone result ((k : ℕ) → head at k ≡ at → is_lent_as k (use_at self.now.uses at) ≡ false) }
+    {
+        let Some(order) = self.uses[at].lent_order() else {
+            return None;
+        };
+        if head_of(at, order) != at {
+            return None;
+        }
+        // a clause of this call says how large an order can be
+        let _number = order.number();
+        Some(order)
+    }
+
+    /// The order of the lent block in which a page lies, where it lies in one. The page itself is looked at first, and tells the order of a block that
+    /// it heads. At most as many pages are looked at as there are orders, and one.
     fn lent_order(&self, at: usize) -> Option<Order>
         requires { at < length self.now.uses }
         ensures below { IfSome result (λ o. o < ORDERS) }
         ensures some { IfSome result (λ o. is_lent_as o (use_at self.now.uses (head at o)) ≡ true) }
         ensures none { IfNone result (is_lent_page self.now.uses at ≡ false) }
     {
+        if let Some(headed) = self.headed_order(at) {
+            return Some(headed);
+        }
         let mut number = 0;
         'orders: while number <= LARGEST_ORDER {
             let order = Order::at(number);
@@ -178,14 +201,18 @@ impl PageUses {
             unreachable!()
         };
         let head = head_of(at as usize, order);
-        let Some(kind) = self.uses[head].lent_kind(order) else {
-            unreachable!()
-        };
         let first = head as u32;
         let end = first + order.pages();
         let freed = pages.min(end - at);
-        let behind = at + freed;
+        let used = self.uses[head];
         self.set_at(head, PageUse::Away);
+        if freed == order.pages() {
+            return freed;
+        }
+        let Some(kind) = used.lent_kind(order) else {
+            unreachable!()
+        };
+        let behind = at + freed;
         self.lend_cut(largest, first, at - first, kind);
         self.lend_cut(largest, behind, end - behind, kind);
         freed

@@ -4,7 +4,7 @@
 //! and the largest order allow. Taking them in rising order leaves what taking the run at once does.
 //!
 //! In Linux: `alloc_contig_range`, and `memblock_reserve` while a kernel boots.
-ghost use Rattle.std.specs.Prelude.{ℕ, ◌≡◌, ◌≤◌, ◌<◌, ◌+◌, ◌-◌, ◌^◌, IfNone, IfOk, IfSome, IsTrue, Some, None, true};
+ghost use Rattle.std.specs.Prelude.{ℕ, ◌≡◌, ◌≤◌, ◌<◌, ◌+◌, ◌-◌, ◌^◌, IfNone, IfOk, IfSome, IsTrue, Some, None, false, true};
 ghost use Rattle.zp_model.specs.declared.constants.TheConstants.{MAX_PAGES};
 ghost use Rattle.zp_model.specs.Block.{IsBlock, head};
 ghost use Rattle.zp_model.specs.Zone.{Holding, holds, pages_of, workers_of};
@@ -165,13 +165,30 @@ impl UntiedZone {
             unreachable!()
         };
         let head = at.head(order);
+        let end = head.number() + order.pages();
+        let count = pages.min(end - at.number());
+        if count == order.pages() {
+            self.free_whole(worker, head, order);
+            return count;
+        }
         let State::Out(_, kind, _) = self.buddy.holding(head) else {
             unreachable!()
         };
-        let end = head.number() + order.pages();
-        let count = pages.min(end - at.number());
         self.free_part_of(worker, head, order, kind, at, count);
         count
+    }
+
+    /// Frees a block that is out to the worker, all of it.
+    #[inline(always)]
+    fn free_whole(&mut self, worker: Worker, head: PageAt, order: Order)
+        requires { holds self.old.plain worker head order ≡ true }
+        ensures { self.new ≡ record self.old { plain = run_freed self.old.plain worker head (2 ^ order) } }
+    {
+        // a clause of this call says that what is noted as free is free, which the next call rests on
+        let _pages = self.buddy.pages();
+        // the worker is named for the clauses alone
+        let _ = worker;
+        self.buddy.give(head, order);
     }
 
     /// Whether each of so many pages from this one on, one at least, is out to the worker, by whatever blocks.
@@ -205,8 +222,27 @@ impl UntiedZone {
         true
     }
 
+    /// The order of the block out to the worker that a page heads, where it heads one.
+    #[inline(always)]
+    fn headed_order(&self, worker: Worker, at: PageAt) -> Option<Order>
+        requires { at < pages_of self.now.plain }
+        ensures some { IfSome result (λ o. holds self.now.plain worker at o ≡ true) }
+        ensures none { IfNone result ((k : ℕ) → holds self.now.plain worker at k ≡ false) }
+    {
+        // a clause of this call says that what is noted as free is free
+        let _pages = self.buddy.pages();
+        let State::Out(order, _, holder) = self.buddy.holding(at) else {
+            return None;
+        };
+        if holder != worker {
+            return None;
+        }
+        Some(order)
+    }
+
     /// The order of the block out to the worker in which a page lies, where it lies in one: of the aligned heads around it one alone is that of such
-    /// a block. At most as many pages are looked at as there are orders.
+    /// a block. The page itself is looked at first, and tells the order of a block that it heads. At most as many pages are looked at as there
+    /// are orders.
     fn lent_order(&self, worker: Worker, at: PageAt) -> Option<Order>
         requires { at < pages_of self.now.plain }
         ensures some { IfSome result (λ o. holds self.now.plain worker (head at o) o ≡ true) }
@@ -214,8 +250,11 @@ impl UntiedZone {
     {
         // a clause of this call says that what is noted as free is free
         let _pages = self.buddy.pages();
+        if let Some(headed) = self.headed_order(worker, at) {
+            return Some(headed);
+        }
         let largest = self.buddy.largest().number();
-        let mut number = 0;
+        let mut number = 1;
         'orders: while number <= largest {
             let order = Order::at(number);
             if is_out_to(self.buddy.holding(at.head(order)), order, worker) {
