@@ -1,5 +1,5 @@
 use Rattle.std.specs.Prelude.{slice_set}
-use Rattle.std.proofs.Common.{get_or, length, ◌<◌, ◌-◌, ◌≡◌, ◌∙◌, ap, sym, arith}
+use Rattle.std.proofs.Common.{get_or, length, ◌<◌, ◌≡◌, ◌∙◌, ap, sym, arith}
 use Rattle.std.proofs.lemmas.List.{get_or_default}
 use Rattle.zp_model.specs.Block.{head}
 use Rattle.zp_share.specs.declared.page_use.PageUse.TheVariants.{Away}

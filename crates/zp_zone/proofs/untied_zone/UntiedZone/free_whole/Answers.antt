@@ -1,5 +1,4 @@
-use Rattle.std.proofs.Common.{◌^◌, ◌≡◌, ◌∙◌, ap, sym}
-use Rattle.zp_model.specs.Frames.{given}
+use Rattle.std.proofs.Common.{◌^◌, ◌∙◌, ap, sym}
 use Rattle.zp_model.specs.Runs.{run_freed}
 use Rattle.zp_laws.proofs.Held.{IsHolding, held-to}
 use Rattle.zp_zone.specs.Kept.{plain_of}

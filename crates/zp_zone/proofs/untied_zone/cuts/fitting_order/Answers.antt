@@ -1,4 +1,4 @@
-use Rattle.std.proofs.Common.{ℕ, zero, suc, ◌≤◌, ◌-◌, ◌≡◌, ◌<◌, ◌%◌, ◌^◌, inl, inr, refl, sym, ap, arith, min}
+use Rattle.std.proofs.Common.{ℕ, zero, suc, ◌≤◌, ◌-◌, ◌≡◌, ◌<◌, ◌^◌, inl, inr, refl, sym, arith, min}
 use Rattle.std.specs.Int.{trailing_zeros, w32}
 use Rattle.std.specs.Int.Count.{count_leading_zeros}
 use Rattle.std.proofs.Math.Nat.{pow-le-pow_right}
