@@ -384,3 +384,18 @@ uses_told w us vs pages same =
     go (Lent j s) (Lent k t) x = refl
     go (Lent j s) (Cached t) x = absurd (both_ways _ (x (type_number t)) (eq-eqb (type_number t) (type_number t) refl))
     go (Cached s) v x = let w = cached_use (type_number s) v (x (type_number s) ∙ eq-eqb (type_number s) (type_number s) refl) in ap Cached (type_one s w.0 (sym w.2)) ∙ sym w.1
+
+-- once a run has come back, what is out in the worker's name is what the uses say
+pub uses_end : (z : PlainZone) (w h n next end : ℕ) (us vs : List PageUse) → IsFreeing z w h n next end us vs → next ≡ end → own w (run_freed z w h n).out ≡ map (held w) vs
+uses_end z w h n next end us vs x last = ap (λ (y : PlainZone). own w y.out) (sym (x.run.done last)) ∙ x.out
+
+-- a run that is one lent block has come back once its head is away
+pub block_back : (z : PlainZone) (w p n at k : ℕ) (us vs : List PageUse) → IsLawful z → own w z.out ≡ map (held w) us → w < workers_of z → may_free_run z w p n ≡ true → at ≡ p - z.base →
+    at < length us → is_lent_as k (use_at us at) ≡ true → 2 ^ k ≡ n → vs ≡ slice_set us at Away →
+    IsFreeing z w (p - z.base) n (at + n) (at + n) us vs
+block_back z w p n at k us vs l out lt may place below lent size gone =
+    let some : 0 < n = omega (arith, size, pow_pos k) in
+    let left : at + n - at ≡ n = omega arith in
+    let part : IsPartFreed z.area.largest us vs at n n =
+    whole_freed_uses z.area.largest us vs at k at n n lent below (in_run-from at k at (omega arith) (omega (arith, pow_pos k))) (sym size) (omega arith) (omega (arith, size)) gone in
+    uses_go z w (p - z.base) n at (at + n) z.area.largest n us us vs lt refl (omega (arith, some)) (uses_begin z w p n at (at + n) us l out may place refl) (rw left part)

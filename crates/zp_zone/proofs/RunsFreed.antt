@@ -407,20 +407,23 @@ module _ {f : Frames} {base min w g h n : ℕ} {c : Holding} (p : IsPart f base 
             (rw part_plain (run_freed_lawful (plain_of f base min) p.asked.lawful w h n lt all))
 
 -- none of a run that is lent to w has come back yet
-pub freeing_begins : (z : PlainZone) (w p n next end : ℕ) → may_free_run z w p n ≡ true → next ≡ p - z.base → end ≡ next + n → IsFreeingRun z z w (p - z.base) n next end
-freeing_begins z w p n next end may at to =
-    let a = and_parts _ _ may in
-    let some : 1 ≤ n = leb-true 1 n (and_parts _ _ a.0).1 in
+pub freeing_starts : (z : PlainZone) (w h n next end : ℕ) → 0 < n → is_lent_run z w h n ≡ true → next ≡ h → end ≡ next + n → IsFreeingRun z z w h n next end
+freeing_starts z w h n next end some lent at to =
     let left : end - next ≡ n = omega arith in
     record {
       upto = omega arith;
       base = refl;
       workers = refl;
       pages = refl;
-      lent = λ more. rw (left, at) a.1;
+      lent = λ more. rw (left, at) lent;
       after = λ more. rw (left, at) refl;
       done = λ same. absurd (omega arith);
     }
+
+pub freeing_begins : (z : PlainZone) (w p n next end : ℕ) → may_free_run z w p n ≡ true → next ≡ p - z.base → end ≡ next + n → IsFreeingRun z z w (p - z.base) n next end
+freeing_begins z w p n next end may at to =
+    let a = and_parts _ _ may in
+    freeing_starts z w (p - z.base) n next end (omega (arith, leb-true 1 n (and_parts _ _ a.0).1)) a.1 at to
 
 -- what is to come back lies in the zone
 pub freeing_inside : (z y : PlainZone) (w h n next end : ℕ) → IsLawful y → IsFreeingRun z y w h n next end → next < end → end ≤ pages_of z

@@ -17,10 +17,25 @@ use zp_model::{LARGEST_ORDER, Largest, MigrateType, Order, PageAt, PageNo, Refus
 use zp_zone::{Zone, fitting_order};
 
 impl PageUses {
-    /// Whether so many pages from this absolute one on, one at least, are the zone's, and each lies in a lent block. It goes from block to block.
+    /// Whether so many pages from this absolute one on, one at least, are the zone's, and each lies in a lent block.
     // (out of line: in line `Share::refuse` is too long to be so, and then each section that may be refused clears room for a list of pages)
     #[inline(never)]
     pub fn is_lent_run(&self, page: PageNo, pages: u32) -> bool
+        ensures { result ≡ is_lent_run self.now.base self.now.uses page pages }
+    {
+        let Some(from) = self.run_place(page, pages) else {
+            return false;
+        };
+        if let Some(_order) = self.order_of_run(from, pages) {
+            return true;
+        }
+        self.are_lent(page, pages)
+    }
+
+    /// The same, from block to block.
+    // (out of line: most runs that are asked about are one block)
+    #[inline(never)]
+    fn are_lent(&self, page: PageNo, pages: u32) -> bool
         ensures { result ≡ is_lent_run self.now.base self.now.uses page pages }
     {
         let Some(from) = self.run_place(page, pages) else {
@@ -58,7 +73,7 @@ impl PageUses {
     fn headed_order(&self, at: usize) -> Option<Order>
         requires { at < length self.now.uses }
         ensures below { IfSome result (λ o. o < ORDERS) }
-        ensures some { IfSome result (λ o. is_lent_as o (use_at self.now.uses (head at o)) ≡ true) }
+        ensures some { IfSome result (λ o. (head at o ≡ at) × (is_lent_as o (use_at self.now.uses (head at o)) ≡ true)) }
         ensures none { IfNone result ((k : ℕ) → head at k ≡ at → is_lent_as k (use_at self.now.uses at) ≡ false) }
     {
         let Some(order) = self.uses[at].lent_order() else {
@@ -69,6 +84,23 @@ impl PageUses {
         }
         // a clause of this call says how large an order can be
         let _number = order.number();
+        Some(order)
+    }
+
+    /// The order of the lent block that so many pages from this one on are, where they are one.
+    #[inline(always)]
+    fn order_of_run(&self, at: usize, pages: u32) -> Option<Order>
+        requires { at < length self.now.uses }
+        ensures below { IfSome result (λ o. o < ORDERS) }
+        ensures some { IfSome result (λ o. (head at o ≡ at) × (is_lent_as o (use_at self.now.uses (head at o)) ≡ true) × (2 ^ o ≡ pages)) }
+        ensures none { IfNone result ((k : ℕ) → head at k ≡ at → 2 ^ k ≡ pages → is_lent_as k (use_at self.now.uses at) ≡ false) }
+    {
+        let Some(order) = self.headed_order(at) else {
+            return None;
+        };
+        if order.pages() != pages {
+            return None;
+        }
         Some(order)
     }
 
@@ -130,6 +162,7 @@ impl PageUses {
     }
 
     /// So many pages from this one on, none of them on a list, are lent for this type as the blocks of their run's cut.
+    #[inline(never)]
     fn lend_cut(&mut self, largest: Largest, from: u32, pages: u32, kind: MigrateType)
         requires few { length self.old.uses ≤ MAX_PAGES }
         requires inside { from + pages ≤ length self.old.uses }
@@ -165,6 +198,30 @@ impl PageUses {
     /// So many pages from this one on, all of them lent, are the worker's no more, by whatever blocks. What the blocks around the first and the last
     /// of them have beyond the run stays lent.
     pub fn free_run(&mut self, zone: &Zone, worker: Worker, page: PageNo, pages: u32)
+        requires base { self.old.base ≡ zone.now.plain.base }
+        requires known { worker < workers_of zone.now.plain }
+        requires held { own worker zone.now.plain.out ≡ map (held worker) self.old.uses }
+        requires lent { is_lent_run self.old.base self.old.uses page pages ≡ true }
+        ensures base { self.new.base ≡ self.old.base }
+        ensures held { own worker (run_freed zone.now.plain worker (page - self.old.base) pages).out ≡ map (held worker) self.new.uses }
+        ensures cached { HasSameCached self.old.uses self.new.uses }
+        ensures pages { length self.new.uses ≡ length self.old.uses }
+    {
+        // a clause of this call says that what is out in the worker's name is what the uses say
+        let _pages = zone.pages();
+        let first = page.number() - self.base as u32;
+        let at = first as usize;
+        if let Some(_order) = self.order_of_run(at, pages) {
+            self.set_at(at, PageUse::Away);
+            return;
+        }
+        self.free_parts(zone, worker, page, pages);
+    }
+
+    /// The same, from block to block.
+    // (out of line: most runs that come back are one block)
+    #[inline(never)]
+    fn free_parts(&mut self, zone: &Zone, worker: Worker, page: PageNo, pages: u32)
         requires base { self.old.base ≡ zone.now.plain.base }
         requires known { worker < workers_of zone.now.plain }
         requires held { own worker zone.now.plain.out ≡ map (held worker) self.old.uses }

@@ -51,7 +51,7 @@ impl UntiedZone {
         if !self.buddy.is_free_run(at, pages) {
             return Err(Refused::NotFree);
         }
-        self.take_run_at(worker, at, pages);
+        self.take_free_run(worker, at, pages);
         Ok(page)
     }
 
@@ -83,11 +83,30 @@ impl UntiedZone {
             return Err(Refused::NoBlock);
         };
         let page = PageNo::new(self.base + at.number());
-        self.take_run_at(worker, at, pages);
+        self.take_free_run(worker, at, pages);
         Ok(page)
     }
 
+    /// Takes so many pages from this one on, all of them free. Where they are one block, it is taken straight.
+    #[inline(always)]
+    fn take_free_run(&mut self, worker: Worker, at: PageAt, pages: u32)
+        requires worker { worker < workers_of self.old.plain }
+        requires some { 0 < pages }
+        requires inside { at + pages ≤ pages_of self.old.plain }
+        requires free { IsFreeRun self.old.plain.area at pages }
+        ensures { self.new ≡ record self.old { plain = run_taken self.old.plain worker at pages } }
+    {
+        self.lawful();
+        let order = fitting_order(self.largest(), at, pages);
+        if order.pages() == pages {
+            self.take_block_at(worker, at, order);
+            return;
+        }
+        self.take_run_at(worker, at, pages);
+    }
+
     /// Takes so many pages from this one on, all of them free, block by block of the run's cut.
+    #[inline(never)]
     fn take_run_at(&mut self, worker: Worker, at: PageAt, pages: u32)
         requires worker { worker < workers_of self.old.plain }
         requires inside { at + pages ≤ pages_of self.old.plain }
@@ -138,12 +157,48 @@ impl UntiedZone {
         self.lawful();
         // a clause of this call says how many pages there can be
         let _pages = self.pages();
-        let mut next = page.number() - self.base;
+        let first = page.number() - self.base;
+        let at = PageAt::at(first);
+        if let Some(order) = self.order_of_run(worker, at, pages) {
+            self.free_whole(worker, at, order);
+            return;
+        }
+        self.free_parts(worker, at, pages);
+    }
+
+    /// The order of the block out to the worker that so many pages from this one on are, where they are one.
+    #[inline(always)]
+    fn order_of_run(&self, worker: Worker, at: PageAt, pages: u32) -> Option<Order>
+        requires { at < pages_of self.now.plain }
+        ensures some { IfSome result (λ o. (holds self.now.plain worker at o ≡ true) × (2 ^ o ≡ pages)) }
+        ensures none { IfNone result ((k : ℕ) → 2 ^ k ≡ pages → holds self.now.plain worker at k ≡ false) }
+    {
+        let Some(order) = self.headed_order(worker, at) else {
+            return None;
+        };
+        if order.pages() != pages {
+            return None;
+        }
+        Some(order)
+    }
+
+    /// Frees so many pages from this one on, each of them lent to the worker, block by block.
+    #[inline(never)]
+    fn free_parts(&mut self, worker: Worker, at: PageAt, pages: u32)
+        requires worker { worker < workers_of self.old.plain }
+        requires some { 0 < pages }
+        requires lent { is_lent_run self.old.plain worker at pages ≡ true }
+        ensures { self.new ≡ record self.old { plain = run_freed self.old.plain worker at pages } }
+    {
+        self.lawful();
+        // a clause of this call says how many pages there can be
+        let _pages = self.pages();
+        let mut next = at.number();
         let end = next + pages;
         'parts: while next < end {
             self.lawful();
-            let at = PageAt::at(next);
-            let freed = self.free_in_block(worker, at, end - next);
+            let place = PageAt::at(next);
+            let freed = self.free_in_block(worker, place, end - next);
             next += freed;
         }
     }

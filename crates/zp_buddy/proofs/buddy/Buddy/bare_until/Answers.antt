@@ -1,4 +1,4 @@
-use Rattle.std.proofs.Common.{◌*◌, ◌/◌, ◌≤◌, ◌<◌, refl, arith, length, min}
+use Rattle.std.proofs.Common.{◌/◌, ◌≤◌, refl, arith, min}
 use Rattle.zp_model.specs.declared.constants.TheConstants.{LARGEST_ORDER}
 use Rattle.zp_buddy.specs.Choices.{area_in}
 use Rattle.zp_buddy.proofs.Groups.{bare_to, block_from}
@@ -19,4 +19,4 @@ returns-clause-stops c =
     rw (← c.self.view_is)
     (λ below.
     block_from (area_in a.largest a) (min c.args.order 5) c.bare_until.result
-    (rw (at_hand a.largest a c.self.invariant.sound) c.bare_until.ensures.stops (omega (arith, below, length-pages a.rows.states))))
+    (rw (at_hand a.largest a c.self.invariant.sound) (c.bare_until.ensures.stops (omega (arith, below, length-pages a.rows.states)))))
