@@ -1,6 +1,6 @@
 use Rattle.std.proofs.Common.{◌≡◌}
 use Rattle.zp_area.proofs.Towards.{IsTowards}
-use Rattle.zp_area.proofs.area.FreeArea.split_towards.Given as goal
+use Rattle.zp_area.proofs.area.FreeArea.halve_towards.Given as goal
 
 -- of the block that has left, the run of order `order` around the page is in no block yet
 abbrev pub invariant-halves : goal.invariant-halves

@@ -1,6 +1,6 @@
 use Rattle.std.proofs.Common.{ℕ, ◌-◌, ◌≡◌, ◌≤◌, ◌<◌, true}
 use Rattle.zp_share.specs.PageUses.{is_lent_page}
-use Rattle.zp_share.proofs.page_uses.PageUses.is_lent_run.Given as goal
+use Rattle.zp_share.proofs.page_uses.PageUses.are_lent.Given as goal
 
 -- the pages before `next` are lent
 abbrev pub invariant-looks : goal.invariant-looks
