@@ -211,6 +211,7 @@ own_front m a k t = alike (front_of_order m a (t ∷ [])) (λ o. front (free_lis
     single : {X : Type 0} → (x : Option X) → option_or x None ≡ x
     single None = refl
     single (Some x) = refl
+
     alike : {X Y : Type 0} → (f g : X → Option Y) → ((x : X) → f x ≡ g x) → (xs : List X) → first_of f xs ≡ first_of g xs
     alike f g e [] = refl
     alike f g e (x ∷ xs) = rw (e x, alike f g e xs) refl

@@ -117,9 +117,7 @@ impl GatedZone {
     {
         let origin = self.zone.origin(order, kind);
         let page = self.alloc(board, share, order, kind, mark)?;
-        let Some(origin) = origin else {
-            unreachable!()
-        };
+        let Some(origin) = origin else { unreachable!() };
         Ok(Told { page, origin })
     }
 

@@ -69,9 +69,7 @@ impl Zone {
     {
         let origin = self.origin(order, kind);
         let page = self.alloc(seat, order, kind, mark)?;
-        let Some(origin) = origin else {
-            unreachable!()
-        };
+        let Some(origin) = origin else { unreachable!() };
         Ok(Told { page, origin })
     }
 
