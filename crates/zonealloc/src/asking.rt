@@ -38,7 +38,6 @@ pub fn ask_alloc(
 }
 
 /// The same, and where the block came from.
-#[tactic(auto, using(crate::proofs::Answering::ask_denied))]
 pub fn ask_told(
     worker: &mut WorkerHandle,
     zone: u32,
@@ -78,7 +77,6 @@ pub fn ask_free(worker: &mut WorkerHandle, zone: u32, page: PageNo, order: Order
 }
 
 /// A run of pages for the worker in a handle: its first page, else the number of why there is none.
-#[tactic(auto, using(crate::proofs::Answering::ask_denied))]
 pub fn ask_alloc_run(
     worker: &mut WorkerHandle,
     zone: u32,

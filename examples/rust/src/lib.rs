@@ -37,7 +37,9 @@ mod worker;
 pub use reader::Reader;
 pub use refusal::Refusal;
 pub use row::{Row, Workers};
-pub use values::{Block, Counts, CountsByType, InfoLine, Level, Lists, Mark, MigrateType, Origin, PageState, PageblockState, Reading, Totals, ZoneSpec};
+pub use values::{
+    Block, Counts, CountsByType, InfoLine, Level, Lists, Mark, MigrateType, Origin, PageState, PageblockState, Reading, Totals, ZoneSpec,
+};
 pub use worker::Worker;
 
 /// Makes a call until no other is in its zone, with a longer rest each time.

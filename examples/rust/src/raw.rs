@@ -73,15 +73,7 @@ extern "C" {
     pub fn zonealloc_cached(worker: &mut Handle, zone: u32, kind: u32, pages: &mut u32) -> u32;
 
     pub fn zonealloc_alloc(worker: &mut Handle, zone: u32, order: u32, kind: u32, mark: u32, page: &mut u32) -> u32;
-    pub fn zonealloc_alloc_told(
-        worker: &mut Handle,
-        zone: u32,
-        order: u32,
-        kind: u32,
-        mark: u32,
-        page: &mut u32,
-        origin: &mut u32,
-    ) -> u32;
+    pub fn zonealloc_alloc_told(worker: &mut Handle, zone: u32, order: u32, kind: u32, mark: u32, page: &mut u32, origin: &mut u32) -> u32;
     pub fn zonealloc_alloc_low(worker: &mut Handle, zone: u32, order: u32, page: &mut u32) -> u32;
     pub fn zonealloc_free(worker: &mut Handle, zone: u32, page: u32, order: u32) -> u32;
     pub fn zonealloc_alloc_many(
