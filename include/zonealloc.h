@@ -185,7 +185,14 @@ uint32_t zonealloc_cached(zone_worker_t *worker, uint32_t zone, uint32_t type, u
  *   ZONE_BELOW_MARK        so many pages less would be below the mark: ask the zone below
  *   ZONE_NO_BLOCK          no free block is so large, as ever where the order is above the zone's largest: ask the zone below */
 uint32_t zonealloc_alloc(zone_worker_t *worker, uint32_t zone, uint32_t order, uint32_t type, uint32_t mark, uint32_t *page);
-/* ZONE. As zonealloc_alloc, and where the block came from: ZONE_OWN, ZONE_CLAIMED or ZONE_BORROWED. */
+/* ZONE. As zonealloc_alloc, and where the block came from: ZONE_OWN, ZONE_CLAIMED or ZONE_BORROWED.
+ *   ZONE_BAD_ARGUMENT      the order is above 10, the type or the mark above 2
+ *   ZONE_BAD_HANDLE        nothing is in the handle
+ *   ZONE_BAD_ARGUMENT      the row has no such zone
+ *   ZONE_BUSY              another is in the zone
+ *   ZONE_ENDED             the worker made its last request to the zone
+ *   ZONE_BELOW_MARK        so many pages less would be below the mark: ask the zone below
+ *   ZONE_NO_BLOCK          no free block is so large: ask the zone below */
 uint32_t zonealloc_alloc_told(zone_worker_t *worker, uint32_t zone, uint32_t order, uint32_t type, uint32_t mark, uint32_t *page, uint32_t *origin);
 /* ZONE. The lowest free block of this order, which is then lent. It is held to no mark.
  *   ZONE_BAD_ARGUMENT      the order is above 10
