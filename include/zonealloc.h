@@ -38,8 +38,8 @@ typedef struct zone_reader { uint32_t live; unsigned char *at; } zone_reader_t;
 #define ZONE_NONE { 0, NULL }
 
 enum { ZONE_ZONES = 64, ZONE_WORKERS = 32, ZONE_ORDERS = 11, ZONE_TYPES = 3, ZONE_PAGEBLOCK_TYPES = 4, ZONE_INFO_LINE = 160 };
-/* What a zone's board and a reader take at most, in bytes. */
-enum { ZONE_BOARD_BYTES = 1560, ZONE_READER_BYTES = 96 };
+/* What a zone's board and a reader take at most while they are made, in bytes. */
+enum { ZONE_BOARD_BYTES = 1552, ZONE_READER_BYTES = 72 };
 
 /* Migrate types; of a pageblock also ZONE_TYPE_ISOLATED. */
 enum { ZONE_TYPE_UNMOVABLE = 0, ZONE_TYPE_RECLAIMABLE = 1, ZONE_TYPE_MOVABLE = 2, ZONE_TYPE_ISOLATED = 3 };

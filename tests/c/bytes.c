@@ -60,7 +60,7 @@ static void make_one(uint32_t making)
     } else
         CHECK(zonealloc_make(&row, workers, n_workers, specs, zones, batch, 2 * batch) == ZONE_OK);
     CHECK(taken <= bytes);
-    CHECK(making % 3 == 0 || bytes <= most_in_use + most_in_use / 20);
+    CHECK(bytes <= most_in_use + most_in_use / 20 || making % 3 == 0);
     if (failures != 0)
         tell(zones, n_workers, batch, bytes);
     worst = (double)bytes / (double)most_in_use > worst ? (double)bytes / (double)most_in_use : worst;

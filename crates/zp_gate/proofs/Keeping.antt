@@ -1,6 +1,6 @@
 -- What one call makes of what stands behind a lock: it is the zone of the same key still.
-use Rattle.std.proofs.Common.{ℕ, zero, suc, ◌≡◌, ◌<◌, ◌+◌, List, length, All, slice_index, slice_index_or, slice_set, sym, ap, ◌∙◌, subst, inl, inr, arith}
-use Rattle.std.specs.Prelude.{Option, Some, None, Result, Ok, Err}
+use Rattle.std.proofs.Common.{ℕ, zero, suc, ◌≡◌, ◌<◌, ◌+◌, List, length, All, slice_index, slice_index_or, slice_set, refl, sym, ap, ◌∙◌, subst, inl, inr, arith}
+use Rattle.std.specs.Prelude.{Bool, Option, Some, None, Result, Ok, Err}
 use Rattle.std.proofs.lemmas.List.{get_or_default, get_or-set_other, get_or-set_same, length-set}
 use Rattle.std.proofs.lemmas.List.Elements.{All-push}
 use Rattle.zp_model.specs.declared.refused.Refused.{Refused}
@@ -12,14 +12,14 @@ use Rattle.zp_laws.proofs.Sameness.{step-same}
 use Rattle.zp_zone.specs.Seats.{ZoneState}
 use Rattle.zp_share.specs.PlainShares.{refusal_of}
 use Rattle.zp_share.specs.Sections.{ComesOf, IsAsked, IsRefilled}
-use Rattle.zp_share.specs.Shares.{ShareState, ZoneKey, is_section, key_of, share_at}
+use Rattle.zp_share.specs.Shares.{ShareState, ZoneKey, is_section, key_of, share_at, with_zone_share}
 use Rattle.zp_share.specs.ZoneShares.{ZoneShareState, plain_share}
 use Rattle.zp_share.proofs.Telling.{same-key}
 use Rattle.zp_counts.specs.CountBoards.{BoardState, CountsPublished}
 use Rattle.zp_gate.specs.declared.granted.Granted.{Granted}
 use Rattle.zp_gate.specs.GatedWorkers.{AreMadeAt, GatedShareState, HasTurned, WorkerState, gated_at, no_gated_share}
 use Rattle.zp_gate.specs.Visits.{AreAnswers}
-use Rattle.zp_gate.specs.Boards.{IsBoardOf, IsTiedTo}
+use Rattle.zp_gate.specs.Boards.{IsBoardOf, IsTiedTo, board_after}
 use Rattle.zp_gate.specs.GatedZones.{AreSections, AreSectionsTill, EndsWith, GateKey, GatedState, IsBehind, IsOneCall, IsOneShare, IsSectionOf, IsWrittenTo, each_is, free_of, freed_of, page_of}
 use Rattle.zp_gate.proofs.Boards.{board_stays, made_stays, tied_stays}
 
@@ -143,3 +143,18 @@ made_at i asks gives most g v w d f lt at now made =
 -- and the right to publish is one for the same board
 pub still_tied : (b : Option BoardState) (r : Request) (q : Reply) (y z : GatedState) (s t : ShareState) → IsTiedTo b y.board → IsSectionOf r q y z s t → IsTiedTo b z.board
 still_tied b r q y z s t is x = subst (IsTiedTo b) (sym (ap (λ (g : GatedState). g.board) x.1)) (tied_stays b y.board (is_section q) z.zone is)
+
+-- where there is no board nothing is published
+none_after : (b : Option CountsPublished) (asked : Bool) (z : ZoneState) → b ≡ None → board_after asked z b ≡ b
+none_after None asked z is = refl
+none_after (Some p) asked z is = absurd (cc)
+
+pub section_without : (r : Request) (q : Reply) (v z : ZoneState) (l : List ShareState) (b : Option CountsPublished) (y : GatedState) (s t : ShareState) → record { zone = v; left = l; board = b } ≡ y → b ≡ None →
+    IsAsked r q v z (share_at s 0) (share_at t 0) → t ≡ with_zone_share 0 (share_at t 0) s → IsSectionOf r q y (record { zone = z; left = l; board = b }) s t
+section_without r q v z l b y s t is none x others =
+    subst (λ (w : GatedState). IsSectionOf r q w (record { zone = z; left = l; board = b }) s t) is (x, (λ i. record { zone = z; left = l; board = sym (none_after b (is_section q) z none) i }), others)
+
+pub refill_without : (r : Request) (answer : Result (Unit {0}) Refused) (v z : ZoneState) (l : List ShareState) (b : Option CountsPublished) (y : GatedState) (s t : ShareState) → record { zone = v; left = l; board = b } ≡ y → b ≡ None →
+    IsRefilled (λ q. IsAsked r q v z (share_at s 0) (share_at t 0)) answer → t ≡ with_zone_share 0 (share_at t 0) s → IsRefilled (λ q. IsSectionOf r q y (record { zone = z; left = l; board = b }) s t) answer
+refill_without r (Ok u) v z l b y s t is none x others = (x.0, section_without r (Reply.Pages x.0) v z l b y s t is none x.1 others)
+refill_without r (Err e) v z l b y s t is none x others = section_without r (Reply.Refused e) v z l b y s t is none x others

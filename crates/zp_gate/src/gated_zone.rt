@@ -83,8 +83,29 @@ impl GatedZone {
     }
 
     /// A block for a share of the zone.
+    #[tactic(auto, using(crate::proofs::Keeping::workers_stay, crate::proofs::Keeping::section_without))]
     #[inline(always)]
     pub(crate) fn alloc(
+        &mut self,
+        board: &Option<Board>,
+        share: &mut Share,
+        order: Order,
+        kind: MigrateType,
+        mark: Mark,
+    ) -> Result<PageNo, Refused>
+        requires board { IsTiedTo board.now self.old.board }
+        requires share { IsOneShare (key_of self.old.zone) share.old }
+        ensures { IsSectionOf (request.Alloc order kind mark) (page_reply result) self.old self.new share.old share.new }
+    {
+        if let None = &self.board {
+            return share.alloc_block(&mut self.zone, 0, order, kind, mark);
+        }
+        self.alloc_published(board, share, order, kind, mark)
+    }
+
+    /// The same with a board, out of line: a zone without one pays for one test alone.
+    #[inline(never)]
+    fn alloc_published(
         &mut self,
         board: &Option<Board>,
         share: &mut Share,
@@ -122,9 +143,29 @@ impl GatedZone {
     }
 
     /// A block back from a share of the zone.
-    #[tactic(auto, using(crate::proofs::Keeping::workers_stay))]
+    #[tactic(auto, using(crate::proofs::Keeping::workers_stay, crate::proofs::Keeping::section_without))]
     #[inline(always)]
     pub(crate) fn free(
+        &mut self,
+        board: &Option<Board>,
+        share: &mut Share,
+        page: PageNo,
+        order: Order,
+    ) -> Result<(), Refused>
+        requires board { IsTiedTo board.now self.old.board }
+        requires share { IsOneShare (key_of self.old.zone) share.old }
+        ensures { IsSectionOf (request.Free page order) (done_reply reply.Freed result) self.old self.new share.old share.new }
+    {
+        if let None = &self.board {
+            return share.free_block(&mut self.zone, 0, page, order);
+        }
+        self.free_published(board, share, page, order)
+    }
+
+    /// The same with a board, out of line: a zone without one pays for one test alone.
+    #[tactic(auto, using(crate::proofs::Keeping::workers_stay))]
+    #[inline(never)]
+    fn free_published(
         &mut self,
         board: &Option<Board>,
         share: &mut Share,
@@ -205,7 +246,30 @@ impl GatedZone {
     }
 
     /// The lowest run of so many free pages for a share of the zone.
+    #[tactic(auto, using(crate::proofs::Keeping::workers_stay, crate::proofs::Keeping::section_without))]
+    #[inline(always)]
     pub(crate) fn alloc_run(
+        &mut self,
+        board: &Option<Board>,
+        share: &mut Share,
+        pages: u32,
+        align: u8,
+        mark: Mark,
+    ) -> Result<PageNo, Refused>
+        requires board { IsTiedTo board.now self.old.board }
+        requires share { IsOneShare (key_of self.old.zone) share.old }
+        requires run { IsTrue (may_alloc_run pages align) }
+        ensures { IsSectionOf (request.AllocRun pages align mark) (page_reply result) self.old self.new share.old share.new }
+    {
+        if let None = &self.board {
+            return share.alloc_run(&mut self.zone, 0, pages, align, mark);
+        }
+        self.alloc_run_published(board, share, pages, align, mark)
+    }
+
+    /// The same with a board, out of line: a zone without one pays for one test alone.
+    #[inline(never)]
+    fn alloc_run_published(
         &mut self,
         board: &Option<Board>,
         share: &mut Share,
@@ -224,9 +288,29 @@ impl GatedZone {
     }
 
     /// Another request of a share to the zone.
-    #[tactic(auto, using(crate::proofs::Keeping::workers_stay))]
+    #[tactic(auto, using(crate::proofs::Keeping::workers_stay, crate::proofs::Keeping::section_without))]
     #[inline(always)]
     pub(crate) fn section(
+        &mut self,
+        board: &Option<Board>,
+        share: &mut Share,
+        call: ZoneCall,
+    ) -> Result<Given, Refused>
+        requires board { IsTiedTo board.now self.old.board }
+        requires share { IsOneShare (key_of self.old.zone) share.old }
+        requires may { MayAsk (workers_of self.old.zone.plain) share.old.batch (request_of call) (share_at share.old 0) }
+        ensures { IsSectionOf (request_of call) (answer_of call result) self.old self.new share.old share.new }
+    {
+        if let None = &self.board {
+            return asked(&mut self.zone, share, call);
+        }
+        self.section_published(board, share, call)
+    }
+
+    /// The same with a board, out of line: a zone without one pays for one test alone.
+    #[tactic(auto, using(crate::proofs::Keeping::workers_stay))]
+    #[inline(never)]
+    fn section_published(
         &mut self,
         board: &Option<Board>,
         share: &mut Share,
@@ -243,8 +327,30 @@ impl GatedZone {
     }
 
     /// Frees so many pages from the back of the share's list of this type.
+    #[tactic(auto, using(crate::proofs::Keeping::workers_stay, crate::proofs::Keeping::section_without))]
     #[inline(always)]
     pub(crate) fn drain(
+        &mut self,
+        board: &Option<Board>,
+        share: &mut Share,
+        kind: MigrateType,
+        count: usize,
+    ) -> Result<(), Refused>
+        requires board { IsTiedTo board.now self.old.board }
+        requires share { IsOneShare (key_of self.old.zone) share.old }
+        requires some { 1 ≤ count }
+        requires within { count ≤ length (cached_of (share_at share.old 0) kind) }
+        ensures { IsSectionOf (drain_request count kind share.old) (done_reply reply.Drained result) self.old self.new share.old share.new }
+    {
+        if let None = &self.board {
+            return share.drain(&mut self.zone, 0, kind, count);
+        }
+        self.drain_published(board, share, kind, count)
+    }
+
+    /// The same with a board, out of line: a zone without one pays for one test alone.
+    #[inline(never)]
+    fn drain_published(
         &mut self,
         board: &Option<Board>,
         share: &mut Share,
@@ -263,8 +369,30 @@ impl GatedZone {
     }
 
     /// Fills the share's empty list of this type, by the section of a refill whose pages are not returned.
+    #[tactic(auto, using(crate::proofs::Keeping::refill_workers, crate::proofs::Keeping::refill_without))]
     #[inline(always)]
     pub(crate) fn fill(
+        &mut self,
+        board: &Option<Board>,
+        share: &mut Share,
+        kind: MigrateType,
+        mark: Mark,
+    ) -> Result<(), Refused>
+        requires board { IsTiedTo board.now self.old.board }
+        requires share { IsOneShare (key_of self.old.zone) share.old }
+        requires empty { cached_of (share_at share.old 0) kind ≡ [] }
+        requires lists { 1 ≤ share.old.batch }
+        ensures { IsRefilled (λ q. IsSectionOf (request.Refill kind mark share.old.batch) q self.old self.new share.old share.new) result }
+    {
+        if let None = &self.board {
+            return share.fill(&mut self.zone, 0, kind, mark);
+        }
+        self.fill_published(board, share, kind, mark)
+    }
+
+    /// The same with a board, out of line: a zone without one pays for one test alone.
+    #[inline(never)]
+    fn fill_published(
         &mut self,
         board: &Option<Board>,
         share: &mut Share,

@@ -6,4 +6,4 @@ use Rattle.zp_gate.proofs.gated_zone.GatedZone.drain.Goals as goal
 
 pub invariant_of-self : goal.invariant_of-self
 invariant_of-self c =
-    (c.self.invariant.0 ∙ ap (λ (z : ZoneState). workers_of z.plain) (sym c.deref_mut.ensures.value) ∙ sym (workers_stay _ _ _ _ _ _ c.drain-answer.ensures.section), c.self.invariant.1)
+    (c.self.invariant.0 ∙ ap (λ (z : ZoneState). workers_of z.plain) (sym c.deref_mut.ensures.value) ∙ sym (workers_stay _ _ _ _ _ _ c.drain.ensures.section), c.self.invariant.1)

@@ -6,4 +6,4 @@ use Rattle.zp_gate.proofs.gated_zone.GatedZone.fill.Goals as goal
 
 pub invariant_of-self : goal.invariant_of-self
 invariant_of-self c =
-    (c.self.invariant.0 ∙ ap (λ (z : ZoneState). workers_of z.plain) (sym c.deref_mut.ensures.value) ∙ sym (refill_workers _ _ _ _ _ c.fill-answer.result c.fill-answer.ensures.section), c.self.invariant.1)
+    (c.self.invariant.0 ∙ ap (λ (z : ZoneState). workers_of z.plain) (sym c.deref_mut.ensures.value) ∙ sym (refill_workers _ _ _ _ _ c.fill.result c.fill.ensures.section), c.self.invariant.1)
