@@ -13,7 +13,7 @@
 
 enum { STACK = 16384, FILL = 0xa5, WORKERS = 3, LIVE = 4096, HIGH_LEN = 62, BATCH = 31, ZONES = 3, MANY = 24 };
 /* No request gets deeper, and no call at all: docs/kernels.md, and what this program adds to a call. */
-enum { MOST_OF_REQUESTS = 1600, MOST = 6144 };
+enum { MOST_OF_REQUESTS = 1600, MOST = 7168 };
 
 typedef struct block { uint32_t zone, page, order, worker; } block_t;      /* none: order ZONE_ORDERS */
 
