@@ -1,22 +1,22 @@
 /* A zoned page allocator. docs/c.md tells how to begin.
  *
- * Two kinds of handle. A ROW is 1 to 64 zones, the lowest first. A WORKER is one worker's share of a row: its own lists of single pages, and
- * what is lent to it. A handle begins as zeros and is then written by these calls alone. It may be moved; it is never used as two copies.
+ * Three kinds of handle. A ROW is 1 to 64 zones, the lowest first. A WORKER is one worker's share of a row: its own lists of single pages, and
+ * what is lent to it. A READER reads the counts of one zone that has a board. A handle begins as zeros and is then written by these calls alone. It may be moved; it is never used as two copies.
  *
  * Who may call at the same time. Each handle is in one call at a time. Beside that:
- *   OWN    the worker's handle is all that is looked at: no lock.
+ *   OWN    the handle is all that is looked at, and of a reader the board: no lock.
  *   ZONE   one caller at a time is in a zone. Whoever comes while another is in is answered ZONE_BUSY at once, and nothing has changed. So
  *          the lock round these calls is the caller's choice: a lock of his own for each zone of a row, or none and the call made again.
  *          A lock that was forgotten makes calls fail, and breaks nothing.
- *   ALONE  no other call on this row or on a worker of it meanwhile.
+ *   ALONE  no other call on this row or on a worker of it meanwhile. (A reader may read.)
  * A worker's handle leads to its row, so no call takes two handles, and no worker can be used with a row that is not its own.
  *
  * Each call answers ZONE_OK or a number. Above its declaration stand all the numbers that it may answer, with when: where more than one
  * holds, the first of them is answered. With any other number than ZONE_OK it has changed nothing, its results included, but where its text
  * says what it has. What C cannot tell is the caller's: no pointer is null, a buffer is as long as is said, no two arguments overlap.
  *
- * Pages are absolute numbers, pageblocks and zones are counted from 0. The archive calls rattle_alloc and rattle_dealloc in
- * zonealloc_make, zonealloc_dismiss and zonealloc_unmake, and nowhere else: see docs/c.md. */
+ * Pages are absolute numbers, pageblocks and zones are counted from 0. The archive calls rattle_alloc and rattle_dealloc in the two makings,
+ * zonealloc_dismiss and zonealloc_unmake, zonealloc_reader and zonealloc_end_reader, and nowhere else: see docs/c.md. */
 #ifndef ZONEALLOC_H
 #define ZONEALLOC_H
 #define ZONEALLOC_VERSION "1.0"
@@ -34,12 +34,18 @@ extern "C" {
 
 typedef struct zone_row { uint32_t live; unsigned char *at; } zone_row_t;
 typedef struct zone_worker { uint32_t live; unsigned char *at; } zone_worker_t;
+typedef struct zone_reader { uint32_t live; unsigned char *at; } zone_reader_t;
 #define ZONE_NONE { 0, NULL }
 
 enum { ZONE_ZONES = 64, ZONE_WORKERS = 32, ZONE_ORDERS = 11, ZONE_TYPES = 3, ZONE_PAGEBLOCK_TYPES = 4, ZONE_INFO_LINE = 160 };
+/* What a zone's board and a reader take at most while they are made, in bytes. */
+enum { ZONE_BOARD_BYTES = 1552, ZONE_READER_BYTES = 72 };
 
 /* Migrate types; of a pageblock also ZONE_TYPE_ISOLATED. */
 enum { ZONE_TYPE_UNMOVABLE = 0, ZONE_TYPE_RECLAIMABLE = 1, ZONE_TYPE_MOVABLE = 2, ZONE_TYPE_ISOLATED = 3 };
+/* Where a block came from: a list of its own type, a list of another whose pageblock was then claimed for the type, or one whose pageblock keeps its
+ * type. */
+enum { ZONE_OWN = 0, ZONE_CLAIMED = 1, ZONE_BORROWED = 2 };
 /* Marks that a request is held to: ZONE_MIN leaves at least the zone's least mark of pages, ZONE_LOW a quarter more, ZONE_ANY is not tested. */
 enum { ZONE_ANY = 0, ZONE_MIN = 1, ZONE_LOW = 2 };
 /* The highest mark that the free pages outside isolated pageblocks are above. */
@@ -73,13 +79,16 @@ enum {
     ZONE_HAS_WORKERS = 43,        /* a worker was not dismissed */
     ZONE_LIST_EMPTY = 44,         /* of take: refill first */
     ZONE_LIST_NOT_EMPTY = 45,     /* of refill: take first */
-    ZONE_NO_LISTS = 46            /* of refill and put: the row was made with batch 0, so use alloc and free */
+    ZONE_NO_LISTS = 46,           /* of refill and put: the row was made with batch 0, so use alloc and free */
+    ZONE_NO_BOARD = 47            /* of reader: the row was made without boards */
 };
 
 /* What a zone is made with: its first page, its pages, its least mark, the order of its largest block and of its pageblocks (1 to 10), and
  * its name of 1 to 8 letters and digits. (Eight letters leave no room for the zero of a string: { 'H', 'i', .. } then.) */
 typedef struct zone_spec { uint32_t base, pages, min, largest, name_len; uint8_t name[8]; } zone_spec_t;
 typedef struct zone_counts { uint32_t by_order[ZONE_ORDERS]; uint32_t free, posted, level; } zone_counts_t;
+/* Free blocks of each order and free pages, as they were after so many requests to the zone: its place. */
+typedef struct zone_reading { uint32_t by_order[ZONE_ORDERS]; uint32_t free; uint64_t place; } zone_reading_t;
 /* Free blocks by the number of their pageblock's type and by order, and pageblocks by the number of their type: what /proc/pagetypeinfo has. */
 typedef struct zone_types { uint32_t free[ZONE_PAGEBLOCK_TYPES][ZONE_ORDERS], pageblocks[ZONE_PAGEBLOCK_TYPES]; } zone_types_t;
 typedef struct zone_page { uint32_t state, order, type, worker; } zone_page_t;   /* what the state does not have is 0 */
@@ -89,7 +98,8 @@ typedef struct zone_totals { uint32_t free, posted, cached, lent; } zone_totals_
 /* --- making and unmaking: these alone take and give memory --- */
 
 /* At any time. How many bytes a making takes at most, with so many workers, without what the memory functions need for themselves; with
- * lists or without. It is at most a twentieth more than the making takes. It looks of a zone at its pages and at its largest order alone.
+ * lists or without, and without boards: each zone's board takes at most ZONE_BOARD_BYTES more, and each reader ZONE_READER_BYTES. It is at most a
+ * twentieth more than the making takes. It looks of a zone at its pages and at its largest order alone.
  *   ZONE_BAD_ARGUMENT      not 1 to 64 zones
  *   ZONE_BAD_WORKERS       not 1 to 32 workers
  *   ZONE_BAD_ARGUMENT      zone by zone: its largest order is not 1 to 10
@@ -111,13 +121,28 @@ uint32_t zonealloc_bytes(const zone_spec_t *zones, size_t n_zones, uint32_t work
  *   ZONE_NO_MEMORY         memory was refused, which may be before the names are read */
 uint32_t zonealloc_make(zone_row_t *row, zone_worker_t *workers, size_t n_workers, const zone_spec_t *zones, size_t n_zones, uint32_t batch,
                         uint32_t high_len);
+/* ALONE. The same, and each zone has a board, on which its counts stand after each request to it: zonealloc_read reads them with no lock.
+ *   ZONE_BAD_HANDLE        the row's handle is not empty, or one of the workers'
+ *   ZONE_BAD_ARGUMENT      not 1 to 64 zones
+ *   ZONE_BAD_WORKERS       not 1 to 32 workers
+ *   ZONE_BAD_ARGUMENT      the lists
+ *   ZONE_BAD_BASE          a zone begins before the end of the one before it
+ *   ZONE_BAD_NAME          zone by zone: its name is longer than 8 bytes, or no text
+ *   ZONE_BAD_ARGUMENT      then: its largest order is not 1 to 10
+ *   ZONE_BAD_NAME          once more zone by zone, the first of what its line above says: the name
+ *   ZONE_BAD_BASE          then: the first page
+ *   ZONE_BAD_PAGES         then: the pages
+ *   ZONE_BAD_MARK          then: the least mark
+ *   ZONE_NO_MEMORY         memory was refused, which may be before the names are read */
+uint32_t zonealloc_make_with_boards(zone_row_t *row, zone_worker_t *workers, size_t n_workers, const zone_spec_t *zones, size_t n_zones,
+                                    uint32_t batch, uint32_t high_len);
 /* ZONE, of each zone. Ends a worker, for good: no other gets its place, and what is posted to it stays. What its lists have and what is lent
  * to it stays noted with the row until that is unmade.
  *   ZONE_BAD_HANDLE        nothing is in the handle
  *   ZONE_BUSY              another is in a zone. The worker has left the zones of higher numbers, and calls to those are answered
  *                          ZONE_BAD_ARGUMENT; call again */
 uint32_t zonealloc_dismiss(zone_worker_t *worker);
-/* ALONE. Gives back the row's memory.
+/* ALONE. Gives back the row's memory, but for zones of which there are readers: theirs is given back when the last one ends.
  *   ZONE_BAD_HANDLE        nothing is in the handle
  *   ZONE_HAS_WORKERS       a worker of the row was not dismissed */
 uint32_t zonealloc_unmake(zone_row_t *row);
@@ -160,6 +185,15 @@ uint32_t zonealloc_cached(zone_worker_t *worker, uint32_t zone, uint32_t type, u
  *   ZONE_BELOW_MARK        so many pages less would be below the mark: ask the zone below
  *   ZONE_NO_BLOCK          no free block is so large, as ever where the order is above the zone's largest: ask the zone below */
 uint32_t zonealloc_alloc(zone_worker_t *worker, uint32_t zone, uint32_t order, uint32_t type, uint32_t mark, uint32_t *page);
+/* ZONE. As zonealloc_alloc, and where the block came from: ZONE_OWN, ZONE_CLAIMED or ZONE_BORROWED.
+ *   ZONE_BAD_ARGUMENT      the order is above 10, the type or the mark above 2
+ *   ZONE_BAD_HANDLE        nothing is in the handle
+ *   ZONE_BAD_ARGUMENT      the row has no such zone
+ *   ZONE_BUSY              another is in the zone
+ *   ZONE_ENDED             the worker made its last request to the zone
+ *   ZONE_BELOW_MARK        so many pages less would be below the mark: ask the zone below
+ *   ZONE_NO_BLOCK          no free block is so large: ask the zone below */
+uint32_t zonealloc_alloc_told(zone_worker_t *worker, uint32_t zone, uint32_t order, uint32_t type, uint32_t mark, uint32_t *page, uint32_t *origin);
 /* ZONE. The lowest free block of this order, which is then lent. It is held to no mark.
  *   ZONE_BAD_ARGUMENT      the order is above 10
  *   ZONE_BAD_HANDLE        nothing is in the handle
@@ -318,6 +352,25 @@ uint32_t zonealloc_pageblock(zone_worker_t *worker, uint32_t zone, uint32_t page
  *   ZONE_BUSY              another is in the zone
  *   ZONE_HAS_WORKERS       a worker has not left this zone. (A dismissal that was answered ZONE_BUSY may have left some zones.) */
 uint32_t zonealloc_gather(zone_row_t *row, uint32_t zone, zone_totals_t *totals);
+
+/* --- reading beside the lock: a zone's board --- */
+
+/* ZONE. A reader of the zone's board, in an empty handle. There may be any number of them, for any threads, and a reader serves on when its worker
+ * was dismissed and its row unmade. It takes memory.
+ *   ZONE_BAD_HANDLE        nothing is in the worker's handle, or something in the reader's
+ *   ZONE_BAD_ARGUMENT      the row has no such zone
+ *   ZONE_NO_BOARD          the row was made by zonealloc_make: use zonealloc_counts
+ *   ZONE_BUSY              another is in the zone
+ *   ZONE_NO_MEMORY */
+uint32_t zonealloc_reader(zone_worker_t *worker, uint32_t zone, zone_reader_t *reader);
+/* OWN. The zone's counts after so many requests to it, granted or refused. No lock is taken, nobody is waited for, and who is in the zone does not
+ * matter. They are never older than what this reader read before, so its places never fall; nor than what stood there when the reader was made.
+ * How fresh they are: docs/c.md.
+ *   ZONE_BAD_HANDLE        nothing is in the handle */
+uint32_t zonealloc_read(zone_reader_t *reader, zone_reading_t *reading);
+/* OWN. Ends a reader. It gives memory back.
+ *   ZONE_BAD_HANDLE        nothing is in the handle */
+uint32_t zonealloc_end_reader(zone_reader_t *reader);
 
 #ifdef __cplusplus
 }

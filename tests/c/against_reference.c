@@ -1,6 +1,6 @@
 /* against_reference [CALLS [SEED]]: so many calls of the archive beside those of the plain reference, all picked by the seed. Rows of
  * all shapes are made one after the other; about one call in sixteen has a wrong argument. Each answer and each result is compared, and
- * that an answer other than ZONE_OK leaves the results as they were. At whiles everything that can be read of a row is compared, and at
+ * that an answer other than ZONE_OK leaves the results as they were; of every other row also what its boards have after each call. At whiles everything that can be read of a row is compared, and at
  * the end of each row where its pages are. Prints one line and answers 0; or tells the first difference and answers 1. */
 #include "reference.h"
 #include <inttypes.h>
@@ -60,6 +60,11 @@ static held_t held[MOST_HELD];
 static uint32_t n_held;
 static uint64_t seed, state, done;
 static int ebb;
+
+/* Every other row has boards: a reader of each zone, and after how many requests it read last. */
+static zone_reader_t readers[ZONE_ZONES];
+static uint64_t places[ZONE_ZONES];
+static int has_boards;
 
 /* --- numbers by the seed --- */
 
@@ -553,9 +558,10 @@ static void pick_row(void)
 
 static void make_row(void)
 {
-    uint32_t archive, plain;
+    uint32_t archive, plain, zone;
     pick_row();
-    archive = zonealloc_make(&row, &workers[moved], n_workers, specs, n_zones, batch, high_len);
+    has_boards = rows % 2 == 1;
+    archive = (has_boards ? zonealloc_make_with_boards : zonealloc_make)(&row, &workers[moved], n_workers, specs, n_zones, batch, high_len);
     plain = reference_make(&plain_row, plain_workers, n_workers, specs, n_zones, batch, high_len);
     if (archive != plain || plain != ZONE_OK) {
         printf("seed %" PRIu64 ", call %" PRIu64 ": make: archive %" PRIu32 ", reference %" PRIu32 "\n", seed, done, archive, plain);
@@ -565,6 +571,48 @@ static void make_row(void)
     n_live = n_workers;
     n_held = 0;
     rows++;
+    for (zone = 0; has_boards && zone < n_zones; zone++) {
+        places[zone] = 0;
+        if (zonealloc_reader(&workers[moved], zone, &readers[zone]) != ZONE_OK)
+            exit(1);
+    }
+}
+
+/* --- what stands on a board --- */
+
+/* How many requests a call made of the zone. (A drain of all lists makes one for each list that has pages.) */
+static uint64_t requests(const call_t *c, const told_t *t)
+{
+    uint64_t last = t->answer < ZONE_BAD_ARGUMENT && t->answer != ZONE_NOT_LENT;
+    switch (c->kind) {
+    case ALLOC: case ALLOC_LOW: case FREE: case ALLOC_RUN: case ALLOC_RUN_AT: case FREE_RUN: case POST: case COLLECT: case ISOLATE: case RELEASE:
+    case REFILL: case DRAIN: return last;
+    case ALLOC_MANY: case FREE_MANY: return t->many + (t->answer != ZONE_OK && last);
+    default: return 0;
+    }
+}
+
+/* It has the counts of the reference, after as many requests as were made. */
+static void read_board(const call_t *c, const told_t *t)
+{
+    zone_reading_t reading;
+    zone_counts_t counts;
+    uint32_t worker = 0;
+    if (!has_boards || c->zone >= n_zones)
+        return;
+    while (!is_live(worker))
+        worker++;
+    (void)reference_counts(&plain_workers[worker], c->zone, &counts);
+    if (zonealloc_read(&readers[c->zone], &reading) == ZONE_OK && reading.free == counts.free
+        && memcmp(reading.by_order, counts.by_order, sizeof counts.by_order) == 0
+        && (c->kind == DRAIN_ALL || reading.place == places[c->zone] + requests(c, t))) {
+        places[c->zone] = reading.place;
+        return;
+    }
+    printf("seed %" PRIu64 ", call %" PRIu64 ": after %s the board of zone %" PRIu32 " has other counts, or another place\n", seed, done,
+           names[c->kind], c->zone);
+    tell_row();
+    exit(1);
 }
 
 static void dismiss(uint32_t worker)
@@ -614,6 +662,9 @@ static void end_row(void)
     c.kind = UNMAKE;
     (void)ask(&c);
     (void)ask(&c);
+    for (i = 0; has_boards && i < n_zones; i++)
+        if (zonealloc_end_reader(&readers[i]) != ZONE_OK)
+            exit(1);
 }
 
 static void run_row(uint64_t calls)
@@ -624,6 +675,7 @@ static void run_row(uint64_t calls)
         call_t c = pick();
         told_t told = ask(&c);
         learn(&c, &told);
+        read_board(&c, &told);
         if (one_in(TIDE_EACH))
             ebb = !ebb;
         if (one_in(20000) && n_live > 1)

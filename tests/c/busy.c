@@ -54,7 +54,7 @@ static void *fill_and_drain(void *nothing)
 
 /* What a call may write. */
 typedef struct {
-    uint32_t page, order, pages[2];
+    uint32_t page, order, pages[2], origin;
     zone_counts_t counts;
     zone_types_t types;
     uint8_t line[ZONE_INFO_LINE];
@@ -69,6 +69,7 @@ static uint32_t lent;        /* the page at which a block of this order is lent 
 static size_t many;          /* how many blocks came or went, which is told whatever is answered */
 
 static uint32_t alloc(void) { return zonealloc_alloc(mine, 0, 10, ZONE_TYPE_MOVABLE, ZONE_ANY, &told.page); }
+static uint32_t alloc_told(void) { return zonealloc_alloc_told(mine, 0, 10, ZONE_TYPE_MOVABLE, ZONE_ANY, &told.page, &told.origin); }
 static uint32_t alloc_low(void) { return zonealloc_alloc_low(mine, 0, 10, &told.page); }
 static uint32_t give_back(void) { return zonealloc_free(mine, 0, lent, ORDER); }
 static uint32_t alloc_run(void) { return zonealloc_alloc_run(mine, 0, PAGES + 1, 0, ZONE_ANY, &told.page); }
@@ -93,10 +94,18 @@ static uint32_t counts_by_type(void) { return zonealloc_counts_by_type(mine, 0, 
 static uint32_t info(void) { return zonealloc_info(mine, 0, told.line, ZONE_INFO_LINE, &told.len); }
 static uint32_t page(void) { return zonealloc_page(mine, 0, BASE, &told.noted); }
 static uint32_t pageblock(void) { return zonealloc_pageblock(mine, 0, 0, &told.block); }
+static uint32_t make_reader(void)
+{
+    zone_reader_t reader = ZONE_NONE;
+    uint32_t answer = zonealloc_reader(mine, 0, &reader);
+    CHECK((reader.live != 0) == (answer == ZONE_OK) && zonealloc_end_reader(&reader) == (answer == ZONE_OK ? ZONE_OK : ZONE_BAD_HANDLE));
+    return answer;
+}
 static uint32_t gather(void) { return zonealloc_gather(&row, 0, &told.totals); }
 
 /* Each call, and what it is answered where nobody else is in. */
 static const struct { const char *name; uint32_t (*call)(void); uint32_t otherwise; } calls[] = {
+    { "alloc_told", alloc_told, ZONE_NO_BLOCK },
     { "alloc", alloc, ZONE_NO_BLOCK },       { "alloc_low", alloc_low, ZONE_NO_BLOCK },    { "free", give_back, ZONE_OK },
     { "post", post, ZONE_OK },         { "collect", collect, ZONE_NOTHING_POSTED },  { "isolate", isolate, ZONE_BAD_PAGEBLOCK },
     { "release", release, ZONE_NOT_ISOLATED }, { "refill", refill, ZONE_BELOW_MARK },      { "drain", drain, ZONE_OK },
@@ -104,7 +113,8 @@ static const struct { const char *name; uint32_t (*call)(void); uint32_t otherwi
     { "page", page, ZONE_OK },               { "pageblock", pageblock, ZONE_OK },          { "gather", gather, ZONE_HAS_WORKERS },
     { "counts_by_type", counts_by_type, ZONE_OK }, { "alloc_run", alloc_run, ZONE_NO_BLOCK },
     { "alloc_run_at", alloc_run_at, ZONE_BAD_RUN }, { "free_run", free_run, ZONE_OK },
-    { "alloc_many", alloc_many, ZONE_NO_BLOCK }, { "free_many", free_many, ZONE_NOT_LENT }
+    { "alloc_many", alloc_many, ZONE_NO_BLOCK }, { "free_many", free_many, ZONE_NOT_LENT },
+    { "reader", make_reader, ZONE_OK }
 };
 
 /* The block is lent: it is the one that was posted to the worker, or another. */
@@ -205,7 +215,7 @@ int main(void)
 {
     pthread_t thread;
     memset(&blank, 0xA5, sizeof blank);
-    CHECK(zonealloc_make(&row, workers, ZONE_WORKERS, &spec, 1, BATCH, HIGH_LEN) == ZONE_OK);
+    CHECK(zonealloc_make_with_boards(&row, workers, ZONE_WORKERS, &spec, 1, BATCH, HIGH_LEN) == ZONE_OK);
     CHECK(zonealloc_alloc(mine, 0, ORDER, ZONE_TYPE_MOVABLE, ZONE_ANY, &lent) == ZONE_OK);
     furnish();
     if (pthread_create(&thread, NULL, fill_and_drain, NULL) != 0)

@@ -1,6 +1,6 @@
 /* bytes [MAKINGS [SEED]]: so many makings, of rows picked by the seed: what zonealloc_bytes told of each is no less than all that was asked for
- * until it was made, and at most a twentieth more than the most that was in use at a time. Rows of one zone and of 64, of one page and of a million, of each largest
- * order, with one worker and with 32, with lists and without. Prints one line and answers 0; or tells what was wrong and answers 1. */
+ * until it was made, and without boards at most a twentieth more than the most that was in use at a time. Rows of one zone and of 64, of one page and of a million, of each largest
+ * order, with one worker and with 32, with lists and without, with boards and without. Prints one line and answers 0; or tells what was wrong and answers 1. */
 #include "zonealloc.h"
 #include "checking.h"
 #include "counted_memory.h"
@@ -54,9 +54,13 @@ static void make_one(uint32_t making)
     uint64_t bytes = 0;
     CHECK(zonealloc_bytes(specs, zones, n_workers, &bytes) == ZONE_OK);
     most_in_use = taken = 0;
-    CHECK(zonealloc_make(&row, workers, n_workers, specs, zones, batch, 2 * batch) == ZONE_OK);
+    if (making % 3 == 0) {
+        bytes += (uint64_t)zones * ZONE_BOARD_BYTES;
+        CHECK(zonealloc_make_with_boards(&row, workers, n_workers, specs, zones, batch, 2 * batch) == ZONE_OK);
+    } else
+        CHECK(zonealloc_make(&row, workers, n_workers, specs, zones, batch, 2 * batch) == ZONE_OK);
     CHECK(taken <= bytes);
-    CHECK(bytes <= most_in_use + most_in_use / 20);
+    CHECK(bytes <= most_in_use + most_in_use / 20 || making % 3 == 0);
     if (failures != 0)
         tell(zones, n_workers, batch, bytes);
     worst = (double)bytes / (double)most_in_use > worst ? (double)bytes / (double)most_in_use : worst;

@@ -13,7 +13,7 @@
 
 enum { STACK = 16384, FILL = 0xa5, WORKERS = 3, LIVE = 4096, HIGH_LEN = 62, BATCH = 31, ZONES = 3, MANY = 24 };
 /* No request gets deeper, and no call at all: docs/kernels.md, and what this program adds to a call. */
-enum { MOST_OF_REQUESTS = 1600, MOST = 6144 };
+enum { MOST_OF_REQUESTS = 1600, MOST = 7168 };
 
 typedef struct block { uint32_t zone, page, order, worker; } block_t;      /* none: order ZONE_ORDERS */
 
@@ -50,7 +50,7 @@ void rattle_dealloc(void *at)
 
 /* What a call is given, and what it tells. */
 static struct {
-    uint32_t worker, zone, order, type, mark, page, to, lent, number, count, pages;
+    uint32_t worker, zone, order, type, mark, page, to, lent, number, count, pages, origin;
     union {
         zone_counts_t counts; zone_types_t types; zone_page_t page; zone_pageblock_t pageblock; zone_totals_t totals; uint8_t line[ZONE_INFO_LINE];
     } told;
@@ -70,6 +70,7 @@ static uint32_t put(void) { return zonealloc_put(W, it.zone, it.page); }
 static uint32_t is_lent(void) { return zonealloc_is_lent(W, it.zone, it.page, it.order, &it.lent); }
 static uint32_t cached(void) { return zonealloc_cached(W, it.zone, it.type, &it.count); }
 static uint32_t alloc(void) { return zonealloc_alloc(W, it.zone, it.order, it.type, it.mark, &it.page); }
+static uint32_t alloc_told(void) { return zonealloc_alloc_told(W, it.zone, it.order, it.type, it.mark, &it.page, &it.origin); }
 static uint32_t alloc_low(void) { return zonealloc_alloc_low(W, it.zone, it.order, &it.page); }
 static uint32_t give(void) { return zonealloc_free(W, it.zone, it.page, it.order); }
 static uint32_t alloc_many(void) { return zonealloc_alloc_many(W, it.zone, it.order, it.type, it.mark, it.blocks, it.room, &it.many); }
@@ -91,12 +92,12 @@ static uint32_t page(void) { return zonealloc_page(W, it.zone, it.page, &it.told
 static uint32_t pageblock(void) { return zonealloc_pageblock(W, it.zone, it.number, &it.told.pageblock); }
 static uint32_t gather(void) { return zonealloc_gather(&row, it.zone, &it.told.totals); }
 
-typedef enum { NOTHING, BYTES, MAKE, DISMISS, UNMAKE, TAKE, PUT, IS_LENT, CACHED, ALLOC, ALLOC_LOW, FREE, ALLOC_MANY,
+typedef enum { NOTHING, BYTES, MAKE, DISMISS, UNMAKE, TAKE, PUT, IS_LENT, CACHED, ALLOC, ALLOC_TOLD, ALLOC_LOW, FREE, ALLOC_MANY,
                FREE_MANY, ALLOC_RUN, ALLOC_RUN_AT, FREE_RUN, POST, COLLECT, ISOLATE, RELEASE, REFILL, DRAIN, DRAIN_ALL, COUNTS, COUNTS_BY_TYPE, INFO, PAGE, PAGEBLOCK, GATHER, CALLS } call_t;
 static struct { const char *name; uint32_t (*call)(void); unsigned long times, deepest; } calls[CALLS] = {
     { "nothing", nothing, 0, 0 }, { "bytes", bytes, 0, 0 }, { "make", make, 0, 0 }, { "dismiss", dismiss, 0, 0 }, { "unmake", unmake, 0, 0 },
     { "take", take, 0, 0 }, { "put", put, 0, 0 }, { "is_lent", is_lent, 0, 0 }, { "cached", cached, 0, 0 }, { "alloc", alloc, 0, 0 },
-    { "alloc_low", alloc_low, 0, 0 }, { "free", give, 0, 0 }, { "alloc_many", alloc_many, 0, 0 },
+    { "alloc_told", alloc_told, 0, 0 }, { "alloc_low", alloc_low, 0, 0 }, { "free", give, 0, 0 }, { "alloc_many", alloc_many, 0, 0 },
     { "free_many", free_many, 0, 0 }, { "alloc_run", alloc_run, 0, 0 }, { "alloc_run_at", alloc_run_at, 0, 0 },
     { "free_run", free_run, 0, 0 }, { "post", post, 0, 0 }, { "collect", collect, 0, 0 }, { "isolate", isolate, 0, 0 },
     { "release", release, 0, 0 }, { "refill", refill, 0, 0 }, { "drain", drain, 0, 0 }, { "drain_all", drain_all, 0, 0 }, { "counts", counts, 0, 0 },
@@ -266,7 +267,7 @@ static void request(uint32_t is_filling)
         if (next(3) == 0)
             single();
         else
-            keep_answered(ask(next(8) == 0 ? ALLOC_LOW : ALLOC) == ZONE_OK ? it.order : 0);
+            keep_answered(ask(next(8) == 0 ? ALLOC_LOW : next(4) == 0 ? ALLOC_TOLD : ALLOC) == ZONE_OK ? it.order : 0);
     } else if (block->order != ZONE_ORDERS)
         give_back(block);
 }

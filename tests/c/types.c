@@ -1,4 +1,5 @@
-/* zonealloc_counts_by_type over three small zones: after each step what it tells stands in a table written by hand from docs/rules.md. By
+/* zonealloc_counts_by_type over three small zones: after each step what it tells stands in a table written by hand from docs/rules.md, and so does
+ * where a block came from that zonealloc_alloc_told allocates. By
  * order the types' blocks are together those of zonealloc_counts, and by type the pageblocks those that zonealloc_pageblock tells. A call
  * that is refused has told nothing. Prints one line and answers 0; or tells what was wrong and answers 1. */
 #include "zonealloc.h"
@@ -12,8 +13,8 @@ static const zone_spec_t specs[ZONES] = { { A, 21, 0, 2, 1, { 'A' } }, { B, 40, 
 static zone_row_t row;
 static zone_worker_t crew[CREW];
 
-/* What is done before the counts are read. A page or a pageblock is the one that the call names or has to answer. */
-typedef enum { NOTHING, ALLOC, FREE, POST, ISOLATE, RELEASE, REFILL, DRAIN } action_t;
+/* What is done before the counts are read; a block is allocated in three ways, by where it comes from. A page or a pageblock is the one that the call names or has to answer. */
+typedef enum { NOTHING, OWN, CLAIM, BORROW, FREE, POST, ISOLATE, RELEASE, REFILL, DRAIN } action_t;
 typedef struct {
     action_t action;
     uint32_t zone, at, order, type;
@@ -34,9 +35,9 @@ static const step_t steps[] = {
     { ISOLATE, 0, 2, 0, 0,            { { 0 },       { 0 },       { 1, 0, 4 },    { 0, 0, 1 } }, { 0, 0, 5, 1 } },
     { RELEASE, 0, 2, 0, RECLAIMABLE,  { { 0 },       { 0, 0, 1 }, { 1, 0, 4 },    { 0 } },       { 0, 1, 5, 0 } },
     /* a claim takes the pageblock with it, from the first foreign type */
-    { ALLOC, 0, A + 8, 0, UNMOVABLE,  { { 1, 1 },    { 0 },       { 1, 0, 4 },    { 0 } },       { 1, 0, 5, 0 } },
+    { CLAIM, 0, A + 8, 0, UNMOVABLE,  { { 1, 1 },    { 0 },       { 1, 0, 4 },    { 0 } },       { 1, 0, 5, 0 } },
     /* what is lent or posted is in no block */
-    { ALLOC, 0, A + 16, 1, MOVABLE,   { { 1, 1 },    { 0 },       { 1, 1, 3 },    { 0 } },       { 1, 0, 5, 0 } },
+    { OWN, 0, A + 16, 1, MOVABLE,     { { 1, 1 },    { 0 },       { 1, 1, 3 },    { 0 } },       { 1, 0, 5, 0 } },
     { POST, 0, A + 8, 0, 0,           { { 1, 1 },    { 0 },       { 1, 1, 3 },    { 0 } },       { 1, 0, 5, 0 } },
     /* half of a pageblock is lent while it is isolated, and joins the other half there */
     { ISOLATE, 0, 4, 0, 0,            { { 1, 1 },    { 0 },       { 1, 0, 3 },    { 0, 1 } },    { 1, 0, 4, 1 } },
@@ -44,8 +45,8 @@ static const step_t steps[] = {
     { RELEASE, 0, 4, 0, UNMOVABLE,    { { 1, 1, 1 }, { 0 },       { 1, 0, 3 },    { 0 } },       { 2, 0, 4, 0 } },
     { ISOLATE, 0, 5, 0, 0,            { { 1, 1, 1 }, { 0 },       { 0, 0, 3 },    { 1 } },       { 2, 0, 3, 1 } },
     /* what is borrowed leaves the pageblock its type: the blocks left count as Movable, and so does what comes back */
-    { ALLOC, 2, C + 2, 0, UNMOVABLE,  { { 0 },       { 0 },       { 0, 1 },       { 0 } },       { 0, 0, 1, 0 } },
-    { ALLOC, 2, C, 0, RECLAIMABLE,    { { 0 },       { 0 },       { 1 },          { 0 } },       { 0, 0, 1, 0 } },
+    { BORROW, 2, C + 2, 0, UNMOVABLE, { { 0 },       { 0 },       { 0, 1 },       { 0 } },       { 0, 0, 1, 0 } },
+    { BORROW, 2, C, 0, RECLAIMABLE,   { { 0 },       { 0 },       { 1 },          { 0 } },       { 0, 0, 1, 0 } },
     { FREE, 2, C + 2, 0, 0,           { { 0 },       { 0 },       { 2 },          { 0 } },       { 0, 0, 1, 0 } },
     { FREE, 2, C, 0, 0,               { { 0 },       { 0 },       { 1, 1 },       { 0 } },       { 0, 0, 1, 0 } },
     /* a batch of four pages on a worker's list is in no block, and drained it is one again */
@@ -60,9 +61,12 @@ enum { STEPS = sizeof steps / sizeof steps[0] };
 static uint32_t act(const step_t *s)
 {
     zone_worker_t *own = &crew[0];
-    uint32_t page = s->at, answer = ZONE_OK;
+    uint32_t page = s->at, origin, answer = ZONE_OK;
     switch (s->action) {
-    case ALLOC: answer = zonealloc_alloc(own, s->zone, s->order, s->type, ZONE_ANY, &page); break;
+    case OWN: case CLAIM: case BORROW:
+        answer = zonealloc_alloc_told(own, s->zone, s->order, s->type, ZONE_ANY, &page, &origin);
+        CHECK(origin == (s->action == OWN ? ZONE_OWN : s->action == CLAIM ? ZONE_CLAIMED : ZONE_BORROWED));
+        break;
     case FREE: answer = zonealloc_free(own, s->zone, s->at, s->order); break;
     case POST: answer = zonealloc_post(own, s->zone, s->at, s->order, 1); break;
     case ISOLATE: answer = zonealloc_isolate(own, s->zone, s->at); break;

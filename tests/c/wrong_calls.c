@@ -133,12 +133,13 @@ static void unfurnish(world_t *w)
 /* All that a call can tell. Before each call no bit of it is what a call would tell. */
 enum { ROOM = 3 };
 static struct {
-    uint32_t page, order, number, pages[ROOM];
+    uint32_t page, order, number, origin, pages[ROOM];
     zone_counts_t counts;
     zone_types_t types;
     zone_page_t noted;
     zone_pageblock_t block;
     zone_totals_t totals;
+    zone_reading_t reading;
     uint64_t bytes;
     size_t len;
     uint8_t line[ZONE_INFO_LINE];
@@ -218,6 +219,7 @@ static void wrong_zones(zone_worker_t *w)
         REFUSED(ZONE_BAD_ARGUMENT, zonealloc_is_lent(w, zone, known.lent, 0, &told.number));
         REFUSED(ZONE_BAD_ARGUMENT, zonealloc_cached(w, zone, ZONE_TYPE_MOVABLE, &told.number));
         REFUSED(ZONE_BAD_ARGUMENT, zonealloc_alloc(w, zone, 0, ZONE_TYPE_MOVABLE, ZONE_ANY, &told.page));
+        REFUSED(ZONE_BAD_ARGUMENT, zonealloc_alloc_told(w, zone, 0, ZONE_TYPE_MOVABLE, ZONE_ANY, &told.page, &told.origin));
         REFUSED(ZONE_BAD_ARGUMENT, zonealloc_alloc_low(w, zone, 0, &told.page));
         REFUSED(ZONE_BAD_ARGUMENT, zonealloc_free(w, zone, known.lent, 0));
         REFUSED_ALL(ZONE_BAD_ARGUMENT, zonealloc_alloc_many(w, zone, 0, ZONE_TYPE_MOVABLE, ZONE_ANY, told.pages, ROOM, &many));
@@ -252,6 +254,7 @@ static void wrong_orders(zone_worker_t *w)
         REFUSED_ALL(ZONE_BAD_ARGUMENT, zonealloc_free_many(w, 1, pages, 2, orders, 2, &many));
         REFUSED(ZONE_BAD_ARGUMENT, zonealloc_is_lent(w, 1, known.lent, order, &told.number));
         REFUSED(ZONE_BAD_ARGUMENT, zonealloc_alloc(w, 1, order, ZONE_TYPE_MOVABLE, ZONE_ANY, &told.page));
+        REFUSED(ZONE_BAD_ARGUMENT, zonealloc_alloc_told(w, 1, order, ZONE_TYPE_MOVABLE, ZONE_ANY, &told.page, &told.origin));
         REFUSED(ZONE_BAD_ARGUMENT, zonealloc_alloc_low(w, 1, order, &told.page));
         REFUSED(ZONE_BAD_ARGUMENT, zonealloc_free(w, 1, known.lent, order));
         REFUSED(ZONE_BAD_ARGUMENT, zonealloc_post(w, 1, known.lent, order, 1));
@@ -266,6 +269,7 @@ static void wrong_types(zone_worker_t *w)
         REFUSED(ZONE_BAD_ARGUMENT, zonealloc_take(w, 1, type, &told.page));
         REFUSED(ZONE_BAD_ARGUMENT, zonealloc_cached(w, 1, type, &told.number));
         REFUSED(ZONE_BAD_ARGUMENT, zonealloc_alloc(w, 1, 0, type, ZONE_ANY, &told.page));
+        REFUSED(ZONE_BAD_ARGUMENT, zonealloc_alloc_told(w, 1, 0, type, ZONE_ANY, &told.page, &told.origin));
         REFUSED_ALL(ZONE_BAD_ARGUMENT, zonealloc_alloc_many(w, 1, 0, type, ZONE_ANY, told.pages, ROOM, &many));
         REFUSED(ZONE_BAD_ARGUMENT, zonealloc_release(w, 0, 4, type));
         REFUSED(ZONE_BAD_ARGUMENT, zonealloc_refill(w, 1, type, ZONE_ANY));
@@ -278,6 +282,7 @@ static void wrong_numbers(zone_worker_t *w)
     uint32_t i;
     for (i = 0; i < PASTS; i++) {
         REFUSED(ZONE_BAD_ARGUMENT, zonealloc_alloc(w, 1, 0, ZONE_TYPE_MOVABLE, beyond(ZONE_LOW + 1, i), &told.page));
+        REFUSED(ZONE_BAD_ARGUMENT, zonealloc_alloc_told(w, 1, 0, ZONE_TYPE_MOVABLE, beyond(ZONE_LOW + 1, i), &told.page, &told.origin));
         REFUSED_ALL(ZONE_BAD_ARGUMENT, zonealloc_alloc_many(w, 1, 0, ZONE_TYPE_MOVABLE, beyond(ZONE_LOW + 1, i), told.pages, ROOM, &many));
         REFUSED_ALL(ZONE_BAD_ARGUMENT, zonealloc_free_many(w, 1, &known.lent, 1, no_orders, 1 + (size_t)past[i] % 2 + 1, &many));
         REFUSED(ZONE_BAD_ARGUMENT, zonealloc_refill(w, 1, ZONE_TYPE_UNMOVABLE, beyond(ZONE_LOW + 1, i)));
@@ -368,10 +373,13 @@ static void no_block(zone_worker_t *w)
 {
     uint32_t i;
     REFUSED(ZONE_BELOW_MARK, zonealloc_alloc(w, 0, 5, ZONE_TYPE_MOVABLE, ZONE_MIN, &told.page));
+    REFUSED(ZONE_BELOW_MARK, zonealloc_alloc_told(w, 0, 5, ZONE_TYPE_MOVABLE, ZONE_MIN, &told.page, &told.origin));
     REFUSED(ZONE_BELOW_MARK, zonealloc_alloc(w, 0, 10, ZONE_TYPE_UNMOVABLE, ZONE_LOW, &told.page));
+    REFUSED(ZONE_BELOW_MARK, zonealloc_alloc_told(w, 0, 10, ZONE_TYPE_UNMOVABLE, ZONE_LOW, &told.page, &told.origin));
     REFUSED_ALL(ZONE_BELOW_MARK, zonealloc_alloc_many(w, 0, 5, ZONE_TYPE_MOVABLE, ZONE_MIN, told.pages, ROOM, &many));
     for (i = 4; i < ZONE_ORDERS; i++) {
         REFUSED(ZONE_NO_BLOCK, zonealloc_alloc(w, 0, i, ZONE_TYPE_MOVABLE, ZONE_ANY, &told.page));
+        REFUSED(ZONE_NO_BLOCK, zonealloc_alloc_told(w, 0, i, ZONE_TYPE_MOVABLE, ZONE_ANY, &told.page, &told.origin));
         REFUSED_ALL(ZONE_NO_BLOCK, zonealloc_alloc_many(w, 0, i, ZONE_TYPE_MOVABLE, ZONE_ANY, told.pages, ROOM, &many));
         REFUSED(ZONE_NO_BLOCK, zonealloc_alloc_low(w, 0, i, &told.page));
     }
@@ -433,6 +441,9 @@ static void no_lists(void)
 
 /* --- handles --- */
 
+/* Nothing is in it. */
+static zone_reader_t reader;
+
 /* Nothing is in these handles. */
 static void dead_handles(zone_worker_t *w, zone_row_t *row)
 {
@@ -441,6 +452,7 @@ static void dead_handles(zone_worker_t *w, zone_row_t *row)
     REFUSED(ZONE_BAD_HANDLE, zonealloc_is_lent(w, 1, known.lent, 0, &told.number));
     REFUSED(ZONE_BAD_HANDLE, zonealloc_cached(w, 1, ZONE_TYPE_MOVABLE, &told.number));
     REFUSED(ZONE_BAD_HANDLE, zonealloc_alloc(w, 1, 0, ZONE_TYPE_MOVABLE, ZONE_ANY, &told.page));
+    REFUSED(ZONE_BAD_HANDLE, zonealloc_alloc_told(w, 1, 0, ZONE_TYPE_MOVABLE, ZONE_ANY, &told.page, &told.origin));
     REFUSED(ZONE_BAD_HANDLE, zonealloc_alloc_low(w, 1, 0, &told.page));
     REFUSED(ZONE_BAD_HANDLE, zonealloc_free(w, 1, known.lent, 0));
     REFUSED_ALL(ZONE_BAD_HANDLE, zonealloc_alloc_many(w, 1, 0, ZONE_TYPE_MOVABLE, ZONE_ANY, told.pages, ROOM, &many));
@@ -460,6 +472,9 @@ static void dead_handles(zone_worker_t *w, zone_row_t *row)
     REFUSED(ZONE_BAD_HANDLE, zonealloc_info(w, 1, told.line, ZONE_INFO_LINE, &told.len));
     REFUSED(ZONE_BAD_HANDLE, zonealloc_page(w, 1, known.lent, &told.noted));
     REFUSED(ZONE_BAD_HANDLE, zonealloc_pageblock(w, 1, 0, &told.block));
+    REFUSED(ZONE_BAD_HANDLE, zonealloc_reader(w, 1, &reader));
+    REFUSED(ZONE_BAD_HANDLE, zonealloc_read(&reader, &told.reading));
+    REFUSED(ZONE_BAD_HANDLE, zonealloc_end_reader(&reader));
     REFUSED(ZONE_BAD_HANDLE, zonealloc_dismiss(w));
     REFUSED(ZONE_BAD_HANDLE, zonealloc_unmake(row));
     REFUSED(ZONE_BAD_HANDLE, zonealloc_gather(row, 0, &told.totals));
@@ -493,6 +508,7 @@ static void make_over(void)
     uint32_t answer;
     REFUSED(ZONE_BAD_HANDLE, zonealloc_make(&world.row, fresh, CREW, specs, ZONES, BATCH, HIGH_LEN));
     REFUSED(ZONE_BAD_HANDLE, zonealloc_make(&world.row, world.workers, CREW, specs, ZONES, BATCH, HIGH_LEN));
+    REFUSED(ZONE_BAD_HANDLE, zonealloc_make_with_boards(&world.row, world.workers, CREW, specs, ZONES, BATCH, HIGH_LEN));
     REFUSED(ZONE_BAD_HANDLE, zonealloc_make(&row, world.workers, CREW, specs, ZONES, BATCH, HIGH_LEN));
     REFUSED(ZONE_BAD_HANDLE, zonealloc_make(&row, &world.workers[2], 1, specs, ZONES, 0, 0));
     forget();
@@ -680,10 +696,11 @@ static void little_memory(uint32_t workers, uint32_t zones)
 /* What a call is made with. A page is one of those that are known, or none of the zone's. Of a run the number is its pages, and the order how it is
  * aligned; of many blocks it is for how many there is room, or how many orders there are for one page. */
 typedef enum {
-    BYTES, MAKE, DISMISS, UNMAKE, TAKE, PUT, IS_LENT, CACHED, ALLOC, ALLOC_LOW, FREE, ALLOC_MANY, FREE_MANY, ALLOC_RUN, ALLOC_RUN_AT, FREE_RUN,
-    POST, COLLECT, ISOLATE, RELEASE, REFILL, DRAIN, DRAIN_ALL, COUNTS, COUNTS_BY_TYPE, INFO, PAGE, PAGEBLOCK, GATHER
+    BYTES, MAKE, MAKE_WITH_BOARDS, DISMISS, UNMAKE, TAKE, PUT, IS_LENT, CACHED, ALLOC, ALLOC_TOLD, ALLOC_LOW, FREE, ALLOC_MANY, FREE_MANY, ALLOC_RUN, ALLOC_RUN_AT, FREE_RUN,
+    POST, COLLECT, ISOLATE, RELEASE, REFILL, DRAIN, DRAIN_ALL, COUNTS, COUNTS_BY_TYPE, INFO, PAGE, PAGEBLOCK, GATHER,
+    READER, READ, END_READER
 } export_t;
-typedef enum { MINE, OF_FULL_LIST, WITHOUT_LISTS, EMPTY } handle_t;
+typedef enum { MINE, OF_FULL_LIST, WITHOUT_LISTS, WITH_BOARDS, EMPTY } handle_t;
 typedef enum { NO_PAGE, BELOW, ABOVE, LENT, ORDER4, OTHERS, SPARE } page_name_t;
 enum { UPPER = 1, NO_ZONE = ZONES, NO_TYPE = ZONE_TYPES, NO_MARK = ZONE_LOW + 1, NO_ORDER = ZONE_ORDERS, ABOVE_LARGEST = 4 };
 
@@ -728,6 +745,13 @@ static const stated_t stated[] = {
     { ALLOC, ZONE_BELOW_MARK, .mark = ZONE_MIN, .order = ABOVE_LARGEST + 1 },
     { ALLOC, ZONE_NO_BLOCK, .order = ABOVE_LARGEST },
 
+    { ALLOC_TOLD, ZONE_BAD_ARGUMENT, .order = NO_ORDER, .handle = EMPTY, .zone = NO_ZONE },
+    { ALLOC_TOLD, ZONE_BAD_ARGUMENT, .type = NO_TYPE, .handle = EMPTY, .zone = NO_ZONE },
+    { ALLOC_TOLD, ZONE_BAD_ARGUMENT, .mark = NO_MARK, .handle = EMPTY, .zone = NO_ZONE },
+    { ALLOC_TOLD, ZONE_BAD_HANDLE, .handle = EMPTY, .zone = NO_ZONE },
+    { ALLOC_TOLD, ZONE_BAD_ARGUMENT, .zone = NO_ZONE },
+    { ALLOC_TOLD, ZONE_BELOW_MARK, .mark = ZONE_MIN, .order = ABOVE_LARGEST + 1 },
+    { ALLOC_TOLD, ZONE_NO_BLOCK, .order = ABOVE_LARGEST },
     { ALLOC_LOW, ZONE_BAD_ARGUMENT, .order = NO_ORDER, .handle = EMPTY, .zone = NO_ZONE },
     { ALLOC_LOW, ZONE_BAD_HANDLE, .handle = EMPTY, .zone = NO_ZONE },
     { ALLOC_LOW, ZONE_BAD_ARGUMENT, .zone = NO_ZONE },
@@ -840,10 +864,19 @@ static const stated_t stated[] = {
     { GATHER, ZONE_BAD_HANDLE, .handle = EMPTY, .zone = NO_ZONE },
     { GATHER, ZONE_BAD_ARGUMENT, .zone = NO_ZONE },
     { GATHER, ZONE_HAS_WORKERS, .zone = UPPER },
+
+    { READER, ZONE_BAD_HANDLE, .handle = EMPTY, .zone = NO_ZONE },
+    { READER, ZONE_BAD_ARGUMENT, .zone = NO_ZONE },
+    { READER, ZONE_NO_BOARD, .zone = UPPER },
+    { READER, ZONE_NO_MEMORY, .handle = WITH_BOARDS },
+    { READ, ZONE_BAD_HANDLE, .handle = EMPTY },
+    { END_READER, ZONE_BAD_HANDLE, .handle = EMPTY },
 };
 
 /* A row of the same zones without lists, two pages of whose upper zone are lent: to its first worker, and to its second. */
 static world_t without_lists;
+/* And one with boards. */
+static world_t with_boards;
 
 static uint32_t page_of(const stated_t *s, uint32_t spare)
 {
@@ -874,6 +907,7 @@ static uint32_t ask(const stated_t *s, zone_worker_t *w, zone_row_t *row, uint32
     case IS_LENT: return zonealloc_is_lent(w, s->zone, page, s->order, &told.number);
     case CACHED: return zonealloc_cached(w, s->zone, s->type, &told.number);
     case ALLOC: return zonealloc_alloc(w, s->zone, s->order, s->type, s->mark, &told.page);
+    case ALLOC_TOLD: return zonealloc_alloc_told(w, s->zone, s->order, s->type, s->mark, &told.page, &told.origin);
     case ALLOC_LOW: return zonealloc_alloc_low(w, s->zone, s->order, &told.page);
     case FREE: return zonealloc_free(w, s->zone, page, s->order);
     case ALLOC_RUN: return zonealloc_alloc_run(w, s->zone, s->number, s->order, s->mark, &told.page);
@@ -892,21 +926,29 @@ static uint32_t ask(const stated_t *s, zone_worker_t *w, zone_row_t *row, uint32
     case PAGE: return zonealloc_page(w, s->zone, page, &told.noted);
     case PAGEBLOCK: return zonealloc_pageblock(w, s->zone, s->number, &told.block);
     case GATHER: return zonealloc_gather(row, s->zone, &told.totals);
-    case BYTES: case MAKE: break;
+    case READER: return zonealloc_reader(w, s->zone, &reader);
+    case READ: return zonealloc_read(&reader, &told.reading);
+    case END_READER: return zonealloc_end_reader(&reader);
+    case BYTES: case MAKE: case MAKE_WITH_BOARDS: break;
     }
     return ZONE_OK;
 }
 
 static void state_row(const stated_t *s, uint32_t spare)
 {
-    zone_worker_t none = ZONE_NONE, *const of[] = { &world.workers[0], &world.workers[1], &without_lists.workers[0], &none };
+    zone_worker_t none = ZONE_NONE, *const of[] = { &world.workers[0], &world.workers[1], &without_lists.workers[0], &with_boards.workers[0], &none };
     zone_row_t no_row = ZONE_NONE;
     char what[64];
+    uint32_t answer;
     (void)snprintf(what, sizeof what, "row %u of the numbers stated", (unsigned)(s - stated));
     forget();
     many = 0;
-    refused(ask(s, of[s->handle], s->handle == EMPTY ? &no_row : &world.row, page_of(s, spare)), s->wanted, what, __LINE__);
-    CHECK(are_no_workers(&none, 1) && is_no_row(&no_row) && many == 0);
+    if (s->wanted == ZONE_NO_MEMORY)
+        refuse(1, UINT64_MAX);
+    answer = ask(s, of[s->handle], s->handle == EMPTY ? &no_row : &world.row, page_of(s, spare));
+    refuse_to = 0;
+    refused(answer, s->wanted, what, __LINE__);
+    CHECK(are_no_workers(&none, 1) && is_no_row(&no_row) && many == 0 && reader.live == 0 && reader.at == NULL);
 }
 
 /* Each row of the numbers stated, while worker 1 has its full list and a page more, and worker 2 all other pages of the lower zone that are
@@ -920,6 +962,7 @@ static void stated_numbers(void)
     while (answer == ZONE_OK)
         answer = zonealloc_alloc(&world.workers[2], 0, 0, ZONE_TYPE_MOVABLE, ZONE_ANY, &page);
     ANSWERS(ZONE_OK, zonealloc_make(&without_lists.row, without_lists.workers, CREW, specs, ZONES, 0, 0));
+    ANSWERS(ZONE_OK, zonealloc_make_with_boards(&with_boards.row, with_boards.workers, CREW, specs, ZONES, 0, 0));
     ANSWERS(ZONE_OK, zonealloc_alloc_low(&without_lists.workers[1], 1, 0, &page));
     ANSWERS(ZONE_OK, zonealloc_alloc_low(&without_lists.workers[0], 1, 0, &page));
     see(&world, &before);
@@ -931,6 +974,7 @@ static void stated_numbers(void)
     CHECK(told.number == 1);
     ANSWERS(ZONE_OK, zonealloc_free(&without_lists.workers[0], 1, page, 0));
     unfurnish(&without_lists);
+    unfurnish(&with_boards);
     unfurnish(&world);
     CHECK(blocks == 0);
 }
@@ -979,6 +1023,20 @@ static const making_t makings[] = {
     { MAKE, ZONE_BAD_PAGES, .n_zones = 1, .n_workers = 1, .zones = { NO_PAGES } },
     { MAKE, ZONE_BAD_MARK, .n_zones = 2, .n_workers = 1, .zones = { BAD_MIN, { 2048, 64, 0, 10, 1, { '-' } } } },
     { MAKE, ZONE_NO_MEMORY, .no_memory = 1, .n_zones = 1, .n_workers = 1, .zones = { GOOD } },
+    { MAKE_WITH_BOARDS, ZONE_BAD_HANDLE, .over = 1, .n_zones = 0, .n_workers = 0 },
+    { MAKE_WITH_BOARDS, ZONE_BAD_ARGUMENT, .n_zones = 0, .n_workers = 0 },
+    { MAKE_WITH_BOARDS, ZONE_BAD_WORKERS, .n_zones = 2, .n_workers = 0, .batch = 4, .high_len = 4, .zones = { MEETS, GOOD } },
+    { MAKE_WITH_BOARDS, ZONE_BAD_WORKERS, .n_zones = 2, .n_workers = ZONE_WORKERS + 1, .batch = 4, .high_len = 4, .zones = { MEETS, GOOD } },
+    { MAKE_WITH_BOARDS, ZONE_BAD_ARGUMENT, .n_zones = 2, .n_workers = 1, .batch = 4, .high_len = 4, .zones = { MEETS, GOOD } },
+    { MAKE_WITH_BOARDS, ZONE_BAD_BASE, .n_zones = 2, .n_workers = 1, .batch = 4, .high_len = 6, .zones = { MEETS, GOOD } },
+    { MAKE_WITH_BOARDS, ZONE_BAD_NAME, .n_zones = 1, .n_workers = 1, .zones = { BAD_NAME_LARGEST } },
+    { MAKE_WITH_BOARDS, ZONE_BAD_NAME, .n_zones = 2, .n_workers = 1, .zones = { LONG_NAME, { 2048, 64, 0, 0, 1, { 'G' } } } },
+    { MAKE_WITH_BOARDS, ZONE_BAD_ARGUMENT, .n_zones = 2, .n_workers = 1, .zones = { BAD_LARGEST, { 2048, 64, 0, 10, 9, { 'G' } } } },
+    { MAKE_WITH_BOARDS, ZONE_BAD_NAME, .n_zones = 1, .n_workers = 1, .zones = { BAD_LETTER } },
+    { MAKE_WITH_BOARDS, ZONE_BAD_BASE, .n_zones = 1, .n_workers = 1, .zones = { BAD_BASE } },
+    { MAKE_WITH_BOARDS, ZONE_BAD_PAGES, .n_zones = 1, .n_workers = 1, .zones = { NO_PAGES } },
+    { MAKE_WITH_BOARDS, ZONE_BAD_MARK, .n_zones = 2, .n_workers = 1, .zones = { BAD_MIN, { 2048, 64, 0, 10, 1, { '-' } } } },
+    { MAKE_WITH_BOARDS, ZONE_NO_MEMORY, .no_memory = 1, .n_zones = 1, .n_workers = 1, .zones = { GOOD } },
 };
 
 static void make_row(const making_t *m)
@@ -995,6 +1053,8 @@ static void make_row(const making_t *m)
     forget();
     if (m->call == BYTES)
         answer = zonealloc_bytes(m->zones, m->n_zones, (uint32_t)m->n_workers, &told.bytes);
+    else if (m->call == MAKE_WITH_BOARDS)
+        answer = zonealloc_make_with_boards(&made, crew, m->n_workers, m->zones, m->n_zones, m->batch, m->high_len);
     else
         answer = zonealloc_make(&made, crew, m->n_workers, m->zones, m->n_zones, m->batch, m->high_len);
     refuse_to = 0;

@@ -1,9 +1,12 @@
--- The two types of slots: of a row, and of a worker.
+-- The three types of slots: of a row, of a worker, and of a reader.
 use Rattle.std.proofs.Common.{refl}
+use Rattle.zp_gate.specs.contracts.gated_reader.GatedReader as held_reader
 use Rattle.zp_gate.specs.contracts.gated_row.GatedRow as held_row
 use Rattle.zp_gate.specs.contracts.gated_worker.GatedWorker as held_worker
+use Rattle.zonealloc.specs.contracts.slots.ReaderSlot as reader_slot
 use Rattle.zonealloc.specs.contracts.slots.RowSlot as row_slot
 use Rattle.zonealloc.specs.contracts.slots.WorkerSlot as worker_slot
+use Rattle.zonealloc.specs.declared.slots.ReaderSlot.{ReaderSlot}
 use Rattle.zonealloc.specs.declared.slots.RowSlot.{RowSlot}
 use Rattle.zonealloc.specs.declared.slots.WorkerSlot.{WorkerSlot}
 use Rattle.zonealloc.proofs.SlotWalks.{Kind}
@@ -34,4 +37,18 @@ worker = record {
   value_made = λ p v. refl;
   coded = worker_slot.the_type.coded;
   shr_at = worker_slot.the_type.shr_at;
+}
+
+abbrev pub reader : Kind
+reader = record {
+  R = held_reader.the_row;
+  name = reader_slot.the_type.name;
+  D = ReaderSlot;
+  at = λ s. s.at;
+  value = λ s. s.value;
+  make = λ p v. record { at = p; value = v };
+  at_made = λ p v. refl;
+  value_made = λ p v. refl;
+  coded = reader_slot.the_type.coded;
+  shr_at = reader_slot.the_type.shr_at;
 }

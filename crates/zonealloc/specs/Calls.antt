@@ -8,13 +8,14 @@ use Rattle.zp_model.specs.declared.migrate_type.MigrateType.{MigrateType}
 use Rattle.zp_model.specs.declared.mark.Mark.{Mark}
 use Rattle.zp_model.specs.MigrateType.{type_number}
 use Rattle.zp_model.specs.Refused.{refused_number}
+use Rattle.zp_zone.specs.declared.told.Told.{Told}
 use Rattle.zp_share.specs.Shares.{ShareState, share_at}
 use Rattle.zp_share.specs.ZoneShares.{cached_of, is_lent}
 use Rattle.zp_gate.specs.declared.call_error.CallError.{CallError}
 use Rattle.zp_gate.specs.GatedZones.{drain_request}
 use Rattle.zp_gate.specs.Visits.{IsAnswer}
-use Rattle.zp_gate.specs.GatedWorkers.{WorkerState, AreDrained, AreDrainedTill, HasPages, HasTooFew, HasTurned, HasZone, IsAt, IsAtShare, IsGrantedAt, IsPut, IsTaken, LacksBlock, LacksWorker, gated_at, worker_share}
-use Rattle.zonealloc.specs.Numbers.{error_number, mark_number}
+use Rattle.zp_gate.specs.GatedWorkers.{WorkerState, AreDrained, AreDrainedTill, HasPages, HasTooFew, HasTurned, HasZone, IsAt, IsAtShare, IsGrantedAt, IsPut, IsTaken, IsToldAt, LacksBlock, LacksWorker, gated_at, worker_share}
+use Rattle.zonealloc.specs.Numbers.{error_number, mark_number, origin_number}
 
 -- there is a worker in the handle, and this is so of it
 abbrev pub IsOf : (WorkerState → Type 0) → Option WorkerState → Type 0
@@ -26,7 +27,7 @@ HasNoZone i v = ¬ HasZone i v
 
 -- there is no such zone; or it has no worker of this number
 abbrev pub HasNoWorker : ℕ → ℕ → WorkerState → Type 0
-HasNoWorker i n v = HasNoZone i v ⊎ (HasZone i v × ((gated_at v i).key.workers ≤ n))
+HasNoWorker i n v = HasNoZone i v ⊎ (HasZone i v × ((gated_at v i).key.zone.workers ≤ n))
 
 -- what the worker has of the zone at place i
 abbrev pub IsAtZone : ℕ → (ShareState → Type 0) → WorkerState → Type 0
@@ -57,6 +58,11 @@ pub record IsCall (asks : Option WorkerState → Request → Type 0) (told : Rep
   pub done : code ≡ 0 → (r : Request) × (q : Reply) × asks b r × told q × IsOfBoth (IsGrantedAt i r q) b a
   pub refused : 1 ≤ code → code < 40 → code ≢ 20 → kept × ((r : Request) × (e : Refused) × asks b r × (refused_number e ≡ code) × IsOfBoth (IsRefusedAt i r e) b a)
   pub unasked : (40 ≤ code) ⊎ (code ≡ 20) → kept × (a ≡ b)
+
+-- a block of order k for the type and the mark of these numbers was granted, and it is told where it came from
+abbrev pub IsTold : ℕ → ℕ → ℕ → ℕ → ℕ → ℕ → ℕ → Option WorkerState → Option WorkerState → Type 0
+IsTold k kind mark page from i code b a =
+    code ≡ 0 → (t : MigrateType) × (m : Mark) × (x : Told) × (type_number t ≡ kind) × (mark_number m ≡ mark) × (x.page ≡ page) × (origin_number x.origin ≡ from) × IsOfBoth (IsToldAt i k t m x) b a
 
 -- Why a request came to no reply, by its number: 41 without a worker, 40 without the zone or the worker that is named, 20 where the block that is
 -- named is not lent; a number below 40 that is not 20 is the zone's refusal; else 42

@@ -1,7 +1,9 @@
--- The numbers by which C names marks, and why a call was denied (this profile).
+-- The numbers by which C names marks and origins, and why a call was denied (this profile).
 use Rattle.std.specs.Prelude.{ℕ, ◌<◌, ◌≤◌}
 use Rattle.zp_model.specs.declared.mark.Mark.{Mark}
 use Rattle.zp_model.specs.declared.mark.Mark.TheVariants.{Low, Min, Any}
+use Rattle.zp_model.specs.declared.origin.Origin.{Origin}
+use Rattle.zp_model.specs.declared.origin.Origin.TheVariants.{Own, Claimed, Borrowed}
 use Rattle.zp_model.specs.declared.constants.TheConstants.{LARGEST_ALIGNMENT, LARGEST_ORDER, MAX_WORKERS, TYPES}
 use Rattle.zp_model.specs.Refused.{refused_number}
 use Rattle.zp_gate.specs.declared.call_error.CallError.{CallError}
@@ -11,6 +13,11 @@ abbrev pub mark_number : Mark → ℕ
 mark_number Any = 0
 mark_number Min = 1
 mark_number Low = 2
+
+abbrev pub origin_number : Origin → ℕ
+origin_number Own = 0
+origin_number Claimed = 1
+origin_number Borrowed = 2
 
 -- the numbers that name no order, no migrate type, no mark, no worker of any zone, and no alignment of a run
 abbrev pub IsNoOrder : ℕ → Type 0

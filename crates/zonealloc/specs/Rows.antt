@@ -1,5 +1,5 @@
 -- What the making and unmaking of a row come to, by their answers (this profile).
-use Rattle.std.specs.Prelude.{ℕ, ◌≡◌, ◌<◌, ◌≤◌, ◌⊎◌, ◌↔◌, List, All, length, map, slice_index_or, Option, None, Some, Result, Ok, Err}
+use Rattle.std.specs.Prelude.{ℕ, ◌≡◌, ◌<◌, ◌≤◌, ◌⊎◌, ◌↔◌, Bool, List, All, length, map, slice_index_or, Option, None, Some, Result, Ok, Err}
 use Rattle.zp_model.specs.Bounds.{AreLists}
 use Rattle.zp_model.specs.declared.refused.Refused.{Refused}
 use Rattle.zp_model.specs.Refused.{refused_number}
@@ -7,7 +7,7 @@ use Rattle.zp_share.specs.declared.gathering.Totals.{Totals}
 use Rattle.zp_zone.specs.Making.{IsRefusedWithin}
 use Rattle.zp_gate.specs.declared.visit_view.VisitView.{VisitView}
 use Rattle.zp_zone.specs.declared.config.TheConstants.{WIDE}
-use Rattle.zp_gate.specs.GatedRows.{HasNoWorkers, RowState, key_at, untied}
+use Rattle.zp_gate.specs.GatedRows.{HasNoWorkers, HaveBoards, RowState, key_at, untied}
 use Rattle.zp_gate.specs.GatedWorkers.{HasLeftDownTo, IsNewWorker, WorkerState}
 use Rattle.zp_gate.specs.Visits.{HasGathered, HasMissed}
 use Rattle.zonealloc.specs.declared.handles.RowHandle.{RowHandle}
@@ -32,11 +32,11 @@ abbrev pub HaveWorkers : ℕ → ℕ → RowState → List WorkerHandle → List
 HaveWorkers batch high x ws vs = (length vs ≡ length ws) × ((w : ℕ) (none : WorkerHandle) → w < length vs → HasNewWorker w batch high x (slice_index_or vs w none))
 
 -- answered 0, all that were empty are full: the row with a zone as each of those described, which share no page, the handles of the workers in the order of
--- their numbers;
+-- their numbers, and each zone has a board, or none has;
 -- else nothing changed
-pub record IsMakeCall (zones : List ZoneSpec) (batch high code : ℕ) (r s : RowHandle) (ws vs : List WorkerHandle) : Type 0 where
+pub record IsMakeCall (boards : Bool) (zones : List ZoneSpec) (batch high code : ℕ) (r s : RowHandle) (ws vs : List WorkerHandle) : Type 0 where
   pub was_empty : code ≡ 0 → (r.slot.value ≡ None) × All IsEmpty ws
-  pub made : code ≡ 0 → (x : RowState) × (s.slot.value ≡ Some x) × (map untied x ≡ map (spec_key (length ws)) zones) × HaveWorkers batch high x ws vs
+  pub made : code ≡ 0 → (x : RowState) × (s.slot.value ≡ Some x) × (map untied x ≡ map (spec_key (length ws)) zones) × HaveBoards boards x × HaveWorkers batch high x ws vs
   pub apart : code ≡ 0 → AreApart zones
   pub unchanged : 1 ≤ code → (s ≡ r) × (vs ≡ ws)
 

@@ -4,7 +4,7 @@ ghost use Rattle.std.specs.Prelude.{IfErr, IfOk, IsTrue, OnOk};
 ghost use Rattle.zp_model.specs.declared.request.Request.TheVariants as request;
 ghost use Rattle.zp_model.specs.declared.request.Reply.TheVariants as reply;
 ghost use Rattle.zp_model.specs.Runs.{may_alloc_run};
-ghost use Rattle.zp_gate.specs.GatedWorkers.{IsGrantedAt};
+ghost use Rattle.zp_gate.specs.GatedWorkers.{IsGrantedAt, IsToldAt};
 ghost use Rattle.zp_gate.specs.Calls.{reply_of, request_of};
 ghost use Rattle.zonealloc.specs.Calls.{IsAskDenied, IsOfBoth};
 
@@ -12,6 +12,7 @@ use crate::answers::{BAD_HANDLE, call_error};
 use crate::handles::WorkerHandle;
 use zp_gate::{Given, ZoneCall};
 use zp_model::{Mark, MigrateType, Order, PageNo};
+use zp_zone::Told;
 
 /// A block for the worker in a handle: its first page, else the number of why there is none.
 #[tactic(auto, using(crate::proofs::Answering::ask_denied))]
@@ -36,6 +37,28 @@ pub fn ask_alloc(
     }
 }
 
+/// The same, and where the block came from.
+pub fn ask_told(
+    worker: &mut WorkerHandle,
+    zone: u32,
+    order: Order,
+    kind: MigrateType,
+    mark: Mark,
+) -> Result<Told, u32>
+    ensures granted { IfOk result (λ t. IsOfBoth (IsGrantedAt zone (request.Alloc order kind mark) (reply.Page t.page)) worker.old.slot.value worker.new.slot.value) }
+    ensures told { IfOk result (λ t. IsOfBoth (IsToldAt zone order kind mark t) worker.old.slot.value worker.new.slot.value) }
+    ensures denied { IfErr result (λ n. IsAskDenied zone (request.Alloc order kind mark) n worker.old.slot.value worker.new.slot.value) }
+{
+    if !worker.is_live() {
+        return Err(BAD_HANDLE);
+    }
+    let held = worker.slot.held();
+    match held.alloc_told(zone as usize, order, kind, mark) {
+        Ok(told) => Ok(told),
+        Err(why) => Err(call_error(why)),
+    }
+}
+
 /// Frees a block of the worker in a handle; else the number of why it was not freed.
 #[tactic(auto, using(crate::proofs::Answering::ask_denied))]
 #[inline(always)]
@@ -54,7 +77,6 @@ pub fn ask_free(worker: &mut WorkerHandle, zone: u32, page: PageNo, order: Order
 }
 
 /// A run of pages for the worker in a handle: its first page, else the number of why there is none.
-#[tactic(auto, using(crate::proofs::Answering::ask_denied))]
 pub fn ask_alloc_run(
     worker: &mut WorkerHandle,
     zone: u32,

@@ -1,7 +1,7 @@
 //! Creating a row: of several faults the first number that the header names is returned.
 ghost use Rattle.std.specs.Prelude.{ℕ, ◌≡◌, ◌≤◌, ◌<◌, ◌⊎◌, ◌↔◌, All, IfErr, IfOk, IfSome, IsSome, OnOk, Some, true, false, length, map, slice_index_or};
 ghost use Rattle.zp_model.specs.Bounds.{AreLists};
-ghost use Rattle.zp_gate.specs.GatedRows.{key_for, untied, wanted_by};
+ghost use Rattle.zp_gate.specs.GatedRows.{HaveBoards, key_for, untied, wanted_by};
 ghost use Rattle.zp_gate.specs.GatedWorkers.{AllDown, IsNewWorker};
 ghost use Rattle.zonealloc.specs.declared.handles.WorkerHandle.{WorkerHandle};
 ghost use Rattle.zonealloc.specs.Memory.{IsCrewLength};
@@ -27,13 +27,45 @@ pub extern "C" fn zonealloc_make(
     batch: u32,
     high_len: u32,
 ) -> u32
-    ensures call { IsMakeCall zones.now batch high_len result row.old row.new workers.old workers.new }
+    ensures call { IsMakeCall false zones.now batch high_len result row.old row.new workers.old workers.new }
+    ensures denied { IsMakeDenied zones.now batch high_len result row.old workers.old }
+{
+    make(alloc, row, workers, zones, batch, high_len, false)
+}
+
+/// The same with a board for each zone, on which its counts are read with no lock.
+#[unsafe(no_mangle)]
+pub extern "C" fn zonealloc_make_with_boards(
+    alloc: Global,
+    row: &mut RowHandle,
+    workers: &mut [WorkerHandle],
+    zones: &[ZoneSpec],
+    batch: u32,
+    high_len: u32,
+) -> u32
+    ensures call { IsMakeCall true zones.now batch high_len result row.old row.new workers.old workers.new }
+    ensures denied { IsMakeDenied zones.now batch high_len result row.old workers.old }
+{
+    make(alloc, row, workers, zones, batch, high_len, true)
+}
+
+/// Fills an empty row, with boards or without, and all its workers.
+fn make(
+    alloc: Global,
+    row: &mut RowHandle,
+    workers: &mut [WorkerHandle],
+    zones: &[ZoneSpec],
+    batch: u32,
+    high_len: u32,
+    boards: bool,
+) -> u32
+    ensures call { IsMakeCall boards zones.now batch high_len result row.old row.new workers.old workers.new }
     ensures denied { IsMakeDenied zones.now batch high_len result row.old workers.old }
 {
     if row.is_live() || has_live(workers) {
         return BAD_HANDLE;
     }
-    match made(alloc, zones, workers.len(), batch, high_len) {
+    match made(alloc, zones, workers.len(), batch, high_len, boards) {
         Ok((row_made, crew)) => {
             put_row(row, HeldRow { row: row_made });
             put_all(workers, crew);
@@ -63,9 +95,11 @@ fn made(
     workers: usize,
     batch: u32,
     high_len: u32,
+    boards: bool,
 ) -> Result<(Box<GatedRow>, Vec<Box<GatedWorker>>), u32>
     ensures keys { IfOk result (λ r. map untied r.0.value ≡ map (spec_key workers) zones.now) }
     ensures apart { IfOk result (λ r. AreApart zones.now) }
+    ensures boards { IfOk result (λ r. HaveBoards boards r.0.value) }
     ensures crew { IfOk result (λ r. length r.1.items ≡ workers) }
     ensures new { IfOk result (λ r. AllDown (λ w b. IsNewWorker w batch high_len r.0.value b.value) workers r.1.items) }
     ensures answer { IsMaking zones.now workers batch high_len (made_number result) }
@@ -83,7 +117,7 @@ fn made(
     if !are_apart(zones) {
         return Err(refused(Refused::BadBase));
     }
-    opened(alloc, zones, workers as u32, lists)
+    opened(alloc, zones, workers as u32, lists, boards)
 }
 
 /// The row of these zones, whatever else was tested.
@@ -92,16 +126,18 @@ fn opened(
     zones: &[ZoneSpec],
     workers: u32,
     lists: ListConfig,
+    boards: bool,
 ) -> Result<(Box<GatedRow>, Vec<Box<GatedWorker>>), u32>
     requires crew { IsCrewLength workers }
     ensures keys { IfOk result (λ r. map untied r.0.value ≡ map (spec_key workers) zones.now) }
+    ensures boards { IfOk result (λ r. HaveBoards boards r.0.value) }
     ensures crew { IfOk result (λ r. length r.1.items ≡ workers) }
     ensures new { IfOk result (λ r. AllDown (λ w b. IsNewWorker w lists.batch lists.high_len r.0.value b.value) workers r.1.items) }
     ensures good { OnOk result (All IsConfig zones.now) }
     ensures why { IfErr result (IsUnopened zones.now workers) }
 {
     let configs = configs_of(alloc, zones)?;
-    match open_row(alloc, configs.as_slice(), workers, lists) {
+    match open_row(alloc, configs.as_slice(), workers, lists, boards) {
         Ok((row, crew)) => match Box::new(alloc, row) {
             Ok(row) => Ok((row, crew)),
             Err(_) => Err(refused(Refused::Memory)),

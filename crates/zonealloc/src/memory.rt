@@ -15,7 +15,7 @@ pub const ROW_BYTES: u64 = 32;
 pub const CREW_BYTES: u64 = 56;
 
 /// What a zone takes beside what its pages, its pageblocks, its lists and its workers take.
-pub const ZONE_BYTES: u64 = 1016;
+pub const ZONE_BYTES: u64 = 1152;
 
 /// What each page of a zone takes: its entry.
 pub const PAGE_BYTES: u64 = 8;

@@ -2,11 +2,11 @@
 ghost use Rattle.std.specs.Prelude.{◌≡◌, ◌⊎◌};
 ghost use Rattle.zp_model.specs.declared.request.Request.TheVariants as request;
 ghost use Rattle.zp_model.specs.declared.request.Reply.TheVariants as reply;
-ghost use Rattle.zonealloc.specs.Calls.{Asks, AsksAlloc, AsksRelease, HasNoWorker, HasNoZone, IsBlockAt, IsCall, IsDenied, IsLentDenied, IsRefusedOrBusy};
+ghost use Rattle.zonealloc.specs.Calls.{Asks, AsksAlloc, AsksRelease, HasNoWorker, HasNoZone, IsBlockAt, IsCall, IsDenied, IsLentDenied, IsRefusedOrBusy, IsTold};
 ghost use Rattle.zonealloc.specs.Numbers.{IsNoMark, IsNoOrder, IsNoType, IsNoWorker};
 
-use crate::answers::{BAD_ARGUMENT, DONE, kind_of, mark_of, number_of, order_of};
-use crate::asking::{ask, ask_alloc, ask_free};
+use crate::answers::{BAD_ARGUMENT, DONE, kind_of, mark_of, number_of, order_of, origin_number};
+use crate::asking::{ask, ask_alloc, ask_free, ask_told};
 use crate::handles::WorkerHandle;
 use zp_gate::{Given, ZoneCall};
 use zp_model::PageNo;
@@ -37,6 +37,42 @@ pub extern "C" fn zonealloc_alloc(
     match ask_alloc(worker, zone, order, kind, mark) {
         Ok(first) => {
             *page = first.number();
+            DONE
+        }
+        Err(why) => why,
+    }
+}
+
+/// As `zonealloc_alloc`, and where the block came from: 0, a list of its own type; 1, another type's, whose pageblock was claimed; 2, another
+/// type's, borrowed.
+#[tactic(auto, using(crate::proofs::Answering::denied_call, crate::proofs::Answering::denied_by))]
+#[unsafe(no_mangle)]
+pub extern "C" fn zonealloc_alloc_told(
+    worker: &mut WorkerHandle,
+    zone: u32,
+    order: u32,
+    kind: u32,
+    mark: u32,
+    page: &mut u32,
+    origin: &mut u32,
+) -> u32
+    ensures call { IsCall (AsksAlloc order kind mark) (λ q. q ≡ reply.Page page.new) ((page.new ≡ page.old) × (origin.new ≡ origin.old)) zone result worker.old.slot.value worker.new.slot.value }
+    ensures told { IsTold order kind mark page.new origin.new zone result worker.old.slot.value worker.new.slot.value }
+    ensures denied { IsDenied (IsNoOrder order ⊎ (IsNoType kind ⊎ IsNoMark mark)) (HasNoZone zone) IsRefusedOrBusy result worker.old.slot.value }
+{
+    let Some(order) = order_of(order) else {
+        return BAD_ARGUMENT;
+    };
+    let Some(kind) = kind_of(kind) else {
+        return BAD_ARGUMENT;
+    };
+    let Some(mark) = mark_of(mark) else {
+        return BAD_ARGUMENT;
+    };
+    match ask_told(worker, zone, order, kind, mark) {
+        Ok(told) => {
+            *page = told.page.number();
+            *origin = origin_number(told.origin);
             DONE
         }
         Err(why) => why,

@@ -1,13 +1,14 @@
-//! What C holds of a row and of a worker, which lie on the heap: the pointer alone, or nothing.
+//! What C holds of a row, of a worker and of a reader, which lie on the heap: the pointer alone, or nothing.
 ghost use Rattle.std.specs.Prelude.{◌≡◌, IsSome, Option, Some, None};
 ghost use Rattle.zp_gate.specs.GatedRows.{RowState};
 ghost use Rattle.zp_gate.specs.GatedWorkers.{WorkerState};
+ghost use Rattle.zp_gate.specs.Readers.{ReaderState};
 
 use crate::loose::Loose;
 use std::alloc::Global;
 use std::marker::Model;
 use std::ptr::null_mut;
-use zp_gate::{GatedRow, GatedWorker};
+use zp_gate::{GatedReader, GatedRow, GatedWorker};
 
 #[repr(C)]
 #[derive(Drop)]
@@ -92,3 +93,45 @@ impl WorkerSlot {
 }
 
 unsafe impl Send for WorkerSlot {}
+
+#[repr(C)]
+#[derive(Drop)]
+pub struct ReaderSlot {
+    at: *mut u8,
+    pub ghost value: { Option ReaderState },
+}
+
+impl Model for ReaderSlot {
+    ghost use Rattle.zonealloc.specs.Slot.{chunk, slot_owns};
+    ghost use Rattle.zp_gate.specs.contracts.gated_reader.GatedReader.{the_row};
+
+    ghost also_owns = { λ s. slot_owns chunk the_row s.at s.value };
+}
+
+impl ReaderSlot {
+    pub fn empty() -> ReaderSlot
+        ensures { result.value ≡ None }
+    {
+        ReaderSlot { at: null_mut() }
+    }
+
+    pub fn of(held: Loose<GatedReader, Global>) -> ReaderSlot
+        ensures { result.value ≡ Some held.value }
+    {
+        let Loose { at, alloc: _ } = held;
+        ReaderSlot { at: at as *mut u8 }
+    }
+
+    pub fn into_loose(self, alloc: Global) -> Loose<GatedReader, Global>
+        requires { IsSome self.value }
+        ensures { Some result.value ≡ self.value }
+    {
+        let ReaderSlot { at } = self;
+        Loose {
+            at: at as *mut GatedReader,
+            alloc,
+        }
+    }
+}
+
+unsafe impl Send for ReaderSlot {}

@@ -1,14 +1,16 @@
 -- A block that is halved towards a part of it, at whatever place the part has there.
 use Rattle.std.proofs.Common.{ℕ, suc, zero, ◌+◌, ◌-◌, ◌^◌, ◌%◌, ◌≡◌, ◌≤◌, ◌⊎◌, inl, inr, refl, sym, ◌∙◌, ap, arith, length-set}
 use Rattle.std.proofs.Math.Nat.{add-mod_right}
+use Rattle.std.proofs.lemmas.Bool.{eq-eqb}
 use Rattle.zp_model.specs.declared.state.State.TheVariants.{Free, Tail}
 use Rattle.zp_model.specs.Block.{IsBuddy, head}
 use Rattle.zp_model.specs.BlockSet.{Starts}
 use Rattle.zp_model.specs.RunLaws.{half_beside}
 use Rattle.zp_model.proofs.Halving.{beside_buddy}
-use Rattle.zp_model.proofs.Heads.{two, aligned_down}
+use Rattle.zp_model.proofs.Heads.{two, aligned_down, head_aligned, head_self}
 use Rattle.zp_area.specs.Blocks.{Blocks, block_set, added, removed}
 use Rattle.zp_area.specs.OneSet.{IsOneSet}
+use Rattle.zp_area.specs.Chains.{halves_added, split_off}
 use Rattle.zp_area.specs.Towards.{halves_beside, split_towards}
 use Rattle.zp_area.proofs.Adding.{IsComing, clear_beside, one_added}
 use Rattle.zp_area.proofs.Growing.{buddy_unique}
@@ -86,3 +88,25 @@ towards_ends m a b h o k x = let none_left : 0 ≡ k - k = omega arith in ap (λ
 pub largest-beside : (d m : ℕ) (a : Blocks) (h k : ℕ) → (halves_beside m a h k d).largest ≡ a.largest
 largest-beside zero m a h k = refl
 largest-beside (suc d) m a h k = largest-beside d m (added m a (half_beside h (k + d)) (k + d)) h k
+
+-- where the page heads the block that is halved, the half beside its run is the high one
+beside_high : (h j : ℕ) → h % 2 ^ (j + 1) ≡ 0 → half_beside h j ≡ h + 2 ^ j
+beside_high h j al =
+    let low : head h j ≡ h = head_self h j (aligned_down j (j + 1) h (omega arith) al) in
+    let all : head h (j + 1) ≡ h = head_self h (j + 1) al in
+    rw (low, all, eq-eqb h h refl) refl
+
+beside_added : (d m : ℕ) (a : Blocks) (h k : ℕ) → h % 2 ^ (k + d) ≡ 0 → halves_added m a h k d ≡ halves_beside m a h k d
+beside_added zero m a h k al = refl
+beside_added (suc d) m a h k al =
+    let s : k + suc d ≡ k + d + 1 = omega arith in
+    let up : h % 2 ^ (k + d + 1) ≡ 0 = rw s at al in
+    beside_added d m (added m a (h + 2 ^ (k + d)) (k + d)) h k (aligned_down (k + d) (k + d + 1) h (omega arith) up)
+    ∙ ap (λ g. halves_beside m (added m a g (k + d)) h k d) (sym (beside_high h (k + d) up))
+
+-- so halving it towards the page is a split
+pub split_head : (m : ℕ) (a : Blocks) (h o k : ℕ) → head h o ≡ h → k ≤ o → split_off m a h o k ≡ split_towards m a h o k
+split_head m a h o k at le =
+    let al : h % 2 ^ o ≡ 0 = rw at at (head_aligned h o) in
+    let all : k + (o - k) ≡ o = omega arith in
+    beside_added (o - k) m (removed m a h o) h k (rw all al) ∙ ap (λ g. halves_beside m (removed m a g o) h k (o - k)) (sym at)

@@ -17,7 +17,7 @@
 //!
 //! Cost: each split or join is one list operation of a constant number of steps, at most as many as the largest order. `retype` steps over
 //! the pages of one pageblock. Where 64 pageblocks are marked, a change that marks one more looks at another one first.
-ghost use Rattle.std.specs.Prelude.{ℕ, ◌≡◌, None, ◌<◌, ◌≤◌, ◌+◌, ◌^◌, ◌*◌, ◌/◌, ◌↔◌, true, false, length, max, slice_index_or, IfOk, Some, IfNone, IfSome, IsTrue};
+ghost use Rattle.std.specs.Prelude.{ℕ, ◌≡◌, None, ◌<◌, ◌≤◌, ◌+◌, ◌^◌, ◌*◌, ◌/◌, ◌↔◌, true, false, length, max, min, slice_index_or, IfOk, Some, IfNone, IfSome, IsTrue};
 ghost use Rattle.zp_model.specs.declared.constants.TheConstants.{MAX_PAGES};
 ghost use Rattle.zp_model.specs.declared.pageblock_type.PageblockType.TheVariants.{Movable};
 ghost use Rattle.zp_model.specs.PageblockType.{pageblock_type};
@@ -29,8 +29,8 @@ ghost use Rattle.zp_model.specs.Described.{IsLinkedAt};
 ghost use Rattle.zp_model.specs.Frames.{IsNote};
 ghost use Rattle.zp_model.specs.Info.{pageblocks_of_type};
 ghost use Rattle.zp_model.specs.Area.{available, is_isolated, kind_at, list_number, lists_count, pageblock_pages, size_in};
-ghost use Rattle.zp_tree.specs.Blocks.{IsBare, IsBeside, IsWhole};
-ghost use Rattle.zp_tree.specs.declared.constants.TheConstants.{GROUP_ORDER, GROUP_PAGES, MOST_GROUPS};
+ghost use Rattle.zp_tree.specs.Blocks.{HasBlockOf, IsBare, IsBeside, IsWhole};
+ghost use Rattle.zp_tree.specs.declared.constants.TheConstants.{GROUP_ORDER, GROUP_PAGES, MOST_GROUPS, WORD_LEVELS};
 ghost use Rattle.zp_area.specs.Given.{AreClearPages, IsClearRun};
 ghost use Rattle.zp_area.specs.Blocks.{block_set, count_of, free_list_of, free_lists, side_list_of, no_blocks, added, removed, noted, noted_run, side_pushed, side_popped};
 ghost use Rattle.zp_area.specs.Chains.{IsJoinable, pages_split_off, split_off, IsJoinedUp};
@@ -412,10 +412,12 @@ impl FreeArea {
     }
 
     /// The first group of pages from this one on that may have a block of this order or more outside isolated pageblocks; else the number of groups.
+    /// One group may be stopped at that has none of an order above 5, but has one of order 5 or more.
     pub fn bare_until(&self, group: usize, order: Order) -> usize
         ensures from { group ≤ result }
         ensures within { result ≤ max group MOST_GROUPS }
         ensures bare { IsBare (choosable self.now.largest self.now) order group result }
+        ensures stops { GROUP_PAGES * result < length self.now.rows.states → HasBlockOf (choosable self.now.largest self.now) result (min order WORD_LEVELS) }
     {
         self.blocks.tree.bare_until(group, order)
     }

@@ -202,3 +202,16 @@ module _ (m : ℕ) (a : Blocks) (t : MigrateType) (one : IsOneSet m a) where
       (leb (least_movable_claim m) n || not (same_type t Movable)) ≡ true → IsFoundAs a n (half_free_of_order m a (foreign t) n) r → IsFoundAs a k (claim (area_in m a) k t) r
   claimed_found k n None y up may e = claimed_largest k n None y up may e
   claimed_found k n (Some b) y up may e = (claimed_largest k n (Some b.head) y up may e.0, record { enough = omega (arith, e.1.enough); starts = e.1.starts; typed = e.1.typed })
+
+-- the list of one type alone
+pub own_front : (m : ℕ) (a : Blocks) (k : ℕ) (t : MigrateType) → first_of (front_of_order m a (t ∷ [])) (orders_from m k) ≡ own (area_in m a) k t
+unfolding own
+own_front m a k t = alike (front_of_order m a (t ∷ [])) (λ o. front (free_list_of m a o (pageblock_type t))) (λ o. single (front (free_list_of m a o (pageblock_type t)))) (orders_from m k)
+  where
+    single : {X : Type 0} → (x : Option X) → option_or x None ≡ x
+    single None = refl
+    single (Some x) = refl
+
+    alike : {X Y : Type 0} → (f g : X → Option Y) → ((x : X) → f x ≡ g x) → (xs : List X) → first_of f xs ≡ first_of g xs
+    alike f g e [] = refl
+    alike f g e (x ∷ xs) = rw (e x, alike f g e xs) refl

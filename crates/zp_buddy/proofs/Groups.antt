@@ -12,10 +12,10 @@ use Rattle.zp_model.proofs.Heads.{number_around}
 use Rattle.zp_model.proofs.LowestRun.{available-from, available-to}
 use Rattle.zp_model.proofs.MaximalBlocks.{max_block_some, max_blocks-to, max_has}
 use Rattle.zp_model.proofs.Pages.{In, is_max-from, is_max-to}
-use Rattle.zp_tree.specs.Blocks.{IsBare, IsWhole}
+use Rattle.zp_tree.specs.Blocks.{HasBlockOf, IsBare, IsWhole}
 use Rattle.zp_tree.specs.declared.constants.TheConstants.{GROUP_ORDER, GROUP_PAGES}
 use Rattle.zp_area.proofs.AvailableBlocks as blocks
-use Rattle.zp_buddy.specs.Bare.{AreAtHand, IsBareTo}
+use Rattle.zp_buddy.specs.Bare.{AreAtHand, HasBlockFrom, IsBareTo}
 
 module _ (a : Area) where
   -- a large block that ends past a page is in the page's group or a later one
@@ -27,6 +27,12 @@ module _ (a : Area) where
       let end : (h + 2 ^ j - 1) / 2 ^ GROUP_ORDER ≡ h / 2 ^ GROUP_ORDER = number_around h (h + 2 ^ j - 1) j GROUP_ORDER (omega (arith, y.order, few)) y.aligned (omega (arith, pow_pos j)) (omega (arith, pow_pos j)) in
       let from : g ≤ h / GROUP_PAGES = omega (arith, end, same, past) in
       elim (cases_lt (h / GROUP_PAGES) e) [ inl before ↦ absurd (omega (arith, bare h j st from before, le)) | inr behind ↦ omega (arith, behind) ]
+
+  -- and in a group that has a block one begins
+  pub block_from : (k g : ℕ) → HasBlockOf (blocks_at_hand a) g k → HasBlockFrom a k (g * GROUP_PAGES) GROUP_PAGES
+  block_from k g x =
+      let b = blocks.available-to a.largest a.kinds (max_blocks a.largest a.free) x.0 x.1 x.2 in
+      (x.0, x.1, max_blocks-to a.largest a.free x.0 x.1 b.0, b.1, x.4, omega (arith, x.3), omega (arith, x.3))
 
   -- a group that is one block has all its pages at hand
   whole_group : (x i : ℕ) → Starts (blocks_at_hand a) (GROUP_PAGES * x) GROUP_ORDER → GROUP_PAGES * x ≤ i → i < GROUP_PAGES * x + GROUP_PAGES → has (available a.largest a.kinds a.free) i ≡ true

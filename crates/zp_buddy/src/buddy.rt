@@ -1,8 +1,9 @@
 //! The buddy allocator of one zone.
 //!
 //! In Linux: the `free_area` of a `struct zone`, `__rmqueue` and `__free_one_page`.
-ghost use Rattle.std.specs.Prelude.{ℕ, ◌≡◌, ◌<◌, ◌≤◌, ◌+◌, ◌++◌, ◌∷◌, [], ◌^◌, ◌*◌, ◌%◌, ◌↔◌, false, length, map, slice_get, slice_index_or, slice_set, IfNone, IfOk, IfSome, IsTrue, None};
+ghost use Rattle.std.specs.Prelude.{ℕ, ◌≡◌, ◌<◌, ◌≤◌, ◌+◌, ◌++◌, ◌∷◌, [], ◌^◌, ◌*◌, ◌%◌, ◌↔◌, false, length, map, min, slice_get, slice_index_or, slice_set, IfNone, IfOk, IfSome, IsTrue, None};
 ghost use Rattle.std.specs.List.{range_with_len};
+ghost use Rattle.zp_model.specs.Choose.{origin};
 ghost use Rattle.zp_model.specs.Block.{IsBlock, has, in_run, size};
 ghost use Rattle.zp_model.specs.Info.{blocks_of_type, counts_by_type, counts_of};
 ghost use Rattle.zp_model.specs.Rows.{IsLoose, IsOn, after, front, list_at, rest, state_at, with_run};
@@ -14,11 +15,13 @@ ghost use Rattle.zp_model.specs.Area.{available, list_number, free_list, kind_at
 ghost use Rattle.zp_model.specs.Runs.{IsFreeRun, has_pages};
 ghost use Rattle.zp_model.specs.Take.{leave, retype, take_answer, take_after, take_low_answer, take_low_after};
 ghost use Rattle.zp_model.specs.declared.constants.TheConstants.{LARGEST_BLOCK_PAGES, LARGEST_ORDER, MAX_PAGES};
-ghost use Rattle.zp_buddy.specs.Bare.{AreAtHand, IsBareTo};
+ghost use Rattle.zp_buddy.specs.Bare.{AreAtHand, HasBlockFrom, IsBareTo};
+ghost use Rattle.zp_tree.specs.declared.constants.TheConstants.{WORD_LEVELS};
 ghost use Rattle.zp_buddy.specs.FallingRuns.{AreTails, falling_run};
 ghost use Rattle.zp_buddy.specs.Runs.{AreClear, gives, pages_taken, pages_left, run_length, run_pages};
 
 use crate::at::{is_free_run, take_at};
+use crate::choice;
 use crate::clear::{is_block, is_clear_run};
 use crate::falling::give_falling;
 use crate::join::join;
@@ -29,8 +32,8 @@ use std::alloc::{AllocError, Global};
 use std::marker::Model;
 use zp_area::{FreeArea, LinkedPage};
 use zp_model::{
-    Counts, CountsByType, Largest, MAX_PAGES, MigrateType, ORDERS, Order, PageAt, PageblockType,
-    State,
+    Counts, CountsByType, Largest, MAX_PAGES, MigrateType, ORDERS, Order, Origin, PageAt,
+    PageblockType, State,
 };
 use zp_tree::GROUP_PAGES;
 
@@ -87,6 +90,15 @@ impl Buddy {
         Some(head)
     }
 
+    /// Where the block comes from that such a request takes, where it takes one.
+    // (mutable, as what is noted of the blocks that can be claimed is brought up to date)
+    pub fn origin(&mut self, order: Order, kind: MigrateType) -> Option<Origin>
+        ensures answer { result ≡ origin self.old.area order kind }
+        ensures same { self.new ≡ self.old }
+    {
+        choice::origin(&mut self.area, order, kind)
+    }
+
     /// Takes pages in a row for this type, as many as a block has, `most` of them or fewer: those that so many requests for one page, one
     /// after another, would take. The first of them, and how many.
     // (in line: a refill calls it for each part)
@@ -129,11 +141,13 @@ impl Buddy {
     }
 
     /// A page before which no free block of this order or more begins that ends past page `from`, outside isolated pageblocks. It is found by
-    /// groups of pages.
+    /// groups of pages: in the group from there on one begins, or one of order 5 or more, unless that is past the last page.
     pub fn bare_until(&self, from: u32, order: Order) -> u32
         requires { from ≤ MAX_PAGES }
         ensures within { result ≤ MAX_PAGES }
+        ensures near { from < result + LARGEST_BLOCK_PAGES }
         ensures bare { IsBareTo self.now.area order from result }
+        ensures stops { result < length self.now.area.free → HasBlockFrom self.now.area (min order WORD_LEVELS) result LARGEST_BLOCK_PAGES }
     {
         // a clause of this call says how large a block can be
         let _largest = self.area.largest().number();

@@ -8,13 +8,13 @@ ghost use Rattle.zp_model.specs.BlockSet.{first_of, orders_from, Starts};
 ghost use Rattle.zp_model.specs.Area.{kind_at};
 ghost use Rattle.zp_model.specs.MigrateType.{same_type};
 ghost use Rattle.zp_model.specs.PageblockType.{pageblock_type};
-ghost use Rattle.zp_model.specs.Choose.{own, claim, borrow, least_movable_claim};
+ghost use Rattle.zp_model.specs.Choose.{own, claim, borrow, least_movable_claim, origin};
 ghost use Rattle.zp_area.specs.Blocks.{block_set, free_list_of};
 ghost use Rattle.zp_area.specs.Claims.{is_half_free};
 ghost use Rattle.zp_buddy.specs.Choices.{area_in, front_of_order, half_free_of_order, IsFoundAs, IsChosen};
 
 use zp_area::FreeArea;
-use zp_model::{Largest, MigrateType, Order, PageAt};
+use zp_model::{Largest, MigrateType, Order, Origin, PageAt};
 
 /// A free block, and the type of its pageblock.
 #[derive(Clone, Copy, PartialEq, Eq, Debug, Drop)]
@@ -137,4 +137,21 @@ pub fn foreign_choice(area: &mut FreeArea, order: Order, kind: MigrateType) -> O
         block,
         claims: false,
     })
+}
+
+/// Where the block comes from that a request takes, where there is one.
+pub fn origin(area: &mut FreeArea, order: Order, kind: MigrateType) -> Option<Origin>
+    ensures answer { result ≡ origin (area_in area.old.largest area.old) order kind }
+    ensures same { area.new ≡ area.old }
+{
+    if let Some(_) = first_front(area, order, &[kind]) {
+        return Some(Origin::Own);
+    }
+    if let Some(_) = claimed_block(area, order, kind) {
+        return Some(Origin::Claimed);
+    }
+    if let Some(_) = borrowed_block(area, order, kind) {
+        return Some(Origin::Borrowed);
+    }
+    None
 }

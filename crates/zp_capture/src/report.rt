@@ -87,7 +87,7 @@ fn write_frees<W: Write>(writer: &mut W, told: &CaptureReport<'_>) -> io::Result
         writer,
         "  a part of a block",
         counts.parts,
-        "given back with its last part",
+        "given back, and what is left stays out",
     )?;
     write_count(
         writer,

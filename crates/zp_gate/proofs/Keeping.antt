@@ -1,6 +1,6 @@
 -- What one call makes of what stands behind a lock: it is the zone of the same key still.
-use Rattle.std.proofs.Common.{ℕ, zero, suc, ◌≡◌, ◌<◌, ◌+◌, List, length, All, slice_index, slice_index_or, slice_set, sym, ap, ◌∙◌, subst, inl, inr, arith}
-use Rattle.std.specs.Prelude.{Option, Some, None, Result, Ok, Err}
+use Rattle.std.proofs.Common.{ℕ, zero, suc, ◌≡◌, ◌<◌, ◌+◌, List, length, All, slice_index, slice_index_or, slice_set, refl, sym, ap, ◌∙◌, subst, inl, inr, arith}
+use Rattle.std.specs.Prelude.{Bool, Option, Some, None, Result, Ok, Err}
 use Rattle.std.proofs.lemmas.List.{get_or_default, get_or-set_other, get_or-set_same, length-set}
 use Rattle.std.proofs.lemmas.List.Elements.{All-push}
 use Rattle.zp_model.specs.declared.refused.Refused.{Refused}
@@ -12,13 +12,16 @@ use Rattle.zp_laws.proofs.Sameness.{step-same}
 use Rattle.zp_zone.specs.Seats.{ZoneState}
 use Rattle.zp_share.specs.PlainShares.{refusal_of}
 use Rattle.zp_share.specs.Sections.{ComesOf, IsAsked, IsRefilled}
-use Rattle.zp_share.specs.Shares.{ShareState, ZoneKey, key_of, share_at}
+use Rattle.zp_share.specs.Shares.{ShareState, ZoneKey, is_section, key_of, share_at, with_zone_share}
 use Rattle.zp_share.specs.ZoneShares.{ZoneShareState, plain_share}
 use Rattle.zp_share.proofs.Telling.{same-key}
+use Rattle.zp_counts.specs.CountBoards.{BoardState, CountsPublished}
 use Rattle.zp_gate.specs.declared.granted.Granted.{Granted}
 use Rattle.zp_gate.specs.GatedWorkers.{AreMadeAt, GatedShareState, HasTurned, WorkerState, gated_at, no_gated_share}
 use Rattle.zp_gate.specs.Visits.{AreAnswers}
-use Rattle.zp_gate.specs.GatedZones.{AreSections, AreSectionsTill, EndsWith, GatedState, IsBehind, IsOneCall, IsOneShare, IsSectionOf, IsWrittenTo, each_is, free_of, freed_of, page_of}
+use Rattle.zp_gate.specs.Boards.{IsBoardOf, IsTiedTo, board_after}
+use Rattle.zp_gate.specs.GatedZones.{AreSections, AreSectionsTill, EndsWith, GateKey, GatedState, IsBehind, IsOneCall, IsOneShare, IsSectionOf, IsWrittenTo, each_is, free_of, freed_of, page_of}
+use Rattle.zp_gate.proofs.Boards.{board_stays, made_stays, tied_stays}
 
 -- whatever is asked, the zone's key stays, and the first page of the share
 came : (e : Option Refused) (r : Request) (q : Reply) (z y : ZoneState) (a b : ZoneShareState) → ComesOf e r q z y a b → (key_of y ≡ key_of z) × (b.seat.part.base ≡ a.seat.part.base)
@@ -37,31 +40,30 @@ refill_workers r z y a b (Ok u) got = workers_stay r (Reply.Pages got.0) z y a b
 refill_workers r z y a b (Err e) got = workers_stay r (Reply.Refused e) z y a b got
 
 -- what stands behind a lock stands there after a section
-section_behind : (key : ZoneKey) (r : Request) (q : Reply) (y z : GatedState) (s t : ShareState) → IsBehind key y → IsSectionOf r q y z s t → IsBehind key z
+section_behind : (key : GateKey) (r : Request) (q : Reply) (y z : GatedState) (s t : ShareState) → IsBehind key y → IsSectionOf r q y z s t → IsBehind key z
 section_behind key r q y z s t behind x =
     record {
       known = key_stays r q y.zone z.zone (share_at s 0) (share_at t 0) x.0 ∙ behind.known;
-      left = subst (λ (ss : List ShareState). All (IsOneShare key) ss) (sym (ap (λ (g : GatedState). g.left) x.1)) behind.left;
+      left = subst (λ (ss : List ShareState). All (IsOneShare key.zone) ss) (sym (ap (λ (g : GatedState). g.left) x.1)) behind.left;
+      made = made_stays r q y.zone z.zone (share_at s 0) (share_at t 0) behind.made x.0;
+      board = subst (λ (p : Option CountsPublished). IsBoardOf key.board z.zone p) (sym (ap (λ (g : GatedState). g.board) x.1))
+          (board_stays key.board y.board r q y.zone z.zone (share_at s 0) (share_at t 0) behind.made x.0 behind.board);
     }
 
 -- after so many
-sections_behind : (key : ZoneKey) (asks : ℕ → Request) (gives : ℕ → Reply) (n : ℕ) (y z : GatedState) (s t : ShareState) → IsBehind key y → AreSections asks gives n y z s t → IsBehind key z
+sections_behind : (key : GateKey) (asks : ℕ → Request) (gives : ℕ → Reply) (n : ℕ) (y z : GatedState) (s t : ShareState) → IsBehind key y → AreSections asks gives n y z s t → IsBehind key z
 sections_behind key asks gives zero y z s t behind x = subst (IsBehind key) (sym x.0) behind
 sections_behind key asks gives (suc n) y z s t behind x = section_behind key (asks n) (gives n) x.0 z x.1 t (sections_behind key asks gives n y x.0 s x.1 behind x.2) x.3
 
-end_behind : (key : ZoneKey) (asks : ℕ → Request) (most n : ℕ) (e : Option Refused) (y z : GatedState) (s t : ShareState) → IsBehind key y → EndsWith asks most n e y z s t → IsBehind key z
+end_behind : (key : GateKey) (asks : ℕ → Request) (most n : ℕ) (e : Option Refused) (y z : GatedState) (s t : ShareState) → IsBehind key y → EndsWith asks most n e y z s t → IsBehind key z
 end_behind key asks most n None y z s t behind x = subst (IsBehind key) (sym x.1) behind
 end_behind key asks most n (Some e) y z s t behind x = section_behind key (asks n) (Reply.Refused e) y z s t behind x.1
 
 -- and after one call
-pub one_call_behind : (key : ZoneKey) (y z : GatedState) → IsBehind key y → IsOneCall key y z → IsBehind key z
+pub one_call_behind : (key : GateKey) (y z : GatedState) → IsBehind key y → IsOneCall key y z → IsBehind key z
 one_call_behind key y z behind (inl x) = section_behind key x.0 x.1 y z x.2 x.3 behind x.4
 one_call_behind key y z behind (inr (inl x)) =
-    record {
-      known = ap (λ (g : GatedState). key_of g.zone) x.2 ∙ behind.known;
-      left = subst (λ (ss : List ShareState). All (IsOneShare key) ss) (sym (ap (λ (g : GatedState). g.left) x.2))
-          (All-push (IsOneShare key) y.left x.0 behind.left x.1);
-    }
+    subst (IsBehind key) (sym x.2) (record { known = behind.known; left = All-push (IsOneShare key.zone) y.left x.0 behind.left x.1; made = behind.made; board = behind.board })
 one_call_behind key y z behind (inr (inr (inl same))) = subst (IsBehind key) (sym same) behind
 one_call_behind key y z behind (inr (inr (inr x))) =
     let made = x.6 in
@@ -137,3 +139,22 @@ made_at i asks gives most g v w d f lt at now made =
     let is : gated_at w i ≡ f = ap (λ (x : WorkerState). gated_at x i) now ∙ get_or-set_same v.shares i f no_gated_share lt in
     let turned : P (gated_at v i) (gated_at w i) = subst (λ (x : GatedShareState). P x (gated_at w i)) (sym was) (subst (λ (y : GatedShareState). P d y) (sym is) made) in
     (lt, turned, now ∙ ap (λ (y : GatedShareState). record v { shares = slice_set v.shares i y }) (sym is))
+
+-- and the right to publish is one for the same board
+pub still_tied : (b : Option BoardState) (r : Request) (q : Reply) (y z : GatedState) (s t : ShareState) → IsTiedTo b y.board → IsSectionOf r q y z s t → IsTiedTo b z.board
+still_tied b r q y z s t is x = subst (IsTiedTo b) (sym (ap (λ (g : GatedState). g.board) x.1)) (tied_stays b y.board (is_section q) z.zone is)
+
+-- where there is no board nothing is published
+none_after : (b : Option CountsPublished) (asked : Bool) (z : ZoneState) → b ≡ None → board_after asked z b ≡ b
+none_after None asked z is = refl
+none_after (Some p) asked z is = absurd (cc)
+
+pub section_without : (r : Request) (q : Reply) (v z : ZoneState) (l : List ShareState) (b : Option CountsPublished) (y : GatedState) (s t : ShareState) → record { zone = v; left = l; board = b } ≡ y → b ≡ None →
+    IsAsked r q v z (share_at s 0) (share_at t 0) → t ≡ with_zone_share 0 (share_at t 0) s → IsSectionOf r q y (record { zone = z; left = l; board = b }) s t
+section_without r q v z l b y s t is none x others =
+    subst (λ (w : GatedState). IsSectionOf r q w (record { zone = z; left = l; board = b }) s t) is (x, (λ i. record { zone = z; left = l; board = sym (none_after b (is_section q) z none) i }), others)
+
+pub refill_without : (r : Request) (answer : Result (Unit {0}) Refused) (v z : ZoneState) (l : List ShareState) (b : Option CountsPublished) (y : GatedState) (s t : ShareState) → record { zone = v; left = l; board = b } ≡ y → b ≡ None →
+    IsRefilled (λ q. IsAsked r q v z (share_at s 0) (share_at t 0)) answer → t ≡ with_zone_share 0 (share_at t 0) s → IsRefilled (λ q. IsSectionOf r q y (record { zone = z; left = l; board = b }) s t) answer
+refill_without r (Ok u) v z l b y s t is none x others = (x.0, section_without r (Reply.Pages x.0) v z l b y s t is none x.1 others)
+refill_without r (Err e) v z l b y s t is none x others = section_without r (Reply.Refused e) v z l b y s t is none x others

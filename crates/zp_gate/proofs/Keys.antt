@@ -12,10 +12,10 @@ use Rattle.zp_laws.proofs.Opening.{free-opening, largest-opening}
 use Rattle.zp_zone.specs.Seats.{SeatState, ZoneState, seats_of}
 use Rattle.zp_share.specs.Shares.{ZoneKey, key_of}
 use Rattle.zp_gate.specs.declared.opening.OpenedZone.{OpenedZone}
-use Rattle.zp_gate.specs.GatedZones.{IsSeatBy}
+use Rattle.zp_gate.specs.GatedZones.{GateKey, IsSeatBy}
 use Rattle.zp_gate.specs.GatedRows.{lock_key}
 
-abbrev pub key_in : OpenedZone → ZoneKey
+abbrev pub key_in : OpenedZone → GateKey
 key_in z = lock_key (arc_value z.lock)
 
 -- what is the same of two lists so far is so with one value more of each

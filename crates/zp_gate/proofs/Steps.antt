@@ -11,35 +11,34 @@ use Rattle.atomic_table.specs.Table.{Enters as Entering}
 use Rattle.atomic_table.specs.Seated.{TableId}
 use Rattle.atomic_table.specs.declared.shared.Seat.{Seat}
 use Rattle.atomic_table.proofs.Lists.{at_set, at_snoc, set_here, exchanged}
-use Rattle.zp_share.specs.Shares.{ZoneKey}
 use Rattle.zp_gate.specs.declared.visit_view.VisitView.{VisitView}
-use Rattle.zp_gate.specs.GatedZones.{GatedState, IsBehind}
+use Rattle.zp_gate.specs.GatedZones.{GateKey, GatedState, IsBehind}
 use Rattle.zp_gate.specs.Locks.{IsGated, IsIn, MayLeave, Comes, Enters, Leaves, first_held, inside, outside}
 use Rattle.zp_gate.specs.Visits.{IsVisit}
 use Rattle.zp_gate.proofs.Keeping.{one_call_behind}
 
 -- each visitor knows the lock's key
-abbrev Views : ZoneKey → List VisitView → Type 0
+abbrev Views : GateKey → List VisitView → Type 0
 Views key views = (by : ℕ) (v : VisitView) → get_elem? views by ≡ some v → v.key ≡ key
 
-views_end : (key : ZoneKey) (views : List VisitView) (w : VisitView) → w.key ≡ key → Views key views → Views key (views ++ w ∷ [])
+views_end : (key : GateKey) (views : List VisitView) (w : VisitView) → w.key ≡ key → Views key views → Views key (views ++ w ∷ [])
 views_end key views w is old j u e = elim (at_snoc views w u j e) [ inl was ↦ old j u was | inr x ↦ ap (λ (v : VisitView). v.key) (sym x) ∙ is ]
 
-views_set : (key : ZoneKey) (views : List VisitView) (id : ℕ) (w : VisitView) → w.key ≡ key → Views key views → Views key (set views id w)
+views_set : (key : GateKey) (views : List VisitView) (id : ℕ) (w : VisitView) → w.key ≡ key → Views key views → Views key (set views id w)
 views_set key views id w is old j u e = elim (at_set views id j w u e) [ inl x ↦ ap (λ (v : VisitView). v.key) (sym x.1) ∙ is | inr x ↦ old j u x.1 ]
 
-pub comes : (key : ZoneKey) (slots : ℕ) → Entering (IsGated key) slots 0 (λ n w. Comes (step slots 0 0 0 none) (outside key, []) n (w, []))
+pub comes : (key : GateKey) (slots : ℕ) → Entering (IsGated key) slots 0 (λ n w. Comes (step slots 0 0 0 none) (outside key, []) n (w, []))
 comes key slots s gated len small = (outside key, (gated.0, gated.1, gated.2, views_end key s.views (outside key) refl gated.3), refl)
 
 -- a lock that was tried is not free, whatever it was
-shut : (key : ZoneKey) (id : ℕ) (me : List (ℕ × GatedState)) (s : State GatedState VisitView) (v : VisitView) (a : Act GatedState) → IsGated key s → v.key ≡ key →
+shut : (key : GateKey) (id : ℕ) (me : List (ℕ × GatedState)) (s : State GatedState VisitView) (v : VisitView) (a : Act GatedState) → IsGated key s → v.key ≡ key →
     IsGated key (stepped s 0 (either (slice_index s.words 0 == 0) 1 (slice_index s.words 0)) id me v a)
 shut key id me s v a gated is =
     let n = slice_index s.words 0 in
     let no : either (n == 0) 1 n ≡ 0 → ⊥ = exchanged n 0 1 (λ k. k ≡ 0 → ⊥) (λ z e. absurd (omega (arith, e))) (λ ne e. ne e) in
     (either (n == 0) 1 n, ap (λ (ws : List ℕ). set ws 0 (either (n == 0) 1 n)) gated.1, (λ free. absurd (no free)), views_set key s.views id v is gated.3)
 
-pub enters : (key : ZoneKey) (slots id : ℕ) (me : Me GatedState VisitView) → Allows (IsGated key) slots id me 0 (λ n. either (n == 0) 1 n) (Enters (step slots 0 0 1 none) me)
+pub enters : (key : GateKey) (slots id : ℕ) (me : Me GatedState VisitView) → Allows (IsGated key) slots id me 0 (λ n. either (n == 0) 1 n) (Enters (step slots 0 0 1 none) me)
 enters key slots id me s gated len at small =
     let is : me.0.key ≡ key = gated.3 id me.0 at in
     let word : slice_index s.words 0 ≡ gated.0 = ap (λ (ws : List ℕ). slice_index ws 0) gated.1 in
@@ -48,10 +47,10 @@ enters key slots id me s gated len at small =
       | inr free ↦
           let h = gated.2 (omega (arith, free)) in
           let in' = inside me.0.key h.0 in
-          (in', takes 0 h.0, h.1, shut key id me.1 s in' (takes 0 h.0) gated is, (λ found. (h.0, refl, refl, subst (λ (k : ZoneKey). IsBehind k h.0) (sym is) h.2)))
+          (in', takes 0 h.0, h.1, shut key id me.1 s in' (takes 0 h.0) gated is, (λ found. (h.0, refl, refl, subst (λ (k : GateKey). IsBehind k h.0) (sym is) h.2)))
     ]
 
-pub leaves : (key : ZoneKey) (id : TableId) (slots : ℕ) (p : Seat GatedState VisitView) → slots ≡ 1 → MayLeave id key p → Allows (IsGated key) slots p.id p.me 0 (λ _. 0) (λ _. Leaves (step slots 0 0 0 none) p.me 0)
+pub leaves : (key : GateKey) (id : TableId) (slots : ℕ) (p : Seat GatedState VisitView) → slots ≡ 1 → MayLeave id key p → Allows (IsGated key) slots p.id p.me 0 (λ _. 0) (λ _. Leaves (step slots 0 0 0 none) p.me 0)
 leaves key tid slots p one may s gated len at small =
     let z : GatedState = may.1.1 in
     let behind : IsBehind key z = one_call_behind key may.1.0 z may.1.4 may.1.5 in
@@ -60,7 +59,7 @@ leaves key tid slots p one may s gated len at small =
     (now, gives, tt, (0, ap (λ (ws : List ℕ). set ws 0 0) gated.1, (λ _. (z, home, behind)), views_set key s.views p.id now (ap (λ (v : VisitView). v.key) may.1.2) gated.3), refl)
 
 -- what he sees there is what he found, and his visit tells of that, and of what he left
-pub visited : (id : TableId) (key : ZoneKey) (p : Seat GatedState VisitView) (was now : GatedState) (v : VisitView) → IsIn id key p → p.me.1 ≡ (0, was) ∷ rest p.me.1 → v ≡ record { key = p.me.0.key; found = p.me.0.found; left = Some now } → IsVisit key was now v
+pub visited : (id : TableId) (key : GateKey) (p : Seat GatedState VisitView) (was now : GatedState) (v : VisitView) → IsIn id key p → p.me.1 ≡ (0, was) ∷ rest p.me.1 → v ≡ record { key = p.me.0.key; found = p.me.0.found; left = Some now } → IsVisit key was now v
 visited id key p was now v is has left =
     let found : Some is.1.0 ≡ Some was = ap first_held (sym is.1.2 ∙ has) in
     let same : is.1.0 ≡ was = cc in

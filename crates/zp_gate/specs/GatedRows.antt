@@ -1,37 +1,42 @@
 -- What is known of the zones of a row (this profile).
-use Rattle.std.specs.Prelude.{ℕ, ◌≡◌, ◌<◌, ◌⊎◌, List, All, length, slice_index_or, take}
+use Rattle.std.specs.Prelude.{ℕ, ◌≡◌, ◌<◌, ◌⊎◌, ◌↔◌, Bool, true, IsSome, List, All, length, slice_index_or, take}
 use Rattle.zp_model.specs.declared.refused.Refused.{Refused}
 use Rattle.zp_model.specs.declared.refused.Refused.TheVariants.{Memory}
 use Rattle.zp_zone.specs.Making.{IsRefusedWithin, IsWideGood, Wanted, wanted}
 use Rattle.zp_zone.specs.declared.config.TheConstants.{WIDE}
 use Rattle.zp_zone.specs.declared.config.ZoneConfig.{ZoneConfig}
-use Rattle.zp_share.specs.Shares.{ZoneKey, no_key, no_tie}
+use Rattle.zp_share.specs.Shares.{ZoneKey, no_tie}
 use Rattle.zp_share.specs.declared.gathering.Totals.{Totals}
 use Rattle.zp_gate.specs.declared.try_lock.TryLock.{TryLock}
 use Rattle.zp_gate.specs.declared.visit_view.VisitView.{VisitView}
+use Rattle.zp_gate.specs.GatedZones.{GateKey, no_gate}
 use Rattle.zp_gate.specs.Visits.{HasGathered}
 
 -- of each zone, the lowest first, what never changes
 abbrev pub RowState : Type 0
-RowState = List ZoneKey
+RowState = List GateKey
 
--- the key of the zone behind a lock
-abbrev pub lock_key : TryLock → ZoneKey
+-- what never changes behind a lock
+abbrev pub lock_key : TryLock → GateKey
 lock_key l = l.table.shared.key
 
-abbrev pub key_at : RowState → ℕ → ZoneKey
-key_at r i = slice_index_or r i no_key
+abbrev pub key_at : RowState → ℕ → GateKey
+key_at r i = slice_index_or r i no_gate
 
--- a zone's key, whatever its tie
-abbrev pub untied : ZoneKey → ZoneKey
-untied k = record k { tie = no_tie }
+-- the zone's key there, whatever its tie
+abbrev pub untied : GateKey → ZoneKey
+untied k = record k.zone { tie = no_tie }
+
+-- each zone of the row has a board, or none has
+abbrev pub HaveBoards : Bool → RowState → Type 0
+HaveBoards boards r = All (λ (k : GateKey). IsSome k.board ↔ (boards ≡ true)) r
 
 -- that of a zone which is made with this config for so many workers
 abbrev pub key_for : ℕ → ZoneConfig → ZoneKey
 key_for n c = record { tie = no_tie; name = c.name.now; base = c.base; pages = c.pages; min = c.min; largest = c.largest; workers = n }
 
 -- the zone with this key was visited, and had the shares of all its workers
-abbrev pub HasNoWorker : ZoneKey → Type 0
+abbrev pub HasNoWorker : GateKey → Type 0
 HasNoWorker k = (t : Totals) × (v : VisitView) × HasGathered k t v
 
 -- and so each zone of the row

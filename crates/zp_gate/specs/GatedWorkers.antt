@@ -10,19 +10,20 @@ use Rattle.zp_model.specs.declared.migrate_type.MigrateType.TheVariants.{Unmovab
 use Rattle.zp_model.specs.declared.mark.Mark.{Mark}
 use Rattle.zp_model.specs.Rows.{front}
 use Rattle.zp_zone.specs.Seats.{IsUnused, SeatState}
+use Rattle.zp_zone.specs.declared.told.Told.{Told}
 use Rattle.zp_share.specs.PlainShares.{lends_for, putting, taken}
-use Rattle.zp_share.specs.Shares.{ShareState, ZoneKey, no_key, share_at, with_zone_share}
+use Rattle.zp_share.specs.Shares.{ShareState, share_at, with_zone_share}
 use Rattle.zp_share.specs.ZoneShares.{cached_of, opening_share, plain_share}
 use Rattle.zp_gate.specs.declared.call_error.CallError.{CallError}
 use Rattle.zp_gate.specs.declared.call_error.CallError.TheVariants.{Busy, NoLists, NoWorker, NoZone, NotEmpty, Refused, TooFew}
 use Rattle.zp_gate.specs.declared.granted.Granted.{Granted}
 use Rattle.zp_gate.specs.declared.visit_view.VisitView.{VisitView}
-use Rattle.zp_gate.specs.GatedZones.{drain_request}
-use Rattle.zp_gate.specs.Visits.{AreAnswers, HasKept, IsAnswer}
+use Rattle.zp_gate.specs.GatedZones.{GateKey, drain_request, no_gate}
+use Rattle.zp_gate.specs.Visits.{AreAnswers, HasKept, IsAnswer, IsBlockTold}
 
 -- what never changes of a zone, and a worker's share of it alone
 pub record GatedShareState : Type 0 where
-  pub key : ZoneKey
+  pub key : GateKey
   pub share : ShareState
 
 -- for each zone of the row that the worker has not left, the lowest first, its share; and the visits by which it left the others, the first to
@@ -36,7 +37,7 @@ abbrev pub no_share : ShareState
 no_share = record { worker = 0; batch = 0; high_len = 0; zones = [] }
 
 abbrev pub no_gated_share : GatedShareState
-no_gated_share = record { key = no_key; share = no_share }
+no_gated_share = record { key = no_gate; share = no_share }
 
 -- the worker has a share of the zone at place i
 abbrev pub HasZone : ℕ → WorkerState → Type 0
@@ -50,7 +51,7 @@ abbrev pub worker_share : WorkerState → ℕ → ShareState
 worker_share v i = (gated_at v i).share
 
 -- the zones of a worker, by what never changes of them
-abbrev pub keys_of : WorkerState → List ZoneKey
+abbrev pub keys_of : WorkerState → List GateKey
 keys_of v = map (λ d. d.key) v.shares
 
 -- seats of workers 0, 1 and so on, in this order
@@ -70,7 +71,7 @@ pub record IsNewShare (w batch high : ℕ) (s : ShareState) : Type 0 where
   pub share : s ≡ record { worker = w; batch = batch; high_len = high; zones = opening_share seat (length seat.part.blocks) ∷ [] }
 
 -- worker w of a new row of zones with these keys: it has a share of each of them
-pub record IsNewWorker (w batch high : ℕ) (row : List ZoneKey) (v : WorkerState) : Type 0 where
+pub record IsNewWorker (w batch high : ℕ) (row : List GateKey) (v : WorkerState) : Type 0 where
   pub zones : keys_of v ≡ row
   pub shares : All (λ d. IsNewShare w batch high d.share) v.shares
   pub left : v.left ≡ []
@@ -81,7 +82,7 @@ HasPages k s = (1 ≤ s.batch) × (1 ≤ length (cached_of (share_at s 0) k))
 
 -- a block is to be posted to a worker that the zone does not have
 abbrev pub LacksWorker : Request → GatedShareState → Type 0
-LacksWorker (Request.Post p k w) d = d.key.workers ≤ w
+LacksWorker (Request.Post p k w) d = d.key.zone.workers ≤ w
 LacksWorker r d = ⊥
 
 -- the zone has the worker, if the request names one, and the block that it names is not lent
@@ -132,11 +133,11 @@ abbrev pub HasTooFew : MigrateType → ℕ → ShareState → Type 0
 HasTooFew k n s = (n ≡ 0) ⊎ (length (cached_of (share_at s 0) k) < n)
 
 -- some pages came, in one refill of as many as a batch
-abbrev pub IsFilled : ZoneKey → MigrateType → Mark → ShareState → ShareState → Type 0
+abbrev pub IsFilled : GateKey → MigrateType → Mark → ShareState → ShareState → Type 0
 IsFilled key k m s t = (ps : List ℕ) × IsAnswer key (Request.Refill k m s.batch) (Reply.Pages ps) s t
 
 -- so many pages went back from the back of a list
-abbrev pub IsDrained : ZoneKey → MigrateType → ℕ → ShareState → ShareState → Type 0
+abbrev pub IsDrained : GateKey → MigrateType → ℕ → ShareState → ShareState → Type 0
 IsDrained key k n s t = IsAnswer key (drain_request n k s) Reply.Drained s t
 
 -- at the zone of place i the one share became the other, by what is so of the two; the shares of other zones stay, and what the worker left
@@ -163,6 +164,10 @@ pub record IsSectionAt {A : Type 0} (i : ℕ) (r : Request) (given : A → Reply
   pub lent : (result ≡ Err (Refused NotLent)) ↔ (HasZone i v × LacksBlock r (gated_at v i))
   pub why : IfErr result (λ e. HasZone i v → IsOfSection e)
   pub denied : IfErr result (λ e. IsDeniedAt i r e v w)
+
+-- a block of the zone at place i was granted, and it is told where it came from
+abbrev pub IsToldAt : ℕ → ℕ → MigrateType → Mark → Told → WorkerState → WorkerState → Type 0
+IsToldAt i k t m x v w = IsAt i (IsBlockTold (gated_at v i).key k t m x) v w
 
 -- so many requests were made of the zone at place i in one visit, one after another up to the first that was refused
 abbrev pub AreMadeAt : ℕ → (ℕ → Request) → (ℕ → Reply) → ℕ → Granted → WorkerState → WorkerState → Type 0

@@ -4,20 +4,33 @@ use Rattle.zp_model.specs.declared.request.Request.{Request}
 use Rattle.zp_model.specs.declared.request.Reply.{Reply}
 use Rattle.zp_model.specs.declared.migrate_type.MigrateType.{MigrateType}
 use Rattle.zp_model.specs.declared.refused.Refused.{Refused}
-use Rattle.zp_model.specs.Run.{IsHistory}
+use Rattle.zp_model.specs.Run.{IsHistory, opening_of, run}
 use Rattle.zp_zone.specs.Seats.{ZoneState, SeatState}
 use Rattle.zp_share.specs.declared.gathering.Totals.{Totals}
 use Rattle.zp_share.specs.Gathering.{AddsUp, IsCrewOf, IsOneOf, owns_at, totals_of}
 use Rattle.zp_share.specs.PlainShares.{back}
 use Rattle.zp_share.specs.Sections.{IsAsked}
-use Rattle.zp_share.specs.Shares.{ShareState, ZoneKey, key_of, plain, share_at, with_zone_share}
+use Rattle.zp_share.specs.Shares.{ShareState, ZoneKey, is_section, key_of, no_key, plain, share_at, with_zone_share}
 use Rattle.zp_share.specs.ZoneShares.{cached_of}
+use Rattle.zp_counts.specs.CountBoards.{BoardState, CountsPublished}
 use Rattle.zp_gate.specs.declared.granted.Granted.{Granted}
+use Rattle.zp_gate.specs.Boards.{IsBoardOf, board_after}
 
 pub record GatedState : Type 0 where
   pub zone : ZoneState
   -- the shares that workers left, the first to leave in front
   pub left : List ShareState
+  -- what is published of the zone's counts, where it has a board
+  pub board : Option CountsPublished
+
+-- what never changes behind a lock: the zone's key, and its board, where it has one
+pub record GateKey : Type 0 where
+  pub zone : ZoneKey
+  pub board : Option BoardState
+
+-- past the end of a row there is nothing
+abbrev pub no_gate : GateKey
+no_gate = record { zone = no_key; board = None }
 
 -- a seat of the zone with this key
 abbrev pub IsSeatBy : ZoneKey → SeatState → Type 0
@@ -27,18 +40,21 @@ IsSeatBy k t = (t.tie ≡ k.tie) × (t.part.base ≡ k.base)
 abbrev pub IsOneShare : ZoneKey → ShareState → Type 0
 IsOneShare k s = (length s.zones ≡ 1) × IsSeatBy k (share_at s 0).seat
 
--- it is the zone that the key tells of, and the shares that were left are of it
-pub record IsBehind (key : ZoneKey) (y : GatedState) : Type 0 where
-  pub known : key_of y.zone ≡ key
-  pub left : All (IsOneShare key) y.left
+-- it is the zone that the key tells of, and what its requests made of it; the shares that were left are of it, and so are the counts on its board
+pub record IsBehind (key : GateKey) (y : GatedState) : Type 0 where
+  pub known : key_of y.zone ≡ key.zone
+  pub left : All (IsOneShare key.zone) y.left
+  pub made : run (opening_of y.zone.plain) y.zone.entries ≡ y.zone.plain
+  pub board : IsBoardOf key.board y.zone y.board
 
 -- the request for a drain of n pages from the back of a share's list
 abbrev pub drain_request : ℕ → MigrateType → ShareState → Request
 drain_request n k s = Request.Drain k (back n (cached_of (share_at s 0) k))
 
--- a share made one section with the zone; the rest of the share stays, and the shares that were left
+-- a share made one section with the zone, and then the zone's counts were published, if it was asked; the rest of the share stays, and the shares that
+-- were left
 abbrev pub IsSectionOf : Request → Reply → GatedState → GatedState → ShareState → ShareState → Type 0
-IsSectionOf r q y z s t = IsAsked r q y.zone z.zone (share_at s 0) (share_at t 0) × (z ≡ record y { zone = z.zone }) × (t ≡ with_zone_share 0 (share_at t 0) s)
+IsSectionOf r q y z s t = IsAsked r q y.zone z.zone (share_at s 0) (share_at t 0) × (z ≡ record y { zone = z.zone; board = board_after (is_section q) z.zone y.board }) × (t ≡ with_zone_share 0 (share_at t 0) s)
 
 -- so many sections of a share with the zone, one after another: the first n of those that are asked for, each with its reply
 abbrev pub AreSections : (ℕ → Request) → (ℕ → Reply) → ℕ → GatedState → GatedState → ShareState → ShareState → Type 0
@@ -82,10 +98,10 @@ AreManySections y z =
     (asks : ℕ → Request) × (gives : ℕ → Reply) × (most : ℕ) × (g : Granted) × (s : ShareState) × (t : ShareState) × AreSectionsTill asks gives most g y z s t
 
 -- what one call makes of what stands behind a lock: one section of a share, a share more that was left, nothing, or many sections of a share
-abbrev pub IsOneCall : ZoneKey → GatedState → GatedState → Type 0
+abbrev pub IsOneCall : GateKey → GatedState → GatedState → Type 0
 IsOneCall key y z =
     ((r : Request) × (q : Reply) × (s : ShareState) × (t : ShareState) × IsSectionOf r q y z s t)
-    ⊎ (((s : ShareState) × IsOneShare key s × IsLeavingOf s y z) ⊎ ((z ≡ y) ⊎ AreManySections y z))
+    ⊎ (((s : ShareState) × IsOneShare key.zone s × IsLeavingOf s y z) ⊎ ((z ≡ y) ⊎ AreManySections y z))
 
 -- where the pages of the zone are, each in one place, with the shares of all its workers, which agree with it
 pub record IsGatheredIn (y : GatedState) (t : Totals) : Type 0 where

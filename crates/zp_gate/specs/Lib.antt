@@ -1,3 +1,4 @@
+pub mod Boards
 pub mod GatedZones
 pub mod Calls
 pub mod Locks
@@ -5,3 +6,4 @@ pub mod Visits
 pub mod GatedWorkers
 pub mod Readings
 pub mod GatedRows
+pub mod Readers

@@ -5,22 +5,21 @@ use lib.ListN.{get_elem?}
 use Rattle.atomic_table.specs.Table.{State, Me, Step}
 use Rattle.atomic_table.specs.Seated.{TableId}
 use Rattle.atomic_table.specs.declared.shared.Seat.{Seat}
-use Rattle.zp_share.specs.Shares.{ZoneKey}
 use Rattle.zp_gate.specs.declared.visit_view.VisitView.{VisitView}
-use Rattle.zp_gate.specs.GatedZones.{GatedState, IsBehind, IsOneCall}
+use Rattle.zp_gate.specs.GatedZones.{GateKey, GatedState, IsBehind, IsOneCall}
 
 -- who has not come in yet; who came, and found this
-abbrev pub outside : ZoneKey → VisitView
+abbrev pub outside : GateKey → VisitView
 outside key = record { key = key; found = None; left = None }
 
-abbrev pub inside : ZoneKey → GatedState → VisitView
+abbrev pub inside : GateKey → GatedState → VisitView
 inside key y = record { key = key; found = Some y; left = None }
 
 -- the word of the lock: 0 where nobody is in
-abbrev pub IsAtHome : ZoneKey → ℕ → State GatedState VisitView → Type 0
+abbrev pub IsAtHome : GateKey → ℕ → State GatedState VisitView → Type 0
 IsAtHome key w s = w ≡ 0 → (y : GatedState) × (get_elem? s.homes 0 ≡ some (some y)) × IsBehind key y
 
-abbrev pub IsGated : ZoneKey → State GatedState VisitView → Type 0
+abbrev pub IsGated : GateKey → State GatedState VisitView → Type 0
 IsGated key s = (w : ℕ) × (s.words ≡ w ∷ []) × IsAtHome key w s × ((by : ℕ) (v : VisitView) → get_elem? s.views by ≡ some v → v.key ≡ key)
 
 abbrev pub Comes : Step GatedState → Me GatedState VisitView → ℕ → Me GatedState VisitView → Type 0
@@ -40,10 +39,10 @@ abbrev pub Leaves : Step GatedState → Me GatedState VisitView → ℕ → Me G
 Leaves st me found after = after.0 ≡ record me.0 { left = first_held me.1 }
 
 -- the visitor entered the lock with this key, and has what stood there
-abbrev pub IsIn : TableId → ZoneKey → Seat GatedState VisitView → Type 0
+abbrev pub IsIn : TableId → GateKey → Seat GatedState VisitView → Type 0
 IsIn id key p = (p.table_id ≡ id) × ((y : GatedState) × (p.me.0 ≡ inside key y) × (p.me.1 ≡ (0, y) ∷ []) × IsBehind key y)
 
 -- he has what one call made of it, and so may leave
-abbrev pub MayLeave : TableId → ZoneKey → Seat GatedState VisitView → Type 0
+abbrev pub MayLeave : TableId → GateKey → Seat GatedState VisitView → Type 0
 MayLeave id key p =
     (p.table_id ≡ id) × ((y : GatedState) × (z : GatedState) × (p.me.0 ≡ inside key y) × (p.me.1 ≡ (0, z) ∷ []) × IsBehind key y × IsOneCall key y z)

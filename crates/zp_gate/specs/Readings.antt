@@ -12,6 +12,7 @@ use Rattle.zp_zone.specs.declared.page.ZonePage.{ZonePage}
 use Rattle.zp_zone.specs.declared.pageblock.Pageblock.{Pageblock}
 use Rattle.zp_share.specs.Shares.{ShareState, ZoneKey, key_of, share_at}
 use Rattle.zp_share.specs.ZoneShares.{SharesIn}
+use Rattle.zp_gate.specs.GatedZones.{GateKey}
 use Rattle.zp_gate.specs.declared.question.ZoneTold.{ZoneTold}
 use Rattle.zp_gate.specs.declared.question.Question.{Question}
 use Rattle.zp_gate.specs.declared.question.Answer.{Answer}
@@ -25,15 +26,15 @@ pub record IsZoneOf (key : ZoneKey) (s : ShareState) (z : ZoneState) : Type 0 wh
   pub history : IsHistory z.plain z.entries
 
 -- the zone with this key has this page, by its absolute number; and the pageblock of this number
-abbrev pub HasPage : ZoneKey → ℕ → Type 0
-HasPage k p = (k.base ≤ p) × (p < k.base + k.pages)
+abbrev pub HasPage : GateKey → ℕ → Type 0
+HasPage k p = (k.zone.base ≤ p) × (p < k.zone.base + k.zone.pages)
 
-abbrev pub HasPageblock : ZoneKey → ℕ → Type 0
-HasPageblock k n = n < pageblocks_of k.largest k.pages
+abbrev pub HasPageblock : GateKey → ℕ → Type 0
+HasPageblock k n = n < pageblocks_of k.zone.largest k.zone.pages
 
 -- it is so of the zone of this share, as it is then
-abbrev pub IsThen : ZoneKey → ShareState → (ZoneState → Type 0) → Type 0
-IsThen key s P = (z : ZoneState) × IsZoneOf key s z × P z
+abbrev pub IsThen : GateKey → ShareState → (ZoneState → Type 0) → Type 0
+IsThen key s P = (z : ZoneState) × IsZoneOf key.zone s z × P z
 
 -- its free blocks and pages, its level, and its posted pages
 abbrev pub TellsZone : ZoneTold → ZoneState → Type 0

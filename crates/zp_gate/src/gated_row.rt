@@ -3,6 +3,7 @@ ghost use Rattle.std.specs.Prelude.{◌≡◌, ◌<◌, ◌≤◌, false, length
 ghost use Rattle.zp_gate.specs.GatedRows.{HasNoWorkers, key_at};
 ghost use Rattle.zp_gate.specs.Visits.{HasGathered, IsUngathered};
 
+use crate::gated_reader::GatedReader;
 use crate::gated_worker::GatedWorker;
 use crate::try_lock::{GatherError, Gathered, TryLock};
 use std::alloc::Global;
@@ -55,6 +56,11 @@ impl GatedRow {
 /// A worker may be used by any thread.
 pub fn worker_crosses(worker: GatedWorker) -> GatedWorker {
     crosses(worker)
+}
+
+/// A reader may be used by any thread.
+pub fn reader_crosses(reader: GatedReader) -> GatedReader {
+    crosses(reader)
 }
 
 /// A row may be used by any thread.

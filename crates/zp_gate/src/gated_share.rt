@@ -1,5 +1,5 @@
 //! One worker's share of one zone behind its lock.
-ghost use Rattle.std.specs.Prelude.{◌≡◌, ◌<◌, ◌≤◌, ◌↔◌, true, false, All, IfOk, IfErr, IsTrue, OnOk, Err, length};
+ghost use Rattle.std.specs.Prelude.{◌≡◌, ◌<◌, ◌≤◌, ◌↔◌, true, false, All, IfOk, IfErr, IsTrue, OnOk, Err, None, length};
 ghost use Rattle.std.specs.Arc.{arc_value};
 ghost use Rattle.zp_model.specs.declared.constants.TheConstants.{LARGEST_ORDER};
 ghost use Rattle.zp_model.specs.declared.request.Request.TheVariants as request;
@@ -13,22 +13,26 @@ ghost use Rattle.zp_share.specs.ZoneShares.{plain_share};
 ghost use Rattle.zp_gate.specs.Calls.{reply_of, request_of};
 ghost use Rattle.zp_gate.specs.GatedZones.{IsOneShare, IsSeatBy, IsWrittenTo, drain_request, each_is, free_of, freed_of, page_of};
 ghost use Rattle.zp_gate.specs.declared.call_error.CallError.TheVariants.{NoLists, NotEmpty, TooFew};
+ghost use Rattle.zp_gate.specs.declared.reader_error.ReaderError.TheVariants.{NoBoard, NoZone};
+ghost use Rattle.zp_gate.specs.Readers.{IsNewReader};
 ghost use Rattle.zp_gate.specs.GatedRows.{lock_key};
 ghost use Rattle.zp_gate.specs.GatedWorkers.{HasPages, HasTooFew, HasTurned, IsDenial, IsDrained, IsFilled, IsNewShare, IsOfSection, IsSection, LacksWorker};
 ghost use Rattle.zp_gate.specs.Readings.{HasPage, HasPageblock, IsThen, Tells};
-ghost use Rattle.zp_gate.specs.Visits.{AreAnswers, HasKept};
+ghost use Rattle.zp_gate.specs.Visits.{AreAnswers, HasKept, IsBlockTold};
 
 use crate::call::{Given, ZoneCall};
 use crate::call_error::CallError;
+use crate::gated_reader::GatedReader;
 use crate::granted::Granted;
 use crate::question::{Answer, Question};
+use crate::reader_error::ReaderError;
 use crate::try_lock::{Busy, TryLock, Visit};
 use std::alloc::Global;
 use std::marker::Model;
 use std::sync::Arc;
 use zp_model::{Mark, MigrateType, Order, PageNo, Refused, Request};
 use zp_share::{ListConfig, Share};
-use zp_zone::Seat;
+use zp_zone::{Seat, Told};
 
 /// The lock of a zone, and a worker's share of the zone. Contracts see the zone's key and the share.
 #[derive(Drop)]
@@ -47,7 +51,7 @@ impl Model for GatedShare {
 
     ghost view = { λ d. record { key = lock_key (arc_value d.lock); share = d.share } };
 
-    ghost invariant = { λ d. IsOneShare (lock_key (arc_value d.lock)) d.share };
+    ghost invariant = { λ d. IsOneShare (lock_key (arc_value d.lock)).zone d.share };
 }
 
 impl GatedShare {
@@ -59,7 +63,7 @@ impl GatedShare {
         lists: ListConfig,
     ) -> Result<GatedShare, Refused>
         requires unused { IsUnused seat }
-        requires of { IsSeatBy (lock_key (arc_value lock.now)) seat }
+        requires of { IsSeatBy (lock_key (arc_value lock.now)).zone seat }
         ensures new { IfOk result (λ d. IsNewShare seat.worker lists.batch lists.high_len d.share) }
         ensures key { IfOk result (λ d. d.key ≡ lock_key (arc_value lock.now)) }
         ensures why { IfErr result (λ e. e ≡ Memory) }
@@ -87,7 +91,25 @@ impl GatedShare {
         let lock = &*self.lock;
         let mut visitor = lock.enter().map_err(CallError::Busy)?;
         let zone = visitor.slot_mut(&lock.table.shared, 0);
-        let answer = zone.alloc(&mut self.share, order, kind, mark);
+        let answer = zone.alloc(&lock.board, &mut self.share, order, kind, mark);
+        lock.leave(visitor);
+        answer.map_err(CallError::Refused)
+    }
+
+    /// As `alloc`, and tells where the block came from.
+    pub(crate) fn alloc_told(
+        &mut self,
+        order: Order,
+        kind: MigrateType,
+        mark: Mark,
+    ) -> Result<Told, CallError>
+        ensures section { IsSection (request.Alloc order kind mark) (λ t. reply.Page t.page) result self.old self.new }
+        ensures told { IfOk result (λ t. HasTurned (IsBlockTold self.old.key order kind mark t) self.old self.new) }
+    {
+        let lock = &*self.lock;
+        let mut visitor = lock.enter().map_err(CallError::Busy)?;
+        let zone = visitor.slot_mut(&lock.table.shared, 0);
+        let answer = zone.alloc_told(&lock.board, &mut self.share, order, kind, mark);
         lock.leave(visitor);
         answer.map_err(CallError::Refused)
     }
@@ -103,7 +125,7 @@ impl GatedShare {
         let lock = &*self.lock;
         let mut visitor = lock.enter().map_err(CallError::Busy)?;
         let zone = visitor.slot_mut(&lock.table.shared, 0);
-        let answer = zone.free(&mut self.share, page, order);
+        let answer = zone.free(&lock.board, &mut self.share, page, order);
         lock.leave(visitor);
         answer.map_err(CallError::Refused)
     }
@@ -124,7 +146,7 @@ impl GatedShare {
         let lock = &*self.lock;
         let mut visitor = lock.enter()?;
         let zone = visitor.slot_mut(&lock.table.shared, 0);
-        let granted = zone.alloc_many(&mut self.share, order, kind, mark, pages);
+        let granted = zone.alloc_many(&lock.board, &mut self.share, order, kind, mark, pages);
         lock.leave(visitor);
         Ok(granted)
     }
@@ -139,7 +161,7 @@ impl GatedShare {
         let lock = &*self.lock;
         let mut visitor = lock.enter()?;
         let zone = visitor.slot_mut(&lock.table.shared, 0);
-        let granted = zone.free_many(&mut self.share, pages, orders);
+        let granted = zone.free_many(&lock.board, &mut self.share, pages, orders);
         lock.leave(visitor);
         Ok(granted)
     }
@@ -158,7 +180,7 @@ impl GatedShare {
         let lock = &*self.lock;
         let mut visitor = lock.enter().map_err(CallError::Busy)?;
         let zone = visitor.slot_mut(&lock.table.shared, 0);
-        let answer = zone.alloc_run(&mut self.share, pages, align, mark);
+        let answer = zone.alloc_run(&lock.board, &mut self.share, pages, align, mark);
         lock.leave(visitor);
         answer.map_err(CallError::Refused)
     }
@@ -179,7 +201,7 @@ impl GatedShare {
         let lock = &*self.lock;
         let mut visitor = lock.enter().map_err(CallError::Busy)?;
         let zone = visitor.slot_mut(&lock.table.shared, 0);
-        let answer = zone.section(&mut self.share, call);
+        let answer = zone.section(&lock.board, &mut self.share, call);
         lock.leave(visitor);
         match answer {
             Ok(given) => Ok(given),
@@ -230,7 +252,7 @@ impl GatedShare {
         let lock = &*self.lock;
         let mut visitor = lock.enter().map_err(CallError::Busy)?;
         let zone = visitor.slot_mut(&lock.table.shared, 0);
-        let answer = zone.fill(&mut self.share, kind, mark);
+        let answer = zone.fill(&lock.board, &mut self.share, kind, mark);
         lock.leave(visitor);
         match answer {
             Ok(()) => Ok(()),
@@ -251,9 +273,29 @@ impl GatedShare {
         let lock = &*self.lock;
         let mut visitor = lock.enter().map_err(CallError::Busy)?;
         let zone = visitor.slot_mut(&lock.table.shared, 0);
-        let answer = zone.drain(&mut self.share, kind, count);
+        let answer = zone.drain(&lock.board, &mut self.share, kind, count);
         lock.leave(visitor);
         answer.map_err(CallError::Refused)
+    }
+
+    /// A reader of the zone's board that has seen all that is published.
+    pub(crate) fn reader(&self) -> Result<GatedReader, ReaderError>
+        ensures made { IfOk result (IsNewReader self.now.key) }
+        ensures zone { result ≡ Err NoZone → ⊥ }
+        ensures board { (result ≡ Err NoBoard) ↔ (self.now.key.board ≡ None) }
+    {
+        let inside = &*self.lock;
+        let Some(board) = &inside.board else {
+            return Err(ReaderError::NoBoard);
+        };
+        let Ok(lock) = Arc::try_clone(&self.lock) else {
+            return Err(ReaderError::NoMemory);
+        };
+        let mut visitor = inside.enter().map_err(ReaderError::Busy)?;
+        let zone = visitor.slot_mut(&inside.table.shared, 0);
+        let reader = zone.reader(board);
+        inside.leave(visitor);
+        Ok(GatedReader { lock, reader })
     }
 
     /// What the zone reports.

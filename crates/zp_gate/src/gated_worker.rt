@@ -1,5 +1,5 @@
 //! A worker of a row. The calls that ask a zone return `CallError::Busy` at once where somebody is with it.
-ghost use Rattle.std.specs.Prelude.{◌≡◌, ◌<◌, ◌≤◌, ◌↔◌, All, length, IfOk, IfErr, IfSome, IfNone, IsTrue, OnOk, [], false, true, Err};
+ghost use Rattle.std.specs.Prelude.{◌≡◌, ◌<◌, ◌≤◌, ◌↔◌, All, length, IfOk, IfErr, IfSome, IfNone, IsTrue, OnOk, [], false, true, None, Err};
 ghost use Rattle.zp_model.specs.declared.request.Request.TheVariants as request;
 ghost use Rattle.zp_model.specs.declared.request.Reply.TheVariants as reply;
 ghost use Rattle.zp_model.specs.declared.constants.TheConstants.{LARGEST_ORDER, LONGEST_LIST};
@@ -7,20 +7,25 @@ ghost use Rattle.zp_model.specs.Runs.{may_alloc_run};
 ghost use Rattle.zp_share.specs.Shares.{share_at};
 ghost use Rattle.zp_share.specs.ZoneShares.{cached_of, is_lent};
 ghost use Rattle.zp_gate.specs.declared.call_error.CallError.TheVariants.{NoLists, NotEmpty, NoZone, TooFew};
-ghost use Rattle.zp_gate.specs.GatedWorkers.{AreDrained, AreDrainedTill, AreMadeAt, HasLeftDownTo, HasLeftLast, HasPages, HasTooFew, HasZone, IsAt, IsDeniedAt, IsDrained, IsFilled, IsListDenied, IsListDrained, IsOfSection, IsPutDenial, IsPutOn, IsSectionAt, IsTaken, gated_at, worker_share};
+ghost use Rattle.zp_gate.specs.GatedWorkers.{AreDrained, AreDrainedTill, AreMadeAt, HasLeftDownTo, HasLeftLast, HasPages, HasTooFew, HasZone, IsAt, IsDeniedAt, IsDrained, IsFilled, IsListDenied, IsListDrained, IsOfSection, IsPutDenial, IsPutOn, IsSectionAt, IsTaken, IsToldAt, gated_at, worker_share};
 ghost use Rattle.zp_gate.specs.Calls.{reply_of, request_of};
 ghost use Rattle.zp_gate.specs.GatedZones.{IsWrittenTo, drain_request, each_is, free_of, freed_of, page_of};
+ghost use Rattle.zp_gate.specs.declared.reader_error.ReaderError.TheVariants.{NoBoard, NoZone as NoReaderZone};
+ghost use Rattle.zp_gate.specs.Readers.{IsNewReader};
 ghost use Rattle.zp_gate.specs.Readings.{HasPage, HasPageblock, IsThen, Tells};
 
 use crate::call::{Given, ZoneCall};
 use crate::call_error::CallError;
+use crate::gated_reader::GatedReader;
 use crate::gated_share::GatedShare;
 use crate::granted::Granted;
 use crate::lists::{put_page, take_page};
 use crate::question::{Answer, Question};
+use crate::reader_error::ReaderError;
 use crate::try_lock::{Busy, Visit};
 use std::marker::Model;
 use zp_model::{Mark, MigrateType, Order, PageNo};
+use zp_zone::Told;
 
 /// A worker of a row, with a share of each of its zones. Contracts see of each zone its key and the worker's share, and the visits by which
 /// the worker left the zones that it has no more.
@@ -57,6 +62,23 @@ impl GatedWorker {
             return Err(CallError::NoZone);
         };
         share.alloc(order, kind, mark)
+    }
+
+    /// As `alloc`, and tells where the block came from: a function of the zone as it was before.
+    pub fn alloc_told(
+        &mut self,
+        zone: usize,
+        order: Order,
+        kind: MigrateType,
+        mark: Mark,
+    ) -> Result<Told, CallError>
+        ensures section { IsSectionAt zone (request.Alloc order kind mark) (λ t. reply.Page t.page) result self.old self.new }
+        ensures told { IfOk result (λ t. IsToldAt zone order kind mark t self.old self.new) }
+    {
+        let Some(share) = self.shares.get_mut(zone) else {
+            return Err(CallError::NoZone);
+        };
+        share.alloc_told(order, kind, mark)
     }
 
     /// Frees a lent block. Refused 20 or 30.
@@ -245,6 +267,18 @@ impl GatedWorker {
         ensures { (result ≡ true) ↔ HasPageblock (gated_at self.now zone).key pageblock }
     {
         self.shares[zone].has_pageblock(pageblock)
+    }
+
+    /// A reader of a zone's board that has seen all that is published.
+    pub fn reader(&self, zone: usize) -> Result<GatedReader, ReaderError>
+        ensures made { IfOk result (λ r. HasZone zone self.now × IsNewReader (gated_at self.now zone).key r) }
+        ensures zone { (result ≡ Err NoReaderZone) ↔ ¬ HasZone zone self.now }
+        ensures board { (result ≡ Err NoBoard) ↔ (HasZone zone self.now × ((gated_at self.now zone).key.board ≡ None)) }
+    {
+        let Some(share) = self.shares.get(zone) else {
+            return Err(ReaderError::NoZone);
+        };
+        share.reader()
     }
 
     /// What a zone reports.

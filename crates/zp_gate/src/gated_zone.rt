@@ -1,5 +1,5 @@
 //! What stands behind a lock. Each call is exact here: what it does not name stays.
-ghost use Rattle.std.specs.Prelude.{ℕ, ◌≡◌, ◌<◌, ◌≤◌, ◌==◌, [], All, IfErr, IfNone, IfOk, IfSome, IsTrue, OnOk, Ok, Err, false, length};
+ghost use Rattle.std.specs.Prelude.{ℕ, ◌≡◌, ◌<◌, ◌≤◌, ◌==◌, [], All, IfErr, IfNone, IfOk, IfSome, IsTrue, OnOk, Ok, Err, Some, false, length};
 ghost use Rattle.std.specs.List.{count_by};
 ghost use Rattle.zp_model.specs.declared.refused.Refused.TheVariants.{Memory};
 ghost use Rattle.zp_model.specs.declared.constants.TheConstants.{LARGEST_ORDER};
@@ -8,11 +8,16 @@ ghost use Rattle.zp_model.specs.Zone.{workers_of};
 ghost use Rattle.zp_model.specs.Runs.{may_alloc_run};
 ghost use Rattle.zp_share.specs.Gathering.{IsCrewOf};
 ghost use Rattle.zp_model.specs.declared.request.Reply.TheVariants as reply;
-ghost use Rattle.zp_zone.specs.NamedZone.{page_reply};
+ghost use Rattle.zp_model.specs.Choose.{origin};
+ghost use Rattle.zp_zone.specs.NamedZone.{page_reply, told_reply};
 ghost use Rattle.zp_zone.specs.Seats.{IsSeatOf};
 ghost use Rattle.zp_share.specs.Sections.{IsAsked, IsRefilled, MayAsk, done_reply};
 ghost use Rattle.zp_share.specs.Shares.{ShareState, key_of, share_at, with_zone_share};
 ghost use Rattle.zp_share.specs.ZoneShares.{cached_of};
+ghost use Rattle.zp_model.specs.Run.{IsHistory};
+ghost use Rattle.zp_counts.specs.CountBoards.{last_reading};
+ghost use mathlib.Core.List.{IsPrefix};
+ghost use Rattle.zp_gate.specs.Boards.{HasRead, IsTiedTo};
 ghost use Rattle.zp_gate.specs.Calls.{answer_of, request_of};
 ghost use Rattle.zp_gate.specs.GatedZones.{AreSectionsTill, IsGatheredIn, IsLeavingOf, IsOneShare, IsSectionOf, IsWrittenTo, drain_request, each_is, free_of, freed_of, page_of};
 ghost use Rattle.zp_gate.specs.declared.call.Given.TheVariants.{Done};
@@ -20,20 +25,23 @@ ghost use Rattle.zp_gate.specs.Readings.{IsZoneOf, Tells};
 
 use crate::call::{Given, ZoneCall};
 use crate::granted::Granted;
+use crate::publishing::{publish, was_asked};
 use crate::question::{Answer, Question, ZoneTold};
 use std::alloc::Global;
 use std::marker::Model;
+use zp_counts::{Board, BoardReader, Publisher, Reading};
 use zp_info::{TextBuffer, push_counts};
 use zp_model::{Mark, MigrateType, Order, PageNo, Refused};
 use zp_share::{Share, Totals, gather_zone};
-use zp_zone::Zone;
+use zp_zone::{Told, Zone};
 
-/// A zone, and the shares of it that workers left when they ended, for which there is room.
+/// A zone, the shares of it that workers left when they ended, for which there is room, and the right to publish its counts, where it has a board.
 #[derive(Drop)]
 pub struct GatedZone {
     zone: Box<Zone>,
     workers: u32,
     left: Vec<Share>,
+    board: Option<Publisher>,
 }
 
 impl Model for GatedZone {
@@ -43,16 +51,21 @@ impl Model for GatedZone {
 
     ghost Value = { GatedState };
 
-    ghost view = { λ g. record { zone = g.zone.value; left = g.left.items } };
+    ghost view = { λ g. record { zone = g.zone.value; left = g.left.items; board = g.board } };
 
     ghost invariant = { λ g. (g.workers ≡ workers_of g.zone.value.plain) × (g.workers ≤ vec_capacity g.left) };
 }
 
 impl GatedZone {
     /// A zone of so many workers, of whom none has left. Refused 6.
-    pub(crate) fn new(alloc: Global, zone: Zone, workers: u32) -> Result<GatedZone, Refused>
+    pub(crate) fn new(
+        alloc: Global,
+        zone: Zone,
+        workers: u32,
+        board: Option<Publisher>,
+    ) -> Result<GatedZone, Refused>
         requires { workers ≡ workers_of zone.plain }
-        ensures new { IfOk result (λ g. g ≡ record { zone = zone; left = [] }) }
+        ensures new { IfOk result (λ g. g ≡ record { zone = zone; left = []; board = board }) }
         ensures why { IfErr result (λ e. e ≡ Memory) }
     {
         let Ok(left) = Vec::with_capacity(alloc, workers as usize) else {
@@ -65,54 +78,126 @@ impl GatedZone {
             zone,
             workers,
             left,
+            board,
         })
     }
 
     /// A block for a share of the zone.
+    #[tactic(auto, using(crate::proofs::Keeping::workers_stay, crate::proofs::Keeping::section_without))]
     #[inline(always)]
     pub(crate) fn alloc(
         &mut self,
+        board: &Option<Board>,
         share: &mut Share,
         order: Order,
         kind: MigrateType,
         mark: Mark,
     ) -> Result<PageNo, Refused>
+        requires board { IsTiedTo board.now self.old.board }
         requires share { IsOneShare (key_of self.old.zone) share.old }
         ensures { IsSectionOf (request.Alloc order kind mark) (page_reply result) self.old self.new share.old share.new }
     {
-        share.alloc_block(&mut self.zone, 0, order, kind, mark)
+        if let None = &self.board {
+            return share.alloc_block(&mut self.zone, 0, order, kind, mark);
+        }
+        self.alloc_published(board, share, order, kind, mark)
+    }
+
+    /// The same with a board, out of line: a zone without one pays for one test alone.
+    #[inline(never)]
+    fn alloc_published(
+        &mut self,
+        board: &Option<Board>,
+        share: &mut Share,
+        order: Order,
+        kind: MigrateType,
+        mark: Mark,
+    ) -> Result<PageNo, Refused>
+        requires board { IsTiedTo board.now self.old.board }
+        requires share { IsOneShare (key_of self.old.zone) share.old }
+        ensures { IsSectionOf (request.Alloc order kind mark) (page_reply result) self.old self.new share.old share.new }
+    {
+        let answer = share.alloc_block(&mut self.zone, 0, order, kind, mark);
+        publish(&mut self.board, board, &self.zone, was_asked(&answer));
+        answer
+    }
+
+    /// A block for a share of the zone, and where it came from.
+    pub(crate) fn alloc_told(
+        &mut self,
+        board: &Option<Board>,
+        share: &mut Share,
+        order: Order,
+        kind: MigrateType,
+        mark: Mark,
+    ) -> Result<Told, Refused>
+        requires board { IsTiedTo board.now self.old.board }
+        requires share { IsOneShare (key_of self.old.zone) share.old }
+        ensures section { IsSectionOf (request.Alloc order kind mark) (told_reply result) self.old self.new share.old share.new }
+        ensures told { IfOk result (λ t. origin self.old.zone.plain.area order kind ≡ Some t.origin) }
+    {
+        let origin = self.zone.origin(order, kind);
+        let page = self.alloc(board, share, order, kind, mark)?;
+        let Some(origin) = origin else { unreachable!() };
+        Ok(Told { page, origin })
     }
 
     /// A block back from a share of the zone.
-    #[tactic(auto, using(crate::proofs::Keeping::workers_stay))]
+    #[tactic(auto, using(crate::proofs::Keeping::workers_stay, crate::proofs::Keeping::section_without))]
     #[inline(always)]
     pub(crate) fn free(
         &mut self,
+        board: &Option<Board>,
         share: &mut Share,
         page: PageNo,
         order: Order,
     ) -> Result<(), Refused>
+        requires board { IsTiedTo board.now self.old.board }
         requires share { IsOneShare (key_of self.old.zone) share.old }
         ensures { IsSectionOf (request.Free page order) (done_reply reply.Freed result) self.old self.new share.old share.new }
     {
-        share.free_block(&mut self.zone, 0, page, order)
+        if let None = &self.board {
+            return share.free_block(&mut self.zone, 0, page, order);
+        }
+        self.free_published(board, share, page, order)
+    }
+
+    /// The same with a board, out of line: a zone without one pays for one test alone.
+    #[tactic(auto, using(crate::proofs::Keeping::workers_stay))]
+    #[inline(never)]
+    fn free_published(
+        &mut self,
+        board: &Option<Board>,
+        share: &mut Share,
+        page: PageNo,
+        order: Order,
+    ) -> Result<(), Refused>
+        requires board { IsTiedTo board.now self.old.board }
+        requires share { IsOneShare (key_of self.old.zone) share.old }
+        ensures { IsSectionOf (request.Free page order) (done_reply reply.Freed result) self.old self.new share.old share.new }
+    {
+        let answer = share.free_block(&mut self.zone, 0, page, order);
+        publish(&mut self.board, board, &self.zone, was_asked(&answer));
+        answer
     }
 
     /// A block of the one kind for each place of an array, one after another up to the first that is refused.
     pub(crate) fn alloc_many(
         &mut self,
+        board: &Option<Board>,
         share: &mut Share,
         order: Order,
         kind: MigrateType,
         mark: Mark,
         pages: &mut [u32],
     ) -> Granted
+        requires board { IsTiedTo board.now self.old.board }
         requires share { IsOneShare (key_of self.old.zone) share.old }
         ensures made { AreSectionsTill (each_is (request.Alloc order kind mark)) (page_of pages.new) (length pages.old) result self.old self.new share.old share.new }
         ensures written { IsWrittenTo result.count pages.old pages.new }
     {
         for count in 0..pages.len() {
-            match self.alloc(share, order, kind, mark) {
+            match self.alloc(board, share, order, kind, mark) {
                 Ok(page) => pages[count] = page.number(),
                 Err(refused) => {
                     return Granted {
@@ -129,7 +214,14 @@ impl GatedZone {
     }
 
     /// The blocks of two arrays back, one after another up to the first that is refused.
-    pub(crate) fn free_many(&mut self, share: &mut Share, pages: &[u32], orders: &[u32]) -> Granted
+    pub(crate) fn free_many(
+        &mut self,
+        board: &Option<Board>,
+        share: &mut Share,
+        pages: &[u32],
+        orders: &[u32],
+    ) -> Granted
+        requires board { IsTiedTo board.now self.old.board }
         requires share { IsOneShare (key_of self.old.zone) share.old }
         requires each { length orders.now ≡ length pages.now }
         requires orders { All (λ k. k ≤ LARGEST_ORDER) orders.now }
@@ -137,7 +229,7 @@ impl GatedZone {
     {
         for count in 0..pages.len() {
             let order = Order::at(orders[count] as u8);
-            match self.free(share, PageNo::new(pages[count]), order) {
+            match self.free(board, share, PageNo::new(pages[count]), order) {
                 Ok(()) => {}
                 Err(refused) => {
                     return Granted {
@@ -154,61 +246,168 @@ impl GatedZone {
     }
 
     /// The lowest run of so many free pages for a share of the zone.
+    #[tactic(auto, using(crate::proofs::Keeping::workers_stay, crate::proofs::Keeping::section_without))]
+    #[inline(always)]
     pub(crate) fn alloc_run(
         &mut self,
+        board: &Option<Board>,
         share: &mut Share,
         pages: u32,
         align: u8,
         mark: Mark,
     ) -> Result<PageNo, Refused>
+        requires board { IsTiedTo board.now self.old.board }
         requires share { IsOneShare (key_of self.old.zone) share.old }
         requires run { IsTrue (may_alloc_run pages align) }
         ensures { IsSectionOf (request.AllocRun pages align mark) (page_reply result) self.old self.new share.old share.new }
     {
-        share.alloc_run(&mut self.zone, 0, pages, align, mark)
+        if let None = &self.board {
+            return share.alloc_run(&mut self.zone, 0, pages, align, mark);
+        }
+        self.alloc_run_published(board, share, pages, align, mark)
+    }
+
+    /// The same with a board, out of line: a zone without one pays for one test alone.
+    #[inline(never)]
+    fn alloc_run_published(
+        &mut self,
+        board: &Option<Board>,
+        share: &mut Share,
+        pages: u32,
+        align: u8,
+        mark: Mark,
+    ) -> Result<PageNo, Refused>
+        requires board { IsTiedTo board.now self.old.board }
+        requires share { IsOneShare (key_of self.old.zone) share.old }
+        requires run { IsTrue (may_alloc_run pages align) }
+        ensures { IsSectionOf (request.AllocRun pages align mark) (page_reply result) self.old self.new share.old share.new }
+    {
+        let answer = share.alloc_run(&mut self.zone, 0, pages, align, mark);
+        publish(&mut self.board, board, &self.zone, was_asked(&answer));
+        answer
     }
 
     /// Another request of a share to the zone.
-    #[tactic(auto, using(crate::proofs::Keeping::workers_stay))]
+    #[tactic(auto, using(crate::proofs::Keeping::workers_stay, crate::proofs::Keeping::section_without))]
     #[inline(always)]
-    pub(crate) fn section(&mut self, share: &mut Share, call: ZoneCall) -> Result<Given, Refused>
+    pub(crate) fn section(
+        &mut self,
+        board: &Option<Board>,
+        share: &mut Share,
+        call: ZoneCall,
+    ) -> Result<Given, Refused>
+        requires board { IsTiedTo board.now self.old.board }
         requires share { IsOneShare (key_of self.old.zone) share.old }
         requires may { MayAsk (workers_of self.old.zone.plain) share.old.batch (request_of call) (share_at share.old 0) }
         ensures { IsSectionOf (request_of call) (answer_of call result) self.old self.new share.old share.new }
     {
-        asked(&mut self.zone, share, call)
+        if let None = &self.board {
+            return asked(&mut self.zone, share, call);
+        }
+        self.section_published(board, share, call)
+    }
+
+    /// The same with a board, out of line: a zone without one pays for one test alone.
+    #[tactic(auto, using(crate::proofs::Keeping::workers_stay))]
+    #[inline(never)]
+    fn section_published(
+        &mut self,
+        board: &Option<Board>,
+        share: &mut Share,
+        call: ZoneCall,
+    ) -> Result<Given, Refused>
+        requires board { IsTiedTo board.now self.old.board }
+        requires share { IsOneShare (key_of self.old.zone) share.old }
+        requires may { MayAsk (workers_of self.old.zone.plain) share.old.batch (request_of call) (share_at share.old 0) }
+        ensures { IsSectionOf (request_of call) (answer_of call result) self.old self.new share.old share.new }
+    {
+        let answer = asked(&mut self.zone, share, call);
+        publish(&mut self.board, board, &self.zone, was_asked(&answer));
+        answer
     }
 
     /// Frees so many pages from the back of the share's list of this type.
+    #[tactic(auto, using(crate::proofs::Keeping::workers_stay, crate::proofs::Keeping::section_without))]
     #[inline(always)]
     pub(crate) fn drain(
         &mut self,
+        board: &Option<Board>,
         share: &mut Share,
         kind: MigrateType,
         count: usize,
     ) -> Result<(), Refused>
+        requires board { IsTiedTo board.now self.old.board }
         requires share { IsOneShare (key_of self.old.zone) share.old }
         requires some { 1 ≤ count }
         requires within { count ≤ length (cached_of (share_at share.old 0) kind) }
         ensures { IsSectionOf (drain_request count kind share.old) (done_reply reply.Drained result) self.old self.new share.old share.new }
     {
-        share.drain(&mut self.zone, 0, kind, count)
+        if let None = &self.board {
+            return share.drain(&mut self.zone, 0, kind, count);
+        }
+        self.drain_published(board, share, kind, count)
+    }
+
+    /// The same with a board, out of line: a zone without one pays for one test alone.
+    #[inline(never)]
+    fn drain_published(
+        &mut self,
+        board: &Option<Board>,
+        share: &mut Share,
+        kind: MigrateType,
+        count: usize,
+    ) -> Result<(), Refused>
+        requires board { IsTiedTo board.now self.old.board }
+        requires share { IsOneShare (key_of self.old.zone) share.old }
+        requires some { 1 ≤ count }
+        requires within { count ≤ length (cached_of (share_at share.old 0) kind) }
+        ensures { IsSectionOf (drain_request count kind share.old) (done_reply reply.Drained result) self.old self.new share.old share.new }
+    {
+        let answer = share.drain(&mut self.zone, 0, kind, count);
+        publish(&mut self.board, board, &self.zone, was_asked(&answer));
+        answer
     }
 
     /// Fills the share's empty list of this type, by the section of a refill whose pages are not returned.
+    #[tactic(auto, using(crate::proofs::Keeping::refill_workers, crate::proofs::Keeping::refill_without))]
     #[inline(always)]
     pub(crate) fn fill(
         &mut self,
+        board: &Option<Board>,
         share: &mut Share,
         kind: MigrateType,
         mark: Mark,
     ) -> Result<(), Refused>
+        requires board { IsTiedTo board.now self.old.board }
         requires share { IsOneShare (key_of self.old.zone) share.old }
         requires empty { cached_of (share_at share.old 0) kind ≡ [] }
         requires lists { 1 ≤ share.old.batch }
         ensures { IsRefilled (λ q. IsSectionOf (request.Refill kind mark share.old.batch) q self.old self.new share.old share.new) result }
     {
-        share.fill(&mut self.zone, 0, kind, mark)
+        if let None = &self.board {
+            return share.fill(&mut self.zone, 0, kind, mark);
+        }
+        self.fill_published(board, share, kind, mark)
+    }
+
+    /// The same with a board, out of line: a zone without one pays for one test alone.
+    #[inline(never)]
+    fn fill_published(
+        &mut self,
+        board: &Option<Board>,
+        share: &mut Share,
+        kind: MigrateType,
+        mark: Mark,
+    ) -> Result<(), Refused>
+        requires board { IsTiedTo board.now self.old.board }
+        requires share { IsOneShare (key_of self.old.zone) share.old }
+        requires empty { cached_of (share_at share.old 0) kind ≡ [] }
+        requires lists { 1 ≤ share.old.batch }
+        ensures { IsRefilled (λ q. IsSectionOf (request.Refill kind mark share.old.batch) q self.old self.new share.old share.new) result }
+    {
+        let answer = share.fill(&mut self.zone, 0, kind, mark);
+        publish(&mut self.board, board, &self.zone, was_asked(&answer));
+        answer
     }
 
     /// What the zone reports to a share of it.
@@ -235,6 +434,38 @@ impl GatedZone {
         }
         self.left.push_reserved(share);
         None
+    }
+
+    /// A reader that has seen all that is published of the zone.
+    pub(crate) fn reader(&mut self, board: &Board) -> BoardReader
+        requires { IsTiedTo (Some board.now) self.old.board }
+        ensures same { self.new ≡ self.old }
+        ensures reader { HasRead self.old.board result }
+        ensures history { IsHistory self.old.zone.plain self.old.zone.entries }
+    {
+        self.zone.history();
+        let Some(publisher) = &mut self.board else {
+            unreachable!()
+        };
+        publisher.reader(board)
+    }
+
+    /// The counts that are published last, with their place: the reader has then seen all.
+    pub(crate) fn read_board(&mut self, board: &Board, reader: &mut BoardReader) -> Reading
+        requires board { IsTiedTo (Some board.now) self.old.board }
+        requires reader { reader.old.tie ≡ board.now.tie }
+        ensures same { self.new ≡ self.old }
+        ensures reader { HasRead self.old.board reader.new }
+        ensures before { IsPrefix reader.old.seen reader.new.seen }
+        ensures known { reader.old.known ≤ reader.new.known }
+        ensures told { result ≡ last_reading reader.new.seen }
+        ensures history { IsHistory self.old.zone.plain self.old.zone.entries }
+    {
+        self.zone.history();
+        let Some(publisher) = &mut self.board else {
+            unreachable!()
+        };
+        publisher.read_board(board, reader)
     }
 
     /// Where the pages of the zone are; nothing, exactly where a worker has not left its share.

@@ -4,6 +4,8 @@
 
 mod call;
 mod call_error;
+mod gate_facts;
+mod gated_reader;
 mod gated_row;
 mod gated_share;
 mod gated_worker;
@@ -11,16 +13,19 @@ mod gated_zone;
 mod granted;
 mod lists;
 mod opening;
+mod publishing;
 mod question;
+mod reader_error;
 mod try_lock;
 mod visit_view;
-mod zone_facts;
 
 pub use call::{Given, ZoneCall};
 pub use call_error::CallError;
+pub use gated_reader::GatedReader;
 pub use gated_row::GatedRow;
 pub use gated_worker::GatedWorker;
 pub use granted::Granted;
 pub use opening::open_row;
 pub use question::{Answer, Question, ZoneTold};
+pub use reader_error::ReaderError;
 pub use try_lock::{Busy, GatherError, Gathered};

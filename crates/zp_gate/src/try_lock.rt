@@ -1,27 +1,31 @@
 //! A lock that nobody waits for, with a zone behind it. A visitor enters where nobody is in, makes one call of what stands there, and
 //! leaves.
-ghost use Rattle.std.specs.Prelude.{◌≡◌, ◌<◌, IfErr, IfOk, length};
+ghost use Rattle.std.specs.Prelude.{◌≡◌, ◌<◌, ◌≤◌, IfErr, IfOk, length};
+ghost use Rattle.std.specs.Option.{ForSome};
 ghost use Rattle.zp_model.specs.Area.{pageblocks_of};
+ghost use Rattle.zp_model.specs.declared.constants.TheConstants.{MAX_PAGES};
 ghost use Rattle.zp_model.specs.declared.refused.Refused.TheVariants.{Memory};
 ghost use Rattle.zp_share.specs.Shares.{key_of};
+ghost use Rattle.zp_gate.specs.Boards.{IsBoardOf, IsWide};
 ghost use Rattle.zp_gate.specs.GatedZones.{IsOneShare};
 ghost use Rattle.zp_gate.specs.Locks.{IsIn, MayLeave, first_held};
 ghost use Rattle.zp_gate.specs.Visits.{HasGathered, HasKept, IsUngathered};
 
+use crate::gate_facts::GateFacts;
 use crate::gated_zone::GatedZone;
 use crate::visit_view::VisitView;
-use crate::zone_facts::ZoneFacts;
 use atomic_table::{Play, Seat as Place, Table, TableRule};
 use std::alloc::Global;
 use std::marker::Model;
-use zp_model::Refused;
+use zp_counts::{Board, Publisher};
+use zp_model::{Largest, Refused};
 use zp_share::{Share, Totals};
 use zp_zone::Zone;
 
 /// The rule of a lock.
 pub(crate) struct Gated;
 
-impl TableRule<GatedZone, VisitView, ZoneFacts> for Gated {
+impl TableRule<GatedZone, VisitView, GateFacts> for Gated {
     ghost use Rattle.zp_gate.specs.Locks.{IsGated, outside};
 
     ghost holds = { IsGated };
@@ -99,43 +103,82 @@ const FREE: u64 = 0;
 
 const TAKEN: u64 = 1;
 
-/// A zone that one caller at a time may enter.
+/// The word of a lock, and what stands behind it.
+pub(crate) type GateTable = Table<GatedZone, VisitView, GateFacts, Gated, Global>;
+
+/// A zone that one caller at a time may enter, and the board beside it, where it has one, for which nobody enters.
 #[derive(Drop)]
 pub struct TryLock {
-    pub(crate) table: Table<GatedZone, VisitView, ZoneFacts, Gated, Global>,
+    pub(crate) table: GateTable,
     pub(crate) base: u32,
     pub(crate) pages: u32,
     pub(crate) pageblocks: usize,
     pub(crate) workers: u32,
+    pub(crate) board: Option<Board>,
     ghost words: { table.shared.table_id.words ≡ 1 },
     ghost slots: { table.shared.table_id.slots ≡ 1 },
-    ghost first: { base ≡ table.shared.key.base },
-    ghost length: { pages ≡ table.shared.key.pages },
-    ghost blocks: { pageblocks ≡ pageblocks_of table.shared.key.largest table.shared.key.pages },
-    ghost crew: { workers ≡ table.shared.key.workers },
+    ghost first: { base ≡ table.shared.key.zone.base },
+    ghost length: { pages ≡ table.shared.key.zone.pages },
+    ghost blocks: { pageblocks ≡ pageblocks_of table.shared.key.zone.largest table.shared.key.zone.pages },
+    ghost crew: { workers ≡ table.shared.key.zone.workers },
+    ghost beside: { board ≡ table.shared.key.board },
+    ghost wide: { ForSome board IsWide },
+}
+
+/// A free lock, and behind it this zone, which no worker has left yet. Refused 6.
+pub(crate) fn shut_in(
+    alloc: Global,
+    zone: Zone,
+    publisher: Option<Publisher>,
+    key: &GateFacts,
+) -> Result<GateTable, Refused>
+    requires key { key_of zone ≡ key.now.zone }
+    requires board { IsBoardOf key.now.board zone publisher }
+    ensures key { IfOk result (λ t. t.shared.key ≡ key.now) }
+    ensures words { IfOk result (λ t. t.shared.table_id.words ≡ 1) }
+    ensures slots { IfOk result (λ t. t.shared.table_id.slots ≡ 1) }
+    ensures why { IfErr result (λ e. e ≡ Memory) }
+{
+    // a clause of this call says that the zone is the run of its entries
+    zone.history();
+    let behind = GatedZone::new(alloc, zone, key.workers, publisher)?;
+    let Ok(slots) = Vec::from_array(alloc, [behind]) else {
+        return Err(Refused::Memory);
+    };
+    match Table::new(alloc, &[FREE], slots, key) {
+        Ok((table, _place)) => Ok(table),
+        Err(_) => Err(Refused::Memory),
+    }
 }
 
 impl TryLock {
-    /// A lock with this zone behind it, which no worker has left yet. Refused 6.
-    pub(crate) fn new(alloc: Global, zone: Zone, key: &ZoneFacts) -> Result<TryLock, Refused>
-        requires key { key_of zone ≡ key.now }
-        ensures key { IfOk result (λ l. l.table.shared.key ≡ key.now) }
-        ensures why { IfErr result (λ e. e ≡ Memory) }
+    /// The lock of this table, with its board beside it.
+    pub(crate) fn of(
+        table: GateTable,
+        board: Option<Board>,
+        base: u32,
+        pages: u32,
+        largest: Largest,
+        workers: u32,
+    ) -> TryLock
+        requires board { board ≡ table.shared.key.board }
+        requires first { base ≡ table.shared.key.zone.base }
+        requires length { pages ≡ table.shared.key.zone.pages }
+        requires largest { largest ≡ table.shared.key.zone.largest }
+        requires crew { workers ≡ table.shared.key.zone.workers }
+        requires words { table.shared.table_id.words ≡ 1 }
+        requires slots { table.shared.table_id.slots ≡ 1 }
+        requires wide { ForSome board IsWide }
+        requires few { pages ≤ MAX_PAGES }
+        ensures { result.table.shared.key ≡ table.shared.key }
     {
-        let pageblocks = key.largest.pageblocks(zone.pages());
-        let behind = GatedZone::new(alloc, zone, key.workers)?;
-        let Ok(slots) = Vec::from_array(alloc, [behind]) else {
-            return Err(Refused::Memory);
-        };
-        match Table::new(alloc, &[FREE], slots, key) {
-            Ok((table, _place)) => Ok(TryLock {
-                table,
-                base: key.base,
-                pages: key.pages,
-                pageblocks,
-                workers: key.workers,
-            }),
-            Err(_) => Err(Refused::Memory),
+        TryLock {
+            table,
+            base,
+            pages,
+            pageblocks: largest.pageblocks(pages),
+            workers,
+            board,
         }
     }
 
@@ -165,7 +208,7 @@ impl TryLock {
 
     /// A worker leaves its share. It comes back where somebody is in, or where all workers left theirs.
     pub(crate) fn keep(&self, share: Share) -> Result<Visit, Share>
-        requires { IsOneShare self.now.table.shared.key share }
+        requires { IsOneShare self.now.table.shared.key.zone share }
         ensures kept { IfOk result (HasKept self.now.table.shared.key share) }
         ensures same { IfErr result (λ s. s ≡ share) }
     {

@@ -1,26 +1,29 @@
 -- A row of zones and the shares of its workers after a command of one worker.
-use Rattle.std.proofs.Common.{ℕ, ◌≡◌, ◌<◌, ◌≤◌, sym, ◌∙◌, ap, subst, arith, refl, List, length, map, get_or, set, Some, All, Ok, Err, inl, inr}
+use Rattle.std.proofs.Common.{ℕ, ◌≡◌, ◌<◌, ◌≤◌, sym, ◌∙◌, ap, subst, arith, refl, List, [], length, map, get_or, set, Some, All, Ok, Err, inl, inr}
 use Rattle.std.specs.Prelude.{Result, Option, Bool, true, false, cond, OnOk}
 use Rattle.std.specs.List.{range_with_len}
 use Rattle.std.proofs.lemmas.Bool.{cases_lt}
 use Rattle.std.proofs.Math.Seq.{map-set_same}
-use Rattle.std.proofs.lemmas.List.{length-map, length-set, map-set, get_or_past, get_or-map as get_or-there}
+use Rattle.std.proofs.lemmas.List.{length-map, length-set, map-set, get_or_past, get_or-map as get_or-there, set-get_or}
 use Rattle.std.proofs.lemmas.List.Elements.{All-set}
 use Rattle.zp_model.specs.declared.block.Block.{Block}
 use Rattle.zp_model.specs.declared.refused.Refused.{Refused}
+use Rattle.zp_model.specs.declared.refused.Refused.TheVariants.{NotLent}
 use Rattle.zp_model.specs.declared.request.Reply.{Reply}
 use Rattle.zp_model.specs.declared.request.Request.{Request}
 use Rattle.zp_model.specs.Zone.{workers_of}
 use Rattle.zp_zone.specs.NamedZone.{NamedZone, block_reply}
 use Rattle.zp_zone.specs.Seats.{ZoneState}
-use Rattle.zp_share.specs.PlainShares.{PlainShare}
+use Rattle.zp_share.specs.PageUses.{is_lent_run}
+use Rattle.zp_share.specs.PlainShares.{PlainShare, no_own, own_at, refusal, refusal_of}
 use Rattle.zp_share.specs.Sections.{done_reply}
-use Rattle.zp_share.specs.ZoneShares.{answered, plain_share}
-use Rattle.zp_share.specs.Commands.{World, Done, told_as, done_answer}
-use Rattle.zp_share.specs.Shares.{ShareState, IsShareOf, IsDone, is_section, key_of, named_zone, noted_at, plain, share_at, with_zone_share, world}
+use Rattle.zp_share.specs.ZoneShares.{answered, answered_in, plain_share}
+use Rattle.zp_share.specs.Commands.{World, Done, done, done_answer, section, section_as, told_as}
+use Rattle.zp_share.specs.Shares.{ShareState, IsShareOf, IsDone, IsNotedAt, is_section, key_of, named_zone, noted_at, plain, share_at, with_zone_share, world}
 use Rattle.zp_share.specs.Crews.{CrewState, AreSharesOf, crew_of}
 use Rattle.zp_share.proofs.Crews.{fits_there, keys-length, keys-workers, places}
-use Rattle.zp_kernel.specs.Crews.{IsCrewDone, IsSameCrew, block_answer, by_worker, share_of, no_share}
+use Rattle.zp_share.proofs.RunUses.{run_not}
+use Rattle.zp_kernel.specs.Crews.{IsCrewDone, IsSameCrew, block_answer, by_worker, no_share, run_freed_by, share_of, world_of}
 
 -- worker w's share s, which stands at place n, has become u, and the zones have become others with the same keys
 pub record IsTurn (zones new : List ZoneState) (shares : List ShareState) (n w : ℕ) (s d u : ShareState) (before : CrewState) : Type 0 where
@@ -149,6 +152,30 @@ noted_worker s u i r q e =
     either : (b : Bool) (x y : ShareState) → x.worker ≡ y.worker → (cond b x y).worker ≡ y.worker
     either true x y e = e
     either false x y e = refl
+
+-- a section for a run does, too
+pub run_worker : (s u : ShareState) (i p n : ℕ) (q : Reply) → IsNotedAt i (Request.FreeRun p n) q s u → u.worker ≡ s.worker
+run_worker s u i p n q (z, e) = ap (λ (t : ShareState). t.worker) e ∙ either (is_section q) (with_zone_share i (answered_in z (Request.FreeRun p n) q (share_at s i)) s) s refl
+  where
+    either : (b : Bool) (x y : ShareState) → x.worker ≡ y.worker → (cond b x y).worker ≡ y.worker
+    either true x y e = e
+    either false x y e = refl
+
+-- a worker without a place frees no run
+pub none_lent : (before : CrewState) (w i p n : ℕ) → length (share_of before w).zones ≤ i → IsCrewDone (run_freed_by w i p n before) (Err NotLent) before
+none_lent before w i p n past =
+    let v : World = world_of before w in
+    let own : own_at v.share i ≡ no_own = get_or_past v.share.zones i no_own past in
+    let none : is_lent_run 0 [] p n ≡ false = run_not 0 p n [] (λ _ some inside. absurd (omega (arith, some, inside))) in
+    let why : refusal_of (Request.FreeRun p n) (own_at v.share i) ≡ Some NotLent = ap (refusal_of (Request.FreeRun p n)) own ∙ ap (λ b. refusal b false) none in
+    let d : told_as done_answer (section v i (Request.FreeRun p n)) ≡ done (Err NotLent) v = ap (λ e. told_as done_answer (section_as e v i (Request.FreeRun p n))) why in
+    record {
+      answer = ap (λ (x : Done (Result (Unit {0}) Refused)). x.answer) (sym d);
+      crew = shares_stay before w ∙ ap (λ (x : Done (Result (Unit {0}) Refused)). let c : CrewState = record { zones = x.world.zones; shares = set before.shares w x.world.share } in c) (sym d);
+    }
+  where
+    shares_stay : (c : CrewState) (w : ℕ) → c ≡ (let d : CrewState = record { zones = c.zones; shares = set c.shares w (share_of c w) } in d)
+    shares_stay c w = ap (λ ss. let d : CrewState = record { zones = c.zones; shares = ss } in d) (sym (set-get_or c.shares w no_share))
 
 pub on_ok : {A E : Type 0} (P : Type 0) (r : Result A E) → P → OnOk r P
 on_ok P (Ok x) p = p

@@ -27,6 +27,11 @@ module _ {X : Type 0} where
   pub get_is : (es : List (ℕ × X)) (m : FinMap nat_cmp X) (q : ℕ) → from_entries es ≡ m → lookup (nat_eq q) es ≡ get m q
   get_is es m q e = sym (listed es q) ∙ ap (λ n. get n q) e
 
+  -- the same entries in another order
+  pub reordered : (es fs : List (ℕ × X)) (m : FinMap nat_cmp X) → from_entries es ≡ m → ((q : ℕ) → lookup (nat_eq q) fs ≡ lookup (nat_eq q) es) → from_entries fs ≡ m
+  reordered es fs m e same =
+      same_map nat_cmp_total nat_cmp-IsAntisymmetric _ _ (λ q. listed fs q ∙ same q ∙ get_is es m q e)
+
   -- the entries after one key has changed
   pub inserted : (es fs : List (ℕ × X)) (m : FinMap nat_cmp X) (k : ℕ) (v : X) → from_entries es ≡ m →
       ((q : ℕ) → lookup (nat_eq q) fs ≡ cond (nat_eq k q) (Some v) (lookup (nat_eq q) es)) → from_entries fs ≡ insert m k v

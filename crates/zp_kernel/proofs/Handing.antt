@@ -57,7 +57,7 @@ module _ {X : Type 0} where
 
 -- a request that was met
 pub asked_ok : (w : ℕ) (x : FrameBlock) (k i pages : ℕ) (t : MigrateType) (b : KernelState) (r : Result Lent Refused) (l : Lent) (crew : CrewState) (fs : Frames) (counts : EventCounts) →
-    k ≡ x.order → IsCrewDone (asked_by w k t i b.crew) r crew → r ≡ Ok l → pages ≡ 2 ^ k → fs ≡ insert b.frames x.frame (record { lent = l; in_use = pages; worker = w })
+    k ≡ x.order → IsCrewDone (asked_by w k t i b.crew) r crew → r ≡ Ok l → pages ≡ 2 ^ k → fs ≡ insert b.frames x.frame (record { lent = l; worker = w })
     → counts ≡ pages_out pages (noted happened.Given b.counts) →
     let after : KernelState = record { crew = crew; frames = fs; counts = counts } in after ≡ asked w x t i (holding_none x.frame b)
 asked_ok w x k i pages t b r l crew fs counts same done is many frames noted_is =
@@ -65,9 +65,8 @@ asked_ok w x k i pages t b r l crew fs counts same done is many frames noted_is 
     let here : IsCrewDone (asked_by w x.order t i b.crew) r crew = subst (λ n. IsCrewDone (asked_by w n t i b.crew) r crew) same done in
     let c : KernelState = holding_none x.frame b in
     let size : pages ≡ 2 ^ x.order = many ∙ ap (λ n. 2 ^ n) same in
-    let held : ℕ → Held = λ n. record { lent = l; in_use = n; worker = w } in
-    let to : fs ≡ insert (remove b.frames x.frame) x.frame (held (2 ^ x.order)) =
-    frames ∙ ap (λ n. insert b.frames x.frame (held n)) size ∙ sym (insert_removed b.frames x.frame (held (2 ^ x.order))) in
+    let held : Held = record { lent = l; worker = w } in
+    let to : fs ≡ insert (remove b.frames x.frame) x.frame held = frames ∙ sym (insert_removed b.frames x.frame held) in
     let counted : counts ≡ pages_out (2 ^ x.order) (noted happened.Given b.counts) = noted_is ∙ ap (λ n. pages_out n (noted happened.Given b.counts)) size in
     let first : ◌≡◌ {A = KernelState} (record { crew = crew; frames = fs; counts = counts }) (answered w x.frame x.order crew (Ok l) c) = joined crew _ _ _ _ to counted in
     first

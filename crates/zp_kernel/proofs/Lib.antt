@@ -1,4 +1,5 @@
 pub mod Frames
+pub mod Splitting
 pub mod Crews
 pub mod Handing
 pub mod Around

@@ -51,6 +51,10 @@ asked_by w k t i c = by_worker w (alloc_down k t Min i) c
 abbrev pub freed_by : ℕ → Lent → CrewState → CrewDone (Result (Unit {0}) Refused)
 freed_by w l c = by_worker w (λ v. free_in v l.zone l.page l.order) c
 
+-- worker w frees n pages of zone i from page p on, by whatever blocks they are lent to it
+abbrev pub run_freed_by : ℕ → ℕ → ℕ → ℕ → CrewState → CrewDone (Result (Unit {0}) Refused)
+run_freed_by w i p n c = by_worker w (λ v. told_as done_answer (section v i (request.FreeRun p n))) c
+
 -- worker w posts a block of its own to another
 abbrev pub posted_by : ℕ → Lent → ℕ → CrewState → CrewDone (Result (Unit {0}) Refused)
 posted_by w l to c = by_worker w (λ v. told_as done_answer (section v l.zone (request.Post l.page l.order to))) c

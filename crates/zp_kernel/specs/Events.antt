@@ -1,6 +1,6 @@
 -- What a kernel's page events make of our zones, and of what is kept of them (this profile). The kernel's events are those of
 -- include/trace/events/kmem.h.
-use Rattle.std.specs.Prelude.{ℕ, ◌%◌, ◌^◌, ◌==◌, Option, None, Some, Result, Ok, Err, cond, length, ltb}
+use Rattle.std.specs.Prelude.{ℕ, ◌-◌, ◌%◌, ◌^◌, ◌==◌, Option, None, Some, Result, Ok, Err, cond, length, ltb}
 use Rattle.std.specs.FinMap.{get}
 use Rattle.zp_events.specs.declared.event.Action.{Action}
 use Rattle.zp_events.specs.declared.event.Action.TheVariants as action
@@ -43,7 +43,7 @@ cleared w f b = still_held w (get b.frames f) (holding_none f b)
 -- what worker w's request for the kernel's block of order k at frame f was answered is noted, and what it left of zones and shares
 abbrev pub answered : ℕ → ℕ → ℕ → CrewState → Result Lent Refused → KernelState → KernelState
 answered w f k crew (Ok l) b =
-    holding f (record { lent = l; in_use = 2 ^ k; worker = w }) (record b { crew = crew; counts = pages_out (2 ^ k) (noted happened.Given b.counts) })
+    holding f (record { lent = l; worker = w }) (record b { crew = crew; counts = pages_out (2 ^ k) (noted happened.Given b.counts) })
 answered w f k crew (Err r) b = record b { crew = crew; counts = noted (happened.Refused r) b.counts }
 
 -- worker w asks for it, of type t, out of zone i or one below it
@@ -64,13 +64,13 @@ handed_out s w x r b = cond (ltb s.largest x.order) (noting happened.TooLarge b)
 -- at a frame that holds a block: a part of it where that is larger, as the kernel splits blocks (split_page), else the whole
 abbrev pub freed_held : ℕ → FrameBlock → Held → KernelState → KernelState
 freed_held w x h b =
-    cond (ltb x.order h.lent.order) (part_freed w x.order x.frame h b)
+    cond (ltb x.order h.lent.order) (part_freed w 0 x.order x.frame h b)
     (given_up w x.frame h (noting (cond (x.order == h.lent.order) happened.Freed happened.Larger) b))
 
 -- at a frame that holds none: a part of the block around it, or unknown, as it was handed out before the first event or refused here
 abbrev pub freed_inside : ℕ → FrameBlock → Option Holder → KernelState → KernelState
 freed_inside w x None b = noting happened.Unknown b
-freed_inside w x (Some r) b = part_freed w x.order r.frame r.held b
+freed_inside w x (Some r) b = part_freed w (x.frame - r.frame) x.order r.frame r.held b
 
 abbrev pub freed_at : ℕ → FrameBlock → Option Held → KernelState → KernelState
 freed_at w x None b = freed_inside w x (holder_around b.frames x.frame) b

@@ -1,5 +1,5 @@
 -- What is kept of a kernel's page events, and how a block goes back (this profile).
-use Rattle.std.specs.Prelude.{ℕ, zero, suc, ◌-◌, ◌^◌, ◌==◌, Bool, true, false, Result, Ok, Err, cond}
+use Rattle.std.specs.Prelude.{ℕ, ◌^◌, ◌==◌, Bool, true, false, Result, Ok, Err, cond, min}
 use Rattle.std.specs.FinMap.{insert, remove}
 use Rattle.zp_model.specs.declared.block.Block.{Block}
 use Rattle.zp_model.specs.declared.refused.Refused.{Refused}
@@ -11,7 +11,8 @@ use Rattle.zp_kernel.specs.declared.event_counts.Happening.TheVariants as happen
 use Rattle.zp_kernel.specs.declared.held.Held.{Held}
 use Rattle.zp_kernel.specs.Counts.{noted, pages_back}
 use Rattle.zp_share.specs.Crews.{CrewState}
-use Rattle.zp_kernel.specs.Crews.{CrewDone, and_then, collected_by, freed_by, posted_by}
+use Rattle.zp_kernel.specs.Crews.{CrewDone, and_then, collected_by, freed_by, posted_by, run_freed_by}
+use Rattle.zp_kernel.specs.Frames.{can_split, page_behind, pages_behind, split}
 
 abbrev pub noting : Happening → KernelState → KernelState
 noting x b = record b { counts = noted x b.counts }
@@ -54,11 +55,23 @@ given_back w h b =
 abbrev pub given_up : ℕ → ℕ → Held → KernelState → KernelState
 given_up w f h b = given_back w h (holding_none f b)
 
--- so many pages of the block that frame f holds are left in use; where there are none, it goes back
-abbrev pub left_in_use : ℕ → ℕ → ℕ → Held → KernelState → KernelState
-left_in_use zero w f h b = given_up w f h b
-left_in_use (suc n) w f h b = holding f (record h { in_use = suc n }) b
+-- n pages of the block h are freed, from its page i on, by the worker that has it
+abbrev pub run_given_back : ℕ → ℕ → Held → KernelState → KernelState
+run_given_back i n h b =
+    let d = run_freed_by h.worker h.lent.zone (page_behind h.lent.page i) n b.crew in
+    record b { crew = d.crew; counts = refusal_noted d.answer (pages_back n b.counts) }
 
--- 2^k of the pages of the block that frame f holds are freed
-abbrev pub part_freed : ℕ → ℕ → ℕ → Held → KernelState → KernelState
-part_freed w k f h b = left_in_use (h.in_use - 2 ^ k) w f h (noting happened.Part b)
+-- frame f gives up its block, of which these pages are freed, and frames hold what is left of it. Where one of them holds a block already, the
+-- kernel handed out anew what it had freed unseen, and the whole block goes back
+abbrev pub split_up : ℕ → ℕ → ℕ → ℕ → Held → KernelState → KernelState
+split_up w f i n h b =
+    let fs = remove b.frames f in
+    cond (can_split fs f h i n) (run_given_back i n h (record b { frames = split fs f h i n })) (given_up w f h b)
+
+-- so many pages as a block of order k has, but no more than the block h has behind its first i
+abbrev pub part_pages : Held → ℕ → ℕ → ℕ
+part_pages h i k = min (2 ^ k) (pages_behind h i)
+
+-- of the block that frame f holds the pages of a block of order k are freed, from its page i on
+abbrev pub part_freed : ℕ → ℕ → ℕ → ℕ → Held → KernelState → KernelState
+part_freed w i k f h b = split_up w f i (part_pages h i k) h (noting happened.Part b)

@@ -7,6 +7,8 @@ use std::alloc::{AllocError, Global};
 use std::collections::HashMap;
 use std::marker::Model;
 
+mod splitting;
+
 /// What each page frame holds.
 #[derive(Drop)]
 pub struct FrameTable {
@@ -14,14 +16,13 @@ pub struct FrameTable {
 }
 
 impl Model for FrameTable {
-    ghost use Rattle.std.specs.FinMap as map;
-    ghost use Rattle.zp_kernel.specs.Frames.{Frames, frames_code};
+    ghost use Rattle.zp_kernel.specs.Frames.{Frames, frames_code, frames_of};
 
     ghost Value = { Frames };
 
     ghost coded = { frames_code };
 
-    ghost view = { λ t. map.from_entries t.held.entries };
+    ghost view = { λ t. frames_of t.held.entries };
 }
 
 impl FrameTable {

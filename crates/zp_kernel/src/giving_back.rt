@@ -1,13 +1,13 @@
 //! A block goes back.
-ghost use Rattle.std.specs.Prelude.{◌≡◌, ◌-◌, ◌^◌, ◌<◌, Some, length};
-ghost use Rattle.std.specs.FinMap.{get};
-ghost use Rattle.zp_kernel.specs.KernelStates.{back_by, given_back, given_up, lent_of, part_freed, passed_back, passing_noted, refusal_noted};
+ghost use Rattle.std.specs.Prelude.{◌≡◌, ◌^◌, ◌<◌, OnOk, OnErr, length};
+ghost use Rattle.zp_kernel.specs.KernelStates.{back_by, given_back, given_up, lent_of, part_freed, part_pages, passed_back, passing_noted, refusal_noted, run_given_back};
 ghost use Rattle.zp_kernel.specs.Crews.{IsCrewDone, IsSameCrew};
 
 use crate::event_counts::{EventCounts, Happening};
-use crate::held::Held;
+use crate::held::{Held, Holder};
 use crate::kernel_state::KernelState;
 use crate::kernel_zones::KernelZones;
+use std::alloc::AllocError;
 use zp_model::{Block, Refused, Worker};
 use zp_share::Lent;
 
@@ -84,29 +84,56 @@ pub fn give_up(state: &mut KernelState, by: Worker, frame: u64, held: &Held)
     give_back(state, by, held);
 }
 
-/// The pages in use, without 2^order of them.
-fn without(in_use: u32, order: u32) -> u32
-    ensures { result ≡ in_use - 2 ^ order }
+/// How many pages a part has that is freed: as many as a block of this order, but no more than the block has from this page on.
+fn part_pages(held: &Held, from: u32, order: u32) -> u32
+    requires { from < 2 ^ held.now.lent.order }
+    ensures pages { result ≡ part_pages held.now from order }
+    ensures some { 0 < result }
 {
+    let behind = held.pages_behind(from);
     if order < 32 {
-        in_use.saturating_sub(1 << order)
+        behind.min(1 << order)
     } else {
-        0
+        behind
     }
 }
 
-/// 2^order of the pages of the block that the frame holds are freed.
-pub fn free_part(state: &mut KernelState, by: Worker, frame: u64, held: &Held, order: u32)
-    requires worker { by < length state.old.crew.shares }
-    requires held { get state.old.frames frame ≡ Some held.now }
-    ensures after { state.new ≡ part_freed by order frame held.now state.old }
+/// So many pages of the block, from this one on, are freed by the worker that has it.
+fn give_back_run(state: &mut KernelState, held: &Held, from: u32, pages: u32)
+    ensures after { state.new ≡ run_given_back from pages held.now state.old }
     ensures same { IsSameCrew state.old.crew state.new.crew }
 {
+    state.counts.note_back(pages);
+    let page = held.page_behind(from);
+    let outcome = state
+        .crew
+        .free_run(held.worker, held.lent.zone, page, pages);
+    note_refusal(&mut state.counts, outcome);
+}
+
+/// The pages of a part of the holder's block are freed, from this one on as many as a block of this order has. Refused where there is no memory
+/// to note what is left; then nothing was asked, and nothing changed.
+pub fn free_part(
+    state: &mut KernelState,
+    by: Worker,
+    holder: &Holder,
+    from: u32,
+    order: u32,
+) -> Result<(), AllocError>
+    requires worker { by < length state.old.crew.shares }
+    requires inside { from < 2 ^ holder.now.held.lent.order }
+    ensures after { OnOk result (state.new ≡ part_freed by from order holder.now.frame holder.now.held state.old) }
+    ensures left { OnErr result (state.new ≡ state.old) }
+    ensures same { IsSameCrew state.old.crew state.new.crew }
+{
+    let held = &holder.held;
+    let pages = part_pages(held, from, order);
+    let is_split = state.frames.split(holder.frame, held, from, pages)?;
     state.counts.note(Happening::Part);
-    let in_use = without(held.in_use, order);
-    if in_use == 0 {
-        give_up(state, by, frame, held);
-        return;
+    if is_split {
+        give_back_run(state, held, from, pages);
+    } else {
+        give_back(state, by, held);
     }
-    state.frames.set(frame, Held { in_use, ..*held });
+    Ok(())
 }

@@ -61,17 +61,9 @@ fn ask(
 {
     match state.crew.alloc(by, order, kind, top) {
         Ok(lent) => {
-            let in_use = order.pages();
-            state.frames.set(
-                block.frame,
-                Held {
-                    lent,
-                    in_use,
-                    worker: by,
-                },
-            );
+            state.frames.set(block.frame, Held { lent, worker: by });
             state.counts.note(Happening::Given);
-            state.counts.note_out(in_use);
+            state.counts.note_out(order.pages());
         }
         Err(refused) => {
             let _place = state.frames.remove(block.frame);
@@ -110,11 +102,7 @@ pub fn hand_out(
         page: PageNo::new(0),
         order,
     };
-    let place = Held {
-        lent,
-        in_use: 1,
-        worker: by,
-    };
+    let place = Held { lent, worker: by };
     let before = state.frames.insert(block.frame, place)?;
     clear(state, by, before);
     ask(state, by, block, order, kind, top);

@@ -72,7 +72,7 @@ impl Kernel {
                 hand_out(&mut self.state, &self.setting, by, block, request)?;
             }
             Action::Refuse(_block, _request) => self.state.counts.note(Happening::KernelRefused),
-            Action::Free(block) => free_block(&mut self.state, by, block),
+            Action::Free(block) => free_block(&mut self.state, by, block)?,
             Action::Fallback => self.state.counts.note(Happening::Fallback),
         }
         Ok(())

@@ -2,10 +2,10 @@
 ghost use Rattle.std.specs.Prelude.{◌≡◌, ◌<◌, ◌≤◌, ◌%◌, ◌↔◌, IsTrue, OnOk, length, map};
 ghost use Rattle.zp_share.specs.Shares.{named_zone};
 ghost use Rattle.zp_share.specs.Crews.{AreSharesOf, crew_of};
-ghost use Rattle.zp_kernel.specs.Crews.{IsCrewDone, IsSameCrew, asked_by, collected_by, freed_by, posted_by, share_of};
+ghost use Rattle.zp_kernel.specs.Crews.{IsCrewDone, IsSameCrew, asked_by, collected_by, freed_by, posted_by, run_freed_by, share_of};
 
 use std::marker::Model;
-use zp_model::{Block, Mark, MigrateType, Order, Refused, Worker};
+use zp_model::{Block, Mark, MigrateType, Order, PageNo, Refused, Worker};
 use zp_share::{Lent, PlainZones, Share, Zones, alloc, free};
 use zp_zone::Zone;
 
@@ -99,6 +99,24 @@ impl KernelZones {
         }
         let share = &mut self.shares[usize::from(worker.number())];
         free(share, &mut self.zones, lent.zone, lent.page, lent.order)
+    }
+
+    /// The worker frees so many pages of its own, from this one on.
+    pub fn free_run(
+        &mut self,
+        worker: Worker,
+        zone: usize,
+        page: PageNo,
+        pages: u32,
+    ) -> Result<(), Refused>
+        ensures done { IsCrewDone (run_freed_by worker zone page pages self.old) result self.new }
+        ensures same { IsSameCrew self.old self.new }
+    {
+        if !self.has_place(worker, zone) {
+            return Err(Refused::NotLent);
+        }
+        let share = &mut self.shares[usize::from(worker.number())];
+        self.zones.free_run(share, zone, page, pages)
     }
 
     /// The worker posts a block of its own to another.

@@ -33,3 +33,4 @@ pub mod RunPlaces
 pub mod RunsByBlocks
 pub mod RunsOwn
 pub mod RunsHeld
+pub mod Origins

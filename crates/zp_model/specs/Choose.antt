@@ -1,9 +1,11 @@
 -- Which free block a request takes: own, claim, borrow or none (this profile's four steps).
 use Rattle.std.specs.Prelude.{ℕ, ◌-◌, ◌/◌, ◌^◌, ◌&&◌, ◌||◌, not, Bool, true, false, leb, Option, None, Some, reverse}
 use Rattle.std.specs.List.{find}
-use Rattle.std.specs.Option.{option_or}
+use Rattle.std.specs.Option.{option_map, option_or}
 use Rattle.zp_model.specs.declared.migrate_type.MigrateType.{MigrateType}
 use Rattle.zp_model.specs.declared.migrate_type.MigrateType.TheVariants.{Movable}
+use Rattle.zp_model.specs.declared.origin.Origin.{Origin}
+use Rattle.zp_model.specs.declared.origin.Origin.TheVariants.{Own, Claimed, Borrowed}
 use Rattle.zp_model.specs.BlockSet.{first_of, orders_from}
 use Rattle.zp_model.specs.MigrateType.{foreign, same_type}
 use Rattle.zp_model.specs.PageblockType.{pageblock_type}
@@ -49,3 +51,8 @@ borrow a k t = first_of (λ o. first_of (λ f. front (free_list a o (pageblock_t
 unfoldable pub choose : Area → ℕ → MigrateType → Option Chosen
 choose a k t =
     option_or (chosen_at false (own a k t)) (option_or (chosen_at true (claim a k t)) (chosen_at false (borrow a k t)))
+
+-- where the block comes from, which such a request takes
+unfoldable pub origin : Area → ℕ → MigrateType → Option Origin
+origin a k t =
+    option_or (option_map (λ _. Own) (own a k t)) (option_or (option_map (λ _. Claimed) (claim a k t)) (option_map (λ _. Borrowed) (borrow a k t)))

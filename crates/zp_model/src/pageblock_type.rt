@@ -49,7 +49,7 @@ impl PageblockType {
         }
     }
 
-    /// The type noted for a block out that is taken from such a pageblock whatever its type. None is taken from an isolated one.
+    /// The type noted for a block out that is taken from such a pageblock whatever its type.
     pub const fn noted(self) -> MigrateType
         ensures { result ≡ noted_type self }
     {

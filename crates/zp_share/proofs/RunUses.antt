@@ -7,6 +7,7 @@ use Rattle.std.proofs.Math.ListN.{get_or-map}
 use Rattle.std.proofs.lemmas.Bool.{and_from, and_parts, both_ways, cases_Bool, cases_eq, cases_lt, eq-eqb, eqb-true, false≢true, false_from_ne_true, le-leb, leb-true}
 use Rattle.std.proofs.lemmas.List.{ext_get_or, get_or-set_other, get_or-set_same, length-map, length-set, map-set}
 use Rattle.std.proofs.lemmas.List.FromFn.{get_or-map-range_with_len, length-map-range_with_len}
+use Rattle.std.proofs.lemmas.Nat.{pow_pos}
 use Rattle.std.proofs.lemmas.Option.{none-some, same_Some}
 use Rattle.zp_model.specs.declared.migrate_type.MigrateType.{MigrateType}
 use Rattle.zp_model.specs.declared.constants.TheConstants.{ORDERS}
@@ -167,6 +168,19 @@ part_freed_uses m us u1 u2 u3 g k h n c t was below around some most within ends
       let still : y2.area.largest ≡ z.area.largest = ap (λ (a : Area). a.largest) (out_rest w (λ _. t) (cut y1.area.largest g (h - g)) y1).area ∙ largest in
       behind.blocks z w e ∙ run_alike w (λ _. t) (h + c) (g + 2 ^ k - (h + c)) (record z { out = map (held w) u2 }) y2 (sym still) o2;
 }
+
+-- no page has no block to be lent
+none_lent : (m : ℕ) (kind : ℕ → MigrateType) (us : List PageUse) (h n : ℕ) → n ≡ 0 → IsCutLent m kind us us h n
+none_lent m kind us h n none = lending_ends m kind us us h n h n none (lending_begins m kind us h n)
+
+-- a lent block comes back whole
+pub whole_freed_uses : (m : ℕ) (us vs : List PageUse) (g k h n c : ℕ) → is_lent_as k (use_at us g) ≡ true → g < length us → in_run g k h ≡ true → c ≡ 2 ^ k → c ≤ n → h + c ≤ g + 2 ^ k →
+    vs ≡ slice_set us g Away → IsPartFreed m us vs h n c
+whole_freed_uses m us vs g k h n c lent below around size most within gone =
+    let t = lent_by k (use_at us g) lent in
+    let r = in_run-to g k h around in
+    part_freed_uses m us vs vs vs g k h n c t.0 t.1 below around (omega (arith, size, pow_pos k)) most within (λ less. omega (arith, size, r.0, within)) gone
+    (none_lent m (λ _. t.0) vs g (h - g) (omega (arith, size, within))) (none_lent m (λ _. t.0) vs (h + c) (g + 2 ^ k - (h + c)) (omega (arith, size, r.0)))
 
 -- a run is lent where it lies in the zone and each page of it is
 pub run_not : (base p n : ℕ) (us : List PageUse) → (base ≤ p → 1 ≤ n → p - base + n ≤ length us → ⊥) → is_lent_run base us p n ≡ false
@@ -370,3 +384,18 @@ uses_told w us vs pages same =
     go (Lent j s) (Lent k t) x = refl
     go (Lent j s) (Cached t) x = absurd (both_ways _ (x (type_number t)) (eq-eqb (type_number t) (type_number t) refl))
     go (Cached s) v x = let w = cached_use (type_number s) v (x (type_number s) ∙ eq-eqb (type_number s) (type_number s) refl) in ap Cached (type_one s w.0 (sym w.2)) ∙ sym w.1
+
+-- once a run has come back, what is out in the worker's name is what the uses say
+pub uses_end : (z : PlainZone) (w h n next end : ℕ) (us vs : List PageUse) → IsFreeing z w h n next end us vs → next ≡ end → own w (run_freed z w h n).out ≡ map (held w) vs
+uses_end z w h n next end us vs x last = ap (λ (y : PlainZone). own w y.out) (sym (x.run.done last)) ∙ x.out
+
+-- a run that is one lent block has come back once its head is away
+pub block_back : (z : PlainZone) (w p n at k : ℕ) (us vs : List PageUse) → IsLawful z → own w z.out ≡ map (held w) us → w < workers_of z → may_free_run z w p n ≡ true → at ≡ p - z.base →
+    at < length us → is_lent_as k (use_at us at) ≡ true → 2 ^ k ≡ n → vs ≡ slice_set us at Away →
+    IsFreeing z w (p - z.base) n (at + n) (at + n) us vs
+block_back z w p n at k us vs l out lt may place below lent size gone =
+    let some : 0 < n = omega (arith, size, pow_pos k) in
+    let left : at + n - at ≡ n = omega arith in
+    let part : IsPartFreed z.area.largest us vs at n n =
+    whole_freed_uses z.area.largest us vs at k at n n lent below (in_run-from at k at (omega arith) (omega (arith, pow_pos k))) (sym size) (omega arith) (omega (arith, size)) gone in
+    uses_go z w (p - z.base) n at (at + n) z.area.largest n us us vs lt refl (omega (arith, some)) (uses_begin z w p n at (at + n) us l out may place refl) (rw left part)

@@ -1,5 +1,5 @@
 //! What a page is to a share, in one byte.
-ghost use Rattle.std.specs.Prelude.{◌≡◌, ◌≤◌, ◌+◌, ◌*◌, ◌↔◌, IsSome, IsTrue};
+ghost use Rattle.std.specs.Prelude.{ℕ, ◌≡◌, ◌≤◌, ◌+◌, ◌*◌, ◌↔◌, IfNone, IfSome, IsSome, IsTrue, false, true};
 ghost use Rattle.zp_model.specs.MigrateType.{type_number};
 ghost use Rattle.zp_share.specs.PageUses.{is_lent_as};
 ghost use Rattle.zp_share.specs.PlainShares.{lent_kind};
@@ -56,6 +56,20 @@ impl PackedUse {
         ensures { result ≡ is_lent_as order self }
     {
         self.byte / TYPE_ROOM == order.number() + 1
+    }
+
+    /// The order of the block, where one is lent.
+    #[inline(always)]
+    pub fn lent_order(self) -> Option<Order>
+        ensures some { IfSome result (λ o. is_lent_as o self ≡ true) }
+        ensures none { IfNone result ((k : ℕ) → is_lent_as k self ≡ false) }
+    {
+        // what wraps is above all orders: one test for both ends
+        let number = (self.byte / TYPE_ROOM).wrapping_sub(1);
+        if number > LARGEST_ORDER {
+            return None;
+        }
+        Some(Order::at(number))
     }
 
     /// The type of the block, where it is lent with this order.

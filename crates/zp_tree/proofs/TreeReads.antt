@@ -1,12 +1,12 @@
 -- What a status tree tells of its block set.
-use Rattle.std.proofs.Common.{ℕ, suc, ◌+◌, ◌-◌, ◌/◌, ◌%◌, ◌^◌, ◌≡◌, ◌≢◌, ◌≤◌, ◌<◌, ◌⊎◌, ◌*◌, ◌↔◌, inl, inr, refl, sym, subst, arith, false, List, get_or, length, leb, rules, slice_index, Option, Some, None, IfSome}
+use Rattle.std.proofs.Common.{ℕ, suc, ◌+◌, ◌-◌, ◌/◌, ◌%◌, ◌^◌, ◌≡◌, ◌≢◌, ◌≤◌, ◌<◌, ◌⊎◌, ◌*◌, ◌↔◌, inl, inr, refl, sym, subst, arith, false, List, get_or, length, leb, min, rules, slice_index, Option, Some, None, IfSome}
 use Rattle.std.proofs.lemmas.Nat.{pow_pos}
 use Rattle.std.proofs.lemmas.Bool.{cases_eq, leb-true, le-leb, false_from_ne_true}
 use Rattle.zp_model.specs.BlockSet.{Starts, block_if, largest, largest_in, lowest}
 use Rattle.zp_model.proofs.FirstFound.{first_none, first_some}
 use Rattle.zp_model.proofs.Heads.{head_room}
 use Rattle.zp_tree.specs.declared.constants.TheConstants.{WORD_LEVELS, GROUP_ORDER, GROUP_PAGES}
-use Rattle.zp_tree.specs.Blocks.{IsBare, IsBlockSet}
+use Rattle.zp_tree.specs.Blocks.{HasBlockOf, IsBare, IsBlockSet}
 use Rattle.zp_tree.specs.Marks.{HasMark, IsNearRank, IsRankOf, IsFirstMark, IsLargestMark}
 use Rattle.zp_tree.specs.RankRows.{IsFirstRank, IsTopRank}
 use Rattle.zp_tree.specs.Ranks.{order_ranked}
@@ -131,6 +131,11 @@ marks_read m pages ls hs rs x s a r (Some j) t z =
 -- groups of lower ranks have no block of order k or more
 pub bare_ranked : (m pages : ℕ) (ls hs rs : List ℕ) (x : ℕ) (s : List (Option ℕ)) (k g e : ℕ) → IsTreeOf m pages ls hs rs x s → ((h : ℕ) → g ≤ h → h < e → slice_index rs h < k + 1) → IsBare s k g e
 bare_ranked m pages ls hs rs x s k g e t less i j st from to = let h = i / GROUP_PAGES in omega (arith, kept_most s x h (slice_index rs h) (t.ranked h) i j refl st, less h from to)
+
+-- and one that is not has one, or where its rank is stale a block of order 5 or more
+pub block_ranked : (s : List (Option ℕ)) (x g r k : ℕ) → IsKeptIn s x g r → k + 1 ≤ r → HasBlockOf s g (min k WORD_LEVELS)
+block_ranked s x g r k (inl is) le = let b = is.some (r - 1) (omega arith) in (b.0, r - 1, b.2, b.1, omega arith)
+block_ranked s x g r k (inr stale) le = let b = stale.1.large in (b.0, b.1, b.4, b.2, omega (arith, b.3))
 
 -- a group is one block where its rank is that of a block of all its pages
 pub whole_ranked : (m : ℕ) (s : List (Option ℕ)) (g r : ℕ) → IsBlockSet m s → m ≤ GROUP_ORDER → IsRankIn s g r → (r ≡ GROUP_ORDER + 1) ↔ Starts s (GROUP_PAGES * g) GROUP_ORDER

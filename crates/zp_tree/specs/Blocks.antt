@@ -67,3 +67,7 @@ IsBare s k g e = (h j : ℕ) → Starts s h j → g ≤ h / GROUP_PAGES → h / 
 -- each of them is one block
 abbrev pub IsWhole : List (Option ℕ) → ℕ → ℕ → Type 0
 IsWhole s g e = (x : ℕ) → g ≤ x → x < e → Starts s (GROUP_PAGES * x) GROUP_ORDER
+
+-- group g has a block of order k or more
+abbrev pub HasBlockOf : List (Option ℕ) → ℕ → ℕ → Type 0
+HasBlockOf s g k = (h : ℕ) × (j : ℕ) × Starts s h j × (h / GROUP_PAGES ≡ g) × (k ≤ j)

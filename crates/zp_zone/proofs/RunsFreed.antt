@@ -16,14 +16,15 @@ use Rattle.zp_model.specs.Lawful.{IsLawful, IsListedArea}
 use Rattle.zp_model.specs.RunLaws.{IsFitting, give_blocks}
 use Rattle.zp_model.specs.Runs.{block_around, cut, fitting_order, give_run, hand_out_blocks, hand_out_run, is_lent_run, is_within, may_free_run, meets, run_freed}
 use Rattle.zp_model.specs.Rows.{state_at}
+use Rattle.zp_model.specs.Step.{freed}
 use Rattle.zp_model.specs.Take.{give}
-use Rattle.zp_model.specs.Zone.{PlainZone, Holding, holding_at, pages_of, posted_pages, workers_of}
+use Rattle.zp_model.specs.Zone.{PlainZone, Holding, holding_at, pages_of, posted_pages, take_back, workers_of}
 use Rattle.zp_model.proofs.Covers.{length-with}
 use Rattle.zp_model.proofs.Cuts.{fitting}
 use Rattle.zp_model.proofs.LowestRun.{all-from, all-to}
 use Rattle.zp_model.proofs.MaximalBlocks.{length-restated, max_has}
 use Rattle.zp_model.proofs.Pages.{in_run-from, in_run-to}
-use Rattle.zp_model.proofs.RunGiven.{given_by_cut}
+use Rattle.zp_model.proofs.RunGiven.{give_block, given_by_cut}
 use Rattle.zp_model.proofs.RunParts.{has-with_pages, length-with_pages, within-from, within-to}
 use Rattle.zp_laws.proofs.Areas.{free-give, free-give_run, largest-give}
 use Rattle.zp_laws.proofs.Around.{IsAround, around-from, around-to, out_apart}
@@ -406,20 +407,23 @@ module _ {f : Frames} {base min w g h n : ℕ} {c : Holding} (p : IsPart f base 
             (rw part_plain (run_freed_lawful (plain_of f base min) p.asked.lawful w h n lt all))
 
 -- none of a run that is lent to w has come back yet
-pub freeing_begins : (z : PlainZone) (w p n next end : ℕ) → may_free_run z w p n ≡ true → next ≡ p - z.base → end ≡ next + n → IsFreeingRun z z w (p - z.base) n next end
-freeing_begins z w p n next end may at to =
-    let a = and_parts _ _ may in
-    let some : 1 ≤ n = leb-true 1 n (and_parts _ _ a.0).1 in
+pub freeing_starts : (z : PlainZone) (w h n next end : ℕ) → 0 < n → is_lent_run z w h n ≡ true → next ≡ h → end ≡ next + n → IsFreeingRun z z w h n next end
+freeing_starts z w h n next end some lent at to =
     let left : end - next ≡ n = omega arith in
     record {
       upto = omega arith;
       base = refl;
       workers = refl;
       pages = refl;
-      lent = λ more. rw (left, at) a.1;
+      lent = λ more. rw (left, at) lent;
       after = λ more. rw (left, at) refl;
       done = λ same. absurd (omega arith);
     }
+
+pub freeing_begins : (z : PlainZone) (w p n next end : ℕ) → may_free_run z w p n ≡ true → next ≡ p - z.base → end ≡ next + n → IsFreeingRun z z w (p - z.base) n next end
+freeing_begins z w p n next end may at to =
+    let a = and_parts _ _ may in
+    freeing_starts z w (p - z.base) n next end (omega (arith, leb-true 1 n (and_parts _ _ a.0).1)) a.1 at to
 
 -- what is to come back lies in the zone
 pub freeing_inside : (z y : PlainZone) (w h n next end : ℕ) → IsLawful y → IsFreeingRun z y w h n next end → next < end → end ≤ pages_of z
@@ -457,3 +461,17 @@ not_noted f base min w h k y none = go (state_at f.states h) refl
     go (Free j) e = let n : None ≡ Some y.holding = sym (ap holding_of e) ∙ seen in cc
     go (Out j t v) e = none j v t e
     go (Posted j t v) e = let n : None ≡ Some y.holding = sym (ap holding_of e) ∙ seen in cc
+
+-- a block that is freed as a run is freed as a block
+pub whole_freed : (z : PlainZone) (w h k : ℕ) → IsLawful z → IsHolding z w h k → run_freed z w h (2 ^ k) ≡ freed z h k
+whole_freed z w h k l y =
+    let c : Holding = y.holding in
+    let size : 2 ^ y.holding.order ≡ 2 ^ k = ap (λ j. 2 ^ j) y.order in
+    let before : h - h ≡ 0 = omega arith in
+    let behind : h + 2 ^ y.holding.order - (h + 2 ^ k) ≡ 0 = omega (arith, size) in
+    let around : block_around z w h ≡ Some (h, c) = around-from z l w h (h, c) (record { at = y.at; worker = y.worker; page = in_run-from h c.order h (omega arith) (omega (arith, pow_pos y.holding.order)) }) in
+    let back : PlainZone = take_back (record z { area = give_run z.area h (2 ^ k) }) h in
+    freed_in_block z w h (2 ^ k) (h, c) l (omega (arith, pow_pos k)) around (omega (arith, size))
+    ∙ ap (λ n. hand_out_run (hand_out_run back w (λ f. c.kind) h n) w (λ f. c.kind) (h + 2 ^ k) (h + 2 ^ c.order - (h + 2 ^ k))) before
+    ∙ ap (λ n. hand_out_run back w (λ f. c.kind) (h + 2 ^ k) n) behind
+    ∙ ap (λ (a : Area). take_back (record z { area = a }) h) (sym (give_block z.area h k))

@@ -103,6 +103,15 @@ module _ {z y : PlainZone} {w h n next left : ℕ} (x : IsTakingRun z y w h n ne
 pub taking_ends : (z y : PlainZone) (w h n next left : ℕ) → left ≡ 0 → IsTakingRun z y w h n next left → y ≡ run_taken z w h n
 taking_ends z y w h n next left none x = ap (λ l. take_blocks y w (λ g. noted_type (kind_at z.area.largest z.area.kinds g)) (cut z.area.largest next l)) (sym none) ∙ x.after
 
+-- a block that goes out as a run goes out as a block
+pub whole_taken : (z : PlainZone) (w h n : ℕ) → IsLawful z → h + n ≤ pages_of z → IsFreeRun z.area h n → 2 ^ fitting_order z.area.largest h n ≡ n →
+    block_taken z w h (fitting_order z.area.largest h n) ≡ run_taken z w h n
+whole_taken z w h n l inside free whole =
+    let k : ℕ = fitting_order z.area.largest h n in
+    let some : 0 < n = omega (arith, whole, pow_pos (fitting_order z.area.largest h n)) in
+    let x = taking_goes (taking_begins z w h n l inside free) some in
+    taking_ends z (block_taken z w h k) w h n (h + 2 ^ k) (n - 2 ^ k) (omega (arith, whole)) x
+
 -- a free block of a zone goes out
 module _ (f : Frames) (base min w h k : ℕ) (t : MigrateType) (x : IsAsked f base min) (block : IsBlock f.area.largest (length f.area.free) h k) (full : IsFreeRun f.area h (2 ^ k)) where
   here_free : (i : ℕ) → h ≤ i → i < h + 2 ^ k → has f.area.free i ≡ true

@@ -10,6 +10,7 @@ use Rattle.zp_model.specs.declared.pageblock_type.PageblockType.TheVariants.{Mov
 use Rattle.zp_model.specs.Area.{pageblock_pages, size_in}
 use Rattle.zp_model.specs.BlockSet.{largest_in, max_blocks}
 use Rattle.zp_zone.specs.declared.pageblock.Pageblock.{Pageblock}
+use Rattle.zp_zone.specs.declared.told.Told.{Told}
 use Rattle.zp_model.specs.Rows.{stands_in}
 use Rattle.zp_model.specs.Zone.{PlainZone, pages_of}
 use Rattle.zp_model.specs.Run.{is_out}
@@ -74,6 +75,10 @@ pub record IsPageblockOf (z : PlainZone) (n : ℕ) (b : Pageblock) : Type 0 wher
 abbrev pub page_reply : Result ℕ Refused → Reply
 page_reply (Ok p) = Reply.Page p
 page_reply (Err r) = Reply.Refused r
+
+abbrev pub told_reply : Result Told Refused → Reply
+told_reply (Ok t) = Reply.Page t.page
+told_reply (Err r) = Reply.Refused r
 
 abbrev pub block_reply : Result Block Refused → Reply
 block_reply (Ok b) = Reply.Block b

@@ -6,6 +6,7 @@ mod config;
 mod page;
 mod pageblock;
 mod seat;
+mod told;
 mod untied_zone;
 mod zone;
 
@@ -13,5 +14,6 @@ pub use config::ZoneConfig;
 pub use page::ZonePage;
 pub use pageblock::Pageblock;
 pub use seat::Seat;
+pub use told::Told;
 pub use untied_zone::fitting_order;
 pub use zone::{Zone, page_reply};

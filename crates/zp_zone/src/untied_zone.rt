@@ -2,6 +2,7 @@
 ghost use Rattle.std.specs.Prelude.{◌≡◌, ◌<◌, ◌≤◌, ◌+◌, ℕ, false, length, IfOk, IfErr, IfSome, IfNone, IsSome, OnOk, OnErr, IsTrue, ◌↔◌, ◌-◌};
 ghost use Rattle.std.specs.Option.{option_map};
 ghost use Rattle.zp_model.specs.Block.{size};
+ghost use Rattle.zp_model.specs.Choose.{origin};
 ghost use Rattle.zp_model.specs.Zone.{zone_opening, is_of, pages_of, posted_pages};
 ghost use Rattle.zp_zone.specs.Kept.{holding_of};
 ghost use Rattle.zp_model.specs.Mark.{level_of, level_above};
@@ -32,8 +33,8 @@ use std::alloc::Global;
 use std::marker::Model;
 use zp_buddy::Buddy;
 use zp_model::{
-    BASE_LIMIT, Counts, CountsByType, Largest, Level, MAX_PAGES, MigrateType, Name, Order, PageAt,
-    PageNo, Refused, State, Worker,
+    BASE_LIMIT, Counts, CountsByType, Largest, Level, MAX_PAGES, MigrateType, Name, Order, Origin,
+    PageAt, PageNo, Refused, State, Worker,
 };
 
 /// A zone without its seats: whoever calls names the worker. Contracts see its name and the plain zone, which is always
@@ -189,6 +190,14 @@ impl UntiedZone {
         ensures { result ≡ counts_by_type self.now.plain.area.largest self.now.plain.area.free self.now.plain.area.kinds }
     {
         self.buddy.counts_by_type()
+    }
+
+    /// Where the block comes from that a request for this order and type takes, where there is one for it.
+    pub fn origin(&mut self, order: Order, kind: MigrateType) -> Option<Origin>
+        ensures answer { result ≡ origin self.old.plain.area order kind }
+        ensures same { self.new ≡ self.old }
+    {
+        self.buddy.origin(order, kind)
     }
 
     /// The highest mark that the free pages outside isolated pageblocks are above.

@@ -3,6 +3,7 @@
 //! In Linux: `struct zone`.
 ghost use Rattle.std.specs.Prelude.{◌≡◌, ◌<◌, ◌≤◌, ◌+◌, ◌-◌, ℕ, All, [], length, IfOk, IfErr, IfSome, IsSome, OnOk, ◌↔◌};
 ghost use Rattle.zp_model.specs.Block.{size};
+ghost use Rattle.zp_model.specs.Choose.{origin};
 ghost use Rattle.zp_model.specs.Zone.{zone_opening, pages_of, posted_pages, workers_of};
 ghost use Rattle.zp_model.specs.Mark.{level_of};
 ghost use Rattle.zp_model.specs.Info.{counts_by_type, counts_of};
@@ -32,8 +33,8 @@ pub use asking::page_reply;
 use std::alloc::Global;
 use std::marker::Model;
 use zp_model::{
-    Counts, CountsByType, LONGEST_NAME, Largest, Level, MAX_PAGES, MigrateType, Order, PageAt,
-    PageNo, Refused,
+    Counts, CountsByType, LONGEST_NAME, Largest, Level, MAX_PAGES, MigrateType, Order, Origin,
+    PageAt, PageNo, Refused,
 };
 use zp_tie::Keeper;
 
@@ -231,6 +232,15 @@ impl Zone {
     {
         // the invariant is at hand where a field is
         let _ = &self.untied;
+    }
+
+    /// Where the block comes from that a request for this order and type takes now, where there is one for it. No mark is looked at, and nothing
+    /// that is told of the zone changes.
+    pub fn origin(&mut self, order: Order, kind: MigrateType) -> Option<Origin>
+        ensures answer { result ≡ origin self.old.plain.area order kind }
+        ensures same { self.new ≡ self.old }
+    {
+        self.untied.origin(order, kind)
     }
 
     /// The highest mark that the free pages outside isolated pageblocks are above.

@@ -19,7 +19,7 @@
 //! is_sync::<zonealloc::Worker<'static>>();
 //! ```
 //!
-//! Nothing here asks for memory but the archive, when a row is made. Without the feature `std` the crate needs `core` alone: a rest then only
+//! Nothing here asks for memory but the archive, when a row or a reader is made. Without the feature `std` the crate needs `core` alone: a rest then only
 //! waits, and the program supplies the two memory functions, as `examples/freestanding.rs` does.
 #![no_std]
 
@@ -28,14 +28,18 @@ extern crate std;
 
 mod pages;
 mod raw;
+mod reader;
 mod refusal;
 mod row;
 mod values;
 mod worker;
 
+pub use reader::Reader;
 pub use refusal::Refusal;
 pub use row::{Row, Workers};
-pub use values::{Block, Counts, CountsByType, InfoLine, Level, Lists, Mark, MigrateType, PageState, PageblockState, Totals, ZoneSpec};
+pub use values::{
+    Block, Counts, CountsByType, InfoLine, Level, Lists, Mark, MigrateType, Origin, PageState, PageblockState, Reading, Totals, ZoneSpec,
+};
 pub use worker::Worker;
 
 /// Makes a call until no other is in its zone, with a longer rest each time.

@@ -1,8 +1,8 @@
 //! The calls as `include/zonealloc.h` declares them. What it says there of each is not said again.
 
-use crate::values::{Counts, CountsByType, Totals, ZoneSpec};
+use crate::values::{Counts, CountsByType, Reading, Totals, ZoneSpec};
 
-/// A row's or a worker's handle: zeros, or what a call wrote last.
+/// A row's, a worker's or a reader's handle: zeros, or what a call wrote last.
 #[repr(C)]
 pub struct Handle {
     live: u32,
@@ -40,9 +40,21 @@ pub struct RawCounts {
     pub level: u32,
 }
 
+/// One of the two makings.
+pub type Make = unsafe extern "C" fn(&mut Handle, *mut Handle, usize, *const ZoneSpec, usize, u32, u32) -> u32;
+
 extern "C" {
     pub fn zonealloc_bytes(zones: *const ZoneSpec, n_zones: usize, workers: u32, bytes: &mut u64) -> u32;
     pub fn zonealloc_make(
+        row: &mut Handle,
+        workers: *mut Handle,
+        n_workers: usize,
+        zones: *const ZoneSpec,
+        n_zones: usize,
+        batch: u32,
+        high_len: u32,
+    ) -> u32;
+    pub fn zonealloc_make_with_boards(
         row: &mut Handle,
         workers: *mut Handle,
         n_workers: usize,
@@ -61,6 +73,7 @@ extern "C" {
     pub fn zonealloc_cached(worker: &mut Handle, zone: u32, kind: u32, pages: &mut u32) -> u32;
 
     pub fn zonealloc_alloc(worker: &mut Handle, zone: u32, order: u32, kind: u32, mark: u32, page: &mut u32) -> u32;
+    pub fn zonealloc_alloc_told(worker: &mut Handle, zone: u32, order: u32, kind: u32, mark: u32, page: &mut u32, origin: &mut u32) -> u32;
     pub fn zonealloc_alloc_low(worker: &mut Handle, zone: u32, order: u32, page: &mut u32) -> u32;
     pub fn zonealloc_free(worker: &mut Handle, zone: u32, page: u32, order: u32) -> u32;
     pub fn zonealloc_alloc_many(
@@ -98,4 +111,8 @@ extern "C" {
     pub fn zonealloc_info(worker: &mut Handle, zone: u32, buffer: *mut u8, room: usize, len: &mut usize) -> u32;
     pub fn zonealloc_page(worker: &mut Handle, zone: u32, page: u32, told: &mut Page) -> u32;
     pub fn zonealloc_pageblock(worker: &mut Handle, zone: u32, pageblock: u32, told: &mut Pageblock) -> u32;
+
+    pub fn zonealloc_reader(worker: &mut Handle, zone: u32, reader: &mut Handle) -> u32;
+    pub fn zonealloc_read(reader: &mut Handle, reading: &mut Reading) -> u32;
+    pub fn zonealloc_end_reader(reader: &mut Handle) -> u32;
 }

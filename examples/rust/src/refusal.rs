@@ -46,6 +46,7 @@ refusals! {
     ListEmpty = 44,
     ListNotEmpty = 45,
     NoLists = 46,
+    NoBoard = 47,
 }
 
 impl fmt::Display for Refusal {

@@ -31,6 +31,15 @@ pub struct Row {
 impl Row {
     /// Makes a row of these zones, the lowest first, with so many workers, who have lists of single pages or none.
     pub fn make(zones: &[ZoneSpec], workers: u32, lists: Option<Lists>) -> Result<Row, Refusal> {
+        Row::made(zones, workers, lists, raw::zonealloc_make)
+    }
+
+    /// The same with a board for each zone, of which [`Worker::reader`] makes readers.
+    pub fn make_with_boards(zones: &[ZoneSpec], workers: u32, lists: Option<Lists>) -> Result<Row, Refusal> {
+        Row::made(zones, workers, lists, raw::zonealloc_make_with_boards)
+    }
+
+    fn made(zones: &[ZoneSpec], workers: u32, lists: Option<Lists>, make: raw::Make) -> Result<Row, Refusal> {
         let count = workers as usize;
         if count > MOST {
             return Err(Refusal::BadWorkers);
@@ -39,7 +48,7 @@ impl Row {
         let mut row = Row { handle: Handle::EMPTY, lists, unused: Unused::none() };
         let handles = row.unused.handles.as_mut_ptr();
         // SAFETY: there are as many handles and zones as is said, which do not overlap; the handles are empty.
-        let number = unsafe { raw::zonealloc_make(&mut row.handle, handles, count, zones.as_ptr(), zones.len(), batch, high_len) };
+        let number = unsafe { make(&mut row.handle, handles, count, zones.as_ptr(), zones.len(), batch, high_len) };
         answered(number)?;
         row.unused.end = count;
         Ok(row)

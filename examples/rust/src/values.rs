@@ -61,6 +61,22 @@ pub enum Mark {
     Low = 2,
 }
 
+/// Where a block came from: a list of its own type, a list of another whose pageblock was then claimed for the type, or one whose pageblock keeps
+/// its type.
+#[derive(Clone, Copy, Debug, PartialEq, Eq)]
+#[repr(u32)]
+pub enum Origin {
+    Own = 0,
+    Claimed = 1,
+    Borrowed = 2,
+}
+
+impl Origin {
+    pub(crate) fn of(number: u32) -> Origin {
+        [Origin::Own, Origin::Claimed, Origin::Borrowed][number as usize]
+    }
+}
+
 /// The highest mark that the available pages are above.
 #[derive(Clone, Copy, Debug, PartialEq, Eq)]
 pub enum Level {
@@ -83,6 +99,15 @@ pub struct Counts {
     pub by_order: [u32; 11],
     pub free: u32,
     pub posted: u32,
+}
+
+/// How many free blocks a zone had of each order, and how many free pages, after so many requests to it.
+#[repr(C)]
+#[derive(Clone, Copy, Debug, Default, PartialEq, Eq)]
+pub struct Reading {
+    pub by_order: [u32; 11],
+    pub free: u32,
+    pub place: u64,
 }
 
 /// How many free blocks of each order a zone has in the pageblocks of each type, by the number of the type, and how many pageblocks of each:

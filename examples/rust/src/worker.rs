@@ -1,7 +1,7 @@
 use crate::raw::{self, Handle};
 use crate::refusal::answered;
-use crate::values::{Counts, CountsByType, InfoLine, Level, Lists, Mark, MigrateType, PageState, PageblockState};
-use crate::{until_free, Refusal};
+use crate::values::{Counts, CountsByType, InfoLine, Level, Lists, Mark, MigrateType, Origin, PageState, PageblockState};
+use crate::{until_free, Reader, Refusal};
 use core::marker::PhantomData;
 
 /// One worker's share of a row. When it is dropped it is dismissed: what its lists have and what is lent to it stays noted with the row.
@@ -60,6 +60,13 @@ impl Worker<'_> {
         let mut page = 0;
         answered(unsafe { raw::zonealloc_alloc(&mut self.handle, zone, order, kind as u32, mark as u32, &mut page) })?;
         Ok(page)
+    }
+
+    /// *Zone.* As `alloc`, and where the block came from.
+    pub fn alloc_told(&mut self, zone: u32, order: u32, kind: MigrateType, mark: Mark) -> Result<(u32, Origin), Refusal> {
+        let (mut page, mut origin) = (0, 0);
+        answered(unsafe { raw::zonealloc_alloc_told(&mut self.handle, zone, order, kind as u32, mark as u32, &mut page, &mut origin) })?;
+        Ok((page, Origin::of(origin)))
     }
 
     /// *Zone.* The first page of the lowest free block of 2^order pages, which is then lent.
@@ -160,6 +167,13 @@ impl Worker<'_> {
         let mut told = CountsByType::default();
         answered(unsafe { raw::zonealloc_counts_by_type(&mut self.handle, zone, &mut told) })?;
         Ok(told)
+    }
+
+    /// *Zone.* A reader of the zone's board. In a row that was made without boards it is refused [`Refusal::NoBoard`].
+    pub fn reader(&mut self, zone: u32) -> Result<Reader, Refusal> {
+        let mut reader = Reader { handle: Handle::EMPTY };
+        answered(unsafe { raw::zonealloc_reader(&mut self.handle, zone, &mut reader.handle) })?;
+        Ok(reader)
     }
 
     /// *Zone.* The info line, without its line feed.

@@ -147,3 +147,26 @@ fn what_a_making_takes_is_known_before() {
     let (one, two) = (Row::bytes(&[normal()], 1).unwrap(), Row::bytes(&[normal()], 2).unwrap());
     assert!(one > 8 * 4096 && two > one);
 }
+
+#[test]
+fn counts_are_read_beside_the_lock() {
+    let mut row = Row::make_with_boards(&[normal()], 1, None).unwrap();
+    let mut worker = row.workers().next().unwrap();
+    let mut reader = worker.reader(0).unwrap();
+    assert_eq!(worker.reader(1).err(), Some(Refusal::BadArgument));
+    assert_eq!((reader.read().place, reader.read().free), (0, 4096));
+    let page = worker.alloc(0, 4, Movable, Mark::Low).unwrap();
+    let reading = reader.read();
+    assert_eq!((reading.place, reading.free, reading.by_order[4]), (1, 4080, 1));
+    worker.free(0, page, 4).unwrap();
+    drop(worker);
+    drop(row);
+    assert_eq!((reader.read().place, reader.read().free), (2, 4096));
+}
+
+#[test]
+fn a_row_without_boards_has_no_readers() {
+    let mut row = row();
+    let mut worker = row.workers().next().unwrap();
+    assert_eq!(worker.reader(0).err(), Some(Refusal::NoBoard));
+}

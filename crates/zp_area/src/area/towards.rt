@@ -3,7 +3,7 @@
 //! The block leaves the set whole; then each half that does not have the part comes to its list, the largest first.
 //!
 //! In Linux: `take_page_off_buddy`, with `break_down_buddy_pages`.
-ghost use Rattle.std.specs.Prelude.{◌≡◌, ◌≤◌, ◌<◌, ◌-◌, ◌^◌, cond, true, false, length, IfNone, IfSome};
+ghost use Rattle.std.specs.Prelude.{ℕ, ◌≡◌, ◌≤◌, ◌<◌, ◌-◌, ◌^◌, cond, true, false, length, IfNone, IfSome};
 ghost use Rattle.zp_model.specs.PageblockType.{is_isolate};
 ghost use Rattle.zp_model.specs.Block.{has, head};
 ghost use Rattle.zp_model.specs.BlockSet.{Starts, cover};
@@ -16,20 +16,39 @@ use super::FreeArea;
 use crate::free_lists::list_of;
 use crate::noting;
 use crate::splits::take_out;
-use zp_model::{Order, PageAt, PageblockType};
+use zp_model::{Order, PageAt, PageblockType, State};
 use zp_tree::OrderTree;
 
 impl FreeArea {
+    /// The order of the block that a page heads, where it heads one.
+    #[inline(always)]
+    fn order_headed(&self, at: PageAt) -> Option<Order>
+        ensures none { IfNone result ((k : ℕ) → Starts (block_set self.now) at k → ⊥) }
+        ensures some { IfSome result (λ o. Starts (block_set self.now) at o) }
+    {
+        let lists = &self.blocks.lists;
+        if at.index() >= lists.pages() {
+            return None;
+        }
+        match lists.state(at) {
+            State::Free(order) => Some(order),
+            _ => None,
+        }
+    }
+
     /// The order of the block in which a page lies, where it lies in one: of the aligned heads around it one alone heads a block of its order.
-    /// At most as many pages are looked at as there are orders.
+    /// The page itself is looked at first, and tells the order of a block that it heads. At most as many pages are looked at as there are orders.
     pub fn order_around(&self, at: PageAt) -> Option<Order>
         ensures none { IfNone result (has (cover (block_set self.now)) at ≡ false) }
         ensures some { IfSome result (λ o. Starts (block_set self.now) (head at o) o) }
     {
         // a clause of this call says that all that is kept is of one set of blocks
         let _pages = self.pages();
+        if let Some(headed) = self.order_headed(at) {
+            return Some(headed);
+        }
         let largest = self.largest().number();
-        let mut number = 0;
+        let mut number = 1;
         'orders: while number <= largest {
             let order = Order::at(number);
             if self.is_free(at.head(order), order) {
@@ -55,8 +74,29 @@ impl FreeArea {
     }
 
     /// Takes the aligned run of order `to` around a page out of the block of order `from` in which it lies. The halves beside it come into the
-    /// set, the largest first. The run is in no block then.
+    /// set, the largest first. The run is in no block then. Where the page heads the block, and its pageblock is not isolated, that is a split.
     pub fn split_towards(&mut self, at: PageAt, from: Order, to: Order)
+        requires block { Starts (block_set self.old) (head at from) from }
+        requires down { to ≤ from }
+        ensures { self.new ≡ split_towards self.old.largest self.old at from to }
+    {
+        // a clause of this call says that all that is kept is of one set of blocks
+        let _pages = self.pages();
+        if at.head(from) != at {
+            self.halve_towards(at, from, to);
+            return;
+        }
+        let pageblock = self.largest().pageblock_of(at);
+        match self.type_of(pageblock).migrate_type() {
+            Some(kind) => self.split_off(at, from, to, kind),
+            None => self.halve_towards(at, from, to),
+        }
+    }
+
+    /// The same, whatever place the page has in the block: each half comes by itself.
+    // (out of line: a split is the way of most)
+    #[inline(never)]
+    fn halve_towards(&mut self, at: PageAt, from: Order, to: Order)
         requires block { Starts (block_set self.old) (head at from) from }
         requires down { to ≤ from }
         ensures { self.new ≡ split_towards self.old.largest self.old at from to }

@@ -17,10 +17,25 @@ use zp_model::{LARGEST_ORDER, Largest, MigrateType, Order, PageAt, PageNo, Refus
 use zp_zone::{Zone, fitting_order};
 
 impl PageUses {
-    /// Whether so many pages from this absolute one on, one at least, are the zone's, and each lies in a lent block. It goes from block to block.
+    /// Whether so many pages from this absolute one on, one at least, are the zone's, and each lies in a lent block.
     // (out of line: in line `Share::refuse` is too long to be so, and then each section that may be refused clears room for a list of pages)
     #[inline(never)]
     pub fn is_lent_run(&self, page: PageNo, pages: u32) -> bool
+        ensures { result ≡ is_lent_run self.now.base self.now.uses page pages }
+    {
+        let Some(from) = self.run_place(page, pages) else {
+            return false;
+        };
+        if let Some(_order) = self.order_of_run(from, pages) {
+            return true;
+        }
+        self.are_lent(page, pages)
+    }
+
+    /// The same, from block to block.
+    // (out of line: most runs that are asked about are one block)
+    #[inline(never)]
+    fn are_lent(&self, page: PageNo, pages: u32) -> bool
         ensures { result ≡ is_lent_run self.now.base self.now.uses page pages }
     {
         let Some(from) = self.run_place(page, pages) else {
@@ -53,13 +68,53 @@ impl PageUses {
         Some(at)
     }
 
-    /// The order of the lent block in which a page lies, where it lies in one. At most as many pages are looked at as there are orders.
+    /// The order of the lent block that a page heads, where it heads one.
+    #[inline(always)]
+    fn headed_order(&self, at: usize) -> Option<Order>
+        requires { at < length self.now.uses }
+        ensures below { IfSome result (λ o. o < ORDERS) }
+        ensures some { IfSome result (λ o. (head at o ≡ at) × (is_lent_as o (use_at self.now.uses (head at o)) ≡ true)) }
+        ensures none { IfNone result ((k : ℕ) → head at k ≡ at → is_lent_as k (use_at self.now.uses at) ≡ false) }
+    {
+        let Some(order) = self.uses[at].lent_order() else {
+            return None;
+        };
+        if head_of(at, order) != at {
+            return None;
+        }
+        // a clause of this call says how large an order can be
+        let _number = order.number();
+        Some(order)
+    }
+
+    /// The order of the lent block that so many pages from this one on are, where they are one.
+    #[inline(always)]
+    fn order_of_run(&self, at: usize, pages: u32) -> Option<Order>
+        requires { at < length self.now.uses }
+        ensures below { IfSome result (λ o. o < ORDERS) }
+        ensures some { IfSome result (λ o. (head at o ≡ at) × (is_lent_as o (use_at self.now.uses (head at o)) ≡ true) × (2 ^ o ≡ pages)) }
+        ensures none { IfNone result ((k : ℕ) → head at k ≡ at → 2 ^ k ≡ pages → is_lent_as k (use_at self.now.uses at) ≡ false) }
+    {
+        let Some(order) = self.headed_order(at) else {
+            return None;
+        };
+        if order.pages() != pages {
+            return None;
+        }
+        Some(order)
+    }
+
+    /// The order of the lent block in which a page lies, where it lies in one. The page itself is looked at first, and tells the order of a block that
+    /// it heads. At most as many pages are looked at as there are orders, and one.
     fn lent_order(&self, at: usize) -> Option<Order>
         requires { at < length self.now.uses }
         ensures below { IfSome result (λ o. o < ORDERS) }
         ensures some { IfSome result (λ o. is_lent_as o (use_at self.now.uses (head at o)) ≡ true) }
         ensures none { IfNone result (is_lent_page self.now.uses at ≡ false) }
     {
+        if let Some(headed) = self.headed_order(at) {
+            return Some(headed);
+        }
         let mut number = 0;
         'orders: while number <= LARGEST_ORDER {
             let order = Order::at(number);
@@ -107,6 +162,7 @@ impl PageUses {
     }
 
     /// So many pages from this one on, none of them on a list, are lent for this type as the blocks of their run's cut.
+    #[inline(never)]
     fn lend_cut(&mut self, largest: Largest, from: u32, pages: u32, kind: MigrateType)
         requires few { length self.old.uses ≤ MAX_PAGES }
         requires inside { from + pages ≤ length self.old.uses }
@@ -151,6 +207,30 @@ impl PageUses {
         ensures cached { HasSameCached self.old.uses self.new.uses }
         ensures pages { length self.new.uses ≡ length self.old.uses }
     {
+        // a clause of this call says that what is out in the worker's name is what the uses say
+        let _pages = zone.pages();
+        let first = page.number() - self.base as u32;
+        let at = first as usize;
+        if let Some(_order) = self.order_of_run(at, pages) {
+            self.set_at(at, PageUse::Away);
+            return;
+        }
+        self.free_parts(zone, worker, page, pages);
+    }
+
+    /// The same, from block to block.
+    // (out of line: most runs that come back are one block)
+    #[inline(never)]
+    fn free_parts(&mut self, zone: &Zone, worker: Worker, page: PageNo, pages: u32)
+        requires base { self.old.base ≡ zone.now.plain.base }
+        requires known { worker < workers_of zone.now.plain }
+        requires held { own worker zone.now.plain.out ≡ map (held worker) self.old.uses }
+        requires lent { is_lent_run self.old.base self.old.uses page pages ≡ true }
+        ensures base { self.new.base ≡ self.old.base }
+        ensures held { own worker (run_freed zone.now.plain worker (page - self.old.base) pages).out ≡ map (held worker) self.new.uses }
+        ensures cached { HasSameCached self.old.uses self.new.uses }
+        ensures pages { length self.new.uses ≡ length self.old.uses }
+    {
         // clauses of these calls say how many pages there can be, and how large a block
         let _pages = zone.pages();
         let largest = zone.largest();
@@ -178,14 +258,18 @@ impl PageUses {
             unreachable!()
         };
         let head = head_of(at as usize, order);
-        let Some(kind) = self.uses[head].lent_kind(order) else {
-            unreachable!()
-        };
         let first = head as u32;
         let end = first + order.pages();
         let freed = pages.min(end - at);
-        let behind = at + freed;
+        let used = self.uses[head];
         self.set_at(head, PageUse::Away);
+        if freed == order.pages() {
+            return freed;
+        }
+        let Some(kind) = used.lent_kind(order) else {
+            unreachable!()
+        };
+        let behind = at + freed;
         self.lend_cut(largest, first, at - first, kind);
         self.lend_cut(largest, behind, end - behind, kind);
         freed

@@ -1,7 +1,7 @@
 //! The cut of a run of pages: the aligned blocks that tile it, block by block.
 //!
 //! In Linux: the loop of `__free_pages_memory`, and of `free_contig_range` where it frees by orders.
-ghost use Rattle.std.specs.Prelude.{ℕ, ◌≡◌, ◌≤◌, ◌<◌, ◌+◌, ◌%◌, ◌^◌, ◌↔◌, None, true, IsTrue};
+ghost use Rattle.std.specs.Prelude.{ℕ, ◌≡◌, ◌≤◌, ◌<◌, ◌+◌, None, true};
 ghost use Rattle.zp_model.specs.Block.{has};
 ghost use Rattle.zp_model.specs.Lawful.{IsListedArea};
 ghost use Rattle.zp_model.specs.Rows.{state_at};
@@ -13,25 +13,16 @@ ghost use Rattle.zp_zone.specs.RunsAt.{IsGivenRun, IsNotedRun};
 use zp_buddy::Buddy;
 use zp_model::{Largest, MigrateType, Order, PageAt, State, Worker};
 
-/// Whether a block of this order may begin so many pages at this one: it is aligned there, and has no page past them.
-fn fits(at: PageAt, pages: u32, order: Order) -> bool
-    ensures { IsTrue result ↔ ((at % 2 ^ order ≡ 0) × (2 ^ order ≤ pages)) }
-{
-    at.number() % order.pages() == 0 && order.pages() <= pages
-}
-
-/// The order of the first block of the cut of so many pages from this one on: the largest that may begin them.
+/// The order of the first block of the cut of so many pages from this one on: the largest that may begin them. It is told by the zeros that its
+/// place and their number have behind and in front.
+#[inline(always)]
 pub fn fitting_order(largest: Largest, at: PageAt, pages: u32) -> Order
     requires { 0 < pages }
     ensures { result ≡ fitting_order largest at pages }
 {
-    let mut order = largest.order();
-    'orders: loop {
-        if fits(at, pages, order) {
-            return order;
-        }
-        order = order.lower();
-    }
+    let aligned = at.number().trailing_zeros();
+    let fits = 31 - pages.leading_zeros();
+    Order::at(aligned.min(fits).min(u32::from(largest.number())) as u8)
 }
 
 /// Frees so many pages from this one on, which are neither free nor out nor posted, block by block of the run's cut: what freeing them at once

@@ -4,7 +4,7 @@
 //! and the largest order allow. Taking them in rising order leaves what taking the run at once does.
 //!
 //! In Linux: `alloc_contig_range`, and `memblock_reserve` while a kernel boots.
-ghost use Rattle.std.specs.Prelude.{ℕ, ◌≡◌, ◌≤◌, ◌<◌, ◌+◌, ◌-◌, ◌^◌, IfNone, IfOk, IfSome, IsTrue, Some, None, true};
+ghost use Rattle.std.specs.Prelude.{ℕ, ◌≡◌, ◌≤◌, ◌<◌, ◌+◌, ◌-◌, ◌^◌, IfNone, IfOk, IfSome, IsTrue, Some, None, false, true};
 ghost use Rattle.zp_model.specs.declared.constants.TheConstants.{MAX_PAGES};
 ghost use Rattle.zp_model.specs.Block.{IsBlock, head};
 ghost use Rattle.zp_model.specs.Zone.{Holding, holds, pages_of, workers_of};
@@ -51,7 +51,7 @@ impl UntiedZone {
         if !self.buddy.is_free_run(at, pages) {
             return Err(Refused::NotFree);
         }
-        self.take_run_at(worker, at, pages);
+        self.take_free_run(worker, at, pages);
         Ok(page)
     }
 
@@ -83,11 +83,30 @@ impl UntiedZone {
             return Err(Refused::NoBlock);
         };
         let page = PageNo::new(self.base + at.number());
-        self.take_run_at(worker, at, pages);
+        self.take_free_run(worker, at, pages);
         Ok(page)
     }
 
+    /// Takes so many pages from this one on, all of them free. Where they are one block, it is taken straight.
+    #[inline(always)]
+    fn take_free_run(&mut self, worker: Worker, at: PageAt, pages: u32)
+        requires worker { worker < workers_of self.old.plain }
+        requires some { 0 < pages }
+        requires inside { at + pages ≤ pages_of self.old.plain }
+        requires free { IsFreeRun self.old.plain.area at pages }
+        ensures { self.new ≡ record self.old { plain = run_taken self.old.plain worker at pages } }
+    {
+        self.lawful();
+        let order = fitting_order(self.largest(), at, pages);
+        if order.pages() == pages {
+            self.take_block_at(worker, at, order);
+            return;
+        }
+        self.take_run_at(worker, at, pages);
+    }
+
     /// Takes so many pages from this one on, all of them free, block by block of the run's cut.
+    #[inline(never)]
     fn take_run_at(&mut self, worker: Worker, at: PageAt, pages: u32)
         requires worker { worker < workers_of self.old.plain }
         requires inside { at + pages ≤ pages_of self.old.plain }
@@ -138,12 +157,48 @@ impl UntiedZone {
         self.lawful();
         // a clause of this call says how many pages there can be
         let _pages = self.pages();
-        let mut next = page.number() - self.base;
+        let first = page.number() - self.base;
+        let at = PageAt::at(first);
+        if let Some(order) = self.order_of_run(worker, at, pages) {
+            self.free_whole(worker, at, order);
+            return;
+        }
+        self.free_parts(worker, at, pages);
+    }
+
+    /// The order of the block out to the worker that so many pages from this one on are, where they are one.
+    #[inline(always)]
+    fn order_of_run(&self, worker: Worker, at: PageAt, pages: u32) -> Option<Order>
+        requires { at < pages_of self.now.plain }
+        ensures some { IfSome result (λ o. (holds self.now.plain worker at o ≡ true) × (2 ^ o ≡ pages)) }
+        ensures none { IfNone result ((k : ℕ) → 2 ^ k ≡ pages → holds self.now.plain worker at k ≡ false) }
+    {
+        let Some(order) = self.headed_order(worker, at) else {
+            return None;
+        };
+        if order.pages() != pages {
+            return None;
+        }
+        Some(order)
+    }
+
+    /// Frees so many pages from this one on, each of them lent to the worker, block by block.
+    #[inline(never)]
+    fn free_parts(&mut self, worker: Worker, at: PageAt, pages: u32)
+        requires worker { worker < workers_of self.old.plain }
+        requires some { 0 < pages }
+        requires lent { is_lent_run self.old.plain worker at pages ≡ true }
+        ensures { self.new ≡ record self.old { plain = run_freed self.old.plain worker at pages } }
+    {
+        self.lawful();
+        // a clause of this call says how many pages there can be
+        let _pages = self.pages();
+        let mut next = at.number();
         let end = next + pages;
         'parts: while next < end {
             self.lawful();
-            let at = PageAt::at(next);
-            let freed = self.free_in_block(worker, at, end - next);
+            let place = PageAt::at(next);
+            let freed = self.free_in_block(worker, place, end - next);
             next += freed;
         }
     }
@@ -165,13 +220,30 @@ impl UntiedZone {
             unreachable!()
         };
         let head = at.head(order);
+        let end = head.number() + order.pages();
+        let count = pages.min(end - at.number());
+        if count == order.pages() {
+            self.free_whole(worker, head, order);
+            return count;
+        }
         let State::Out(_, kind, _) = self.buddy.holding(head) else {
             unreachable!()
         };
-        let end = head.number() + order.pages();
-        let count = pages.min(end - at.number());
         self.free_part_of(worker, head, order, kind, at, count);
         count
+    }
+
+    /// Frees a block that is out to the worker, all of it.
+    #[inline(always)]
+    fn free_whole(&mut self, worker: Worker, head: PageAt, order: Order)
+        requires { holds self.old.plain worker head order ≡ true }
+        ensures { self.new ≡ record self.old { plain = run_freed self.old.plain worker head (2 ^ order) } }
+    {
+        // a clause of this call says that what is noted as free is free, which the next call rests on
+        let _pages = self.buddy.pages();
+        // the worker is named for the clauses alone
+        let _ = worker;
+        self.buddy.give(head, order);
     }
 
     /// Whether each of so many pages from this one on, one at least, is out to the worker, by whatever blocks.
@@ -205,8 +277,27 @@ impl UntiedZone {
         true
     }
 
+    /// The order of the block out to the worker that a page heads, where it heads one.
+    #[inline(always)]
+    fn headed_order(&self, worker: Worker, at: PageAt) -> Option<Order>
+        requires { at < pages_of self.now.plain }
+        ensures some { IfSome result (λ o. holds self.now.plain worker at o ≡ true) }
+        ensures none { IfNone result ((k : ℕ) → holds self.now.plain worker at k ≡ false) }
+    {
+        // a clause of this call says that what is noted as free is free
+        let _pages = self.buddy.pages();
+        let State::Out(order, _, holder) = self.buddy.holding(at) else {
+            return None;
+        };
+        if holder != worker {
+            return None;
+        }
+        Some(order)
+    }
+
     /// The order of the block out to the worker in which a page lies, where it lies in one: of the aligned heads around it one alone is that of such
-    /// a block. At most as many pages are looked at as there are orders.
+    /// a block. The page itself is looked at first, and tells the order of a block that it heads. At most as many pages are looked at as there
+    /// are orders.
     fn lent_order(&self, worker: Worker, at: PageAt) -> Option<Order>
         requires { at < pages_of self.now.plain }
         ensures some { IfSome result (λ o. holds self.now.plain worker (head at o) o ≡ true) }
@@ -214,8 +305,11 @@ impl UntiedZone {
     {
         // a clause of this call says that what is noted as free is free
         let _pages = self.buddy.pages();
+        if let Some(headed) = self.headed_order(worker, at) {
+            return Some(headed);
+        }
         let largest = self.buddy.largest().number();
-        let mut number = 0;
+        let mut number = 1;
         'orders: while number <= largest {
             let order = Order::at(number);
             if is_out_to(self.buddy.holding(at.head(order)), order, worker) {

@@ -1,15 +1,17 @@
 //! The requests of one block, each by its seat. Each is one step of the plain zone and one entry, and the seat's part of
 //! the books changes in the same step.
-ghost use Rattle.std.specs.Prelude.{◌≡◌, ◌<◌, IfOk, IsTrue};
+ghost use Rattle.std.specs.Prelude.{◌≡◌, ◌<◌, IfOk, IsTrue, Some};
 ghost use Rattle.zp_model.specs.declared.request.Request.TheVariants as request;
 ghost use Rattle.zp_model.specs.declared.request.Reply.TheVariants as reply;
+ghost use Rattle.zp_model.specs.Choose.{origin};
 ghost use Rattle.zp_model.specs.Zone.{workers_of};
 ghost use Rattle.zp_model.specs.Step.{step};
-ghost use Rattle.zp_zone.specs.NamedZone.{block_reply, page_reply};
+ghost use Rattle.zp_zone.specs.NamedZone.{block_reply, page_reply, told_reply};
 ghost use Rattle.zp_zone.specs.Seats.{IsSeatOf, KeepsSeats, Agrees, KeepsBlocks, KeepsBlocksBut, IsNewTo, asked, replied, has};
 
 use super::Zone;
 use crate::seat::Seat;
+use crate::told::Told;
 use std::marker::Brand;
 use zp_model::{Block, Mark, MigrateType, Order, PageNo, Refused, Worker};
 
@@ -39,6 +41,36 @@ impl Zone {
     {
         let worker = seat.enter::<Brand, _>(&mut self.keeper, &self.untied, &(order, kind, mark));
         self.untied.alloc(worker, order, kind, mark)
+    }
+
+    /// As `alloc`, and tells where the block came from.
+    pub fn alloc_told(
+        &mut self,
+        seat: &mut Seat,
+        order: Order,
+        kind: MigrateType,
+        mark: Mark,
+    ) -> Result<Told, Refused>
+        requires seat { IsSeatOf self.old seat.old }
+        ensures reply { told_reply result ≡ (step self.old.plain seat.old.worker (request.Alloc order kind mark)).reply }
+        ensures told { IfOk result (λ t. origin self.old.plain.area order kind ≡ Some t.origin) }
+        ensures after { self.new ≡ asked seat.old.worker (request.Alloc order kind mark) self.old }
+        ensures seat { seat.new ≡ replied (request.Alloc order kind mark) (told_reply result) seat.old }
+        ensures known { seat.old.worker < workers_of self.old.plain }
+        ensures agrees { Agrees self.old seat.old × Agrees self.new seat.new }
+
+        // What the calls after it can rest on.
+        ensures worker { seat.new.worker ≡ seat.old.worker }
+        ensures fits { IsSeatOf self.new seat.new }
+        ensures seats { KeepsSeats self.old self.new }
+        ensures has { IfOk result (λ t. IsTrue (has seat.new t.page order)) }
+        ensures fresh { IfOk result (λ t. IsNewTo seat.old t.page) }
+        ensures kept { KeepsBlocks seat.old seat.new }
+    {
+        let origin = self.origin(order, kind);
+        let page = self.alloc(seat, order, kind, mark)?;
+        let Some(origin) = origin else { unreachable!() };
+        Ok(Told { page, origin })
     }
 
     /// Allocates the lowest block of this order, of whatever type. The type noted for it is its pageblock's. Refused 11.

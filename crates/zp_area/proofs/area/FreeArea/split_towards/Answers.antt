@@ -1,44 +1,40 @@
-use Rattle.std.proofs.Common.{ℕ, ◌+◌, ◌≡◌, ◌∙◌, refl, ap, arith}
-use Rattle.zp_model.specs.RunLaws.{half_beside}
-use Rattle.zp_area.specs.Blocks.{added}
-use Rattle.zp_area.proofs.Towards.{IsTowards, half_coming, towards_begins, towards_ends, towards_goes}
-use Rattle.zp_area.proofs.area.FreeArea.split_towards.Goals.{After-half_beside}
+use Rattle.std.specs.Prelude.{slice_index_or}
+use Rattle.std.proofs.Common.{◌/◌, ◌≡◌, ◌∙◌, sym, ap}
+use Rattle.std.proofs.lemmas.Bool.{eqb-true, not-false}
+use Rattle.zp_model.specs.declared.pageblock_type.PageblockType.TheVariants.{Movable}
+use Rattle.zp_model.specs.Area.{pageblock_pages}
+use Rattle.zp_model.specs.Block.{head}
+use Rattle.zp_model.specs.BlockSet.{Starts}
+use Rattle.zp_area.specs.Blocks.{block_set}
+use Rattle.zp_area.proofs.Claimable.{type-from}
+use Rattle.zp_area.proofs.Indexing.{started_there}
+use Rattle.zp_area.proofs.Towards.{split_head}
+use Rattle.zp_area.proofs.area.FreeArea.split_towards.Goals.{After-pageblock_of-pageblock}
 use Rattle.zp_area.proofs.area.FreeArea.split_towards.Goals as goal
 
-pub remove-requires : goal.remove-requires
-remove-requires c = rw c.head.ensures c.requires.block
+-- the page heads the block
+same : (c : After-pageblock_of-pageblock) → head c.args.at c.args.from ≡ c.args.at
+same c = sym c.head.ensures ∙ eqb-true c.head.result c.args.at (not-false _ (sym c.ne.ensures ∙ c.if-ne.false))
 
-pub halves-init : goal.halves-init
-halves-init c = rw (c.remove.ensures, c.head.ensures) (record {
-  largest = refl;
-  towards = towards_begins c.args.self.now.largest c.args.self.now c.args.at c.args.from c.args.to c.pages-pages.ensures.one c.requires.block c.requires.down;
-})
+starts : (c : After-pageblock_of-pageblock) → Starts (block_set c.args.self.now) c.args.at c.args.from
+starts c = rw (same c) at c.requires.block
 
--- what is known with the order of the next half
-next : (c : After-half_beside) → IsTowards c.args.self.now.largest c.args.self.now c.halves.self c.args.at c.args.from c.args.to (c.lower-order.result + 1)
-next c = rw c.lower-order.ensures c.halves.invariant.towards
+pub type_of-requires : goal.type_of-requires
+type_of-requires c =
+    rw (c.pageblock_of-pageblock.ensures, c.largest.ensures)
+    (started_there c.args.self.now.largest c.args.self.now c.args.at c.args.from c.pages-pages.ensures.one (starts c))
 
-pub add-requires-clause-block : goal.add-requires-clause-block
-add-requires-clause-block c =
-    let before = (goal.at.add-requires-clause-block c).After-half_beside in
-    rw (c.halves.invariant.largest, c.half_beside.ensures) (half_coming c.lower-order.result (next before)).block
+pub split_off-requires : goal.split_off-requires
+split_off-requires c =
+    let before = (goal.at.split_off-requires c).After-pageblock_of-pageblock in
+    let place : c.pageblock_of-pageblock.result ≡ c.args.at / pageblock_pages c.args.self.now.largest = c.pageblock_of-pageblock.ensures ∙ ap (λ m. c.args.at / pageblock_pages m) c.largest.ensures in
+    record {
+      block = starts before;
+      typed = sym (type-from c.type_of.result c.in-Some.kind (sym c.migrate_type.ensures ∙ c.in-Some.is)) ∙ c.type_of.ensures ∙ ap (λ b. slice_index_or c.args.self.now.kinds b Movable) place;
+      down = c.requires.down;
+    }
 
-pub add-requires-clause-clear : goal.add-requires-clause-clear
-add-requires-clause-clear c =
-    let before = (goal.at.add-requires-clause-clear c).After-half_beside in
-    rw (c.halves.invariant.largest, c.half_beside.ensures) (half_coming c.lower-order.result (next before)).clear
-
-pub halves-preserved : goal.halves-preserved
-halves-preserved c =
-    let before = (goal.at.halves-preserved c).After-half_beside in
-    let m : ℕ = c.args.self.now.largest in
-    let j : ℕ = c.lower-order.result in
-    let e : c.add.new.self ≡ added c.args.self.now.largest c.halves.self (half_beside c.args.at c.lower-order.result) c.lower-order.result =
-    c.add.ensures.after ∙ ap (λ n. added n c.halves.self c.half_beside.result j) c.halves.invariant.largest ∙ ap (λ h. added m c.halves.self h j) c.half_beside.ensures in
-    rw e (record { largest = c.halves.invariant.largest; towards = towards_goes c.lower-order.result (next before) (omega arith) })
-
-pub returns : goal.returns
-returns c =
-    let i = c.halves.invariant in
-    let same : c.halves.order ≡ c.args.to = omega (arith, i.towards.down) in
-    towards_ends c.args.self.now.largest c.args.self.now c.halves.self c.args.at c.args.from c.args.to (rw same at i.towards)
+pub returns-in-Some : goal.returns-in-Some
+returns-in-Some c =
+    let before = (goal.at.returns-in-Some c).After-pageblock_of-pageblock in
+    c.split_off.ensures ∙ split_head c.args.self.now.largest c.args.self.now c.args.at c.args.from c.args.to (same before) c.requires.down

@@ -25,5 +25,5 @@ leave-requires c =
 pub invariant_of-self : goal.invariant_of-self
 invariant_of-self c =
     let many = c.alloc_many-granted in
-    many_stay (lock_key (arc_value c.self.inside.lock)) (each_is (Request.Alloc c.args.order c.args.kind c.args.mark)) (page_of many.new.pages) (length c.args.pages.now) many.result c.slot_mut-zone.result.now many.new.self c.self.inside.share
+    many_stay (lock_key (arc_value c.self.inside.lock)).zone (each_is (Request.Alloc c.args.order c.args.kind c.args.mark)) (page_of many.new.pages) (length c.args.pages.now) many.result c.slot_mut-zone.result.now many.new.self c.self.inside.share
     many.new.share c.self.invariant many.ensures.made

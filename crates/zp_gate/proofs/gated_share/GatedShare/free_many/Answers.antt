@@ -24,5 +24,5 @@ leave-requires c =
 pub invariant_of-self : goal.invariant_of-self
 invariant_of-self c =
     let many = c.free_many-granted in
-    many_stay (lock_key (arc_value c.self.inside.lock)) (free_of c.args.pages.now c.args.orders.now) freed_of (length c.args.pages.now) many.result c.slot_mut-zone.result.now many.new.self c.self.inside.share many.new.share c.self.invariant
+    many_stay (lock_key (arc_value c.self.inside.lock)).zone (free_of c.args.pages.now c.args.orders.now) freed_of (length c.args.pages.now) many.result c.slot_mut-zone.result.now many.new.self c.self.inside.share many.new.share c.self.invariant
     many.ensures

@@ -1,15 +1,15 @@
 use Rattle.std.proofs.Common.{◌≡◌, refl, rules, sym, subst}
 use Rattle.std.specs.Prelude.{OnOk, Ok, Result}
 use Rattle.std.specs.Arc.{arc_value}
-use Rattle.zp_share.specs.Shares.{ShareState, ZoneKey}
+use Rattle.zp_share.specs.Shares.{ShareState}
 use Rattle.zp_gate.specs.declared.call_error.CallError.{CallError}
 use Rattle.zp_gate.specs.GatedRows.{lock_key}
 use Rattle.zp_gate.specs.GatedWorkers.{GatedShareState, HasTurned, IsFilled}
-use Rattle.zp_gate.specs.GatedZones.{IsBehind}
+use Rattle.zp_gate.specs.GatedZones.{GateKey, IsBehind}
 use Rattle.zp_gate.proofs.gated_share.GatedShare.refill.Goals.{in-Ok, in-Err}
 use Rattle.zp_gate.proofs.gated_share.GatedShare.refill.Goals as goal
 
-turned : (F : ZoneKey → ShareState → ShareState → Type 0) (d : GatedShareState) (k : ZoneKey) (s now : ShareState) (r : Result (Unit {0}) CallError) (u : Unit {0}) → record { key = k; share = s } ≡ d → r ≡ Ok u → F k s now
+turned : (F : GateKey → ShareState → ShareState → Type 0) (d : GatedShareState) (k : GateKey) (s now : ShareState) (r : Result (Unit {0}) CallError) (u : Unit {0}) → record { key = k; share = s } ≡ d → r ≡ Ok u → F k s now
     → OnOk r (HasTurned (F d.key) d (record { key = k; share = now }))
 turned F d k s now r u is e p =
     subst (λ (x : Result (Unit {0}) CallError). OnOk x (HasTurned (F d.key) d (record { key = k; share = now }))) (sym e) (subst (λ (x : GatedShareState). HasTurned (F x.key) x (record { key = k; share = now })) is (p, refl))

@@ -1,4 +1,4 @@
-use Rattle.std.proofs.Common.{◌+◌, ◌≡◌, ◌≤◌, ◌<◌, ◌↔◌, ◌∙◌, ap, sym, true, false, arith}
+use Rattle.std.proofs.Common.{◌+◌, ◌≡◌, ◌≤◌, ◌<◌, ◌↔◌, ◌∙◌, ap, sym, true, arith}
 use Rattle.std.proofs.lemmas.Bool.{false_from_ne_true}
 use Rattle.zp_model.specs.declared.refused.Refused.TheVariants.{BelowMark, NoBlock}
 use Rattle.zp_model.specs.declared.request.Reply.{Reply}
@@ -55,11 +55,11 @@ returns-in_default-clause-after c =
 free : (c : In-Some) → IsFree c.args.self.now.plain c.in-Some.at c.args.pages
 free c = lowest_free c.args.self.now.plain c.args.pages c.args.align c.in-Some.at (sym c.in-Some.ensures)
 
-pub take_run_at-requires-clause-inside : goal.take_run_at-requires-clause-inside
-take_run_at-requires-clause-inside c = (free (goal.at.take_run_at-requires-clause-inside c).In-Some).inside
+pub take_free_run-requires-clause-inside : goal.take_free_run-requires-clause-inside
+take_free_run-requires-clause-inside c = (free (goal.at.take_free_run-requires-clause-inside c).In-Some).inside
 
-pub take_run_at-requires-clause-free : goal.take_run_at-requires-clause-free
-take_run_at-requires-clause-free c = free_run c.args.self.now.plain c.in-Some.at c.args.pages (free (goal.at.take_run_at-requires-clause-free c).In-Some)
+pub take_free_run-requires-clause-free : goal.take_free_run-requires-clause-free
+take_free_run-requires-clause-free c = free_run c.args.self.now.plain c.in-Some.at c.args.pages (free (goal.at.take_free_run-requires-clause-free c).In-Some)
 
 page : (c : After-new-page) → c.new-page.result ≡ c.args.self.now.plain.base + c.in-Some.at
 page c = omega (arith, c.new-page.ensures, c.number.ensures.same, ap (λ (z : NamedZone). z.plain.base) c.self.view_is)
@@ -76,11 +76,11 @@ returns-clause-reply c =
 
 pub returns-clause-after : goal.returns-clause-after
 returns-clause-after c =
-    c.take_run_at.ensures ∙ ap (λ (o : Outcome). let z : NamedZone = record c.args.self.now { plain = o.zone } in z) (sym (got (goal.at.returns-clause-after c).In-Some c.if-room-pages.false))
+    c.take_free_run.ensures ∙ ap (λ (o : Outcome). let z : NamedZone = record c.args.self.now { plain = o.zone } in z) (sym (got (goal.at.returns-clause-after c).In-Some c.if-room-pages.false))
 
 pub returns-clause-lent : goal.returns-clause-lent
 returns-clause-lent c =
-    rw (c.take_run_at.ensures, page (goal.at.returns-clause-lent c).After-new-page)
+    rw (c.take_free_run.ensures, page (goal.at.returns-clause-lent c).After-new-page)
     (taken_lends c.args.self.now.plain c.lawful.ensures c.args.worker c.in-Some.at c.args.pages c.requires.worker (free (goal.at.returns-clause-lent c).In-Some) (may_alloc_run-to c.args.pages c.args.align c.requires.may).0)
 
 pub returns-clause-fresh : goal.returns-clause-fresh
@@ -89,4 +89,4 @@ returns-clause-fresh c =
 
 pub returns-clause-kept : goal.returns-clause-kept
 returns-clause-kept c =
-    rw c.take_run_at.ensures (taken_keeps c.args.self.now.plain c.lawful.ensures c.args.worker c.in-Some.at c.args.pages c.requires.worker (free (goal.at.returns-clause-kept c).In-Some))
+    rw c.take_free_run.ensures (taken_keeps c.args.self.now.plain c.lawful.ensures c.args.worker c.in-Some.at c.args.pages c.requires.worker (free (goal.at.returns-clause-kept c).In-Some))

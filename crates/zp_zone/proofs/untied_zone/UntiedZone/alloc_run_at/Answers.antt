@@ -48,12 +48,12 @@ pub returns-then-not-is_free_run-clause-after : goal.returns-then-not-is_free_ru
 returns-then-not-is_free_run-clause-after c =
     rw (← c.self.view_is) (ap (λ (o : Outcome). named c.self.inside.name o.zone) (sym (used (goal.at.returns-then-not-is_free_run-clause-after c).In-Some c.if-not-is_free_run.ensures)))
 
-pub take_run_at-requires-clause-inside : goal.take_run_at-requires-clause-inside
-take_run_at-requires-clause-inside c =
-    rw (← c.self.view_is) (omega (arith, inside (goal.at.take_run_at-requires-clause-inside c).In-Some, c.in-Some.ensures.some.1))
+pub take_free_run-requires-clause-inside : goal.take_free_run-requires-clause-inside
+take_free_run-requires-clause-inside c =
+    rw (← c.self.view_is) (omega (arith, inside (goal.at.take_free_run-requires-clause-inside c).In-Some, c.in-Some.ensures.some.1))
 
-pub take_run_at-requires-clause-free : goal.take_run_at-requires-clause-free
-take_run_at-requires-clause-free c = rw (← c.self.view_is) (sym c.if-not-is_free_run.ensures)
+pub take_free_run-requires-clause-free : goal.take_free_run-requires-clause-free
+take_free_run-requires-clause-free c = rw (← c.self.view_is) (sym c.if-not-is_free_run.ensures)
 
 -- all of them are
 got : (c : In-Some) → true ≡ has_pages c.self.inside.buddy.area.free c.in-Some.at c.args.pages →
@@ -67,7 +67,7 @@ returns-clause-reply c = ap (λ (o : Outcome). o.reply) (sym (got (goal.at.retur
 
 pub returns-clause-after : goal.returns-clause-after
 returns-clause-after c =
-    c.take_run_at.ensures ∙ ap (λ (o : Outcome). let z : NamedZone = record c.args.self.now { plain = o.zone } in z) (sym (got (goal.at.returns-clause-after c).In-Some c.if-not-is_free_run.ensures))
+    c.take_free_run.ensures ∙ ap (λ (o : Outcome). let z : NamedZone = record c.args.self.now { plain = o.zone } in z) (sym (got (goal.at.returns-clause-after c).In-Some c.if-not-is_free_run.ensures))
 
 -- the run is free, and is that of the pages asked for
 whole : (c : In-Some) → true ≡ has_pages c.self.inside.buddy.area.free c.in-Some.at c.args.pages → IsFree c.args.self.now.plain c.in-Some.at c.args.pages
@@ -87,7 +87,7 @@ lawful c = rw (← c.self.view_is) c.self.invariant.lawful
 pub returns-clause-lent : goal.returns-clause-lent
 returns-clause-lent c =
     let b = (goal.at.returns-clause-lent c).In-Some in
-    rw (ap (λ (z : NamedZone). z.plain) c.take_run_at.ensures, ← place b)
+    rw (ap (λ (z : NamedZone). z.plain) c.take_free_run.ensures, ← place b)
     (taken_lends c.args.self.now.plain (lawful b) c.args.worker c.in-Some.at c.args.pages c.requires (whole b c.if-not-is_free_run.ensures) (omega (arith, c.in-Some.ensures.some.2)))
 
 pub returns-clause-fresh : goal.returns-clause-fresh
@@ -98,5 +98,5 @@ returns-clause-fresh c =
 pub returns-clause-kept : goal.returns-clause-kept
 returns-clause-kept c =
     let b = (goal.at.returns-clause-kept c).In-Some in
-    rw (ap (λ (z : NamedZone). z.plain) c.take_run_at.ensures)
+    rw (ap (λ (z : NamedZone). z.plain) c.take_free_run.ensures)
     (taken_keeps c.args.self.now.plain (lawful b) c.args.worker c.in-Some.at c.args.pages c.requires (whole b c.if-not-is_free_run.ensures))

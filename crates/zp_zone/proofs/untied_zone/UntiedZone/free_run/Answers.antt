@@ -1,80 +1,71 @@
-use Rattle.std.proofs.Common.{◌+◌, ◌-◌, ◌≡◌, ◌≤◌, refl, ap, arith}
-use Rattle.zp_model.specs.Zone.{pages_of}
+use Rattle.std.proofs.Common.{◌+◌, ◌-◌, ◌≡◌, ◌≤◌, ◌∙◌, ap, arith}
+use Rattle.std.proofs.lemmas.Bool.{and_parts}
+use Rattle.zp_model.specs.Runs.{run_freed}
+use Rattle.zp_model.specs.Zone.{PlainZone, pages_of}
 use Rattle.zp_laws.proofs.RunSteps.{lent_inside, may_free-to}
 use Rattle.zp_zone.specs.NamedZone.{NamedZone}
-use Rattle.zp_zone.proofs.RunsFreed.{freeing_begins, freeing_goes, freeing_inside}
 use Rattle.zp_zone.proofs.RunsGiven.{freed_gone, freed_keeps}
-use Rattle.zp_zone.proofs.untied_zone.UntiedZone.free_run.Goals.{After-pages-pages}
+use Rattle.zp_zone.proofs.untied_zone.UntiedZone.free_run.Goals.{After-at-at, After-number, In-Some}
 use Rattle.zp_zone.proofs.untied_zone.UntiedZone.free_run.Goals as goal
 
-base : (c : After-pages-pages) → c.self.inside.base ≡ c.args.self.now.plain.base
+base : (c : After-number) → c.self.inside.base ≡ c.args.self.now.plain.base
 base c = ap (λ (z : NamedZone). z.plain.base) c.self.view_is
 
--- the run lies in the zone
-inside : (c : After-pages-pages) → (c.args.self.now.plain.base ≤ c.args.page) × (c.args.page - c.args.self.now.plain.base + c.args.pages ≤ pages_of c.args.self.now.plain)
+-- the run lies in the zone, and has a page
+inside : (c : After-number) → (c.args.self.now.plain.base ≤ c.args.page) × (c.args.page - c.args.self.now.plain.base + c.args.pages ≤ pages_of c.args.self.now.plain) × (1 ≤ c.args.pages)
 inside c =
     let x = may_free-to c.args.self.now.plain c.args.worker c.args.page c.args.pages c.requires.lent in
-    (x.0, lent_inside c.args.self.now.plain c.args.worker (c.args.page - c.args.self.now.plain.base) c.args.pages c.lawful.ensures x.1)
+    (x.0, lent_inside c.args.self.now.plain c.args.worker (c.args.page - c.args.self.now.plain.base) c.args.pages c.lawful.ensures x.1, x.1.some)
 
-pub overflow_sub-next : goal.overflow_sub-next
-overflow_sub-next c =
-    let before = (goal.at.overflow_sub-next c).After-pages-pages in
+pub overflow_sub-first : goal.overflow_sub-first
+overflow_sub-first c =
+    let before = (goal.at.overflow_sub-first c).After-number in
     omega (arith, (inside before).0, base before, c.number.ensures.same)
-
-pub overflow_add-end : goal.overflow_add-end
-overflow_add-end c =
-    let before = (goal.at.overflow_add-end c).After-pages-pages in
-    omega (arith, (inside before).0, (inside before).1, base before, c.number.ensures.same, c.pages-pages.ensures.pages, c.pages-pages.ensures.within)
-
-pub parts-init : goal.parts-init
-parts-init c =
-    let before = (goal.at.parts-init c).After-pages-pages in
-    let at : c.number.result - c.self.inside.base ≡ c.args.page - c.args.self.now.plain.base = rw (c.number.ensures.same, base before) refl in
-    record {
-      name = refl;
-      freeing = freeing_begins c.args.self.now.plain c.args.worker c.args.page c.args.pages (c.number.result - c.self.inside.base) (c.number.result - c.self.inside.base + c.args.pages) c.requires.lent at refl;
-    }
 
 pub at-at-requires : goal.at-at-requires
 at-at-requires c =
-    omega (arith, freeing_inside _ _ _ _ _ _ _ c.lawful-in-parts.ensures c.parts.invariant.freeing (omega arith), c.pages-pages.ensures.pages, c.pages-pages.ensures.within)
+    let before = (goal.at.at-at-requires c).After-number in
+    omega (arith, inside before, base before, c.number.ensures.same, c.pages-pages.ensures.pages, c.pages-pages.ensures.within)
 
-pub free_in_block-freed-requires-clause-worker : goal.free_in_block-freed-requires-clause-worker
-free_in_block-freed-requires-clause-worker c = rw c.parts.invariant.freeing.workers c.requires.worker
+-- its place
+place : (c : After-at-at) → c.at-at.result ≡ c.args.page - c.args.self.now.plain.base
+place c = c.at-at.ensures ∙ omega (arith, c.number.ensures.same, base (goal.at.After-at-at c).After-number)
 
-pub free_in_block-freed-requires-clause-lent : goal.free_in_block-freed-requires-clause-lent
-free_in_block-freed-requires-clause-lent c = rw c.at-at.ensures (c.parts.invariant.freeing.lent (omega arith))
+pub order_of_run-requires : goal.order_of_run-requires
+order_of_run-requires c =
+    let before = (goal.at.order_of_run-requires c).After-at-at in
+    omega (arith, place before, inside (goal.at.After-at-at before).After-number)
 
-pub overflow_add-next : goal.overflow_add-next
-overflow_add-next c =
-    omega (arith, c.free_in_block-freed.ensures.most, freeing_inside _ _ _ _ _ _ _ c.lawful-in-parts.ensures c.parts.invariant.freeing (omega arith), c.pages-pages.ensures.pages, c.pages-pages.ensures.within)
+pub free_parts-requires-clause-some : goal.free_parts-requires-clause-some
+free_parts-requires-clause-some c = omega (arith, (inside (goal.at.free_parts-requires-clause-some c).After-number).2)
 
-pub parts-preserved : goal.parts-preserved
-parts-preserved c =
-    let x = c.parts.invariant in
-    rw (c.free_in_block-freed.ensures.after, c.at-at.ensures) (record {
-      name = x.name;
-      freeing = freeing_goes _ _ _ _ _ _ _ c.free_in_block-freed.result c.lawful-in-parts.ensures c.requires.worker x.freeing (omega arith) c.free_in_block-freed.ensures.some c.free_in_block-freed.ensures.most
-          (rw c.at-at.ensures at c.free_in_block-freed.ensures.ends);
-    })
+pub free_parts-requires-clause-lent : goal.free_parts-requires-clause-lent
+free_parts-requires-clause-lent c = rw (place (goal.at.free_parts-requires-clause-lent c).After-at-at) (and_parts _ _ c.requires.lent).1
 
-pub parts-smaller : goal.parts-smaller
-parts-smaller c = omega (arith, c.free_in_block-freed.ensures.some)
+pub returns-in-Some-clause-after : goal.returns-in-Some-clause-after
+returns-in-Some-clause-after c =
+    let with_plain : PlainZone → NamedZone = λ z. record c.args.self.now { plain = z } in
+    c.free_whole.ensures
+    ∙ ap (λ n. with_plain (run_freed c.args.self.now.plain c.args.worker c.at-at.result n)) c.in-Some.ensures.some.1
+    ∙ ap (λ h. with_plain (run_freed c.args.self.now.plain c.args.worker h c.args.pages)) (place (goal.at.returns-in-Some-clause-after c).After-at-at)
+
+pub returns-in-Some-clause-gone : goal.returns-in-Some-clause-gone
+returns-in-Some-clause-gone c =
+    rw (returns-in-Some-clause-after c) (freed_gone c.args.self.now.plain c.args.worker c.args.page c.args.pages c.lawful.ensures c.requires.worker c.requires.lent)
+
+pub returns-in-Some-clause-kept : goal.returns-in-Some-clause-kept
+returns-in-Some-clause-kept c =
+    rw (returns-in-Some-clause-after c) (freed_keeps c.args.self.now.plain c.args.worker c.args.page c.args.pages c.lawful.ensures c.requires.worker c.requires.lent)
 
 pub returns-clause-after : goal.returns-clause-after
 returns-clause-after c =
-    let x = c.parts.invariant in
-    let last : c.parts.next ≡ c.number.result - c.self.inside.base + c.args.pages = omega (arith, x.freeing.upto) in
-    λ i. record { name = x.name i; plain = x.freeing.done last i }
+    let with_plain : PlainZone → NamedZone = λ z. record c.args.self.now { plain = z } in
+    c.free_parts.ensures ∙ ap (λ h. with_plain (run_freed c.args.self.now.plain c.args.worker h c.args.pages)) (place (goal.at.returns-clause-after c).After-at-at)
 
 pub returns-clause-gone : goal.returns-clause-gone
 returns-clause-gone c =
-    let x = c.parts.invariant in
-    let last : c.parts.next ≡ c.number.result - c.self.inside.base + c.args.pages = omega (arith, x.freeing.upto) in
-    rw (x.freeing.done last) (freed_gone c.args.self.now.plain c.args.worker c.args.page c.args.pages c.lawful.ensures c.requires.worker c.requires.lent)
+    rw (returns-clause-after c) (freed_gone c.args.self.now.plain c.args.worker c.args.page c.args.pages c.lawful.ensures c.requires.worker c.requires.lent)
 
 pub returns-clause-kept : goal.returns-clause-kept
 returns-clause-kept c =
-    let x = c.parts.invariant in
-    let last : c.parts.next ≡ c.number.result - c.self.inside.base + c.args.pages = omega (arith, x.freeing.upto) in
-    rw (x.freeing.done last) (freed_keeps c.args.self.now.plain c.args.worker c.args.page c.args.pages c.lawful.ensures c.requires.worker c.requires.lent)
+    rw (returns-clause-after c) (freed_keeps c.args.self.now.plain c.args.worker c.args.page c.args.pages c.lawful.ensures c.requires.worker c.requires.lent)

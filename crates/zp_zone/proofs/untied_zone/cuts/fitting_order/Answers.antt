@@ -1,26 +1,40 @@
-use Rattle.std.proofs.Common.{◌≡◌, inl, inr, sym, arith}
-use Rattle.std.proofs.lemmas.Bool.{both_ways, cases_eq, cases_lt}
+use Rattle.std.proofs.Common.{ℕ, zero, suc, ◌≤◌, ◌-◌, ◌≡◌, ◌<◌, ◌^◌, inl, inr, refl, sym, arith, min}
+use Rattle.std.specs.Int.{trailing_zeros, w32}
+use Rattle.std.specs.Int.Count.{count_leading_zeros}
+use Rattle.std.proofs.Math.Nat.{pow-le-pow_right}
+use Rattle.std.proofs.lemmas.Bool.{cases_lt}
+use Rattle.std.proofs.lemmas.Nat.{leading_top, pow_pos}
+use Rattle.zp_model.specs.RunLaws.{IsFitting}
 use Rattle.zp_model.proofs.Cuts.{fitting_unique}
+use Rattle.zp_buddy.proofs.LastOrders.{last_fits}
 use Rattle.zp_zone.proofs.untied_zone.cuts.fitting_order.Goals as goal
 
-pub lower-order-requires : goal.lower-order-requires
-lower-order-requires c = elim (cases_lt 0 c.orders.order) [
-  | inl some ↦ some
-  | inr none ↦ let e : c.orders.order ≡ 0 = omega arith in absurd (both_ways _ c.if-fits.false (c.fits.ensures.1 (rw e (omega arith), rw e (omega arith))))
-]
+none_behind : trailing_zeros w32 0 ≡ 32
+unfolding lib.Count.count_trailing_zeros
+none_behind = refl
 
-pub orders-preserved : goal.orders-preserved
-orders-preserved c =
-    let i = c.orders.invariant in
+-- at page 0 a block of each order is aligned
+zero_fits : (m n k : ℕ) → 0 < n → n < 2 ^ 32 → k ≡ min (min (trailing_zeros w32 0) (31 - count_leading_zeros 32 n)) m → IsFitting m 0 n k
+zero_fits m n k some wide is =
+    let x = leading_top 32 n some wide in
+    let top : min (trailing_zeros w32 0) (31 - count_leading_zeros 32 n) ≡ x.0 = omega (arith, x.1, none_behind) in
+    let low : 2 ^ k ≤ 2 ^ x.0 = pow-le-pow_right (omega arith) (omega (arith, is, top)) in
     record {
-      most = omega arith;
-      above = λ j le a b. elim (cases_eq j c.orders.order) [
-        | inl same ↦ absurd (both_ways _ c.if-fits.false (c.fits.ensures.1 (rw (← same) a, rw (← same) b)))
-        | inr ne ↦ omega (arith, i.above j le a b)
+      order = omega (arith, is);
+      aligned = omega (arith, pow_pos k);
+      inside = omega (arith, low, x.2);
+      greatest = λ j le al room. elim (cases_lt x.0 j) [
+        | inr short ↦ omega (arith, is, top)
+        | inl lt ↦ let high : 2 ^ suc x.0 ≤ 2 ^ j = pow-le-pow_right (omega arith) (omega arith) in absurd (omega (arith, high, x.3, room))
       ];
     }
 
-pub returns-then-fits : goal.returns-then-fits
-returns-then-fits c =
-    let e = c.fits.ensures.0 c.if-fits.true in
-    sym (fitting_unique c.args.largest c.args.at c.args.pages c.orders.order (record { order = c.orders.invariant.most; aligned = e.0; inside = e.1; greatest = c.orders.invariant.above }))
+first_fits : (m h n k : ℕ) → h < 2 ^ 32 → 0 < n → n < 2 ^ 32 → k ≡ min (min (trailing_zeros w32 h) (31 - count_leading_zeros 32 n)) m → IsFitting m h n k
+first_fits m zero n k below some wide is = zero_fits m n k some wide is
+first_fits m (suc h) n k below some wide is = last_fits m (suc h) n k (omega arith) below some wide is
+
+pub returns : goal.returns
+returns c =
+    let place : c.number-aligned.result ≡ c.args.at = c.number-aligned.ensures.same in
+    sym (fitting_unique c.args.largest c.args.at c.args.pages c.at.result
+    (rw place at (first_fits c.args.largest c.number-aligned.result c.args.pages c.at.result (omega (arith, c.number-aligned.ensures.within)) c.requires (omega (arith, c.ranges.pages)) (omega (arith, c.at.ensures)))))
