@@ -98,6 +98,12 @@ halved_all (suc d) m a b r h k x y =
     halved_all d m a (added m b (half_beside h (k + d)) (k + d)) (give r (half_beside h (k + d)) (k + d)) h k (halved_more m a b r h (k + d) x z)
     (other_coming (head h (k + d)) (k + d) (half_beside h (k + d)) (head h (k + d + 1)) (beside_buddy h (k + d)) z)
 
+-- a block of the set leaves it whole
+pub left_whole : (m : ℕ) (a : Blocks) (h o : ℕ) → IsSound m a.rows.states a.kinds a.rows.lists → Starts (block_set a) h o → IsLeft m h o a (removed m a h o)
+left_whole m a h o x st =
+    let none_left : o - o ≡ 0 = omega arith in
+    subst (λ d. IsLeft m h o a (halves_added m (removed m a h o) h o d)) none_left (left_split m a h o o x st (omega arith))
+
 pub left_towards : (m : ℕ) (a : Blocks) (h k o : ℕ) → IsOneSet m a → IsSound m a.rows.states a.kinds a.rows.lists → Starts (block_set a) (head h o) o → h % 2 ^ k ≡ 0 → k ≤ o →
     IsLeft m h k a (split_towards m a h o k)
 left_towards m a h k o one x st al le =
@@ -105,8 +111,7 @@ left_towards m a h k o one x st al le =
     let b : Blocks = removed m a g o in
     let n : Blocks = split_towards m a h o k in
     let r : Area = leave (area_in m a) g o in
-    let none_left : o - o ≡ 0 = omega arith in
-    let first : IsLeft m g o a b = subst (λ d. IsLeft m g o a (halves_added m b g o d)) none_left (left_split m a g o o x st (omega arith)) in
+    let first : IsLeft m g o a b = left_whole m a g o x st in
     let below : g < length a.rows.states = omega (arith, (starts_block m a g o x st).inside, pow_pos o) in
     let begun : IsHalved m a r b = record {
       sound = first.sound;

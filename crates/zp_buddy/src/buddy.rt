@@ -10,6 +10,7 @@ ghost use Rattle.zp_model.specs.Rows.{IsLoose, IsOn, after, front, list_at, rest
 ghost use Rattle.zp_model.specs.Described.{IsLinkedAt};
 ghost use Rattle.zp_model.specs.Frames.{frames_opening, with_area, IsNote, IsFramed, IsClear, given};
 ghost use Rattle.zp_model.specs.declared.pageblock_type.PageblockType.TheVariants.{Movable};
+ghost use Rattle.zp_model.specs.declared.state.State.TheVariants.{Free};
 ghost use Rattle.zp_model.specs.BlockSet.{largest_in, max_blocks};
 ghost use Rattle.zp_model.specs.Area.{available, list_number, free_list, kind_at, pageblock_pages, pageblocks_of, size_in};
 ghost use Rattle.zp_model.specs.Runs.{IsFreeRun, has_pages};
@@ -20,7 +21,7 @@ ghost use Rattle.zp_tree.specs.declared.constants.TheConstants.{WORD_LEVELS};
 ghost use Rattle.zp_buddy.specs.FallingRuns.{AreTails, falling_run};
 ghost use Rattle.zp_buddy.specs.Runs.{AreClear, gives, pages_taken, pages_left, run_length, run_pages};
 
-use crate::at::{is_free_run, take_at};
+use crate::at::{free_block, is_free_run, take_at, take_whole};
 use crate::choice;
 use crate::clear::{is_block, is_clear_run};
 use crate::falling::give_falling;
@@ -181,6 +182,35 @@ impl Buddy {
         ensures { result ≡ has_pages self.now.area.free at pages }
     {
         is_free_run(&self.area, at, pages)
+    }
+
+    /// The order of the free block that so many pages from this one on are, where they are one.
+    #[inline(always)]
+    pub fn free_block(&self, at: PageAt, pages: u32) -> Option<Order>
+        ensures some { IfSome result (λ o. (state_at self.now.states at ≡ Free o) × (2 ^ o ≡ pages)) }
+        ensures none { IfNone result ((k : ℕ) → 2 ^ k ≡ pages → state_at self.now.states at ≡ Free k → ⊥) }
+    {
+        free_block(&self.area, at, pages)
+    }
+
+    /// Takes a free block whole.
+    #[inline(always)]
+    pub fn take_whole(&mut self, at: PageAt, order: Order)
+        requires { state_at self.old.states at ≡ Free order }
+        ensures block { IsBlock self.old.area.largest (length self.old.area.free) at order }
+        ensures free { IsFreeRun self.old.area at (2 ^ order) }
+        ensures after { self.new ≡ with_area self.old (leave self.old.area at order) }
+
+        // What the calls after it can rest on.
+        ensures head { (at < length self.new.states) × (has self.new.area.free at ≡ false) }
+        ensures clear { IsClear self.new at order }
+        ensures kept { (h k : ℕ) → IsClear self.old h k → IsClear self.new h k }
+    {
+        // a clause of this call says that all that is kept is of one set of blocks
+        let _pages = self.area.pages();
+        take_whole(&mut self.area, at, order);
+        let pages = order.pages();
+        self.free -= pages;
     }
 
     /// Takes the block of this order at a page, each page of which is free, of whatever type and in isolated pageblocks too.

@@ -1,7 +1,7 @@
 -- A run at any place that goes out, block by block of its cut.
-use Rattle.std.proofs.Common.{ℕ, suc, zero, ◌+◌, ◌-◌, ◌^◌, ◌≡◌, ◌≤◌, ◌<◌, ◌&&◌, not, inr, refl, sym, ◌∙◌, ap, arith, Bool, true, false, leb, List, ◌∷◌, length, length-set}
-use Rattle.std.proofs.lemmas.Bool.{and_parts, and_from, both_ways, false_from_ne_true, le-leb, leb-true}
-use Rattle.std.proofs.lemmas.Nat.{pow_pos}
+use Rattle.std.proofs.Common.{ℕ, suc, zero, ◌+◌, ◌-◌, ◌^◌, ◌≡◌, ◌≤◌, ◌<◌, ◌&&◌, not, inl, inr, refl, sym, ◌∙◌, ap, arith, Bool, true, false, leb, List, ◌∷◌, length, length-set}
+use Rattle.std.proofs.lemmas.Bool.{and_parts, and_from, both_ways, cases_lt, false_from_ne_true, le-leb, leb-true}
+use Rattle.std.proofs.lemmas.Nat.{pow_below, pow_pos}
 use Rattle.zp_model.specs.declared.migrate_type.MigrateType.{MigrateType}
 use Rattle.zp_model.specs.declared.state.State.TheVariants.{Out}
 use Rattle.zp_model.specs.Block.{has, in_run, IsBlock}
@@ -17,7 +17,7 @@ use Rattle.zp_model.specs.Step.{Outcome, alloc_run_at, refuse}
 use Rattle.zp_model.specs.Take.{leave}
 use Rattle.zp_model.specs.Zone.{PlainZone, hand_out, pages_of, posted_pages, workers_of}
 use Rattle.zp_model.proofs.Covers.{length-without}
-use Rattle.zp_model.proofs.Cuts.{fitting}
+use Rattle.zp_model.proofs.Cuts.{fitting, fitting_unique}
 use Rattle.zp_model.proofs.LowestRun.{has_pages-from, has_pages-to}
 use Rattle.zp_model.proofs.MaximalBlocks.{length-restated}
 use Rattle.zp_model.proofs.RunGiven.{leave_block}
@@ -111,6 +111,17 @@ whole_taken z w h n l inside free whole =
     let some : 0 < n = omega (arith, whole, pow_pos (fitting_order z.area.largest h n)) in
     let x = taking_goes (taking_begins z w h n l inside free) some in
     taking_ends z (block_taken z w h k) w h n (h + 2 ^ k) (n - 2 ^ k) (omega (arith, whole)) x
+
+-- the cut of a run that is a block is this block
+pub block_fits : (m pages h n k : ℕ) → IsBlock m pages h k → 2 ^ k ≡ n → fitting_order m h n ≡ k
+block_fits m pages h n k x whole = fitting_unique m h n k (record { order = x.order; aligned = x.aligned; inside = omega (arith, whole); greatest = λ j le al fits. elim (cases_lt k j) [ inl more ↦ absurd (omega (arith, pow_below k j more, fits, whole)) | inr most ↦ most ] })
+
+-- so a block that goes out as a run goes out as a block
+pub block_as_run : (z : PlainZone) (w h n k : ℕ) → IsLawful z → IsBlock z.area.largest (pages_of z) h k → IsFreeRun z.area h (2 ^ k) → 2 ^ k ≡ n → block_taken z w h k ≡ run_taken z w h n
+block_as_run z w h n k l block free whole =
+    let same : fitting_order z.area.largest h n ≡ k = block_fits z.area.largest (pages_of z) h n k block whole in
+    let full : IsFreeRun z.area h n = rw (← whole) free in
+    ap (block_taken z w h) (sym same) ∙ whole_taken z w h n l (omega (arith, block.inside, whole)) full (ap (λ j. 2 ^ j) same ∙ whole)
 
 -- a free block of a zone goes out
 module _ (f : Frames) (base min w h k : ℕ) (t : MigrateType) (x : IsAsked f base min) (block : IsBlock f.area.largest (length f.area.free) h k) (full : IsFreeRun f.area h (2 ^ k)) where

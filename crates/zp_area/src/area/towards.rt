@@ -22,7 +22,7 @@ use zp_tree::OrderTree;
 impl FreeArea {
     /// The order of the block that a page heads, where it heads one.
     #[inline(always)]
-    fn order_headed(&self, at: PageAt) -> Option<Order>
+    pub fn order_headed(&self, at: PageAt) -> Option<Order>
         ensures none { IfNone result ((k : ℕ) → Starts (block_set self.now) at k → ⊥) }
         ensures some { IfSome result (λ o. Starts (block_set self.now) at o) }
     {
@@ -59,8 +59,9 @@ impl FreeArea {
         None
     }
 
-    /// Takes a block out of the set whole.
-    fn remove(&mut self, at: PageAt, order: Order)
+    /// Takes a block out of the set whole, whatever the type of its pageblock.
+    #[inline(always)]
+    pub fn remove(&mut self, at: PageAt, order: Order)
         requires { Starts (block_set self.old) at order }
         ensures { self.new ≡ removed self.old.largest self.old at order }
     {

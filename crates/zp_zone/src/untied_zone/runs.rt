@@ -11,6 +11,7 @@ ghost use Rattle.zp_model.specs.Zone.{Holding, holds, pages_of, workers_of};
 ghost use Rattle.zp_model.specs.Runs.{
   IsFreeRun,
   block_around,
+  has_pages,
   is_lent_run,
   may_alloc_run,
   may_free_run,
@@ -48,10 +49,9 @@ impl UntiedZone {
         let Some(at) = run_place(page, pages, self.base, self.buddy.pages()) else {
             return Err(Refused::BadRun);
         };
-        if !self.buddy.is_free_run(at, pages) {
+        if !self.take_if_free(worker, at, pages) {
             return Err(Refused::NotFree);
         }
-        self.take_free_run(worker, at, pages);
         Ok(page)
     }
 
@@ -85,6 +85,47 @@ impl UntiedZone {
         let page = PageNo::new(self.base + at.number());
         self.take_free_run(worker, at, pages);
         Ok(page)
+    }
+
+    /// Takes so many pages from this one on, where all of them are free: whether they are. Where they are a free block, that is taken straight.
+    #[inline(always)]
+    fn take_if_free(&mut self, worker: Worker, at: PageAt, pages: u32) -> bool
+        requires worker { worker < workers_of self.old.plain }
+        requires some { 0 < pages }
+        requires inside { at + pages ≤ pages_of self.old.plain }
+        ensures when { result ≡ has_pages self.old.plain.area.free at pages }
+        ensures taken { result ≡ true → self.new ≡ record self.old { plain = run_taken self.old.plain worker at pages } }
+        ensures left { result ≡ false → self.new ≡ self.old }
+    {
+        // a clause of this call says that what is noted as free is free
+        let _pages = self.buddy.pages();
+        if let Some(order) = self.buddy.free_block(at, pages) {
+            self.buddy.take_whole(at, order);
+            let noted = self.buddy.type_of(at).noted();
+            self.buddy.hold(at, State::Out(order, noted, worker));
+            return true;
+        }
+        self.take_parts_if_free(worker, at, pages)
+    }
+
+    /// The same, from free block to free block.
+    // (out of line: most runs that are taken at their place are a free block)
+    #[inline(never)]
+    fn take_parts_if_free(&mut self, worker: Worker, at: PageAt, pages: u32) -> bool
+        requires worker { worker < workers_of self.old.plain }
+        requires some { 0 < pages }
+        requires inside { at + pages ≤ pages_of self.old.plain }
+        ensures when { result ≡ has_pages self.old.plain.area.free at pages }
+        ensures taken { result ≡ true → self.new ≡ record self.old { plain = run_taken self.old.plain worker at pages } }
+        ensures left { result ≡ false → self.new ≡ self.old }
+    {
+        // a clause of this call says how many pages there can be
+        let _pages = self.pages();
+        if !self.buddy.is_free_run(at, pages) {
+            return false;
+        }
+        self.take_free_run(worker, at, pages);
+        true
     }
 
     /// Takes so many pages from this one on, all of them free. Where they are one block, it is taken straight.
