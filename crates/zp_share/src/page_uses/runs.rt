@@ -18,8 +18,7 @@ use zp_zone::{Zone, fitting_order};
 
 impl PageUses {
     /// Whether so many pages from this absolute one on, one at least, are the zone's, and each lies in a lent block.
-    // (out of line: in line `Share::refuse` is too long to be so, and then each section that may be refused clears room for a list of pages)
-    #[inline(never)]
+    #[inline(always)]
     pub fn is_lent_run(&self, page: PageNo, pages: u32) -> bool
         ensures { result ≡ is_lent_run self.now.base self.now.uses page pages }
     {
@@ -197,6 +196,7 @@ impl PageUses {
 
     /// So many pages from this one on, all of them lent, are the worker's no more, by whatever blocks. What the blocks around the first and the last
     /// of them have beyond the run stays lent.
+    #[inline(always)]
     pub fn free_run(&mut self, zone: &Zone, worker: Worker, page: PageNo, pages: u32)
         requires base { self.old.base ≡ zone.now.plain.base }
         requires known { worker < workers_of zone.now.plain }

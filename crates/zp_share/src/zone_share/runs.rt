@@ -15,8 +15,17 @@ use zp_zone::{Zone, page_reply};
 
 impl ZoneShare {
     /// Whether so many pages from this one on, one at least, are lent, by whatever blocks.
+    // (out of line: in line `Share::refuse` is too long to be so, and then each section that may be refused clears room for a list of pages)
     #[inline(never)]
     pub fn is_lent_run(&self, page: PageNo, pages: u32) -> bool
+        ensures { result ≡ is_lent_run self.now.seat.part.base self.now.uses page pages }
+    {
+        self.lends_run(page, pages)
+    }
+
+    /// The same, in line: what it looks at is at hand where the run comes back.
+    #[inline(always)]
+    fn lends_run(&self, page: PageNo, pages: u32) -> bool
         ensures { result ≡ is_lent_run self.now.seat.part.base self.now.uses page pages }
     {
         // the invariant is at hand where a field is
@@ -83,7 +92,7 @@ impl ZoneShare {
         ensures section { IsAsked (request.FreeRun page pages) (done_reply reply.Freed result) zone.old zone.new self.old self.new }
         ensures lists { (n : ℕ) → HasAtMost n self.old → HasAtMost n self.new }
     {
-        if !self.is_lent_run(page, pages) {
+        if !self.lends_run(page, pages) {
             return Err(Refused::NotLent);
         }
         if self.sections.are_full() {
