@@ -19,7 +19,7 @@ use Rattle.zp_share.specs.PlainShares.{PlainShare, no_own, own_at, refusal, refu
 use Rattle.zp_share.specs.Sections.{done_reply}
 use Rattle.zp_share.specs.ZoneShares.{answered, answered_in, plain_share}
 use Rattle.zp_share.specs.Commands.{World, Done, done, done_answer, section, section_as, told_as}
-use Rattle.zp_share.specs.Shares.{ShareState, IsShareOf, IsDone, IsNotedAt, is_section, key_of, named_zone, noted_at, plain, share_at, with_zone_share, world}
+use Rattle.zp_share.specs.Shares.{ShareState, ZoneKey, IsShareOf, IsDone, IsNotedAt, is_section, key_of, named_zone, noted_at, plain, share_at, with_zone_share, world}
 use Rattle.zp_share.specs.Crews.{CrewState, AreSharesOf, crew_of}
 use Rattle.zp_share.proofs.Crews.{fits_there, keys-length, keys-workers, places}
 use Rattle.zp_share.proofs.RunUses.{run_not}
@@ -154,8 +154,8 @@ noted_worker s u i r q e =
     either false x y e = refl
 
 -- a section for a run does, too
-pub run_worker : (s u : ShareState) (i p n : ℕ) (q : Reply) → IsNotedAt i (Request.FreeRun p n) q s u → u.worker ≡ s.worker
-run_worker s u i p n q (z, e) = ap (λ (t : ShareState). t.worker) e ∙ either (is_section q) (with_zone_share i (answered_in z (Request.FreeRun p n) q (share_at s i)) s) s refl
+pub run_worker : (k : ZoneKey) (s u : ShareState) (i p n : ℕ) (q : Reply) → IsNotedAt k i (Request.FreeRun p n) q s u → u.worker ≡ s.worker
+run_worker k s u i p n q (z, keyed, e) = ap (λ (t : ShareState). t.worker) e ∙ either (is_section q) (with_zone_share i (answered_in z (Request.FreeRun p n) q (share_at s i)) s) s refl
   where
     either : (b : Bool) (x y : ShareState) → x.worker ≡ y.worker → (cond b x y).worker ≡ y.worker
     either true x y e = e

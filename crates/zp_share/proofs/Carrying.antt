@@ -13,7 +13,7 @@ use Rattle.zp_zone.specs.Seats.{SeatState}
 use Rattle.zp_share.specs.PlainShares.{PlainZoneShare, PlainShare, own_at, with_own}
 use Rattle.zp_share.specs.ZoneShares.{ZoneShareState, is_lent, answered, answered_in, plain_share, opening_share}
 use Rattle.zp_share.specs.Commands.{World, Done, done, told_as, and_then}
-use Rattle.zp_share.specs.Shares.{ShareState, HasSameLent, HasSameLentBut, ZoneKey, IsNotedAt, IsShareOf, IsDone, share_at, with_zone_share, is_section, noted_at, noted_in, no_seat, plain, world, ties_of}
+use Rattle.zp_share.specs.Shares.{ShareState, HasSameLent, HasSameLentBut, ZoneKey, IsKeyedBy, IsNotedAt, IsShareOf, IsDone, share_at, with_zone_share, is_section, noted_at, noted_in, no_seat, plain, world, ties_of}
 
 -- what the share has of the zone that changes, and of another
 pub here : (s : ShareState) (i : ℕ) (x : ZoneShareState) → i < length s.zones → share_at (with_zone_share i x s) i ≡ x
@@ -56,11 +56,11 @@ pub noted_one_in : (z : PlainZone) (s : ShareState) (i : ℕ) (r : Request) (q :
 noted_one_in z s i r q = one_or_same s i (answered_in z r q (share_at s i)) (is_section q)
 
 -- so it is noted
-pub noted_by : (z : PlainZone) (i : ℕ) (r : Request) (q : Reply) (s t : ShareState) → t ≡ noted_in z i r q s → IsNotedAt i r q s t
-noted_by z i (Request.AllocRun n a m) q s t e = (z, e)
-noted_by z i (Request.AllocRunAt p n) q s t e = (z, e)
-noted_by z i (Request.FreeRun p n) q s t e = (z, e)
-noted_by z i r q s t e = e
+pub noted_by : (z : PlainZone) (k : ZoneKey) (i : ℕ) (r : Request) (q : Reply) (s t : ShareState) → IsKeyedBy k z → t ≡ noted_in z i r q s → IsNotedAt k i r q s t
+noted_by z k i (Request.AllocRun n a m) q s t x e = (z, x, e)
+noted_by z k i (Request.AllocRunAt p n) q s t x e = (z, x, e)
+noted_by z k i (Request.FreeRun p n) q s t x e = (z, x, e)
+noted_by z k i r q s t x e = e
 
 -- what the plain share has of a zone is what the share has there, made plain
 pub own-plain : (s : ShareState) (i : ℕ) → own_at (plain s) i ≡ plain_share (share_at s i)

@@ -16,7 +16,7 @@ use Rattle.zp_share.specs.declared.sections_made.TheConstants.{LAST_SECTION}
 use Rattle.zp_share.specs.PlainShares.{PlainZoneShare, lends_for, refusal_of, share_after_in, own_at, with_own}
 use Rattle.zp_share.specs.ZoneShares.{ZoneShareState, plain_share, opening_share}
 use Rattle.zp_share.specs.Commands.{no_zone, zone_at, section, section_as}
-use Rattle.zp_share.specs.Shares.{ShareState, ZoneKey, IsAskedAt, IsDone, IsShareOf, key_of, named_zone, no_seat, no_tie, plain, share_at, ties_of, with_zone_share, world}
+use Rattle.zp_share.specs.Shares.{ShareState, ZoneKey, IsAskedAt, IsDone, IsShareOf, key_of, named_zone, no_key, no_seat, no_tie, plain, share_at, ties_of, with_zone_share, world}
 use Rattle.zp_share.specs.Sections.{ComesOf, IsAsked}
 use Rattle.zp_share.proofs.Carrying.{noted_by, noted_one_in, own-plain, plain-with, put_back}
 use Rattle.zp_share.proofs.Tried.{not_lent_alone, tried}
@@ -92,6 +92,7 @@ pub asked_at : (r : Request) (q : Reply) (zs : List ZoneState) (s t : ShareState
     IsAskedAt i r q (map key_of zs) (map key_of (slice_set zs i y)) (Some (map named_zone zs)) (Some (map named_zone (slice_set zs i y))) s t
 asked_at r q zs s t i z y c x =
     let own = plain_share (share_at s i) in
+    let key : key_of z ≡ get_or (map key_of zs) i no_key = ap key_of c.zone ∙ sym (get_or-map key_of zs i z no_key (omega (arith, c.place, as_many zs s c.fits))) in
     let same : map key_of (slice_set zs i y) ≡ map key_of zs = map-set_same key_of zs i y z (key-kept _ r q z y (share_at s i) (share_at t i) x.made ∙ ap key_of c.zone) in
     record {
       keys = same;
@@ -100,7 +101,7 @@ asked_at r q zs s t i z y c x =
           ∙ c.fits
           ∙ ap (map (λ (k : ZoneKey). k.tie)) (sym same);
       share =
-          noted_by z.plain i r q s t
+          noted_by z.plain (get_or (map key_of zs) i no_key) i r q s t (record { base = ap (λ (k : ZoneKey). k.base) key; largest = ap (λ (k : ZoneKey). k.largest) key })
           (c.others
           ∙ ap (λ v. with_zone_share i v s) (tried (lends_for r own) (own.sections.made == LAST_SECTION) r q z y (share_at s i) (share_at t i) x.made)
           ∙ sym (noted_one_in z.plain s i r q));

@@ -111,12 +111,18 @@ noted_at i r q s = cond (is_section q) (with_zone_share i (answered r q (share_a
 abbrev pub noted_in : PlainZone → ℕ → Request → Reply → ShareState → ShareState
 noted_in z i r q s = cond (is_section q) (with_zone_share i (answered_in z r q (share_at s i)) s) s
 
--- the share after a request to zone i that was answered so. What a run makes of it hangs on the zone's largest order and the types of its pageblocks
-abbrev pub IsNotedAt : ℕ → Request → Reply → ShareState → ShareState → Type 0
-IsNotedAt i (Request.AllocRun n a m) q s t = (z : PlainZone) × (t ≡ noted_in z i (Request.AllocRun n a m) q s)
-IsNotedAt i (Request.AllocRunAt p n) q s t = (z : PlainZone) × (t ≡ noted_in z i (Request.AllocRunAt p n) q s)
-IsNotedAt i (Request.FreeRun p n) q s t = (z : PlainZone) × (t ≡ noted_in z i (Request.FreeRun p n) q s)
-IsNotedAt i r q s t = t ≡ noted_at i r q s
+-- zone z has the first page and the largest order of this key
+pub record IsKeyedBy (k : ZoneKey) (z : PlainZone) : Type 0 where
+  pub base : z.base ≡ k.base
+  pub largest : z.area.largest ≡ k.largest
+
+-- the share after a request to zone i, which has this key, that was answered so. What a run makes of it hangs on the zone's first page, its largest order and
+-- the types of its pageblocks
+abbrev pub IsNotedAt : ZoneKey → ℕ → Request → Reply → ShareState → ShareState → Type 0
+IsNotedAt k i (Request.AllocRun n a m) q s t = (z : PlainZone) × IsKeyedBy k z × (t ≡ noted_in z i (Request.AllocRun n a m) q s)
+IsNotedAt k i (Request.AllocRunAt p n) q s t = (z : PlainZone) × IsKeyedBy k z × (t ≡ noted_in z i (Request.AllocRunAt p n) q s)
+IsNotedAt k i (Request.FreeRun p n) q s t = (z : PlainZone) × IsKeyedBy k z × (t ≡ noted_in z i (Request.FreeRun p n) q s)
+IsNotedAt k i r q s t = t ≡ noted_at i r q s
 
 -- what was to be done is what was answered and left; the zones are told here
 pub record IsDone {A : Type 0} (d : Done A) (a : A) (rows : Option (List NamedZone)) (s : ShareState) : Type 0 where
@@ -128,7 +134,7 @@ pub record IsDone {A : Type 0} (d : Done A) (a : A) (rows : Option (List NamedZo
 pub record IsAskedAt (i : ℕ) (r : Request) (q : Reply) (ks ls : List ZoneKey) (zs ys : Option (List NamedZone)) (s t : ShareState) : Type 0 where
   pub keys : ls ≡ ks
   pub fits : IsShareOf ls t
-  pub share : IsNotedAt i r q s t
+  pub share : IsNotedAt (slice_index_or ks i no_key) i r q s t
   pub reply : IsReplyTo r q (share_at s i) (share_at t i)
   pub not_lent : (q ≡ Reply.Refused NotLent) ↔ (lends_for r (plain_share (share_at s i)) ≡ false)
   pub told : (rows : List NamedZone) → zs ≡ Some rows → IsDone (section (world rows s) i r) q ys t

@@ -153,10 +153,11 @@ unasked keys r q g s key fits none reply made = record {
 }
 
 -- a request that was refused 20 or 30 leaves the share as it was
-unnoted : (i : ℕ) (r : Request) (q : Reply) (s : ShareState) → is_section q ≡ false → IsNotedAt i r q s s
-unnoted i r q s none =
-    let z : PlainZone = zone_opening 0 0 0 0 0 in
-    noted_by z i r q s s (sym (ap (λ b. cond b (with_zone_share i (answered_in z r q (share_at s i)) s) s) none))
+unnoted : (k : ZoneKey) (i : ℕ) (r : Request) (q : Reply) (s : ShareState) → is_section q ≡ false → IsNotedAt k i r q s s
+unnoted k i r q s none =
+    let any : PlainZone = zone_opening 0 0 0 0 0 in
+    let z : PlainZone = record any { area = record any.area { largest = k.largest }; base = k.base } in
+    noted_by z k i r q s s (record { base = refl; largest = refl }) (sym (ap (λ b. cond b (with_zone_share i (answered_in z r q (share_at s i)) s) s) none))
 
 -- such a refusal is a reply to each request
 lent_or_full : (b : Bool) → (cond b JournalFull NotLent ≡ NotLent) ⊎ (cond b JournalFull NotLent ≡ JournalFull)
@@ -359,7 +360,7 @@ refused_at keys i r q s fits is =
     (record {
       keys = refl;
       fits = fits;
-      share = unnoted i r (refused_full r (plain_share (share_at s i))) s (full_section (lends_for r (plain_share (share_at s i))));
+      share = unnoted (key_at keys i) i r (refused_full r (plain_share (share_at s i))) s (full_section (lends_for r (plain_share (share_at s i))));
       reply = full_reply r (plain_share (share_at s i)) (share_at s i) (share_at s i);
       not_lent = alone (lends_for r (plain_share (share_at s i)));
       told = λ rows e. absurd (cc);
@@ -372,11 +373,13 @@ refused_at keys i r q s fits is =
 -- under the lock of a place it says what came of it there
 pub viewed : (keys : List ZoneKey) (i : ℕ) (r : Request) (q : Reply) (g h : GuardedZone) (s t : ShareState) → g.place ≡ i → IsAskedUnderLock keys r q g h s t → IsAskedAt i r q keys keys None None s t
 viewed keys i r q g h s t at x =
+    let key : key_of g.zone ≡ key_at keys g.place =
+    sym (key_stays (lends_for r (plain_share (share_at s g.place))) (is_journal_full g) r q g.zone h.zone (share_at s g.place) (share_at t g.place) x.made) ∙ x.kept.key ∙ ap (key_at keys) x.kept.place in
     subst (λ p. IsAskedAt p r q keys keys None None s t) at
     (record {
       keys = refl;
       fits = x.kept.fits;
-      share = noted_by g.zone.plain g.place r q s t x.share;
+      share = noted_by g.zone.plain (key_at keys g.place) g.place r q s t (record { base = ap (λ (k : ZoneKey). k.base) key; largest = ap (λ (k : ZoneKey). k.largest) key }) x.share;
       reply = x.reply;
       not_lent = not_lent_alone (lends_for r (plain_share (share_at s g.place))) (is_journal_full g) r q g.zone h.zone (share_at s g.place) (share_at t g.place) x.made;
       told = λ rows e. absurd (cc);

@@ -23,7 +23,7 @@ turn c =
       share = c.index_mut-share.ensures.value;
       keys = c.free_run.ensures.asked.keys;
       fits = c.free_run.ensures.asked.fits;
-      worker = run_worker _ _ c.args.zone c.args.page c.args.pages (done_reply reply.Freed c.free_run.result) c.free_run.ensures.asked.share;
+      worker = run_worker _ _ _ c.args.zone c.args.page c.args.pages (done_reply reply.Freed c.free_run.result) c.free_run.ensures.asked.share;
     }
 
 pub returns-then-not-has_place-clause-done : goal.returns-then-not-has_place-clause-done
