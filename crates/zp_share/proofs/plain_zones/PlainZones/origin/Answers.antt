@@ -1,0 +1,1 @@
+use Rattle.zp_share.proofs.plain_zones.PlainZones.origin.Goals as goal
