@@ -1,5 +1,7 @@
 -- Where the blocks come from that the zones of a row give to a worker.
-use Rattle.std.proofs.Common.{ℕ, ◌≡◌, ◌<◌, ◌∙◌, ap, sym, List, length, map, get_or}
+use Rattle.std.proofs.Common.{ℕ, ◌+◌, ◌≡◌, ◌<◌, ◌∙◌, ap, sym, arith, List, [], ◌∷◌, ◌++◌, length, map, get_or}
+use Rattle.std.specs.List.{range_with_len}
+use Rattle.std.proofs.lemmas.List.FromFn.{map-range_with_len_more}
 use Rattle.std.specs.Prelude.{Bool, true, false, Option, None, cond}
 use Rattle.zp_model.specs.Choose.{origin}
 use Rattle.zp_model.specs.declared.migrate_type.MigrateType.{MigrateType}
@@ -30,3 +32,7 @@ module _ (zones : List ZoneState) (shares : List ShareState) (n w i k : ℕ) (t 
   -- from the zone
   pub of_zone : is_off_list (plain s) i k t ≡ false → origin (zone_at (map named_zone zones) i).plain.area k t ≡ origin_of w k t before i
   of_zone e = sym (there ∙ ap (λ b. cond b None (origin (zone_at (map named_zone zones) i).plain.area k t)) e)
+
+-- what one zone more says
+pub one_more : (f : ℕ → Option Origin) (n : ℕ) (xs : List (Option Origin)) (x : Option Origin) → xs ≡ map f (range_with_len 0 n) → x ≡ f n → xs ++ x ∷ [] ≡ map f (range_with_len 0 (n + 1))
+one_more f n xs x e is = ap (λ l. l ++ x ∷ []) e ∙ ap (λ y. map f (range_with_len 0 n) ++ y ∷ []) is ∙ sym (map-range_with_len_more f 0 n n (omega arith))

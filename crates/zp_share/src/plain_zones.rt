@@ -45,7 +45,7 @@ impl PlainZones {
     /// Where the block comes from that a request for this order and type takes now from the zone at this place, where it has one for it. No mark
     /// is looked at, and nothing that is told of the zones changes.
     pub fn origin(&mut self, zone: usize, order: Order, kind: MigrateType) -> Option<Origin>
-        requires zone { zone < length self.old }
+        requires { zone < length self.old }
         ensures answer { result ≡ origin (zone_at (map named_zone self.old) zone).plain.area order kind }
         ensures same { self.new ≡ self.old }
     {
