@@ -75,7 +75,7 @@ same_after zones new shares n w s d u before x =
     }
 
 -- the share that stands at a place
-pub share_there : (zones : List ZoneState) (shares : List ShareState) (n : ℕ) (s d : ShareState) → n < length shares → s ≡ get_or shares n d →
+share_there : (zones : List ZoneState) (shares : List ShareState) (n : ℕ) (s d : ShareState) → n < length shares → s ≡ get_or shares n d →
     plain s ≡ share_of (crew_of zones shares) n
 share_there zones shares n s d lt e = ap plain e ∙ sym (get_or-there plain shares n d _ lt)
 

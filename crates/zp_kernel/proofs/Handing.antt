@@ -1,5 +1,5 @@
 -- What is kept after a block was handed out.
-use Rattle.std.proofs.Common.{ℕ, ◌≡◌, ◌≤◌, ◌∙◌, sym, ap, subst, refl, arith, Bool, true, false, cond, Some, None, Ok, Err, IsSome}
+use Rattle.std.proofs.Common.{ℕ, ◌≡◌, ◌≤◌, ◌∙◌, sym, ap, subst, refl, arith, Bool, true, false, cond, Some, None, Ok, IsSome}
 use Rattle.std.specs.Prelude.{Option, Result, ltb, ◌^◌}
 use Rattle.std.specs.Ordering.{nat_cmp, eq_by_cmp}
 use Rattle.std.specs.Cmp.{nat_cmp_total}
@@ -56,10 +56,6 @@ module _ {X : Type 0} where
       last true x y z = refl
       last false x y z = refl
 
-joined : (crew : CrewState) (fs gs : Frames) (a b : EventCounts) → fs ≡ gs → a ≡ b →
-    ◌≡◌ {A = KernelState} (record { crew = crew; frames = fs; counts = a }) (record { crew = crew; frames = gs; counts = b })
-joined crew fs gs a b e f = cc
-
 -- a request that was met
 pub asked_ok : (w : ℕ) (x : FrameBlock) (k i pages : ℕ) (t : MigrateType) (b : KernelState) (r : Result Lent Refused) (l : Lent) (crew : CrewState) (fs : Frames) (from : Option Origin) (counts : EventCounts) →
     k ≡ x.order → IsCrewDone (asked_by w k t i b.crew) r crew → r ≡ Ok l → pages ≡ 2 ^ k → fs ≡ insert b.frames x.frame (record { lent = l; worker = w })
@@ -80,19 +76,10 @@ asked_ok w x k i pages t b r l crew fs from counts same done is many frames came
     first
     ∙ ap (λ a. answered w x.frame x.order t crew a c) (sym is ∙ here.answer)
     ∙ ap (λ y. answered w x.frame x.order t y d.answer c) here.crew
-
--- a request that was refused
-pub asked_err : (w : ℕ) (x : FrameBlock) (k i : ℕ) (t : MigrateType) (b : KernelState) (r : Result Lent Refused) (e : Refused) (crew : CrewState) (fs : Frames) (counts : EventCounts) →
-    k ≡ x.order → IsCrewDone (asked_by w k t i b.crew) r crew → r ≡ Err e → fs ≡ remove b.frames x.frame → counts ≡ noted (happened.Refused e) b.counts →
-    let after : KernelState = record { crew = crew; frames = fs; counts = counts } in after ≡ asked w x t i (holding_none x.frame b)
-asked_err w x k i t b r e crew fs counts same done is frames noted_is =
-    let d = asked_by w x.order t i b.crew in
-    let here : IsCrewDone (asked_by w x.order t i b.crew) r crew = subst (λ n. IsCrewDone (asked_by w n t i b.crew) r crew) same done in
-    let c : KernelState = holding_none x.frame b in
-    let first : ◌≡◌ {A = KernelState} (record { crew = crew; frames = fs; counts = counts }) (answered w x.frame x.order t crew (Err e) c) = joined crew _ _ _ _ frames noted_is in
-    first
-    ∙ ap (λ a. answered w x.frame x.order t crew a c) (sym is ∙ here.answer)
-    ∙ ap (λ y. answered w x.frame x.order t y d.answer c) here.crew
+  where
+    joined : (crew : CrewState) (fs gs : Frames) (a b : EventCounts) → fs ≡ gs → a ≡ b →
+        ◌≡◌ {A = KernelState} (record { crew = crew; frames = fs; counts = a }) (record { crew = crew; frames = gs; counts = b })
+    joined crew fs gs a b e f = cc
 
 -- what a block's frame held still is none of the frames' any more
 pub still_frames : (w : ℕ) (o : Option Held) (b : KernelState) → (still_held w o b).frames ≡ b.frames

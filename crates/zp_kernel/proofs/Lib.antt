@@ -1,7 +1,6 @@
 pub mod Frames
 pub mod Splitting
 pub mod Crews
-pub mod Origins
 pub mod Handing
 pub mod Around
 pub mod RunsOfLines

@@ -62,8 +62,9 @@ fn ask(
     let origins = state.crew.origins(by, order, kind);
     match state.crew.alloc(by, order, kind, top) {
         Ok(lent) => {
+            let origin = origins[lent.zone];
             state.frames.set(block.frame, Held { lent, worker: by });
-            state.counts.note_origin(origins[lent.zone], kind);
+            state.counts.note_origin(origin, kind);
             state.counts.note(Happening::Given);
             state.counts.note_out(order.pages());
         }
