@@ -12,11 +12,10 @@ use crate::options::{EventOptions, Form};
 use crate::plan::ZonePlan;
 use crate::planning::plans_of;
 use crate::samples::Samples;
-use crate::type_changes::TypeChanges;
 use std::alloc::Global;
 use std::io;
 use std::io::Write;
-use zp_events::{Action, PageEvent};
+use zp_events::PageEvent;
 use zp_kernel::{Kernel, Onlooker};
 use zp_progress::Progress;
 
@@ -28,7 +27,6 @@ const STEP: u64 = 1_024;
 pub struct Opened {
     pub plans: Vec<ZonePlan>,
     pub workers: u32,
-    pub types: TypeChanges,
     pub samples: Option<Samples>,
 }
 
@@ -82,7 +80,6 @@ impl<'a, W: Write + Drop, P: Progress + Drop> CaptureWatch<'a, W, P> {
             lists: options.lists,
         };
         let kernel = kernel_of(self.alloc, &plans, &settings)?;
-        let types = TypeChanges::new(self.alloc, &plans, kernel.zones())?;
         let samples = samples_of(self.alloc, options.form, plans.len())?;
         if let Form::Lines(_every) = options.form {
             write_heads(&mut self.writer, options.largest)?;
@@ -90,7 +87,6 @@ impl<'a, W: Write + Drop, P: Progress + Drop> CaptureWatch<'a, W, P> {
         self.opened = Some(Opened {
             plans,
             workers: settings.workers,
-            types,
             samples,
         });
         Ok(kernel)
@@ -126,15 +122,8 @@ fn samples_of(alloc: Global, form: Form, zones: usize) -> Result<Option<Samples>
 }
 
 impl Opened {
-    /// An event left the zones so; a block was given for it, or none.
-    fn note(&mut self, event: &PageEvent, kernel: &Kernel, is_given: bool) -> io::Result<()> {
-        if is_given {
-            if let Action::Alloc(block, _) = &event.action {
-                if let Some(held) = kernel.held(block.frame) {
-                    self.types.note(kernel.zones(), &held);
-                }
-            }
-        }
+    /// An event left the zones so.
+    fn note(&mut self, kernel: &Kernel) -> io::Result<()> {
         if let Some(samples) = &mut self.samples {
             samples.note(kernel.zones())?;
         }
@@ -157,13 +146,13 @@ impl<W: Write + Drop, P: Progress + Drop> Onlooker for CaptureWatch<'_, W, P> {
         }
     }
 
-    fn event(&mut self, event: &PageEvent, kernel: &Kernel, is_given: bool) -> io::Result<()> {
+    fn event(&mut self, _event: &PageEvent, kernel: &Kernel) -> io::Result<()> {
         self.events = self.events.saturating_add(1);
         if self.events % STEP == 0 {
             self.progress.past(self.events);
         }
         if let Some(opened) = &mut self.opened {
-            opened.note(event, kernel, is_given)?;
+            opened.note(kernel)?;
         }
         self.write_due(kernel)
     }

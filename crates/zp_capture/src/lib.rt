@@ -17,7 +17,6 @@ mod report;
 mod samples;
 mod share_row;
 mod summary;
-mod type_changes;
 mod zone_info;
 
 pub use capture::Capture;

@@ -136,14 +136,11 @@ fn tell<W: Write>(
     writer: &mut W,
 ) -> Result<(), CaptureFault> {
     let (zones, shares) = kernel.into_parts();
-    let (claims, borrows) = ended.opened.types.counts();
     let told = CaptureReport {
         plans: &ended.opened.plans,
         workers: ended.opened.workers,
         lines: ended.summary.lines,
         counts: ended.summary.counts,
-        claims,
-        borrows,
         sections: sections_of(&shares),
     };
     write_table(writer, &told)?;

@@ -3,8 +3,7 @@
 use crate::plan::ZonePlan;
 use std::io;
 use std::io::Write;
-use zp_kernel::{EventCounts, LineCounts};
-use zp_model::TYPES;
+use zp_kernel::{EventCounts, LineCounts, TypeCounts};
 
 /// The report on a run.
 #[derive(Clone, Copy, Drop)]
@@ -13,9 +12,6 @@ pub struct CaptureReport<'a> {
     pub workers: u32,
     pub lines: LineCounts,
     pub counts: EventCounts,
-    /// How many pageblocks were claimed, and blocks borrowed, by the number of the request's type.
-    pub claims: [u64; TYPES],
-    pub borrows: [u64; TYPES],
     /// How many sections were made with all zones.
     pub sections: u64,
 }
@@ -114,16 +110,17 @@ fn write_frees<W: Write>(writer: &mut W, told: &CaptureReport<'_>) -> io::Result
     write_count(writer, "refused otherwise", other, "")
 }
 
-/// Writes how often a request got a block of a pageblock of another type.
+/// Writes how often something happened, by the type of the request.
+fn write_types<W: Write>(writer: &mut W, unmovable: &str, counts: &TypeCounts) -> io::Result<()> {
+    write_count(writer, unmovable, counts.unmovable, "")?;
+    write_count(writer, "  Reclaimable", counts.reclaimable, "")?;
+    write_count(writer, "  Movable", counts.movable, "")
+}
+
+/// Writes how often a request was met out of the free pages of another type.
 fn write_changes<W: Write>(writer: &mut W, told: &CaptureReport<'_>) -> io::Result<()> {
-    let [unmovable, reclaimable, movable] = told.claims;
-    write_count(writer, "pageblocks claimed: Unmovable", unmovable, "")?;
-    write_count(writer, "  Reclaimable", reclaimable, "")?;
-    write_count(writer, "  Movable", movable, "")?;
-    let [unmovable, reclaimable, movable] = told.borrows;
-    write_count(writer, "blocks borrowed: Unmovable", unmovable, "")?;
-    write_count(writer, "  Reclaimable", reclaimable, "")?;
-    write_count(writer, "  Movable", movable, "")?;
+    write_types(writer, "pageblocks claimed: Unmovable", &told.counts.claims)?;
+    write_types(writer, "blocks borrowed: Unmovable", &told.counts.borrows)?;
     write_count(
         writer,
         "such requests of the kernel",

@@ -8,6 +8,7 @@ use Rattle.std.proofs.lemmas.Bool.Decides.{nat_tests}
 use Rattle.zp_events.specs.declared.event.FrameBlock.{FrameBlock}
 use Rattle.zp_events.specs.declared.event.PageRequest.{PageRequest}
 use Rattle.zp_model.specs.declared.migrate_type.MigrateType.{MigrateType}
+use Rattle.zp_model.specs.declared.origin.Origin.{Origin}
 use Rattle.zp_model.specs.declared.refused.Refused.{Refused}
 use Rattle.zp_share.specs.declared.commands.Lent.{Lent}
 use Rattle.zp_kernel.specs.declared.kernel_state.KernelState.{KernelState}
@@ -16,9 +17,9 @@ use Rattle.zp_kernel.specs.declared.event_counts.Happening.TheVariants as happen
 use Rattle.zp_kernel.specs.declared.held.Held.{Held}
 use Rattle.zp_kernel.specs.declared.setting.Setting.{Setting}
 use Rattle.zp_kernel.specs.KernelStates.{holding_none, noting}
-use Rattle.zp_kernel.specs.Counts.{noted, pages_out}
+use Rattle.zp_kernel.specs.Counts.{noted, origin_noted, pages_out}
 use Rattle.zp_share.specs.Crews.{CrewState}
-use Rattle.zp_kernel.specs.Crews.{IsCrewDone, asked_by}
+use Rattle.zp_kernel.specs.Crews.{IsCrewDone, asked_by, origin_of}
 use Rattle.zp_kernel.specs.Events.{answered, asked, asked_for, cleared, handed_out, still_held}
 use Rattle.zp_kernel.specs.Frames.{Frames}
 use Rattle.zp_kernel.specs.Settings.{kind_of, top_of}
@@ -56,22 +57,25 @@ module _ {X : Type 0} where
       last false x y z = refl
 
 -- a request that was met
-pub asked_ok : (w : ℕ) (x : FrameBlock) (k i pages : ℕ) (t : MigrateType) (b : KernelState) (r : Result Lent Refused) (l : Lent) (crew : CrewState) (fs : Frames) (counts : EventCounts) →
+pub asked_ok : (w : ℕ) (x : FrameBlock) (k i pages : ℕ) (t : MigrateType) (b : KernelState) (r : Result Lent Refused) (l : Lent) (crew : CrewState) (fs : Frames) (from : Option Origin) (counts : EventCounts) →
     k ≡ x.order → IsCrewDone (asked_by w k t i b.crew) r crew → r ≡ Ok l → pages ≡ 2 ^ k → fs ≡ insert b.frames x.frame (record { lent = l; worker = w })
-    → counts ≡ pages_out pages (noted happened.Given b.counts) →
+    → from ≡ origin_of w k t b.crew l.zone → counts ≡ pages_out pages (noted happened.Given (origin_noted from t b.counts)) →
     let after : KernelState = record { crew = crew; frames = fs; counts = counts } in after ≡ asked w x t i (holding_none x.frame b)
-asked_ok w x k i pages t b r l crew fs counts same done is many frames noted_is =
+asked_ok w x k i pages t b r l crew fs from counts same done is many frames came noted_is =
     let d = asked_by w x.order t i b.crew in
     let here : IsCrewDone (asked_by w x.order t i b.crew) r crew = subst (λ n. IsCrewDone (asked_by w n t i b.crew) r crew) same done in
     let c : KernelState = holding_none x.frame b in
     let size : pages ≡ 2 ^ x.order = many ∙ ap (λ n. 2 ^ n) same in
     let held : Held = record { lent = l; worker = w } in
     let to : fs ≡ insert (remove b.frames x.frame) x.frame held = frames ∙ sym (insert_removed b.frames x.frame held) in
-    let counted : counts ≡ pages_out (2 ^ x.order) (noted happened.Given b.counts) = noted_is ∙ ap (λ n. pages_out n (noted happened.Given b.counts)) size in
-    let first : ◌≡◌ {A = KernelState} (record { crew = crew; frames = fs; counts = counts }) (answered w x.frame x.order crew (Ok l) c) = joined crew _ _ _ _ to counted in
+    let counted : counts ≡ pages_out (2 ^ x.order) (noted happened.Given (origin_noted (origin_of w x.order t b.crew l.zone) t b.counts)) =
+    noted_is
+    ∙ ap (λ n. pages_out n (noted happened.Given (origin_noted from t b.counts))) size
+    ∙ ap (λ o. pages_out (2 ^ x.order) (noted happened.Given (origin_noted o t b.counts))) (came ∙ ap (λ n. origin_of w n t b.crew l.zone) same) in
+    let first : ◌≡◌ {A = KernelState} (record { crew = crew; frames = fs; counts = counts }) (answered w x.frame x.order t crew (Ok l) c) = joined crew _ _ _ _ to counted in
     first
-    ∙ ap (λ a. answered w x.frame x.order crew a c) (sym is ∙ here.answer)
-    ∙ ap (λ y. answered w x.frame x.order y d.answer c) here.crew
+    ∙ ap (λ a. answered w x.frame x.order t crew a c) (sym is ∙ here.answer)
+    ∙ ap (λ y. answered w x.frame x.order t y d.answer c) here.crew
   where
     joined : (crew : CrewState) (fs gs : Frames) (a b : EventCounts) → fs ≡ gs → a ≡ b →
         ◌≡◌ {A = KernelState} (record { crew = crew; frames = fs; counts = a }) (record { crew = crew; frames = gs; counts = b })

@@ -1,16 +1,18 @@
 -- What the commands of one worker make of a row of zones and the shares of all its workers (this profile).
-use Rattle.std.specs.Prelude.{ℕ, ◌≡◌, [], length, slice_index_or, slice_set, Result, Ok, Err}
+use Rattle.std.specs.Prelude.{ℕ, ◌≡◌, ◌&&◌, Bool, [], length, slice_index_or, slice_set, Option, None, Result, Ok, Err, cond, ltb}
 use Rattle.zp_model.specs.declared.block.Block.{Block}
 use Rattle.zp_model.specs.declared.mark.Mark.TheVariants.{Min}
 use Rattle.zp_model.specs.declared.migrate_type.MigrateType.{MigrateType}
 use Rattle.zp_model.specs.declared.refused.Refused.{Refused}
 use Rattle.zp_model.specs.declared.refused.Refused.TheVariants.{NoBlock}
+use Rattle.zp_model.specs.declared.origin.Origin.{Origin}
 use Rattle.zp_model.specs.declared.request.Request.TheVariants as request
 use Rattle.zp_model.specs.declared.request.Reply.{Reply}
+use Rattle.zp_model.specs.Choose.{origin}
 use Rattle.zp_share.specs.declared.commands.Lent.{Lent}
-use Rattle.zp_share.specs.PlainShares.{PlainShare}
+use Rattle.zp_share.specs.PlainShares.{PlainShare, list_of, own_at}
 use Rattle.zp_share.specs.Crews.{CrewState}
-use Rattle.zp_share.specs.Commands.{World, Done, told_as, section, done_answer, alloc_down, free_in}
+use Rattle.zp_share.specs.Commands.{World, Done, told_as, section, done_answer, alloc_down, free_in, is_listed, zone_at}
 
 -- there are as many zones as before, and as many workers
 pub record IsSameCrew (c d : CrewState) : Type 0 where
@@ -46,6 +48,15 @@ and_then d f = elim d.answer [ Ok a ↦ f a d.crew | Err e ↦ record { answer =
 -- worker w asks for a block of order k for type t out of zone i or one below it, held to the least mark
 abbrev pub asked_by : ℕ → ℕ → MigrateType → ℕ → CrewState → CrewDone (Result Lent Refused)
 asked_by w k t i c = by_worker w (alloc_down k t Min i) c
+
+-- whether a block of order k for type t out of zone i comes off the worker's list: where such blocks come from lists, and that one has a page
+abbrev pub is_off_list : PlainShare → ℕ → ℕ → MigrateType → Bool
+is_off_list s i k t = is_listed s k && ltb 0 (length (list_of (own_at s i) t))
+
+-- where a block of order k for type t comes from that zone i gives to worker w: none where it comes off the worker's list. The first page of a
+-- refill tells where the refill comes from
+abbrev pub origin_of : ℕ → ℕ → MigrateType → CrewState → ℕ → Option Origin
+origin_of w k t c i = cond (is_off_list (share_of c w) i k t) None (origin (zone_at c.zones i).plain.area k t)
 
 -- worker w gives back a block of its own
 abbrev pub freed_by : ℕ → Lent → CrewState → CrewDone (Result (Unit {0}) Refused)

@@ -16,9 +16,9 @@ use Rattle.zp_kernel.specs.declared.held.Held.{Held}
 use Rattle.zp_kernel.specs.declared.held.Holder.{Holder}
 use Rattle.zp_kernel.specs.declared.setting.Setting.{Setting}
 use Rattle.zp_kernel.specs.KernelStates.{given_back, given_up, holding, holding_none, noting, part_freed}
-use Rattle.zp_kernel.specs.Counts.{noted, pages_out}
+use Rattle.zp_kernel.specs.Counts.{noted, origin_noted, pages_out}
 use Rattle.zp_share.specs.Crews.{CrewState}
-use Rattle.zp_kernel.specs.Crews.{asked_by}
+use Rattle.zp_kernel.specs.Crews.{asked_by, origin_of}
 use Rattle.zp_kernel.specs.Frames.{holder_around}
 use Rattle.zp_kernel.specs.Settings.{kind_of, top_of}
 
@@ -40,15 +40,17 @@ still_held w (Some h) b = given_back w h (noting happened.Again b)
 abbrev pub cleared : ℕ → ℕ → KernelState → KernelState
 cleared w f b = still_held w (get b.frames f) (holding_none f b)
 
--- what worker w's request for the kernel's block of order k at frame f was answered is noted, and what it left of zones and shares
-abbrev pub answered : ℕ → ℕ → ℕ → CrewState → Result Lent Refused → KernelState → KernelState
-answered w f k crew (Ok l) b =
-    holding f (record { lent = l; worker = w }) (record b { crew = crew; counts = pages_out (2 ^ k) (noted happened.Given b.counts) })
-answered w f k crew (Err r) b = record b { crew = crew; counts = noted (happened.Refused r) b.counts }
+-- what worker w's request for the kernel's block of order k at frame f, of type t, was answered is noted, what it left of zones and shares, and
+-- where the block came from: what the zone that gave it was before says so, since the zones above it were left as they were
+abbrev pub answered : ℕ → ℕ → ℕ → MigrateType → CrewState → Result Lent Refused → KernelState → KernelState
+answered w f k t crew (Ok l) b =
+    let from = origin_of w k t b.crew l.zone in
+    holding f (record { lent = l; worker = w }) (record b { crew = crew; counts = pages_out (2 ^ k) (noted happened.Given (origin_noted from t b.counts)) })
+answered w f k t crew (Err r) b = record b { crew = crew; counts = noted (happened.Refused r) b.counts }
 
 -- worker w asks for it, of type t, out of zone i or one below it
 abbrev pub asked : ℕ → FrameBlock → MigrateType → ℕ → KernelState → KernelState
-asked w x t i b = let d = asked_by w x.order t i b.crew in answered w x.frame x.order d.crew d.answer b
+asked w x t i b = let d = asked_by w x.order t i b.crew in answered w x.frame x.order t d.crew d.answer b
 
 -- nothing is asked for a type that our zones do not have
 abbrev pub asked_for : Option MigrateType → ℕ → FrameBlock → ℕ → KernelState → KernelState

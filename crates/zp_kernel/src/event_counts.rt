@@ -1,14 +1,18 @@
 //! What came of a kernel's page events, counted.
 ghost use Rattle.std.specs.Prelude.{◌≡◌};
-ghost use Rattle.zp_kernel.specs.Counts.{none_counted, noted, one_more, pages_back, pages_out};
+ghost use Rattle.zp_kernel.specs.Counts.{none_counted, none_of_types, noted, noted_of_type, one_more, origin_noted, pages_back, pages_out};
 
-use zp_model::Refused;
+use zp_model::{MigrateType, Origin, Refused};
 
 /// What comes of an event, or on the way.
 #[derive(Clone, Copy, PartialEq, Eq, Debug, Drop)]
 pub enum Happening {
     /// A request was met.
     Given,
+    /// A zone met a request for this type by a block whose pageblock it gave this type first.
+    Claimed(MigrateType),
+    /// A zone met a request for this type by a block of a pageblock that keeps another type.
+    Borrowed(MigrateType),
     /// A request was refused, or a block that goes back.
     Refused(Refused),
     /// A request for a block that is too large for the zones.
@@ -33,10 +37,21 @@ pub enum Happening {
     Passed,
 }
 
+/// How often it happened, by the type of the request. A count stays at the largest number.
+#[derive(Clone, Copy, PartialEq, Eq, Debug, Drop)]
+pub struct TypeCounts {
+    pub unmovable: u64,
+    pub reclaimable: u64,
+    pub movable: u64,
+}
+
 /// How often each happened; and how many pages the blocks have that frames hold. A count stays at the largest number.
 #[derive(Clone, Copy, PartialEq, Eq, Debug, Drop)]
 pub struct EventCounts {
     pub given: u64,
+    /// What came off a worker's list is not counted here; a refill of a list counts once, by its first page.
+    pub claims: TypeCounts,
+    pub borrows: TypeCounts,
     /// Refused 10.
     pub below_mark: u64,
     /// Refused 11.
@@ -70,6 +85,30 @@ pub fn one_more(count: u64) -> u64
     count.saturating_add(1)
 }
 
+impl TypeCounts {
+    /// It has not happened.
+    pub fn none() -> TypeCounts
+        ensures { result ≡ none_of_types }
+    {
+        TypeCounts {
+            unmovable: 0,
+            reclaimable: 0,
+            movable: 0,
+        }
+    }
+
+    /// It happened once more, to a request for this type.
+    fn note(&mut self, kind: MigrateType)
+        ensures { self.new ≡ noted_of_type kind self.old }
+    {
+        match kind {
+            MigrateType::Unmovable => self.unmovable = one_more(self.unmovable),
+            MigrateType::Reclaimable => self.reclaimable = one_more(self.reclaimable),
+            MigrateType::Movable => self.movable = one_more(self.movable),
+        }
+    }
+}
+
 impl EventCounts {
     /// Before the first event.
     pub fn none() -> EventCounts
@@ -77,6 +116,8 @@ impl EventCounts {
     {
         EventCounts {
             given: 0,
+            claims: TypeCounts::none(),
+            borrows: TypeCounts::none(),
             below_mark: 0,
             no_block: 0,
             nothing_posted: 0,
@@ -103,6 +144,8 @@ impl EventCounts {
     {
         match happening {
             Happening::Given => self.given = one_more(self.given),
+            Happening::Claimed(kind) => self.claims.note(kind),
+            Happening::Borrowed(kind) => self.borrows.note(kind),
             Happening::Refused(Refused::BelowMark) => self.below_mark = one_more(self.below_mark),
             Happening::Refused(Refused::NoBlock) => self.no_block = one_more(self.no_block),
             Happening::Refused(Refused::NothingPosted) => self.nothing_posted = one_more(
@@ -120,6 +163,17 @@ impl EventCounts {
             Happening::Larger => self.larger = one_more(self.larger),
             Happening::Unknown => self.unknown = one_more(self.unknown),
             Happening::Passed => self.passed = one_more(self.passed),
+        }
+    }
+
+    /// A block that was given for this type came from there.
+    pub(crate) fn note_origin(&mut self, origin: Option<Origin>, kind: MigrateType)
+        ensures { self.new ≡ origin_noted origin kind self.old }
+    {
+        match origin {
+            Some(Origin::Claimed) => self.note(Happening::Claimed(kind)),
+            Some(Origin::Borrowed) => self.note(Happening::Borrowed(kind)),
+            Some(Origin::Own) | None => (),
         }
     }
 

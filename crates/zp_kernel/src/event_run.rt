@@ -25,8 +25,8 @@ pub trait Onlooker {
     fn open(&mut self) -> io::Result<Kernel>
         ensures opened { IfOk result (λ kernel. opens self.old kernel) };
 
-    /// An event was carried out, which left the zones so; and whether a block was given for it.
-    fn event(&mut self, event: &PageEvent, kernel: &Kernel, is_given: bool) -> io::Result<()>;
+    /// An event was carried out, which left the zones so.
+    fn event(&mut self, event: &PageEvent, kernel: &Kernel) -> io::Result<()>;
 
     /// A line is none of a page event.
     fn other(&mut self, line: &[u8]) -> io::Result<()>
@@ -55,11 +55,9 @@ impl<O: Onlooker + Drop> LineSink for EventRun<O> {
         let Some(kernel) = &mut self.kernel else {
             return Err(io::ErrorKind::Other.into());
         };
-        let given = kernel.counts().given;
         kernel.carry_out(event)?;
         self.lines.note_event(&event.action);
-        let is_given = kernel.counts().given != given;
-        self.onlooker.event(event, kernel, is_given)
+        self.onlooker.event(event, kernel)
     }
 
     fn other(&mut self, line: &[u8]) -> io::Result<()> {

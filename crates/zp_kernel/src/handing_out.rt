@@ -59,9 +59,12 @@ fn ask(
     ensures after { state.new ≡ asked by block.now kind top (holding_none block.now.frame state.old) }
     ensures same { IsSameCrew state.old.crew state.new.crew }
 {
+    let origins = state.crew.origins(by, order, kind);
     match state.crew.alloc(by, order, kind, top) {
         Ok(lent) => {
+            let origin = origins[lent.zone];
             state.frames.set(block.frame, Held { lent, worker: by });
+            state.counts.note_origin(origin, kind);
             state.counts.note(Happening::Given);
             state.counts.note_out(order.pages());
         }

@@ -1,11 +1,14 @@
 //! A row of zones in one hand, with the shares of all its workers.
-ghost use Rattle.std.specs.Prelude.{◌≡◌, ◌<◌, ◌≤◌, ◌%◌, ◌↔◌, IsTrue, OnOk, length, map};
-ghost use Rattle.zp_share.specs.Shares.{named_zone};
+ghost use Rattle.std.specs.Prelude.{◌≡◌, ◌<◌, ◌≤◌, ◌%◌, ◌↔◌, IfOk, IsTrue, OnOk, length, map};
+ghost use Rattle.std.specs.List.{range_with_len};
+ghost use Rattle.zp_model.specs.declared.constants.TheConstants.{MAX_ZONES};
+ghost use Rattle.zp_share.specs.Shares.{named_zone, plain};
 ghost use Rattle.zp_share.specs.Crews.{AreSharesOf, crew_of};
-ghost use Rattle.zp_kernel.specs.Crews.{IsCrewDone, IsSameCrew, asked_by, collected_by, freed_by, posted_by, run_freed_by, share_of};
+ghost use Rattle.zp_kernel.specs.Crews.{IsCrewDone, IsSameCrew, asked_by, collected_by, freed_by, is_off_list, origin_of, posted_by, run_freed_by, share_of};
 
+use arrayvec::ArrayVec;
 use std::marker::Model;
-use zp_model::{Block, Mark, MigrateType, Order, PageNo, Refused, Worker};
+use zp_model::{Block, MAX_ZONES, Mark, MigrateType, Order, Origin, PageNo, Refused, Worker};
 use zp_share::{Lent, PlainZones, Share, Zones, alloc, free};
 use zp_zone::Zone;
 
@@ -25,6 +28,14 @@ impl Model for KernelZones {
     ghost view = { λ c. crew_of c.zones c.shares.items };
 
     ghost invariant = { λ c. (1 ≤ length c.shares.items) × AreSharesOf c.zones c.shares.items };
+}
+
+/// Whether a block of this order for this type, out of the zone at this place, comes off the worker's list.
+fn is_off_list(share: &Share, zone: usize, order: Order, kind: MigrateType) -> bool
+    requires { zone < length share.now.zones }
+    ensures { result ≡ is_off_list (plain share.now) zone order kind }
+{
+    share.is_listed(order) && share.cached_len(zone, kind) > 0
 }
 
 impl KernelZones {
@@ -72,6 +83,53 @@ impl KernelZones {
         }
     }
 
+    /// How many zones there are.
+    fn places(&self) -> usize
+        ensures zones { result ≡ length self.now.zones }
+        ensures few { result ≤ MAX_ZONES }
+    {
+        self.shares[0].zones()
+    }
+
+    /// Where a block of this order for this type comes from, out of the zone at this place, if the worker is given one there now: none where it comes
+    /// off the worker's list, or the zone has none.
+    fn origin(
+        &mut self,
+        worker: Worker,
+        zone: usize,
+        order: Order,
+        kind: MigrateType,
+    ) -> Option<Origin>
+        requires worker { worker < length self.old.shares }
+        requires zone { zone < length self.old.zones }
+        ensures answer { result ≡ origin_of worker order kind self.old zone }
+        ensures same { self.new ≡ self.old }
+    {
+        let share = &self.shares[usize::from(worker.number())];
+        if is_off_list(share, zone, order, kind) {
+            return None;
+        }
+        self.zones.origin(zone, order, kind)
+    }
+
+    /// The same of each zone. A zone that refuses a request stays as it was, so a block that `alloc` gets comes from there, whichever of them gives it.
+    pub fn origins(
+        &mut self,
+        worker: Worker,
+        order: Order,
+        kind: MigrateType,
+    ) -> ArrayVec<Option<Origin>, MAX_ZONES>
+        requires { worker < length self.old.shares }
+        ensures origins { result.items ≡ map (origin_of worker order kind self.old) (range_with_len 0 (length self.old.zones)) }
+        ensures same { self.new ≡ self.old }
+    {
+        let mut origins = ArrayVec::new();
+        for place in 0..self.places() {
+            origins.push(self.origin(worker, place, order, kind));
+        }
+        origins
+    }
+
     /// A block of this order for this type, held to the least mark, out of the zone at this place or the nearest below it that gives one.
     pub fn alloc(
         &mut self,
@@ -84,6 +142,7 @@ impl KernelZones {
         requires zone { zone < length self.old.zones }
         ensures done { IsCrewDone (asked_by worker order kind zone self.old) result self.new }
         ensures same { IsSameCrew self.old self.new }
+        ensures place { IfOk result (λ l. l.zone ≤ zone) }
     {
         let share = &mut self.shares[usize::from(worker.number())];
         alloc(share, &mut self.zones, order, kind, zone, Mark::Min)

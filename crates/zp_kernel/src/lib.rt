@@ -14,7 +14,7 @@ mod kernel_zones;
 mod line_counts;
 mod setting;
 
-pub use event_counts::{EventCounts, Happening};
+pub use event_counts::{EventCounts, Happening, TypeCounts};
 pub use event_run::{EventRun, Onlooker};
 pub use held::Held;
 pub use kernel::Kernel;

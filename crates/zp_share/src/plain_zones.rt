@@ -1,6 +1,7 @@
 //! A row of zones in one hand.
 ghost use Rattle.std.specs.Prelude.{ℕ, ◌≡◌, ◌≤◌, ◌<◌, All, length, map};
 ghost use Rattle.zp_model.specs.declared.constants.TheConstants.{MAX_ZONES};
+ghost use Rattle.zp_model.specs.Choose.{origin};
 ghost use Rattle.zp_share.specs.Commands.{zone_at};
 ghost use Rattle.zp_share.specs.Shares.{IsShareOf, key_of, named_zone, plain};
 ghost use Rattle.zp_share.specs.Gathering.{AddsUp, IsCrewOf, gathered, owns_at};
@@ -10,7 +11,7 @@ use crate::share::Share;
 use crate::zones::Zones;
 use arrayvec::ArrayVec;
 use std::marker::Model;
-use zp_model::{Counts, MAX_ZONES, Mark, MigrateType, Refused, Reply, Request};
+use zp_model::{Counts, MAX_ZONES, Mark, MigrateType, Order, Origin, Refused, Reply, Request};
 use zp_zone::Zone;
 
 /// A row of zones for one thread, the lowest first. It shows what its zones are.
@@ -39,6 +40,16 @@ impl PlainZones {
         ensures { result.now ≡ self.now }
     {
         &self.zones
+    }
+
+    /// Where the block comes from that a request for this order and type takes now from the zone at this place, where it has one for it. No mark
+    /// is looked at, and nothing that is told of the zones changes.
+    pub fn origin(&mut self, zone: usize, order: Order, kind: MigrateType) -> Option<Origin>
+        requires { zone < length self.old }
+        ensures answer { result ≡ origin (zone_at (map named_zone self.old) zone).plain.area order kind }
+        ensures same { self.new ≡ self.old }
+    {
+        self.zones[zone].origin(order, kind)
     }
 
     /// Where the pages of each zone are, with the shares of all its workers. All stay as they were.
