@@ -164,6 +164,67 @@ impl Shape for Giving {
     }
 }
 
+/// A run of so many pages that is not there, on a ground of which much is looked at for it.
+#[derive(Clone, Copy, Drop)]
+pub struct RunWish {
+    pub ground: Ground,
+    pub pages: u32,
+}
+
+/// How many such runs there are.
+pub const RUN_WISHES: usize = 2;
+
+/// The runs that are dear to look for: two pages, where each free one is alone, and almost two pageblocks, where the pages of every second
+/// one are.
+pub fn run_wishes() -> [(&'static str, RunWish); RUN_WISHES] {
+    let two = RunWish {
+        ground: Ground::Halves(MigrateType::Movable),
+        pages: 2,
+    };
+    let many = RunWish {
+        ground: Ground::HalvesBesideWhole,
+        pages: 2 * PAGEBLOCK_PAGES - 1,
+    };
+    [
+        ("run of 2 pages among single ones", two),
+        ("run of 2047 pages among such", many),
+    ]
+}
+
+/// A run, asked of a zone.
+#[derive(Drop)]
+pub struct RunTaking {
+    bench: DrawnLoad<SeatSource<10>>,
+    pages: u32,
+}
+
+impl RunTaking {
+    /// In a zone of so many pages.
+    pub fn new(alloc: Global, pages: u32, wish: RunWish) -> Result<RunTaking, Unmade> {
+        let mut bench = DrawnLoad::new(alloc, pages)?;
+        wish.ground.prepare(&mut bench)?;
+        Ok(RunTaking {
+            bench,
+            pages: wish.pages,
+        })
+    }
+}
+
+impl Shape for RunTaking {
+    fn ask(&mut self) {
+        let is_given = self.bench.source.take_run(self.pages).is_some();
+        self.bench.count(usize::from(is_given));
+    }
+
+    fn restore(&mut self) -> Result<(), Unmade> {
+        Ok(())
+    }
+
+    fn checksum(&self) -> u64 {
+        self.bench.checksum()
+    }
+}
+
 /// The first pageblock, isolated and released.
 #[derive(Drop)]
 pub struct Isolating {

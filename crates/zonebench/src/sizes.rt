@@ -1,5 +1,6 @@
 //! The time of each workload over the sizes of zones, up to the largest.
 
+use crate::runs::{self, RunRequest, Runs};
 use crate::steps::{Steps, begun};
 use crate::timing::{CALLS, print_line, tenths_a_call};
 use crate::workload::Workload;
@@ -29,7 +30,7 @@ const SEATED: [&str; 10] = [
 const CACHED: [&str; 5] = ["pairs-0", "runs", "churn", "press", "burst"];
 
 /// The times that are taken.
-const MEASUREMENTS: usize = SIZES.len() * (SEATED.len() + CACHED.len());
+const MEASUREMENTS: usize = SIZES.len() * (SEATED.len() + CACHED.len() + runs::REQUESTS.len());
 
 /// What a terminal shows of a table that takes long.
 const TASK: Task<'static> = Task {
@@ -75,7 +76,24 @@ fn print_lines<S: LoadSource>(
     Ok(())
 }
 
-/// Prints the table: nanoseconds a call, by the pages of the zone; first by a seat, then by a worker's lists.
+/// Prints a line of the table: the time of a request for runs at each size.
+fn print_run_times(
+    rt: &(impl Print + Clock),
+    alloc: Global,
+    steps: &mut Steps<impl Progress + Drop>,
+    name: &str,
+    request: RunRequest,
+    of: Runs,
+) -> anyhow::Result<()> {
+    let line = steps.at_each(
+        SIZES,
+        |pages| runs::tenths_a_run(rt, alloc, request, of, pages),
+    )?;
+    print_line(rt, steps, name, &line)
+}
+
+/// Prints the table: nanoseconds a call, by the pages of the zone; first by a seat, then by a worker's lists, and last those of runs of pages,
+/// by a seat.
 pub fn print_all(
     rt: &(impl Print + Eprint + Clock),
     alloc: Global,
@@ -89,5 +107,11 @@ pub fn print_all(
     print_lines::<SeatSource<10>>(rt, alloc, &mut steps, &SEATED)?;
     steps.clear();
     println!(rt; "with lists of workers")?;
-    print_lines::<Cached>(rt, alloc, &mut steps, &CACHED)
+    print_lines::<Cached>(rt, alloc, &mut steps, &CACHED)?;
+    steps.clear();
+    println!(rt; "runs of pages")?;
+    for (name, request, of) in runs::REQUESTS {
+        print_run_times(rt, alloc, &mut steps, name, request, of)?;
+    }
+    Ok(())
 }

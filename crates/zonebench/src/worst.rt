@@ -3,7 +3,8 @@
 use crate::clock::timed;
 use crate::grounds::{Ground, PAGES};
 use crate::shapes::{
-    Draining, Giving, Isolating, Nothing, Refilling, Shape, Taking, WISHES, list_end, wishes,
+    Draining, Giving, Isolating, Nothing, RUN_WISHES, Refilling, RunTaking, RunWish, Shape, Taking,
+    WISHES, list_end, run_wishes, wishes,
 };
 use crate::steps::{Steps, begun};
 use crate::times::Times;
@@ -21,12 +22,15 @@ const CALLS_ANEW: u32 = 1000;
 /// The calls whose results are summed.
 const CALLS_SUMMED: u32 = 10;
 
-/// The pages of zones in which the list that a claim walks is longer, and the calls: laying the ground takes all pages.
+/// The pages of zones in which the list that a claim walks, or the search for a run, is longer, and the calls: laying the ground takes all pages.
 const LONG_LISTS: [(u32, u32); 2] = [(1 << 20, 100), (1 << 24, 10)];
 
 const GIVING: &str = "ten joins";
 
 const REFILLING: &str = "refill of 31 borrowed pages";
+
+/// The calls for a run.
+const RUN_CALLS: u32 = 1000;
 
 const DRAINING: &str = "drain of 64 pages, ten joins each";
 
@@ -36,8 +40,12 @@ const ISOLATING: [(&str, Ground); 2] = [
     ("the same of 512 single pages", Ground::HalfPageblock),
 ];
 
-/// The requests: the clock alone, wishes, long lists, what is freed, refilled and drained, and what is isolated.
-const REQUESTS: usize = 4 + WISHES + LONG_LISTS.len() + ISOLATING.len();
+/// The requests: the clock alone, wishes, long lists, what is freed, refilled and drained, what is isolated, and runs.
+const REQUESTS: usize = 4
+    + WISHES
+    + LONG_LISTS.len()
+    + ISOLATING.len()
+    + RUN_WISHES * (1 + LONG_LISTS.len());
 
 /// What a terminal shows of a table that takes long.
 const TASK: Task<'static> = Task {
@@ -108,6 +116,24 @@ fn print_long_lists(
     Ok(())
 }
 
+/// Prints the lines of a run, in wide zones too.
+fn print_run(
+    rt: &(impl Print + Clock),
+    alloc: Global,
+    steps: &mut Steps<impl Progress + Drop>,
+    name: &str,
+    wish: RunWish,
+) -> anyhow::Result<()> {
+    let made = RunTaking::new(alloc, PAGES, wish);
+    print_times(rt, alloc, steps, name, made, RUN_CALLS)?;
+    for (pages, calls) in LONG_LISTS {
+        let name = format!(in alloc; "the same of {pages} pages")?;
+        let made = RunTaking::new(alloc, pages, wish);
+        print_times(rt, alloc, steps, name.as_str(), made, calls)?;
+    }
+    Ok(())
+}
+
 /// Prints the table: of each request the median and the 99.9th percentile, the time of the clock with them.
 pub fn print_all(
     rt: &(impl Print + Eprint + Clock),
@@ -162,7 +188,11 @@ pub fn print_all(
             CALLS,
         )?;
     }
-    print_times(rt, alloc, &mut steps, DRAINING, Draining::new(alloc), CALLS)
+    print_times(rt, alloc, &mut steps, DRAINING, Draining::new(alloc), CALLS)?;
+    for (name, wish) in run_wishes() {
+        print_run(rt, alloc, &mut steps, name, wish)?;
+    }
+    Ok(())
 }
 
 /// Prints the checksum of the results of a few calls, where there is memory for the request's zone.

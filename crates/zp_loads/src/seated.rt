@@ -27,6 +27,28 @@ impl<const LARGEST: u8> SeatSource<LARGEST> {
         isolated.is_ok() && released.is_ok()
     }
 
+    /// Takes the lowest run of so many pages: its first page.
+    pub fn take_run(&mut self, pages: u32) -> Option<PageNo> {
+        if pages == 0 {
+            return None;
+        }
+        self.zone
+            .alloc_run(&mut self.seat, pages, 0, Mark::Any)
+            .ok()
+    }
+
+    /// Takes so many pages from this one on. Returns whether they were free.
+    pub fn take_run_at(&mut self, page: PageNo, pages: u32) -> bool {
+        self.zone.alloc_run_at(&mut self.seat, page, pages).is_ok()
+    }
+
+    /// Frees so many pages from this one on, where they are lent, by whatever blocks.
+    pub fn give_run(&mut self, page: PageNo, pages: u32) {
+        if self.zone.run_held_by(&self.seat, page, pages) {
+            self.zone.free_run(&mut self.seat, page, pages);
+        }
+    }
+
     /// What the zone reports of a page.
     pub fn entry(&self, page: PageNo) -> Option<ZonePage>
         ensures when { IsSome result ↔ IsPageOf self.now.zone.plain page }
