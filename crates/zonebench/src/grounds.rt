@@ -23,7 +23,7 @@ pub enum Ground {
     HalfPageblock,
     /// Every second page, and all pageblocks are of this type.
     Halves(MigrateType),
-    /// Every second page, and all pages of every second pageblock.
+    /// Every second page, and all pages of every second pageblock, from the first one on.
     HalvesBesideWhole,
     /// Every second page, but for one in each pageblock other than the first, whose pages are the last of the list: no pageblock before
     /// it on the list has the free pages that a claim asks for.
@@ -51,8 +51,8 @@ impl Ground {
                 Ok(())
             }
             Ground::HalvesBesideWhole => {
-                Ground::Halves(MigrateType::Movable).prepare(bench)?;
-                bench.give_picked(|page| page / PAGEBLOCK_PAGES % 2 == 0);
+                lend_pages(bench, MigrateType::Movable)?;
+                bench.give_picked(|page| page % 2 == 0 || page / PAGEBLOCK_PAGES % 2 == 0);
                 Ok(())
             }
             Ground::LongList => {

@@ -1,6 +1,6 @@
 //! The time of each workload over the sizes of zones, up to the largest.
 
-use crate::runs::{self, RunRequest, Runs};
+use crate::runs;
 use crate::steps::{Steps, begun};
 use crate::timing::{CALLS, print_line, tenths_a_call};
 use crate::workload::Workload;
@@ -30,7 +30,7 @@ const SEATED: [&str; 10] = [
 const CACHED: [&str; 5] = ["pairs-0", "runs", "churn", "press", "burst"];
 
 /// The times that are taken.
-const MEASUREMENTS: usize = SIZES.len() * (SEATED.len() + CACHED.len() + runs::REQUESTS.len());
+const MEASUREMENTS: usize = SIZES.len() * (SEATED.len() + CACHED.len() + runs::LINES.len());
 
 /// What a terminal shows of a table that takes long.
 const TASK: Task<'static> = Task {
@@ -76,24 +76,21 @@ fn print_lines<S: LoadSource>(
     Ok(())
 }
 
-/// Prints a line of the table: the time of a request for runs at each size.
-fn print_run_times(
+/// Prints the lines of runs of pages.
+fn print_run_lines(
     rt: &(impl Print + Clock),
     alloc: Global,
     steps: &mut Steps<impl Progress + Drop>,
-    name: &str,
-    request: RunRequest,
-    of: Runs,
 ) -> anyhow::Result<()> {
-    let line = steps.at_each(
-        SIZES,
-        |pages| runs::tenths_a_run(rt, alloc, request, of, pages),
-    )?;
-    print_line(rt, steps, name, &line)
+    for (name, load, call) in runs::LINES {
+        let line = steps.at_each(SIZES, |pages| load.tenths_a_call(rt, alloc, call, pages))?;
+        print_line(rt, steps, name, &line)?;
+    }
+    Ok(())
 }
 
-/// Prints the table: nanoseconds a call, by the pages of the zone; first by a seat, then by a worker's lists, and last those of runs of pages,
-/// by a seat.
+/// Prints the table: nanoseconds a call, by the pages of the zone; first by a seat, then by a worker's lists, and last those of runs of
+/// pages, by a seat.
 pub fn print_all(
     rt: &(impl Print + Eprint + Clock),
     alloc: Global,
@@ -110,8 +107,5 @@ pub fn print_all(
     print_lines::<Cached>(rt, alloc, &mut steps, &CACHED)?;
     steps.clear();
     println!(rt; "runs of pages")?;
-    for (name, request, of) in runs::REQUESTS {
-        print_run_times(rt, alloc, &mut steps, name, request, of)?;
-    }
-    Ok(())
+    print_run_lines(rt, alloc, &mut steps)
 }
