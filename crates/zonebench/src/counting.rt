@@ -4,6 +4,8 @@ ghost use Rattle.std.specs.Prelude.{◌≤◌, IfOk};
 
 use crate::check::{Sum, sum_of};
 use crate::locked::{self, Kept};
+use crate::runs::RunLoad;
+use crate::shapes::{RunTaking, RunWish, Shape};
 use crate::threads::{Pairs, PairsPlan};
 use crate::workload::Workload;
 use std::alloc::Global;
@@ -22,7 +24,9 @@ and divide the difference in instructions by that in calls";
 const NAMES: &str =
     "pairs-0, pairs-4, pairs-9, pairs-10, runs, churn, press, burst, scattered and claims, and each with cached- or past-lists- before it, \
 or with largest-9-, largest-4- or largest-1- for a zone of that largest order, and pairs with locked- before them for a zone behind its \
-lock with a whole journal, locked-none- for one with no journal, or locked-pieces- for one with a journal that is cut";
+lock with a whole journal, locked-none- for one with no journal, or locked-pieces- for one with a journal that is cut; \
+alloc-run-37, alloc-run-1000, alloc-run-at-37 and alloc-run-at-1000 for runs of so many pages, allocated and freed; \
+and search-2 and search-2047 for runs that are not there";
 
 /// The way on which the blocks of a workload come and go.
 #[derive(Clone, Copy, PartialEq, Eq, Debug, Drop)]
@@ -69,20 +73,25 @@ impl Way {
     }
 }
 
-/// The workload of this name, and the numbers of pages and of calls.
-fn wanted(name: &str, pages: &str, calls: &str) -> anyhow::Result<(Workload, u32, u32)>
-    ensures { IfOk result (λ w. 1 ≤ w.1) }
+/// The workload of this name.
+fn wanted(name: &str) -> anyhow::Result<Workload> {
+    match Workload::named(name) {
+        Some(workload) => Ok(workload),
+        None => anyhow::bail!("zonebench: there is no workload {name}; there are {NAMES}"),
+    }
+}
+
+/// The numbers of pages and of calls.
+fn numbers(pages: &str, calls: &str) -> anyhow::Result<(u32, u32)>
+    ensures { IfOk result (λ n. 1 ≤ n.0) }
 {
-    let Some(workload) = Workload::named(name) else {
-        anyhow::bail!("zonebench: there is no workload {name}; there are {NAMES}")
-    };
     let (Ok(pages), Ok(calls)) = (pages.parse::<u32>(), calls.parse::<u32>()) else {
         anyhow::bail!("zonebench: PAGES and CALLS are numbers")
     };
     if pages == 0 || pages > MAX_PAGES {
         anyhow::bail!("zonebench: PAGES is 1 to {MAX_PAGES}")
     }
-    Ok((workload, pages, calls))
+    Ok((pages, calls))
 }
 
 /// What a zone behind its lock keeps, and the name of the workload that is left, where a name begins so.
@@ -129,6 +138,18 @@ fn locked_sum<R: Clock + Threads + Wait + Sync>(
     }
 }
 
+/// Searches so many times for a run that is not there.
+fn search_sum(alloc: Global, wish: RunWish, pages: u32, calls: u32) -> Result<Sum, Unmade> {
+    let mut taking = RunTaking::new(alloc, pages, wish)?;
+    for _ in 0..calls {
+        taking.ask();
+    }
+    Ok(Sum {
+        calls: u64::from(calls),
+        checksum: taking.checksum(),
+    })
+}
+
 /// Makes about so many calls of the workload of this name in a zone of so many pages, and prints how many they were, and the
 /// checksum of the results.
 pub fn print_count<R: Print + Clock + Threads + Wait + Sync>(
@@ -138,13 +159,16 @@ pub fn print_count<R: Print + Clock + Threads + Wait + Sync>(
     pages: &str,
     calls: &str,
 ) -> anyhow::Result<()> {
+    let (pages, calls) = numbers(pages, calls)?;
     let sum = if let Some((kept, rest)) = split_locked(name) {
-        let (workload, pages, calls) = wanted(rest, pages, calls)?;
-        locked_sum(rt, alloc, kept, &workload, pages, calls)?
+        locked_sum(rt, alloc, kept, &wanted(rest)?, pages, calls)?
+    } else if let Some(load) = RunLoad::named(name) {
+        load.sum(alloc, pages, calls)?
+    } else if let Some(wish) = RunWish::named(name) {
+        search_sum(alloc, wish, pages, calls)?
     } else {
         let (way, rest) = Way::split(name);
-        let (workload, pages, calls) = wanted(rest, pages, calls)?;
-        way.sum(alloc, &workload, pages, calls)?
+        way.sum(alloc, &wanted(rest)?, pages, calls)?
     };
     println!(rt; "{name} {pages} {} {:016x}", sum.calls, sum.checksum)?;
     Ok(())

@@ -23,6 +23,8 @@ pub enum Ground {
     HalfPageblock,
     /// Every second page, and all pageblocks are of this type.
     Halves(MigrateType),
+    /// Every second page, and all pages of every second pageblock, from the first one on.
+    HalvesBesideWhole,
     /// Every second page, but for one in each pageblock other than the first, whose pages are the last of the list: no pageblock before
     /// it on the list has the free pages that a claim asks for.
     LongList,
@@ -46,6 +48,11 @@ impl Ground {
             Ground::Halves(kind) => {
                 lend_pages(bench, *kind)?;
                 bench.give_picked(|page| page % 2 == 0);
+                Ok(())
+            }
+            Ground::HalvesBesideWhole => {
+                lend_pages(bench, MigrateType::Movable)?;
+                bench.give_picked(|page| page % 2 == 0 || page / PAGEBLOCK_PAGES % 2 == 0);
                 Ok(())
             }
             Ground::LongList => {

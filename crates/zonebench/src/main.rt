@@ -4,8 +4,8 @@
 //! With no word it prints how long a call of each takes, and a section on a zone behind its lock by what the zone keeps, and what is
 //! published on a board and read off it. With `check` it prints the checksums of the pages returned, which do not depend on the
 //! machine, and starts no thread. With `worst` it prints how long the dearest requests that are known take. With `sizes` it prints how
-//! long a call of each workload takes in zones of up to 2^24 pages, and with `makings` how long creating such zones takes. With
-//! `count` it makes so many calls of one workload, so that a tool can count their instructions.
+//! long a call of each workload, and a request for a run of pages, takes in zones of up to 2^24 pages, and with `makings` how long
+//! creating such zones takes. With `count` it makes so many calls of one workload, so that a tool can count their instructions.
 //!
 //! A line of a table is printed when all its times are known. Where that takes long, standard error shows on a terminal how far the table
 //! is, between the measurements.
@@ -20,6 +20,7 @@ mod grounds;
 mod locked;
 mod makings;
 mod reading;
+mod runs;
 mod shapes;
 mod sizes;
 mod steps;

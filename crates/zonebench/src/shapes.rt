@@ -164,6 +164,88 @@ impl Shape for Giving {
     }
 }
 
+/// A run of so many pages that is not there, on a ground of which much is looked at for it.
+#[derive(Clone, Copy, Drop)]
+pub struct RunWish {
+    ground: Ground,
+    pages: u32,
+}
+
+impl RunWish {
+    /// Two pages, where each free one is alone.
+    fn two_pages() -> RunWish {
+        RunWish {
+            ground: Ground::Halves(MigrateType::Movable),
+            pages: 2,
+        }
+    }
+
+    /// One page less than two pageblocks have, where one pageblock and a page are the most.
+    fn near_two_pageblocks() -> RunWish {
+        RunWish {
+            ground: Ground::HalvesBesideWhole,
+            pages: 2 * PAGEBLOCK_PAGES - 1,
+        }
+    }
+
+    /// The run of this name.
+    pub fn named(name: &str) -> Option<RunWish> {
+        match name {
+            "search-2" => Some(RunWish::two_pages()),
+            "search-2047" => Some(RunWish::near_two_pageblocks()),
+            _ => None,
+        }
+    }
+}
+
+/// How many such runs there are.
+pub const RUN_WISHES: usize = 2;
+
+/// The runs that are dear to look for.
+pub fn run_wishes() -> [(&'static str, RunWish); RUN_WISHES] {
+    [
+        ("run of 2 pages among single ones", RunWish::two_pages()),
+        (
+            "run of 2047 beside whole pageblocks",
+            RunWish::near_two_pageblocks(),
+        ),
+    ]
+}
+
+/// A run, asked of a zone.
+#[derive(Drop)]
+pub struct RunTaking {
+    bench: DrawnLoad<SeatSource<10>>,
+    pages: u32,
+}
+
+impl RunTaking {
+    /// In a zone of so many pages.
+    pub fn new(alloc: Global, pages: u32, wish: RunWish) -> Result<RunTaking, Unmade> {
+        let mut bench = DrawnLoad::new(alloc, pages)?;
+        wish.ground.prepare(&mut bench)?;
+        Ok(RunTaking {
+            bench,
+            pages: wish.pages,
+        })
+    }
+}
+
+impl Shape for RunTaking {
+    fn ask(&mut self) {
+        let is_there = self.bench.source.take_run(self.pages).is_ok();
+        self.bench.count(usize::from(is_there));
+    }
+
+    fn restore(&mut self) -> Result<(), Unmade> {
+        Ok(())
+    }
+
+    fn checksum(&self) -> u64 {
+        self.bench.checksum()
+    }
+}
+
 /// The first pageblock, isolated and released.
 #[derive(Drop)]
 pub struct Isolating {

@@ -1,5 +1,6 @@
 //! The time of each workload over the sizes of zones, up to the largest.
 
+use crate::runs;
 use crate::steps::{Steps, begun};
 use crate::timing::{CALLS, print_line, tenths_a_call};
 use crate::workload::Workload;
@@ -29,7 +30,7 @@ const SEATED: [&str; 10] = [
 const CACHED: [&str; 5] = ["pairs-0", "runs", "churn", "press", "burst"];
 
 /// The times that are taken.
-const MEASUREMENTS: usize = SIZES.len() * (SEATED.len() + CACHED.len());
+const MEASUREMENTS: usize = SIZES.len() * (SEATED.len() + CACHED.len() + runs::LINES.len());
 
 /// What a terminal shows of a table that takes long.
 const TASK: Task<'static> = Task {
@@ -75,7 +76,21 @@ fn print_lines<S: LoadSource>(
     Ok(())
 }
 
-/// Prints the table: nanoseconds a call, by the pages of the zone; first by a seat, then by a worker's lists.
+/// Prints the lines of runs of pages.
+fn print_run_lines(
+    rt: &(impl Print + Clock),
+    alloc: Global,
+    steps: &mut Steps<impl Progress + Drop>,
+) -> anyhow::Result<()> {
+    for (name, load, call) in runs::LINES {
+        let line = steps.at_each(SIZES, |pages| load.tenths_a_call(rt, alloc, call, pages))?;
+        print_line(rt, steps, name, &line)?;
+    }
+    Ok(())
+}
+
+/// Prints the table: nanoseconds a call, by the pages of the zone; first by a seat, then by a worker's lists, and last those of runs of
+/// pages, by a seat.
 pub fn print_all(
     rt: &(impl Print + Eprint + Clock),
     alloc: Global,
@@ -89,5 +104,8 @@ pub fn print_all(
     print_lines::<SeatSource<10>>(rt, alloc, &mut steps, &SEATED)?;
     steps.clear();
     println!(rt; "with lists of workers")?;
-    print_lines::<Cached>(rt, alloc, &mut steps, &CACHED)
+    print_lines::<Cached>(rt, alloc, &mut steps, &CACHED)?;
+    steps.clear();
+    println!(rt; "runs of pages")?;
+    print_run_lines(rt, alloc, &mut steps)
 }

@@ -3,7 +3,8 @@
 use crate::clock::timed;
 use crate::grounds::{Ground, PAGES};
 use crate::shapes::{
-    Draining, Giving, Isolating, Nothing, Refilling, Shape, Taking, WISHES, list_end, wishes,
+    Draining, Giving, Isolating, Nothing, RUN_WISHES, Refilling, RunTaking, RunWish, Shape, Taking,
+    WISHES, list_end, run_wishes, wishes,
 };
 use crate::steps::{Steps, begun};
 use crate::times::Times;
@@ -18,11 +19,14 @@ const CALLS: u32 = 10_000;
 /// The calls of a request whose ground is laid anew before each one.
 const CALLS_ANEW: u32 = 1000;
 
+/// The calls of a search for a run.
+const SEARCHES: u32 = 1000;
+
 /// The calls whose results are summed.
 const CALLS_SUMMED: u32 = 10;
 
-/// The pages of zones in which the list that a claim walks is longer, and the calls: laying the ground takes all pages.
-const LONG_LISTS: [(u32, u32); 2] = [(1 << 20, 100), (1 << 24, 10)];
+/// The pages of zones in which a claim walks a longer list, and a search for a run passes more pages, and the calls.
+const WIDE: [(u32, u32); 2] = [(1 << 20, 100), (1 << 24, 10)];
 
 const GIVING: &str = "ten joins";
 
@@ -36,8 +40,8 @@ const ISOLATING: [(&str, Ground); 2] = [
     ("the same of 512 single pages", Ground::HalfPageblock),
 ];
 
-/// The requests: the clock alone, wishes, long lists, what is freed, refilled and drained, and what is isolated.
-const REQUESTS: usize = 4 + WISHES + LONG_LISTS.len() + ISOLATING.len();
+/// The requests: the clock alone, wishes, long lists, what is freed, refilled and drained, what is isolated, and searches.
+const REQUESTS: usize = 4 + WISHES + WIDE.len() + ISOLATING.len() + RUN_WISHES * (1 + WIDE.len());
 
 /// What a terminal shows of a table that takes long.
 const TASK: Task<'static> = Task {
@@ -94,16 +98,77 @@ fn print_times_of(
     Ok(())
 }
 
+/// Prints the lines of the blocks that are wished for.
+fn print_wishes(
+    rt: &(impl Print + Clock),
+    alloc: Global,
+    steps: &mut Steps<impl Progress + Drop>,
+) -> anyhow::Result<()> {
+    for (name, wish) in wishes() {
+        let calls = if wish.ground.is_laid_anew() {
+            CALLS_ANEW
+        } else {
+            CALLS
+        };
+        let made = Taking::new(alloc, PAGES, wish);
+        print_times(rt, alloc, steps, name, made, calls)?;
+    }
+    Ok(())
+}
+
 /// Prints the lines of the claim at the end of a list, in wide zones.
 fn print_long_lists(
     rt: &(impl Print + Clock),
     alloc: Global,
     steps: &mut Steps<impl Progress + Drop>,
 ) -> anyhow::Result<()> {
-    for (pages, calls) in LONG_LISTS {
+    for (pages, calls) in WIDE {
         let name = format!(in alloc; "the same of {pages} pages")?;
         let made = Taking::new(alloc, pages, list_end());
         print_times(rt, alloc, steps, name.as_str(), made, calls)?;
+    }
+    Ok(())
+}
+
+/// Prints the lines of pageblocks that are isolated and released.
+fn print_isolating(
+    rt: &(impl Print + Clock),
+    alloc: Global,
+    steps: &mut Steps<impl Progress + Drop>,
+) -> anyhow::Result<()> {
+    for (name, ground) in ISOLATING {
+        let made = Isolating::new(alloc, ground);
+        print_times(rt, alloc, steps, name, made, CALLS)?;
+    }
+    Ok(())
+}
+
+/// Prints the lines of a search for a run, in wide zones too.
+fn print_search(
+    rt: &(impl Print + Clock),
+    alloc: Global,
+    steps: &mut Steps<impl Progress + Drop>,
+    name: &str,
+    wish: RunWish,
+) -> anyhow::Result<()> {
+    let made = RunTaking::new(alloc, PAGES, wish);
+    print_times(rt, alloc, steps, name, made, SEARCHES)?;
+    for (pages, calls) in WIDE {
+        let name = format!(in alloc; "the same in a zone of {pages}")?;
+        let made = RunTaking::new(alloc, pages, wish);
+        print_times(rt, alloc, steps, name.as_str(), made, calls)?;
+    }
+    Ok(())
+}
+
+/// Prints the lines of all searches for runs.
+fn print_searches(
+    rt: &(impl Print + Clock),
+    alloc: Global,
+    steps: &mut Steps<impl Progress + Drop>,
+) -> anyhow::Result<()> {
+    for (name, wish) in run_wishes() {
+        print_search(rt, alloc, steps, name, wish)?;
     }
     Ok(())
 }
@@ -127,42 +192,14 @@ pub fn print_all(
         &mut Nothing,
         CALLS,
     )?;
-    for (name, wish) in wishes() {
-        let calls = if wish.ground.is_laid_anew() {
-            CALLS_ANEW
-        } else {
-            CALLS
-        };
-        print_times(
-            rt,
-            alloc,
-            &mut steps,
-            name,
-            Taking::new(alloc, PAGES, wish),
-            calls,
-        )?;
-    }
+    print_wishes(rt, alloc, &mut steps)?;
     print_long_lists(rt, alloc, &mut steps)?;
     print_times(rt, alloc, &mut steps, GIVING, Giving::new(alloc), CALLS)?;
-    print_times(
-        rt,
-        alloc,
-        &mut steps,
-        REFILLING,
-        Refilling::new(alloc),
-        CALLS,
-    )?;
-    for (name, ground) in ISOLATING {
-        print_times(
-            rt,
-            alloc,
-            &mut steps,
-            name,
-            Isolating::new(alloc, ground),
-            CALLS,
-        )?;
-    }
-    print_times(rt, alloc, &mut steps, DRAINING, Draining::new(alloc), CALLS)
+    let refilling = Refilling::new(alloc);
+    print_times(rt, alloc, &mut steps, REFILLING, refilling, CALLS)?;
+    print_isolating(rt, alloc, &mut steps)?;
+    print_times(rt, alloc, &mut steps, DRAINING, Draining::new(alloc), CALLS)?;
+    print_searches(rt, alloc, &mut steps)
 }
 
 /// Prints the checksum of the results of a few calls, where there is memory for the request's zone.
