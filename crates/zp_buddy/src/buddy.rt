@@ -21,7 +21,7 @@ ghost use Rattle.zp_tree.specs.declared.constants.TheConstants.{WORD_LEVELS};
 ghost use Rattle.zp_buddy.specs.FallingRuns.{AreTails, falling_run};
 ghost use Rattle.zp_buddy.specs.Runs.{AreClear, gives, pages_taken, pages_left, run_length, run_pages};
 
-use crate::at::{is_free_run, take_at, take_part};
+use crate::at::{free_block, is_free_run, take_at, take_whole};
 use crate::choice;
 use crate::clear::{is_block, is_clear_run};
 use crate::falling::give_falling;
@@ -184,20 +184,19 @@ impl Buddy {
         is_free_run(&self.area, at, pages)
     }
 
-    /// The order of the free block that a page heads, where it heads one.
+    /// The order of the free block that so many pages from this one on are, where they are one.
     #[inline(always)]
-    pub fn order_headed(&self, at: PageAt) -> Option<Order>
-        ensures some { IfSome result (λ o. state_at self.now.states at ≡ Free o) }
-        ensures none { IfNone result ((k : ℕ) → state_at self.now.states at ≡ Free k → ⊥) }
+    pub fn free_block(&self, at: PageAt, pages: u32) -> Option<Order>
+        ensures some { IfSome result (λ o. (state_at self.now.states at ≡ Free o) × (2 ^ o ≡ pages)) }
+        ensures none { IfNone result ((k : ℕ) → 2 ^ k ≡ pages → state_at self.now.states at ≡ Free k → ⊥) }
     {
-        self.area.order_headed(at)
+        free_block(&self.area, at, pages)
     }
 
-    /// Takes the low part of order `order` of the free block of order `found` that a page heads, of whatever type and in isolated pageblocks too.
+    /// Takes a free block whole.
     #[inline(always)]
-    pub fn take_part(&mut self, at: PageAt, found: Order, order: Order)
-        requires headed { state_at self.old.states at ≡ Free found }
-        requires down { order ≤ found }
+    pub fn take_whole(&mut self, at: PageAt, order: Order)
+        requires { state_at self.old.states at ≡ Free order }
         ensures block { IsBlock self.old.area.largest (length self.old.area.free) at order }
         ensures free { IsFreeRun self.old.area at (2 ^ order) }
         ensures after { self.new ≡ with_area self.old (leave self.old.area at order) }
@@ -209,7 +208,7 @@ impl Buddy {
     {
         // a clause of this call says that all that is kept is of one set of blocks
         let _pages = self.area.pages();
-        take_part(&mut self.area, at, found, order);
+        take_whole(&mut self.area, at, order);
         let pages = order.pages();
         self.free -= pages;
     }

@@ -59,8 +59,9 @@ impl FreeArea {
         None
     }
 
-    /// Takes a block out of the set whole.
-    fn remove(&mut self, at: PageAt, order: Order)
+    /// Takes a block out of the set whole, whatever the type of its pageblock.
+    #[inline(always)]
+    pub fn remove(&mut self, at: PageAt, order: Order)
         requires { Starts (block_set self.old) at order }
         ensures { self.new ≡ removed self.old.largest self.old at order }
     {
@@ -75,7 +76,6 @@ impl FreeArea {
 
     /// Takes the aligned run of order `to` around a page out of the block of order `from` in which it lies. The halves beside it come into the
     /// set, the largest first. The run is in no block then. Where the page heads the block, and its pageblock is not isolated, that is a split.
-    #[inline(always)]
     pub fn split_towards(&mut self, at: PageAt, from: Order, to: Order)
         requires block { Starts (block_set self.old) (head at from) from }
         requires down { to ≤ from }

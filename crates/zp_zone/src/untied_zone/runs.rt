@@ -87,8 +87,7 @@ impl UntiedZone {
         Ok(page)
     }
 
-    /// Takes so many pages from this one on, where all of them are free: whether they are. Where they are the low part of a free block, or all of it,
-    /// that is split straight.
+    /// Takes so many pages from this one on, where all of them are free: whether they are. Where they are a free block, that is taken straight.
     #[inline(always)]
     fn take_if_free(&mut self, worker: Worker, at: PageAt, pages: u32) -> bool
         requires worker { worker < workers_of self.old.plain }
@@ -100,21 +99,17 @@ impl UntiedZone {
     {
         // a clause of this call says that what is noted as free is free
         let _pages = self.buddy.pages();
-        if let Some(found) = self.buddy.order_headed(at) {
-            let order = fitting_order(self.largest(), at, pages);
-            if order.pages() == pages && order.number() <= found.number() {
-                self.buddy.take_part(at, found, order);
-                let noted = self.buddy.type_of(at).noted();
-                self.buddy.hold(at, State::Out(order, noted, worker));
-                return true;
-            }
+        if let Some(order) = self.buddy.free_block(at, pages) {
+            self.buddy.take_whole(at, order);
+            let noted = self.buddy.type_of(at).noted();
+            self.buddy.hold(at, State::Out(order, noted, worker));
+            return true;
         }
         self.take_parts_if_free(worker, at, pages)
     }
 
     /// The same, from free block to free block.
-    // (out of line: most runs that are taken at their place begin a free block)
-    #[inline(never)]
+    #[inline(always)]
     fn take_parts_if_free(&mut self, worker: Worker, at: PageAt, pages: u32) -> bool
         requires worker { worker < workers_of self.old.plain }
         requires some { 0 < pages }

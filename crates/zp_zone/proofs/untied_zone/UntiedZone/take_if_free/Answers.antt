@@ -1,4 +1,4 @@
-use Rattle.std.proofs.Common.{◌^◌, ◌≡◌, ◌<◌, ◌∙◌, ap, refl, rules, sym}
+use Rattle.std.proofs.Common.{◌≡◌, ◌<◌, ◌∙◌, ap, refl, rules, sym}
 use Rattle.zp_model.specs.Area.{kind_at}
 use Rattle.zp_model.specs.Frames.{Frames}
 use Rattle.zp_model.specs.PageblockType.{noted_type}
@@ -13,36 +13,35 @@ use Rattle.zp_zone.proofs.RunsTaken.{at_kept, at_out, block_as_run}
 use Rattle.zp_zone.proofs.untied_zone.UntiedZone.take_if_free.Goals.{After-hold}
 use Rattle.zp_zone.proofs.untied_zone.UntiedZone.take_if_free.Goals as goal
 
--- the part has as many pages as are asked for
-whole : (c : After-hold) → 2 ^ c.fitting_order-order.result ≡ c.args.pages
-whole c = sym c.pages.ensures.pages ∙ c.if-pages.true
+pub take_whole-requires : goal.take_whole-requires
+take_whole-requires c = c.in-Some.ensures.some.0
 
 asked : (c : After-hold) → IsAsked c.self.inside.buddy c.self.inside.base c.self.inside.min
 asked c = record { framed = c.pages-pages.ensures.framed; lawful = c.self.invariant.lawful }
 
 -- the frames that hold the block
 held : (c : After-hold) → c.hold.new.self ≡
-    frames_out c.self.inside.buddy (leave c.self.inside.buddy.area c.args.at c.fitting_order-order.result) c.args.worker c.args.at c.fitting_order-order.result (noted_type (kind_at c.self.inside.buddy.area.largest c.self.inside.buddy.area.kinds c.args.at))
+    frames_out c.self.inside.buddy (leave c.self.inside.buddy.area c.args.at c.in-Some.order) c.args.worker c.args.at c.in-Some.order (noted_type (kind_at c.self.inside.buddy.area.largest c.self.inside.buddy.area.kinds c.args.at))
 held c =
-    rw (c.hold.ensures.after, c.noted-noted.ensures, c.type_of.ensures, c.take_part.ensures.after, largest-leave c.self.inside.buddy.area c.args.at c.fitting_order-order.result, kinds-leave c.self.inside.buddy.area c.args.at c.fitting_order-order.result) refl
+    rw (c.hold.ensures.after, c.noted-noted.ensures, c.type_of.ensures, c.take_whole.ensures.after, largest-leave c.self.inside.buddy.area c.args.at c.in-Some.order, kinds-leave c.self.inside.buddy.area c.args.at c.in-Some.order) refl
 
 pub invariant_of-self : goal.invariant_of-self
 invariant_of-self c =
     let now = (goal.at.invariant_of-self c).After-hold in
     let f : Frames = c.self.inside.buddy in
     let workers : c.args.worker < workers_of (plain_of f c.self.inside.base c.self.inside.min) = rw (← c.self.view_is) at c.requires.worker in
-    rw (held now) (at_kept f c.self.inside.base c.self.inside.min c.args.worker c.args.at c.fitting_order-order.result _ (asked now) c.take_part.ensures.block c.take_part.ensures.free c.self.inside.name c.self.invariant workers)
+    rw (held now) (at_kept f c.self.inside.base c.self.inside.min c.args.worker c.args.at c.in-Some.order _ (asked now) c.take_whole.ensures.block c.take_whole.ensures.free c.self.inside.name c.self.invariant workers)
 
-pub returns-then-number-clause-when : goal.returns-then-number-clause-when
-returns-then-number-clause-when c = rw (← c.self.view_is) (rw (whole (goal.at.returns-then-number-clause-when c).After-hold) at (sym c.take_part.ensures.free))
+pub returns-in-Some-clause-when : goal.returns-in-Some-clause-when
+returns-in-Some-clause-when c = rw (← c.self.view_is) (rw c.in-Some.ensures.some.1 at (sym c.take_whole.ensures.free))
 
-pub returns-then-number-clause-taken : goal.returns-then-number-clause-taken
-returns-then-number-clause-taken c = λ _.
-    let now = (goal.at.returns-then-number-clause-taken c).After-hold in
+pub returns-in-Some-clause-taken : goal.returns-in-Some-clause-taken
+returns-in-Some-clause-taken c = λ _.
+    let now = (goal.at.returns-in-Some-clause-taken c).After-hold in
     let f : Frames = c.self.inside.buddy in
     let z : PlainZone = plain_of f c.self.inside.base c.self.inside.min in
     ap (λ (q : Frames). named c.self.inside.name (plain_of q c.self.inside.base c.self.inside.min)) (held now)
     ∙ ap (named c.self.inside.name)
-    (at_out f c.self.inside.base c.self.inside.min c.args.worker c.args.at c.fitting_order-order.result _ (asked now) c.take_part.ensures.block c.take_part.ensures.free
-    ∙ block_as_run z c.args.worker c.args.at c.args.pages c.fitting_order-order.result c.self.invariant.lawful c.take_part.ensures.block c.take_part.ensures.free (whole now))
+    (at_out f c.self.inside.base c.self.inside.min c.args.worker c.args.at c.in-Some.order _ (asked now) c.take_whole.ensures.block c.take_whole.ensures.free
+    ∙ block_as_run z c.args.worker c.args.at c.args.pages c.in-Some.order c.self.invariant.lawful c.take_whole.ensures.block c.take_whole.ensures.free c.in-Some.ensures.some.1)
     ∙ ap (λ (v : NamedZone). let y : NamedZone = record v { plain = run_taken v.plain c.args.worker c.args.at c.args.pages } in y) c.self.view_is
