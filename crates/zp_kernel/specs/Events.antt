@@ -40,8 +40,8 @@ still_held w (Some h) b = given_back w h (noting happened.Again b)
 abbrev pub cleared : ℕ → ℕ → KernelState → KernelState
 cleared w f b = still_held w (get b.frames f) (holding_none f b)
 
--- what worker w's request for the kernel's block of order k at frame f, of type t, was answered is noted, what it left of zones and shares, and
--- where the block came from: what the zone that gave it was before says so, since the zones above it were left as they were
+-- what worker w's request for the kernel's block of order k at frame f, of type t, was answered is noted, with what it left of zones and shares.
+-- Where a block came from is told of its zone as that was before, and those that refused the request were left so
 abbrev pub answered : ℕ → ℕ → ℕ → MigrateType → CrewState → Result Lent Refused → KernelState → KernelState
 answered w f k t crew (Ok l) b =
     let from = origin_of w k t b.crew l.zone in

@@ -62,7 +62,8 @@ fn ask(
     let origins = state.crew.origins(by, order, kind);
     match state.crew.alloc(by, order, kind, top) {
         Ok(lent) => {
-            let origin = origins[lent.zone];
+            let place = lent.zone;
+            let origin = origins[place];
             state.frames.set(block.frame, Held { lent, worker: by });
             state.counts.note_origin(origin, kind);
             state.counts.note(Happening::Given);

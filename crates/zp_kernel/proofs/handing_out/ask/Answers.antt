@@ -10,19 +10,18 @@ use Rattle.zp_kernel.specs.Crews.{IsCrewDone, asked_by, origin_of}
 use Rattle.zp_kernel.proofs.Handing.{asked_ok}
 use Rattle.zp_kernel.proofs.handing_out.ask.Goals as goal
 
--- each zone up to the highest that is asked has said where it would come from
-there : (c : goal.After-deref) → c.in-Ok.lent.zone < length c.deref.result.now
-there c =
+-- each zone has said where the block would come from
+many : (c : goal.After-deref) → length c.deref.result.now ≡ length c.args.state.now.crew.zones
+many c =
     let crew = c.args.state.now.crew in
     let f : ℕ → Option Origin = origin_of c.args.by c.args.order c.args.kind crew in
-    let many : length c.origins-origins.result.items ≡ length crew.zones = ap length c.origins-origins.ensures.origins ∙ length-map-range_with_len f 0 (length crew.zones) in
-    omega (arith, c.in-Ok.ensures.place, c.requires.zone, ap length c.deref.ensures.0, many)
+    ap length (c.deref.ensures.0 ∙ c.origins-origins.ensures.origins) ∙ length-map-range_with_len f 0 (length crew.zones)
 
-pub offset_bounds-deref-lent : goal.offset_bounds-deref-lent
-offset_bounds-deref-lent c = omega (arith, there c, c.deref.ensures.1)
+pub offset_bounds-deref-place : goal.offset_bounds-deref-place
+offset_bounds-deref-place c = omega (arith, c.in-Ok.ensures.place, c.requires.zone, many c, c.deref.ensures.1)
 
-pub bounds-deref-lent : goal.bounds-deref-lent
-bounds-deref-lent c = there c
+pub bounds-deref-place : goal.bounds-deref-place
+bounds-deref-place c = omega (arith, c.in-Ok.ensures.place, c.requires.zone, many c)
 
 pub returns-in-Ok-clause-after : goal.returns-in-Ok-clause-after
 returns-in-Ok-clause-after c =
