@@ -21,6 +21,9 @@ use zp_plain::PLAIN_PAGES;
 /// How many requests a zone gets.
 const REQUESTS: u32 = 300;
 
+/// The same of the largest zone, each of whose requests looks at all its pages.
+const FEW_REQUESTS: u32 = 60;
+
 /// How many alignments a run may be asked for with.
 const ALIGNMENTS: u32 = LARGEST_ALIGNMENT as u32 + 1;
 
@@ -260,14 +263,25 @@ fn ask_at_random(rt: &impl Abort, asked: &mut Asked, random: &mut Pcg32) {
     }
 }
 
-/// A new zone of so many pages by its definitions is asked at random, and then for all that is left; a zone replays it.
-fn compare_runs(rt: &(impl Abort + AllocGlobal), largest: u8, pages: u32) -> Result<(), Fail> {
-    let largest = Largest::new(largest).expect(rt, "no largest order");
-    let mut asked = Asked::new(rt, largest, pages, pages / 5, REQUESTS)?;
+/// A new zone of so many pages by its definitions that was asked so often at random.
+fn asked_at_random(
+    rt: &(impl Abort + AllocGlobal),
+    largest: Largest,
+    pages: u32,
+    requests: u32,
+) -> Result<Asked, Fail> {
+    let mut asked = Asked::new(rt, largest, pages, pages / 5, requests)?;
     let mut random = Pcg32::new(u64::from(pages), 0);
-    for _ in 0..REQUESTS {
+    for _ in 0..requests {
         ask_at_random(rt, &mut asked, &mut random);
     }
+    Ok(asked)
+}
+
+/// Such a zone is then asked for all that is left; a zone replays it.
+fn compare_runs(rt: &(impl Abort + AllocGlobal), largest: u8, pages: u32) -> Result<(), Fail> {
+    let largest = Largest::new(largest).expect(rt, "no largest order");
+    let mut asked = asked_at_random(rt, largest, pages, REQUESTS)?;
     asked.refill_all(rt)?;
     compare_replayed(rt, largest, pages, &asked)
 }
@@ -308,4 +322,11 @@ const LARGE: [Case; 5] = [
 #[test]
 fn runs_over_pageblocks_agree(rt: HostRuntime) -> Result<(), Fail> {
     compare_cases(&rt, &LARGE)
+}
+
+#[test]
+fn runs_of_the_largest_plain_zone_agree(rt: HostRuntime) -> Result<(), Fail> {
+    let largest = Largest::usual();
+    let asked = asked_at_random(&rt, largest, PLAIN_PAGES, FEW_REQUESTS)?;
+    compare_replayed(&rt, largest, PLAIN_PAGES, &asked)
 }
