@@ -23,8 +23,10 @@ pub enum Ground {
     HalfPageblock,
     /// Every second page, and all pageblocks are of this type.
     Halves(MigrateType),
-    /// Every second page, and all pages of every second pageblock, from the first one on.
-    HalvesBesideWhole,
+    /// The last page of each pageblock.
+    LastPages,
+    /// Every second pageblock, from the first one on.
+    SecondPageblocks,
     /// Every second page, but for one in each pageblock other than the first, whose pages are the last of the list: no pageblock before
     /// it on the list has the free pages that a claim asks for.
     LongList,
@@ -50,9 +52,14 @@ impl Ground {
                 bench.give_picked(|page| page % 2 == 0);
                 Ok(())
             }
-            Ground::HalvesBesideWhole => {
+            Ground::LastPages => {
                 lend_pages(bench, MigrateType::Movable)?;
-                bench.give_picked(|page| page % 2 == 0 || page / PAGEBLOCK_PAGES % 2 == 0);
+                bench.give_picked(|page| page % PAGEBLOCK_PAGES == PAGEBLOCK_PAGES - 1);
+                Ok(())
+            }
+            Ground::SecondPageblocks => {
+                lend_pages(bench, MigrateType::Movable)?;
+                bench.give_picked(|page| page / PAGEBLOCK_PAGES % 2 == 0);
                 Ok(())
             }
             Ground::LongList => {

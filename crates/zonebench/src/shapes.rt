@@ -172,18 +172,19 @@ pub struct RunWish {
 }
 
 impl RunWish {
-    /// Two pages, where each free one is alone.
+    /// Two pages, where each pageblock has one: each lent page is passed by itself.
     fn two_pages() -> RunWish {
         RunWish {
-            ground: Ground::Halves(MigrateType::Movable),
+            ground: Ground::LastPages,
             pages: 2,
         }
     }
 
-    /// One page less than two pageblocks have, where one pageblock and a page are the most.
+    /// One page less than two pageblocks have, where no two pageblocks side by side are free: each lent page between them is passed by
+    /// itself, as a run might begin behind it.
     fn near_two_pageblocks() -> RunWish {
         RunWish {
-            ground: Ground::HalvesBesideWhole,
+            ground: Ground::SecondPageblocks,
             pages: 2 * PAGEBLOCK_PAGES - 1,
         }
     }
@@ -204,9 +205,9 @@ pub const RUN_WISHES: usize = 2;
 /// The runs that are dear to look for.
 pub fn run_wishes() -> [(&'static str, RunWish); RUN_WISHES] {
     [
-        ("run of 2 pages among single ones", RunWish::two_pages()),
+        ("run of 2 where single pages are", RunWish::two_pages()),
         (
-            "run of 2047 beside whole pageblocks",
+            "run of 2047 where 1024 are the most",
             RunWish::near_two_pageblocks(),
         ),
     ]
