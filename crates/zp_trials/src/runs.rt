@@ -13,8 +13,8 @@ use std::alloc::AllocGlobal;
 use std::process::Abort;
 use std::test::Fail;
 use zp_model::{
-    LARGEST_ALIGNMENT, Largest, Mark, MigrateType, Order, PageAt, PageNo, Refused, Reply, Request,
-    State, Worker,
+    LARGEST_ALIGNMENT, Largest, Mark, MigrateType, NARROW_PAGES, Order, PageAt, PageNo, Refused,
+    Reply, Request, State, Worker,
 };
 use zp_plain::PLAIN_PAGES;
 
@@ -325,8 +325,8 @@ fn runs_over_pageblocks_agree(rt: HostRuntime) -> Result<(), Fail> {
 }
 
 #[test]
-fn runs_of_the_largest_plain_zone_agree(rt: HostRuntime) -> Result<(), Fail> {
+fn runs_of_the_largest_narrow_zone_agree(rt: HostRuntime) -> Result<(), Fail> {
     let largest = Largest::usual();
-    let asked = asked_at_random(&rt, largest, PLAIN_PAGES, FEW_REQUESTS)?;
-    compare_replayed(&rt, largest, PLAIN_PAGES, &asked)
+    let asked = asked_at_random(&rt, largest, NARROW_PAGES, FEW_REQUESTS)?;
+    compare_replayed(&rt, largest, NARROW_PAGES, &asked)
 }
