@@ -1,4 +1,5 @@
-use Rattle.std.proofs.Common.{◌≡◌, ◌==◌, sym, ◌∙◌, ap, subst, refl, rules, true, false}
+use Rattle.std.proofs.Common.{◌≡◌, ◌==◌, sym, ◌∙◌, ap, subst, refl, rules, true, false, inr, Bool}
+use Rattle.zp_model.specs.declared.refused.Refused.TheVariants.{JournalFull}
 use Rattle.zp_model.specs.declared.request.Request.{Request}
 use Rattle.zp_model.specs.declared.request.Request.TheVariants as request
 use Rattle.zp_model.specs.declared.request.Reply.TheVariants as reply
@@ -59,4 +60,19 @@ returns-clause-section c =
       same = record { tie = search rules; worker = search rules };
       fits = zone.fits;
       seats = zone.seats;
+    }
+
+pub returns-then-are_full-clause-section : goal.returns-then-are_full-clause-section
+returns-then-are_full-clause-section c =
+    let full : (c.args.self.now.sections.made == LAST_SECTION) ≡ true = ap (λ s. s.sections.made == LAST_SECTION) (sym c.self.view_is) ∙ sym c.are_full.ensures.full ∙ c.if-are_full.true in
+    let lent : is_lent_run c.args.self.now.seat.part.base c.args.self.now.uses c.args.page c.args.pages ≡ true =
+    sym (ap (λ b. is_lent_run b c.self.inside.uses.uses c.args.page c.args.pages) c.self.invariant.0 ∙ ap (λ s. is_lent_run s.seat.part.base s.uses c.args.page c.args.pages) c.self.view_is)
+    ∙ one_lent c.self.inside.uses.base c.args.page c.args.pages c.in-Some.order c.self.inside.uses.uses c.in-Some.ensures.below c.in-Some.ensures.some in
+    let comes : Bool → Bool → Type 0 = λ l f. ComesOf (refusal l f) (request.FreeRun c.args.page c.args.pages) (reply.Refused JournalFull) c.args.zone.now c.args.zone.now c.args.self.now c.args.self.now in
+    record {
+      made = subst (λ l. comes l (c.args.self.now.sections.made == LAST_SECTION)) (sym lent) (subst (comes true) (sym full) (refl, record { zone = refl; share = refl }));
+      reply = inr refl;
+      same = record { tie = refl; worker = refl };
+      fits = c.requires.seat;
+      seats = λ s e. e;
     }
