@@ -130,6 +130,19 @@ module _ (z : PlainZone) (n a : ℕ) where
     ];
   }
 
+  -- it is none of the pages before the first free block either
+  pub start_comes_free : (k h e d l s : ℕ) → k ≤ z.area.largest → 2 ^ (k + 1) ≤ n + 1 → 0 < n → IsBareTo z.area k h e → IsBareTo z.area 0 h d → l ≡ max (max h d) (e - (2 ^ k - 1)) → IsFirstMultiple z.base l a s → IsNextStart z n a h s
+  start_comes_free k h e d l s le some more bare none is m =
+      let one : 2 ^ 0 ≡ 1 = refl in
+      let twice : 2 ^ (0 + 1) ≡ 2 = refl in
+      elim (cases_lt (max h d) (e - (2 ^ k - 1))) [
+        | inl by ↦ start_comes k h e l s le some bare (omega arith) (inr (omega (arith, by, is, pow_pos k))) m
+        | inr not ↦ elim (cases_lt h d) [
+          | inl up ↦ start_comes 0 h d l s (omega arith) (omega (arith, twice, more)) none (omega arith) (inr (omega (arith, up, is, not, one))) m
+          | inr stays ↦ start_comes k h e l s le some bare (omega arith) (inl (omega (arith, stays, is, not))) m
+        ]
+      ]
+
   -- pages that are alike are passed
   pub passed_for : {c : ℕ} {b : Bool} → (s h : ℕ) → 0 < n → h < s + n → IsPassed z h c b → IsPassedFor z n a s h c b
   passed_for {c} {b} s h some lt p = record {

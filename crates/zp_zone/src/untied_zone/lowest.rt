@@ -49,7 +49,8 @@ impl UntiedZone {
         None
     }
 
-    /// The first place from this page on at which a run may begin, as far as it is told by the free blocks that are large enough to be in one.
+    /// The first place from this page on at which a run may begin, as far as it is told by the groups of pages that have a free block, and by those
+    /// that have one large enough to be in a run.
     fn next_start(&self, from: u32, pages: u32, align: u8) -> u32
         requires from { from ≤ MAX_PAGES }
         requires few { pages ≤ MAX_PAGES }
@@ -59,7 +60,10 @@ impl UntiedZone {
         // a run begins in a free block of this order or more, or less than its pages before one
         let order = order_inside(pages, self.largest());
         let block = self.buddy.bare_until(from, order);
-        let least = from.max(block.saturating_sub(order.pages() - 1));
+        // and its first page lies in a free block
+        let free = self.buddy.bare_until(from, Order::zero());
+        let first = from.max(free);
+        let least = first.max(block.saturating_sub(order.pages() - 1));
         first_multiple(self.base, least, align)
     }
 
