@@ -75,6 +75,14 @@ module _ (z : PlainZone) where
     alike = λ i lo hi. p.alike i (omega arith) (omega arith);
   }
 
+  -- and such pages side by side
+  pub passed_on : {n c : ℕ} {b : Bool} → (h : ℕ) → IsPassed z h n b → IsPassed z (h + n) c b → IsPassed z h (n + c) b
+  passed_on {n} {c} {b} h p q = record {
+    some = omega (arith, p.some);
+    inside = omega (arith, q.inside);
+    alike = λ i lo hi. elim (cases_lt i (h + n)) [ inl before ↦ p.alike i lo before | inr on ↦ q.alike i on (omega arith) ];
+  }
+
   -- and a page that lies in no free block is passed alone
   pub alone_passed : (h : ℕ) → h < pages_of z → ((k : ℕ) → k ≤ z.area.largest → (j : ℕ) → is_max z.area.largest z.area.free (head h k) j ≡ true → head h k + 2 ^ j ≤ h) → IsPassed z h 1 false
   alone_passed h inside none = used_passed h 1 (omega arith) inside (λ i lo hi. let same : i ≡ h = omega arith in rw same (false_from_ne_true _ (λ e.

@@ -17,7 +17,10 @@ ghost use Rattle.zp_zone.specs.Lowest.{IsFirstMultiple, IsNextStart, IsPassed, I
 use super::UntiedZone;
 use zp_model::{LARGEST_BLOCK_PAGES, LARGEST_ORDER, Largest, Order, PageAt, State};
 
-/// The pages of a block, as a search passes them: how many, and whether a run may have them.
+/// The pages past a block that a run may not have which are passed with it, before ranks are asked where the search goes on.
+const PAGES_TOGETHER: u32 = 32;
+
+/// Pages side by side, as a search passes them: how many, and whether a run may have them.
 #[derive(Clone, Copy, Drop)]
 struct PassedPages {
     count: u32,
@@ -97,7 +100,45 @@ impl UntiedZone {
                 serve: false,
             };
         }
-        self.block_at(at)
+        self.blocks_at(at, align)
+    }
+
+    /// The pages of the block in which a page lies, from the page on. Where a run may not have them and may begin at any page, those of some blocks
+    /// behind it that it may not have either are passed with them.
+    fn blocks_at(&self, at: PageAt, align: u8) -> PassedPages
+        requires { at < pages_of self.now.plain }
+        ensures { IsPassed self.now.plain at result.count result.serve }
+    {
+        let block = self.block_at(at);
+        if block.serve || align != 0 {
+            return block;
+        }
+        PassedPages {
+            count: self.passed_with(at, block.count),
+            serve: false,
+        }
+    }
+
+    /// How many pages a run may not have from this one on, up to the first block that it may have. So many are known to be such. Where it may have
+    /// none of `PAGES_TOGETHER` behind them, no more are looked at.
+    fn passed_with(&self, at: PageAt, count: u32) -> u32
+        requires { IsPassed self.now.plain at count false }
+        ensures { IsPassed self.now.plain at result false }
+    {
+        let pages = self.pages();
+        let first = at.number();
+        let mut next = first + count;
+        let end = pages.min(next + PAGES_TOGETHER);
+        'blocks: while next < end {
+            let Some(block) = self.block_headed(PageAt::at(next)) else {
+                return next - first;
+            };
+            if block.serve {
+                return next - first;
+            }
+            next += block.count;
+        }
+        next - first
     }
 
     /// The pages of the block in which a page lies, from the page on.

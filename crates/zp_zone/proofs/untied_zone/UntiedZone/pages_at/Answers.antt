@@ -25,4 +25,4 @@ returns-then-first_multiple-next-ge-LARGEST_BLOCK_PAGES c =
     ((rw stopped at c.whole_until-whole.ensures.stops) top c.if-next-eq0.true (omega (arith, far))))
 
 pub returns : goal.returns
-returns c = passed_for c.args.self.now.plain c.args.pages c.args.align c.args.start c.args.at (may_alloc_run-to c.args.pages c.args.align c.requires.may).0 c.requires.order c.block_at.ensures
+returns c = passed_for c.args.self.now.plain c.args.pages c.args.align c.args.start c.args.at (may_alloc_run-to c.args.pages c.args.align c.requires.may).0 c.requires.order c.blocks_at.ensures
