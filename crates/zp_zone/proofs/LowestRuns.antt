@@ -85,7 +85,7 @@ module _ (z : PlainZone) where
 
   -- and a page that lies in no free block is passed alone
   pub alone_passed : (h : ℕ) → h < pages_of z → ((k : ℕ) → k ≤ z.area.largest → (j : ℕ) → is_max z.area.largest z.area.free (head h k) j ≡ true → head h k + 2 ^ j ≤ h) → IsPassed z h 1 false
-  alone_passed h inside none = used_passed h 1 (omega arith) inside (λ i lo hi. let same : i ≡ h = omega arith in rw same (false_from_ne_true _ (λ e.
+  alone_passed h inside none = used_passed h 1 (omega arith) (omega (arith, inside)) (λ i lo hi. let same : i ≡ h = omega arith in rw same (false_from_ne_true _ (λ e.
       let x = each_page_in_one_block z.area.largest z.area.free h e in
       let r = in_run-to x.0 x.1 h x.2.1 in
       let y = is_max-to z.area.largest z.area.free x.0 x.1 x.2.0 in

@@ -7,7 +7,7 @@
 //! around it.
 //!
 //! In Linux: `alloc_contig_pages` tries the aligned runs of a zone, the lowest first, and looks at each page of them.
-ghost use Rattle.std.specs.Prelude.{ℕ, ◌≡◌, ◌<◌, ◌≤◌, ◌+◌, ◌^◌, true, IfNone, IfSome};
+ghost use Rattle.std.specs.Prelude.{ℕ, ◌≡◌, ◌<◌, ◌≤◌, ◌+◌, ◌^◌, true, false, IfNone, IfSome};
 ghost use Rattle.zp_model.specs.declared.constants.TheConstants.{BASE_LIMIT, LARGEST_ALIGNMENT, MAX_PAGES};
 ghost use Rattle.zp_model.specs.Block.{is_max};
 ghost use Rattle.zp_model.specs.Runs.{lowest_run, may_alloc_run};
@@ -129,7 +129,7 @@ impl UntiedZone {
         let first = at.number();
         let mut next = first + count;
         let end = pages.min(next + PAGES_TOGETHER);
-        'blocks: while next < end {
+        'behind: while next < end {
             let Some(block) = self.block_headed(PageAt::at(next)) else {
                 return next - first;
             };
