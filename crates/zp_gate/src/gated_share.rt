@@ -30,7 +30,7 @@ use crate::try_lock::{Busy, TryLock, Visit};
 use std::alloc::Global;
 use std::marker::Model;
 use std::sync::Arc;
-use zp_model::{Mark, MigrateType, Order, PageNo, Refused, Request};
+use zp_model::{Mark, MigrateType, Order, PageNo, Refused};
 use zp_share::{ListConfig, Share};
 use zp_zone::{Seat, Told};
 
@@ -228,10 +228,7 @@ impl GatedShare {
     {
         match call {
             ZoneCall::Post(page, order, _) => self.share.is_lent(0, *page, *order),
-            ZoneCall::FreeRun(page, pages) => {
-                let request = Request::FreeRun(*page, *pages);
-                self.share.lends_for(0, &request)
-            }
+            ZoneCall::FreeRun(page, pages) => self.share.lends_run(0, *page, *pages),
             _ => true,
         }
     }

@@ -7,6 +7,7 @@ ghost use Rattle.zp_model.specs.declared.constants.TheConstants.{LONGEST_LIST};
 ghost use Rattle.zp_zone.specs.Seats.{SeatState, IsSeatOf, IsUnused};
 ghost use Rattle.zp_model.specs.Bounds.{AreLists};
 ghost use Rattle.std.specs.Option.{option_copied};
+ghost use Rattle.zp_share.specs.PageUses.{is_lent_run};
 ghost use Rattle.zp_share.specs.PlainShares.{back, lends_for, lent_kind, put, putting, refused_full, taken};
 ghost use Rattle.zp_share.specs.Sections.{IsBack};
 ghost use Rattle.zp_share.specs.ZoneShares.{ZoneShareState, IsShare, SharesIn, use_in, is_lent, cached_of, opening_share, plain_share};
@@ -149,6 +150,15 @@ impl Share {
         ensures { result ≡ lends_for request.now (plain_share (share_at self.now zone)) }
     {
         self.zones[zone].lends_for(request)
+    }
+
+    /// Whether so many pages from this one of this zone on, one at least, are lent, by whatever blocks. Where they are one block, it is seen in line.
+    #[inline(always)]
+    pub fn lends_run(&self, zone: usize, page: PageNo, pages: u32) -> bool
+        requires { zone < length self.now.zones }
+        ensures { result ≡ is_lent_run (share_at self.now zone).seat.part.base (share_at self.now zone).uses page pages }
+    {
+        self.zones[zone].lends_run(page, pages)
     }
 
     /// The reply to a request for which no section can be made: 20 where the block that it names is not lent, else 30.

@@ -10,6 +10,7 @@ ghost use Rattle.zp_share.specs.Sections.{IsAsked, done_reply};
 ghost use Rattle.zp_share.specs.ZoneShares.{HasAtMost};
 
 use super::ZoneShare;
+use crate::page_use::PageUse;
 use zp_model::{Mark, PageNo, Refused, Reply, Request};
 use zp_zone::{Zone, page_reply};
 
@@ -23,9 +24,9 @@ impl ZoneShare {
         self.lends_run(page, pages)
     }
 
-    /// The same, in line: what it looks at is at hand where the run comes back.
+    /// The same, in line: most runs are one block, at which one look is enough.
     #[inline(always)]
-    fn lends_run(&self, page: PageNo, pages: u32) -> bool
+    pub fn lends_run(&self, page: PageNo, pages: u32) -> bool
         ensures { result ≡ is_lent_run self.now.seat.part.base self.now.uses page pages }
     {
         // the invariant is at hand where a field is
@@ -87,7 +88,33 @@ impl ZoneShare {
     }
 
     /// Frees so many pages from this one on, by whatever blocks they are lent. Refused 20 where one of them is not lent, or there is none, and 30.
+    // (a run that is one lent block is seen as one by the one look that tells that it is lent)
+    #[inline(always)]
     pub fn free_run(&mut self, zone: &mut Zone, page: PageNo, pages: u32) -> Result<(), Refused>
+        requires seat { IsSeatOf zone.old self.old.seat }
+        ensures section { IsAsked (request.FreeRun page pages) (done_reply reply.Freed result) zone.old zone.new self.old self.new }
+        ensures lists { (n : ℕ) → HasAtMost n self.old → HasAtMost n self.new }
+    {
+        let Some(order) = self.uses.block_order(page, pages) else {
+            return self.free_parts(zone, page, pages);
+        };
+        if self.sections.are_full() {
+            return Err(Refused::JournalFull);
+        }
+        let worker = self.seat.worker();
+        // a clause of this call says that the zone is lawful
+        let _pages = zone.pages();
+        zone.free_run_as_block(&mut self.seat, page, pages, order);
+        self.uses.set(page, PageUse::Away);
+        let request = Request::FreeRun(page, pages);
+        self.sections.add(worker, &request, &Reply::Freed);
+        Ok(())
+    }
+
+    /// The same, from block to block.
+    // (out of line: most runs that come back are one block)
+    #[inline(never)]
+    fn free_parts(&mut self, zone: &mut Zone, page: PageNo, pages: u32) -> Result<(), Refused>
         requires seat { IsSeatOf zone.old self.old.seat }
         ensures section { IsAsked (request.FreeRun page pages) (done_reply reply.Freed result) zone.old zone.new self.old self.new }
         ensures lists { (n : ℕ) → HasAtMost n self.old → HasAtMost n self.new }

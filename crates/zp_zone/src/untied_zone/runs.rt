@@ -19,6 +19,7 @@ ghost use Rattle.zp_model.specs.Runs.{
   run_taken,
 };
 ghost use Rattle.zp_model.specs.declared.request.Request.TheVariants as request;
+ghost use Rattle.zp_model.specs.Run.{is_out};
 ghost use Rattle.zp_model.specs.Step.{step};
 ghost use Rattle.zp_zone.specs.NamedZone.{AreFresh, KeepsLentBut, KeepsOut, page_reply};
 ghost use Rattle.zp_zone.specs.RunsAt.{block_taken};
@@ -204,6 +205,25 @@ impl UntiedZone {
             return;
         }
         self.free_parts(worker, at, pages);
+    }
+
+    /// As `free_run`, of a run that is one block out to the worker, of this order.
+    pub fn free_run_as_block(&mut self, worker: Worker, page: PageNo, pages: u32, order: Order)
+        requires worker { worker < workers_of self.old.plain }
+        requires lent { may_free_run self.old.plain worker page pages ≡ true }
+        requires block { IsTrue (is_out self.old.plain worker page order) }
+        requires size { 2 ^ order ≡ pages }
+        ensures after { self.new ≡ record self.old { plain = (step self.old.plain worker (request.FreeRun page pages)).zone } }
+
+        // What the calls after it can rest on.
+        ensures gone { AreFresh self.new.plain page pages }
+        ensures kept { KeepsLentBut worker page pages self.old.plain self.new.plain }
+    {
+        self.lawful();
+        // the number of pages is named for the clauses alone
+        let _ = pages;
+        let at = PageAt::at(page.number() - self.base);
+        self.free_whole(worker, at, order);
     }
 
     /// The order of the block out to the worker that so many pages from this one on are, where they are one.

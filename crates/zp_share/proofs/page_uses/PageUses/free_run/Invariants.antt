@@ -1,6 +1,6 @@
 use Rattle.std.proofs.Common.{◌-◌, ◌≡◌, ◌≤◌}
 use Rattle.zp_share.proofs.RunUses.{IsFreeing}
-use Rattle.zp_share.proofs.page_uses.PageUses.free_parts.Given as goal
+use Rattle.zp_share.proofs.page_uses.PageUses.free_run.Given as goal
 
 -- the pages before `next` have come back
 abbrev pub invariant-parts : goal.invariant-parts
