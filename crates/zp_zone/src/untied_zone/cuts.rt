@@ -5,25 +5,12 @@ ghost use Rattle.std.specs.Prelude.{ℕ, ◌≡◌, ◌≤◌, ◌<◌, ◌+◌,
 ghost use Rattle.zp_model.specs.Block.{has};
 ghost use Rattle.zp_model.specs.Lawful.{IsListedArea};
 ghost use Rattle.zp_model.specs.Rows.{state_at};
-ghost use Rattle.zp_model.specs.Runs.{fitting_order};
 ghost use Rattle.zp_buddy.specs.Runs.{AreClear};
 ghost use Rattle.zp_zone.specs.Kept.{IsPostedAside, holding_of};
 ghost use Rattle.zp_zone.specs.RunsAt.{IsGivenRun, IsNotedRun};
 
-use zp_buddy::Buddy;
-use zp_model::{Largest, MigrateType, Order, PageAt, State, Worker};
-
-/// The order of the first block of the cut of so many pages from this one on: the largest that may begin them. It is told by the zeros that its
-/// place and their number have behind and in front.
-#[inline(always)]
-pub fn fitting_order(largest: Largest, at: PageAt, pages: u32) -> Order
-    requires { 0 < pages }
-    ensures { result ≡ fitting_order largest at pages }
-{
-    let aligned = at.number().trailing_zeros();
-    let fits = 31 - pages.leading_zeros();
-    Order::at(aligned.min(fits).min(u32::from(largest.number())) as u8)
-}
+use zp_buddy::{Buddy, fitting_order};
+use zp_model::{MigrateType, Order, PageAt, State, Worker};
 
 /// Frees so many pages from this one on, which are neither free nor out nor posted, block by block of the run's cut: what freeing them at once
 /// leaves.

@@ -7,7 +7,7 @@ use Rattle.std.proofs.lemmas.Nat.{leading_top, pow_pos}
 use Rattle.zp_model.specs.RunLaws.{IsFitting}
 use Rattle.zp_model.proofs.Cuts.{fitting_unique}
 use Rattle.zp_buddy.proofs.LastOrders.{last_fits}
-use Rattle.zp_zone.proofs.untied_zone.cuts.fitting_order.Goals as goal
+use Rattle.zp_buddy.proofs.cut.fitting_order.Goals as goal
 
 none_behind : trailing_zeros w32 0 ≡ 32
 unfolding lib.Count.count_trailing_zeros
