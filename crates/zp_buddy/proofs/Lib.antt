@@ -22,3 +22,4 @@ pub mod FallingRuns
 pub mod LastOrders
 pub mod GivingAs
 pub mod Groups
+pub mod PartsBack

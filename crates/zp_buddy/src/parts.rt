@@ -4,13 +4,13 @@
 //! these joins another: the buddy of each has a page that is taken.
 //!
 //! In Linux: `take_page_off_buddy`, with `break_down_buddy_pages`; `alloc_contig_range` takes such pages out of the free area too.
-ghost use Rattle.std.specs.Prelude.{◌≡◌, ◌≤◌, ◌<◌, ◌+◌, ◌-◌, ◌^◌, true, false, length};
-ghost use Rattle.zp_model.specs.Block.{head};
+ghost use Rattle.std.specs.Prelude.{ℕ, ◌≡◌, ◌≤◌, ◌<◌, ◌+◌, ◌-◌, ◌^◌, true, false, length};
+ghost use Rattle.zp_model.specs.Block.{has, head};
 ghost use Rattle.zp_model.specs.BlockSet.{Starts, cover};
 ghost use Rattle.zp_model.specs.Runs.{IsFreeRun, has_pages};
 ghost use Rattle.zp_area.specs.Blocks.{block_set};
 ghost use Rattle.zp_buddy.specs.Choices.{area_in};
-ghost use Rattle.zp_buddy.specs.Parts.{IsGivenBack, IsLeftRun, MayComeBefore, MayComeBehind};
+ghost use Rattle.zp_buddy.specs.Parts.{IsGivenBack, IsLeftBetween, IsLeftRun, MayComeBefore, MayComeBehind};
 ghost use Rattle.zp_buddy.specs.Sound.{IsSound};
 
 use crate::at::is_free_run;
@@ -32,40 +32,42 @@ pub fn take_pages(area: &mut FreeArea, at: PageAt, pages: u32) -> bool
     let Some(order) = area.order_around(at) else {
         return false;
     };
-    let end = at.head(order).number() + order.pages();
-    let behind = at.number() + pages;
-    if behind <= end {
+    let block_end = at.head(order).number() + order.pages();
+    let end = at.number() + pages;
+    if end <= block_end {
         take_part(area, order, at, pages);
         return true;
     }
-    if !is_free_run(area, PageAt::at(end), behind - end) {
+    if !is_free_run(area, PageAt::at(block_end), end - block_end) {
         return false;
     }
-    take_parts(area, at, pages);
+    take_part(area, order, at, block_end - at.number());
+    take_blocks(area, block_end, end);
     true
 }
 
-/// Takes so many pages from this one on, all of them free, out of one free block after another.
-fn take_parts(area: &mut FreeArea, at: PageAt, pages: u32)
-    requires inside { at + pages ≤ length area.old.rows.states }
-    requires free { IsFreeRun (area_in area.old.largest area.old) at pages }
+/// Takes the pages from this one up to `end`, all of them free, from free block to free block. The first heads one, as no page before it is free.
+fn take_blocks(area: &mut FreeArea, from: u32, end: u32)
+    requires some { 0 < from }
+    requires up { from ≤ end }
+    requires inside { end ≤ length area.old.rows.states }
+    requires free { IsFreeRun (area_in area.old.largest area.old) from (end - from) }
+    requires before { has (cover (block_set area.old)) (from - 1) ≡ false }
     requires sound { IsSound area.old.largest area.old.rows.states area.old.kinds area.old.rows.lists }
-    ensures { IsLeftRun area.old area.new at pages }
+    ensures { (e : ℕ) × IsLeftBetween area.old area.new from (end - from) from e }
 {
     // a clause of this call says how many pages there can be
     let _pages = area.pages();
-    let end = at.number() + pages;
-    let mut next = at.number();
-    'parts: while next < end {
+    let mut next = from;
+    'blocks: while next < end {
         // a clause of this call says that all that is kept is of one set of blocks
         let _pages = area.pages();
-        let page = PageAt::at(next);
-        let Some(order) = area.order_around(page) else {
+        let head = PageAt::at(next);
+        let Some(order) = area.order_headed(head) else {
             unreachable!()
         };
-        let block_end = page.head(order).number() + order.pages();
-        let taken = end.min(block_end) - next;
-        take_part(area, order, page, taken);
+        let taken = order.pages().min(end - next);
+        take_part(area, order, head, taken);
         next += taken;
     }
 }
@@ -76,16 +78,16 @@ fn take_part(area: &mut FreeArea, order: Order, at: PageAt, pages: u32)
     requires block { Starts (block_set area.old) (head at order) order }
     requires within { at + pages ≤ head at order + 2 ^ order }
     requires sound { IsSound area.old.largest area.old.rows.states area.old.kinds area.old.rows.lists }
-    ensures { IsLeftRun area.old area.new at pages }
+    ensures { IsLeftBetween area.old area.new at pages (head at order) (head at order + 2 ^ order) }
 {
     // a clause of this call says that all that is kept is of one set of blocks
     let _pages = area.pages();
     let head = at.head(order);
-    let first = at.number();
-    let behind = first + pages;
+    let taken = at.number();
+    let behind = taken + pages;
     let end = head.number() + order.pages();
     area.remove(head, order);
-    add_before(area, head.number(), first);
+    add_before(area, head.number(), taken);
     add_behind(area, behind, end);
 }
 

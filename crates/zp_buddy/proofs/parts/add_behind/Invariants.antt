@@ -1,0 +1,10 @@
+use Rattle.std.proofs.Common.{◌-◌}
+use Rattle.zp_buddy.proofs.PartsBack.{IsBackBehind}
+use Rattle.zp_buddy.proofs.parts.add_behind.Given as goal
+
+-- the pages before `next` have come back
+abbrev pub invariant-tiles : goal.invariant-tiles
+invariant-tiles l = (p : ℕ) × (o : ℕ) × IsBackBehind l.fn.area l.area p o l.from l.end l.next
+
+abbrev pub decreases-tiles : goal.decreases-tiles
+decreases-tiles l = l.end - l.next
