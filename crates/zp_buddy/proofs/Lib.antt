@@ -17,6 +17,7 @@ pub mod GiveRuns
 pub mod TurnedRuns
 pub mod HeldNotes
 pub mod TakenBehind
+pub mod ClippedBlocks
 pub mod TakenTowards
 pub mod FallingRuns
 pub mod LastOrders
