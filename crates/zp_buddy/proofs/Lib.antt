@@ -24,3 +24,4 @@ pub mod LastOrders
 pub mod GivingAs
 pub mod Groups
 pub mod PartsBack
+pub mod PartsTaken

@@ -1,5 +1,5 @@
 -- Parts of a block that has left come back, block by block of their cut: none joins another, as the buddy of each has a page that is taken.
-use Rattle.std.proofs.Common.{ℕ, ◌+◌, ◌-◌, ◌%◌, ◌^◌, ◌≡◌, ◌≢◌, ◌≤◌, ◌<◌, ◌⊎◌, inl, inr, refl, sym, ◌∙◌, ap, arith, false, List, [], length, set, get_or-set_same, get_or-set_other, length-set}
+use Rattle.std.proofs.Common.{ℕ, ◌+◌, ◌-◌, ◌%◌, ◌^◌, ◌≡◌, ◌≢◌, ◌≤◌, ◌<◌, ◌⊎◌, inl, inr, refl, sym, ◌∙◌, ap, subst, arith, false, List, [], length, set, get_or-set_same, get_or-set_other, length-set}
 use Rattle.std.proofs.Math.Nat.{add-mod_right, pow-le-pow_right}
 use Rattle.std.proofs.lemmas.Nat.{pow_pos}
 use Rattle.std.proofs.lemmas.Bool.{both_ways, cases_eq, cases_lt, false≢true, false_from_ne_true}
@@ -8,7 +8,7 @@ use Rattle.zp_model.specs.declared.state.State.{State}
 use Rattle.zp_model.specs.declared.state.State.TheVariants.{Tail, Free}
 use Rattle.zp_model.specs.Block.{has, head, IsBlock, IsBuddy}
 use Rattle.zp_model.specs.BlockSet.{cover}
-use Rattle.zp_model.specs.Area.{Area}
+use Rattle.zp_model.specs.Area.{Area, settle}
 use Rattle.zp_model.specs.Frames.{Frames, IsClear}
 use Rattle.zp_model.specs.Rows.{state_at}
 use Rattle.zp_model.specs.RunLaws.{IsTakenRun}
@@ -21,11 +21,13 @@ use Rattle.zp_model.proofs.RunGiven.{give_block, give_more, given_in_parts, list
 use Rattle.zp_model.proofs.RunParts.{with_pages-to}
 use Rattle.zp_area.specs.Blocks.{Blocks, block_set, added, noted}
 use Rattle.zp_area.specs.Chains.{IsJoinable}
+use Rattle.zp_area.specs.Given.{IsClearRun}
 use Rattle.zp_area.proofs.NotedBlocks.{starts-from}
 use Rattle.zp_buddy.specs.Choices.{area_in, frames_in}
 use Rattle.zp_buddy.specs.Parts.{IsGivenBack, MayComeBefore, MayComeBehind}
 use Rattle.zp_buddy.specs.Runs.{AreClear}
 use Rattle.zp_buddy.specs.Sound.{IsSound}
+use Rattle.zp_buddy.proofs.Framed.{clear_is}
 use Rattle.zp_buddy.proofs.JoinBlocks.{IsGiven, back_noted, given_joined, joining_none}
 use Rattle.zp_buddy.proofs.Runs.{sound_listed}
 use Rattle.zp_buddy.proofs.Settled.{length-pages}
@@ -46,7 +48,7 @@ module _ (m : ℕ) (b : Blocks) (c k p : ℕ) (x : IsSound m b.rows.states b.kin
       ap (λ (s : List State). let v : Blocks = record (added m b c k) { rows = record (added m b c k).rows { states = s } } in v) (set-set b.rows.states c Tail (Free k)) in
       given_joined 0 m c k c k b (noted b c Tail) (added m b c k) x clear (joining_none m c k (noted b c Tail) (back_noted m c k b x clear)) (sym same, alone)
 
-free_given : (a : Area) (h n : ℕ) → (give_run a h n).free ≡ with_pages a.free h n
+pub free_given : (a : Area) (h n : ℕ) → (give_run a h n).free ≡ with_pages a.free h n
 unfolding give_run settle
 free_given a h n = refl
 
@@ -85,6 +87,7 @@ module _ (a y : Blocks) (h n all c k p : ℕ) (x : IsSound a.largest a.rows.stat
     | inr new ↦ apart new.0 new.1
   ])
 
+  -- so the block is clear
   now_clear : IsClear (frames_in m y) c k
   now_clear = record {
     block = record { order = low; aligned = aligned; inside = omega (arith, here, room, clear.inside, length-pages a.rows.states, length-pages y.rows.states, b.pages) };
@@ -103,12 +106,17 @@ module _ (a y : Blocks) (h n all c k p : ℕ) (x : IsSound a.largest a.rows.stat
       ∙ ap (λ g. give_run (give_run (area_in m a) h n) g (2 ^ k)) here
       ∙ give_more (area_in m a) h n (2 ^ k) (listed (area_in m a) (sound_listed m a x)) (λ i lo hi. clear.free i lo (omega (arith, room)))
 
-  now_noted : (i : ℕ) → (state_at (added m y c k).rows.states i ≡ state_at a.rows.states i) ⊎ ((j : ℕ) × (state_at (added m y c k).rows.states i ≡ Free j))
+  now_noted : (i : ℕ) → (state_at (added m y c k).rows.states i ≡ state_at a.rows.states i) ⊎ ((h ≤ i) × (i < h + (n + 2 ^ k)) × (j : ℕ) × (state_at (added m y c k).rows.states i ≡ Free j))
   now_noted i = elim (cases_eq i c) [
-    | inl same ↦ inr (k, rw same (get_or-set_same y.rows.states c (Free k) Tail (omega (arith, here, room, clear.inside, length-pages a.rows.states, b.pages, pow_pos k))))
+    | inl same ↦ inr (
+      omega (arith, here),
+      omega (arith, here, pow_pos k),
+      k,
+      rw same (get_or-set_same y.rows.states c (Free k) Tail (omega (arith, here, room, clear.inside, length-pages a.rows.states, b.pages, pow_pos k))),
+    )
     | inr ne ↦
         let stays : state_at (added m y c k).rows.states i ≡ state_at y.rows.states i = get_or-set_other y.rows.states c i (Free k) Tail ne in
-        elim (b.noted i) [ inl old ↦ inl (stays ∙ old) | inr new ↦ inr (new.0, stays ∙ new.1) ]
+        elim (b.noted i) [ inl old ↦ inl (stays ∙ old) | inr new ↦ inr (new.0, omega (arith, new.1), new.2, stays ∙ new.3) ]
   ]
 
   pub back_more : IsGivenBack a (added m y c k) h (n + 2 ^ k)
@@ -148,11 +156,13 @@ module _ {a y : Blocks} {h p n : ℕ} (x : IsSound a.largest a.rows.states a.kin
   low : next_order < b.level
   low = elim (cases_lt next_order b.level) [
     | inl lt ↦ lt
-    | inr ge ↦ absurd (omega (arith, (fitting a.largest n (p - n) (omega arith)).inside, b.at, lt_head p b.level, pow-le-pow_right (omega arith) ge))
+    | inr ge ↦
+        let wide : 2 ^ b.level ≤ 2 ^ next_order = pow-le-pow_right (omega arith) ge in
+        absurd (omega (arith, (fitting a.largest n (p - n) (omega arith)).inside, b.at, lt_head p b.level, wide))
   ]
 
   aligned_double : n % 2 ^ (next_order + 1) ≡ 0
-  aligned_double = aligned_down (next_order + 1) b.level n (omega (arith, low)) (rw b.at (head_aligned p b.level))
+  aligned_double = aligned_down (next_order + 1) b.level n (omega (arith, low)) (ap (λ i. i % 2 ^ b.level) b.at ∙ head_aligned p b.level)
 
   short : p < n + 2 ^ (next_order + 1)
   short = elim (cases_lt p (n + 2 ^ (next_order + 1))) [
@@ -171,11 +181,18 @@ module _ {a y : Blocks} {h p n : ℕ} (x : IsSound a.largest a.rows.states a.kin
         absurd (omega (arith, same, w.1, pow_pos next_order))
   ]
 
-  pub before_fits : (n % 2 ^ next_order ≡ 0) × (next_order ≤ a.largest) × (n + 2 ^ next_order ≤ p)
-  before_fits = ((fitting a.largest n (p - n) (omega arith)).aligned, (fitting a.largest n (p - n) (omega arith)).order, room)
+  -- the block may be added, and ends no later than the pages do
+  pub before_may : IsBlock a.largest (length y.rows.states) n next_order × IsClearRun a.largest y.rows.states y.rows.lists n next_order
+  before_may =
+      let f = fitting a.largest n (p - n) (omega arith) in
+      (clear_is a.largest y n next_order).0
+      (now_clear a y h (n - h) (p - h) n next_order p x b.back z.clear (omega (arith, b.from)) (omega (arith, b.from, room)) f.order f.aligned z.taken (λ q r. omega (arith, b.from)) beside)
 
-  pub before_goes : IsBackBefore a (added a.largest y n next_order) h p (n + 2 ^ next_order)
-  before_goes =
+  pub before_room : n + 2 ^ next_order ≤ p
+  before_room = room
+
+  goes_before : IsBackBefore a (added a.largest y n next_order) h p (n + 2 ^ next_order)
+  goes_before =
       let f = fitting a.largest n (p - n) (omega arith) in
       let size : n + 2 ^ next_order - h ≡ n - h + 2 ^ next_order = omega (arith, b.from) in
       record {
@@ -186,6 +203,9 @@ module _ {a y : Blocks} {h p n : ℕ} (x : IsSound a.largest a.rows.states a.kin
         within = f.order;
         at = sym (head_of (n + 2 ^ next_order) p next_order (add-mod_right n (2 ^ next_order) ∙ f.aligned) room (omega (arith, short, two next_order)));
       }
+
+  pub before_goes : (q : ℕ) → q ≡ a.largest → IsBackBefore a (added q y n next_order) h p (n + 2 ^ next_order)
+  before_goes q e = subst (λ r. IsBackBefore a (added r y n next_order) h p (n + 2 ^ next_order)) (sym e) goes_before
 
 -- of the pages from h up to page e, those before page n have come back: n ends the aligned run of some order around the page before h
 pub record IsBackBehind (a y : Blocks) (z : ℕ) (o h e n : ℕ) : Type 0 where
@@ -220,7 +240,7 @@ module _ {a y : Blocks} {h e n : ℕ} (x : IsSound a.largest a.rows.states a.kin
   begins = sym z.to
 
   aligned_level : n % 2 ^ b.level ≡ 0
-  aligned_level = rw b.at (add-mod_right (head z.last b.level) (2 ^ b.level) ∙ head_aligned z.last b.level)
+  aligned_level = ap (λ i. i % 2 ^ b.level) b.at ∙ add-mod_right (head z.last b.level) (2 ^ b.level) ∙ head_aligned z.last b.level
 
   -- the page is past the first of the block that has left, so the block is the one around it
   around : head n z.order ≡ head z.last z.order
@@ -229,7 +249,9 @@ module _ {a y : Blocks} {h e n : ℕ} (x : IsSound a.largest a.rows.states a.kin
   below : rest_order < z.order
   below = elim (cases_lt rest_order z.order) [
     | inl lt ↦ lt
-    | inr ge ↦ absurd (omega (arith, room_behind, begins, head_le z.last z.order, z.next, b.from, pow-le-pow_right (omega arith) ge))
+    | inr ge ↦
+        let wide : 2 ^ z.order ≤ 2 ^ rest_order = pow-le-pow_right (omega arith) ge in
+        absurd (omega (arith, room_behind, begins, head_le z.last z.order, z.next, b.from, wide))
   ]
 
   -- one of a smaller order ends before the end of the block
@@ -242,13 +264,13 @@ module _ {a y : Blocks} {h e n : ℕ} (x : IsSound a.largest a.rows.states a.kin
   high : n ≡ head n (rest_order + 1) + 2 ^ rest_order
   high = elim (half n rest_order fits) [
     | inr e ↦ e
-    | inl low ↦
-        let al : n % 2 ^ (rest_order + 1) ≡ 0 = rw low (head_aligned n (rest_order + 1)) in
+    | inl whole_double ↦
+        let al : n % 2 ^ (rest_order + 1) ≡ 0 = ap (λ i. i % 2 ^ (rest_order + 1)) whole_double ∙ head_aligned n (rest_order + 1) in
         absurd (omega (arith, (fitting a.largest n (e - n) (omega arith)).greatest (rest_order + 1) (omega (arith, below, z.within)) al (omega (arith, whole (rest_order + 1) (omega (arith, below)) al))))
   ]
 
   reaches : head n (rest_order + 1) ≤ z.last
-  reaches = omega (arith, high, b.at, head_le z.last b.level, pow-le-pow_right (omega arith) level_le)
+  reaches = let wide : 2 ^ b.level ≤ 2 ^ rest_order = pow-le-pow_right (omega arith) level_le in omega (arith, high, b.at, head_le z.last b.level, wide)
 
   beside_behind : (c f : ℕ) → IsBuddy n rest_order c f → (c ≤ z.last) × (z.last < c + 2 ^ rest_order)
   beside_behind c f q =
@@ -261,11 +283,16 @@ module _ {a y : Blocks} {h e n : ℕ} (x : IsSound a.largest a.rows.states a.kin
         | inr w ↦ (omega (arith, w.0, double, reaches), omega (arith, w.1, z.next, b.from, w.0))
       ]
 
-  pub behind_fits : (n % 2 ^ rest_order ≡ 0) × (rest_order ≤ a.largest) × (n + 2 ^ rest_order ≤ e)
-  behind_fits = (fits, (fitting a.largest n (e - n) (omega arith)).order, room_behind)
+  pub behind_may : IsBlock a.largest (length y.rows.states) n rest_order × IsClearRun a.largest y.rows.states y.rows.lists n rest_order
+  behind_may =
+      (clear_is a.largest y n rest_order).0
+      (now_clear a y h (n - h) (e - h) n rest_order z.last x b.back z.clear (omega (arith, b.from)) (omega (arith, b.from, room_behind)) (omega (arith, below, z.within)) fits z.taken (λ q r. omega (arith, z.next)) beside_behind)
 
-  pub behind_goes : IsBackBehind a (added a.largest y n rest_order) z.last z.order h e (n + 2 ^ rest_order)
-  behind_goes =
+  pub behind_room : n + 2 ^ rest_order ≤ e
+  behind_room = room_behind
+
+  goes_behind : IsBackBehind a (added a.largest y n rest_order) z.last z.order h e (n + 2 ^ rest_order)
+  goes_behind =
       let size : n + 2 ^ rest_order - h ≡ n - h + 2 ^ rest_order = omega (arith, b.from) in
       record {
         from = omega (arith, b.from);
@@ -278,3 +305,6 @@ module _ {a y : Blocks} {h e n : ℕ} (x : IsSound a.largest a.rows.states a.kin
             head_of (head n (rest_order + 1)) z.last (rest_order + 1) (head_aligned n (rest_order + 1)) reaches (omega (arith, high, z.next, b.from, two rest_order)) in
             omega (arith, same, high, two rest_order);
       }
+
+  pub behind_goes : (q : ℕ) → q ≡ a.largest → IsBackBehind a (added q y n rest_order) z.last z.order h e (n + 2 ^ rest_order)
+  behind_goes q same = subst (λ r. IsBackBehind a (added r y n rest_order) z.last z.order h e (n + 2 ^ rest_order)) (sym same) goes_behind

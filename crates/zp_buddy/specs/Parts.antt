@@ -31,7 +31,7 @@ pub record IsLeftBetween (a y : Blocks) (h n b e : ℕ) : Type 0 where
   pub noted : (i : ℕ) → state_at y.rows.states i ≡ restate (free_order (state_at y.rows.states i)) (state_at a.rows.states i)
   pub outside : (i : ℕ) → (i < b) ⊎ (e ≤ i) → state_at y.rows.states i ≡ state_at a.rows.states i
 
--- n pages from h on have come back to the free ones of a, which is y then: what was noted stays, but of the heads of free blocks
+-- n pages from h on have come back to the free ones of a, which is y then: what was noted stays, but of those of the pages that head free blocks
 pub record IsGivenBack (a y : Blocks) (h n : ℕ) : Type 0 where
   pub largest : y.largest ≡ a.largest
   pub sound : IsSound a.largest y.rows.states y.kinds y.rows.lists
@@ -39,7 +39,7 @@ pub record IsGivenBack (a y : Blocks) (h n : ℕ) : Type 0 where
   pub kinds : y.kinds ≡ a.kinds
   pub area : area_in a.largest y ≡ give_run (area_in a.largest a) h n
   pub sides : (frames_in a.largest y).sides ≡ (frames_in a.largest a).sides
-  pub noted : (i : ℕ) → (state_at y.rows.states i ≡ state_at a.rows.states i) ⊎ ((k : ℕ) × (state_at y.rows.states i ≡ Free k))
+  pub noted : (i : ℕ) → (state_at y.rows.states i ≡ state_at a.rows.states i) ⊎ ((h ≤ i) × (i < h + n) × (k : ℕ) × (state_at y.rows.states i ≡ Free k))
 
 -- the pages from h up to e may come back to a: none is free or on a further list. They are those before, or those behind, page p of the aligned run of
 -- order o around it, and page p is not free.
