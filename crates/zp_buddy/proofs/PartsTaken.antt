@@ -1,5 +1,5 @@
 -- Pages that are taken out of the free blocks in which they lie.
-use Rattle.std.proofs.Common.{ℕ, ◌+◌, ◌-◌, ◌^◌, ◌≡◌, ◌≤◌, ◌<◌, ◌⊎◌, inl, inr, refl, sym, ◌∙◌, ap, subst, arith, [], false, true, length, max, min, get_or-set_same, get_or-set_other}
+use Rattle.std.proofs.Common.{ℕ, ◌+◌, ◌-◌, ◌^◌, ◌≡◌, ◌≤◌, ◌<◌, ◌⊎◌, inl, inr, refl, sym, ◌∙◌, ap, subst, arith, Bool, List, [], false, true, length, max, min, get_or-set_same, get_or-set_other}
 use Rattle.std.proofs.lemmas.Nat.{pow_pos}
 use Rattle.std.proofs.lemmas.Bool.{both_ways, cases_eq, cases_lt, false_from_ne_true}
 use Rattle.std.proofs.lemmas.List.{get_or-drop}
@@ -14,7 +14,7 @@ use Rattle.zp_model.specs.Rows.{list_at, stands_in, state_at}
 use Rattle.zp_model.specs.Runs.{give_run, has_pages, leave_run, without_pages}
 use Rattle.zp_model.specs.Take.{leave}
 use Rattle.zp_model.proofs.Heads.{head_aligned, head_le, head_of, head_self, lt_head}
-use Rattle.zp_model.proofs.LowestRun.{has_pages-to}
+use Rattle.zp_model.proofs.LowestRun.{has_pages-from, has_pages-to}
 use Rattle.zp_model.proofs.MaximalBlocks.{max-unique}
 use Rattle.zp_model.proofs.Pages.{In}
 use Rattle.zp_model.proofs.RunGiven.{leave_more, left_in_parts, listed}
@@ -285,3 +285,49 @@ module _ {a y : Blocks} {h e n : ℕ} (x : AreBehind a h e) (t : IsTakingOn a y 
           );
           ahead = λ lt i lo. same i (inr (omega (arith, size))) ∙ t.ahead more i (omega arith);
         }
+
+-- where pages up to page z have left, those from there on leave
+pub left_on : (a y w : Blocks) (h n k g z e : ℕ) → IsSound a.largest a.rows.states a.kinds a.rows.lists → g ≤ z → z ≡ h + n → IsLeftBetween a y h n g z → IsLeftBetween y w z k z e →
+    IsLeftBetween a w h (n + k) g (max z e)
+left_on a y w h n k g z e s from here p q =
+    let m : ℕ = a.largest in
+    record {
+      largest = q.largest ∙ p.largest;
+      sound = subst (λ r. IsSound r w.rows.states w.kinds w.rows.lists) p.largest q.sound;
+      pages = q.pages ∙ p.pages;
+      kinds = q.kinds ∙ p.kinds;
+      area =
+          subst (λ r. area_in r w ≡ leave_run (area_in r y) z k) p.largest q.area
+          ∙ ap (λ (r : Area). leave_run r z k) p.area
+          ∙ ap (λ i. leave_run (leave_run (area_in m a) h n) i k) here
+          ∙ leave_more (area_in m a) h n k (listed (area_in m a) (sound_listed m a s));
+      sides = subst (λ r. (frames_in r w).sides ≡ (frames_in r y).sides) p.largest q.sides ∙ p.sides;
+      noted = λ i. elim (cases_lt i z) [
+        | inl lo ↦ subst (λ r. IsRestated (state_at a.rows.states i) r) (sym (q.outside i (inl lo))) (p.noted i)
+        | inr hi ↦ subst (λ r. IsRestated r (state_at w.rows.states i)) (p.outside i (inr hi)) (q.noted i)
+      ];
+      outside = λ i out. elim out [
+        | inl lo ↦ q.outside i (inl (omega arith)) ∙ p.outside i (inl lo)
+        | inr hi ↦ q.outside i (inr (omega arith)) ∙ p.outside i (inr (omega arith))
+      ];
+    }
+
+-- the pages that have left are not free, and the others stay as they were
+module _ (a y : Blocks) (h n g z : ℕ) (x : IsLeftBetween a y h n g z) where
+  free_after : cover (block_set y) ≡ without_pages (cover (block_set a)) h n
+  free_after = ap (λ (r : Area). r.free) x.area ∙ free_left (area_in a.largest a) h n
+
+  pub none_left : (i : ℕ) → h ≤ i → i < h + n → has (cover (block_set y)) i ≡ false
+  none_left i lo hi = false_from_ne_true _ (λ w. (without_pages-to (cover (block_set a)) h n i (rw free_after at w)).1 lo hi)
+
+  pub free_behind : (k : ℕ) → has_pages (cover (block_set a)) (h + n) k ≡ true → has_pages (cover (block_set y)) (h + n) k ≡ true
+  free_behind k full = has_pages-from (cover (block_set y)) (h + n) k (λ i lo hi.
+      rw free_after (without_pages-from (cover (block_set a)) h n i (has_pages-to (cover (block_set a)) (h + n) k full i lo hi) (λ p q. omega arith)))
+
+-- the pages of a block from page h on, and the k behind it: whether all are free
+module _ (u : List Bool) (h n k : ℕ) (first : (i : ℕ) → h ≤ i → i < h + n → In u i) where
+  pub both_free : has_pages u (h + n) k ≡ true → has_pages u h (n + k) ≡ true
+  both_free full = has_pages-from u h (n + k) (λ i lo hi. elim (cases_lt i (h + n)) [ inl near ↦ first i lo near | inr far ↦ has_pages-to u (h + n) k full i far (omega arith) ])
+
+  pub behind_free : has_pages u h (n + k) ≡ true → has_pages u (h + n) k ≡ true
+  behind_free full = has_pages-from u (h + n) k (λ i lo hi. has_pages-to u h (n + k) full i (omega arith) (omega arith))

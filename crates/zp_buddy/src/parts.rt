@@ -59,7 +59,7 @@ fn take_blocks(area: &mut FreeArea, from: u32, end: u32)
     // a clause of this call says how many pages there can be
     let _pages = area.pages();
     let mut next = from;
-    'blocks: while next < end {
+    'heads: while next < end {
         // a clause of this call says that all that is kept is of one set of blocks
         let _pages = area.pages();
         let head = PageAt::at(next);
