@@ -1,16 +1,12 @@
-//! Taking a part out of the block in which it lies, at whatever place it has there and whatever the type of its pageblock.
+//! The block that a page heads or lies in, and taking a block out of the set whole, whatever the type of its pageblock.
 //!
-//! The block leaves the set whole; then each half that does not have the part comes to its list, the largest first.
-//!
-//! In Linux: `take_page_off_buddy`, with `break_down_buddy_pages`.
-ghost use Rattle.std.specs.Prelude.{ℕ, ◌≡◌, ◌≤◌, ◌<◌, ◌-◌, ◌^◌, cond, true, false, length, IfNone, IfSome};
+//! In Linux: `is_free_buddy_page`, `buddy_order` and `del_page_from_free_list`.
+ghost use Rattle.std.specs.Prelude.{ℕ, ◌≡◌, ◌≤◌, ◌-◌, ◌^◌, cond, true, false, IfNone, IfSome};
 ghost use Rattle.zp_model.specs.PageblockType.{is_isolate};
 ghost use Rattle.zp_model.specs.Block.{has, head};
 ghost use Rattle.zp_model.specs.BlockSet.{Starts, cover};
-ghost use Rattle.zp_model.specs.RunLaws.{half_beside};
 ghost use Rattle.zp_tree.specs.Blocks.{without_block};
 ghost use Rattle.zp_area.specs.Blocks.{block_set, removed};
-ghost use Rattle.zp_area.specs.Towards.{split_towards};
 
 use super::FreeArea;
 use crate::free_lists::list_of;
@@ -73,51 +69,6 @@ impl FreeArea {
         self.blocks.free_in[pageblock] -= order.pages();
         noting::changed(&mut self.noted, &self.blocks, pageblock);
     }
-
-    /// Takes the aligned run of order `to` around a page out of the block of order `from` in which it lies. The halves beside it come into the
-    /// set, the largest first. The run is in no block then. Where the page heads the block, and its pageblock is not isolated, that is a split.
-    pub fn split_towards(&mut self, at: PageAt, from: Order, to: Order)
-        requires block { Starts (block_set self.old) (head at from) from }
-        requires down { to ≤ from }
-        ensures { self.new ≡ split_towards self.old.largest self.old at from to }
-    {
-        // a clause of this call says that all that is kept is of one set of blocks
-        let _pages = self.pages();
-        if at.head(from) != at {
-            self.halve_towards(at, from, to);
-            return;
-        }
-        let pageblock = self.largest().pageblock_of(at);
-        match self.type_of(pageblock).migrate_type() {
-            Some(kind) => self.split_off(at, from, to, kind),
-            None => self.halve_towards(at, from, to),
-        }
-    }
-
-    /// The same, whatever place the page has in the block: each half comes by itself.
-    // (out of line: a split is the way of most)
-    #[inline(never)]
-    fn halve_towards(&mut self, at: PageAt, from: Order, to: Order)
-        requires block { Starts (block_set self.old) (head at from) from }
-        requires down { to ≤ from }
-        ensures { self.new ≡ split_towards self.old.largest self.old at from to }
-    {
-        // a clause of this call says that all that is kept is of one set of blocks
-        let _pages = self.pages();
-        self.remove(at.head(from), from);
-        let mut order = from;
-        'halves: while to.number() < order.number() {
-            order = order.lower();
-            self.add(half_beside(at, order), order);
-        }
-    }
-}
-
-/// The half of the double of the aligned run of this order around a page in which the page does not lie.
-fn half_beside(at: PageAt, order: Order) -> PageAt
-    ensures { result ≡ half_beside at order }
-{
-    at.head(order).buddy(order)
 }
 
 /// Takes a block in a pageblock of this type out of the tree, unless that is isolated.
