@@ -33,7 +33,7 @@ use Rattle.zp_buddy.proofs.PartsBack.{free_given}
 use Rattle.zp_buddy.proofs.Runs.{sound_listed}
 use Rattle.zp_buddy.proofs.Settled.{IsRestated, length-pages, restated_all, restated_same, starts_block}
 use Rattle.zp_buddy.proofs.SplitBlocks.{IsLeft}
-use Rattle.zp_buddy.proofs.TakenTowards.{left_whole}
+use Rattle.zp_buddy.proofs.TakenWhole.{left_whole}
 
 -- pages (x, n) of the block of order o around page x: the block leaves a
 module _ (a : Blocks) (x n o : ℕ) (s : IsSound a.largest a.rows.states a.kinds a.rows.lists) (st : Starts (block_set a) (head x o) o) (some : 0 < n) (within : x + n ≤ head x o + 2 ^ o) where
@@ -312,7 +312,7 @@ left_on a y w h n k g z e s from here p q =
       ];
     }
 
--- the pages that have left are not free, and the others stay as they were
+-- the pages that have left are not free, and those behind them stay as they were
 module _ (a y : Blocks) (h n g z : ℕ) (x : IsLeftBetween a y h n g z) where
   free_after : cover (block_set y) ≡ without_pages (cover (block_set a)) h n
   free_after = ap (λ (r : Area). r.free) x.area ∙ free_left (area_in a.largest a) h n
@@ -320,14 +320,14 @@ module _ (a y : Blocks) (h n g z : ℕ) (x : IsLeftBetween a y h n g z) where
   pub none_left : (i : ℕ) → h ≤ i → i < h + n → has (cover (block_set y)) i ≡ false
   none_left i lo hi = false_from_ne_true _ (λ w. (without_pages-to (cover (block_set a)) h n i (rw free_after at w)).1 lo hi)
 
-  pub free_behind : (k : ℕ) → has_pages (cover (block_set a)) (h + n) k ≡ true → has_pages (cover (block_set y)) (h + n) k ≡ true
-  free_behind k full = has_pages-from (cover (block_set y)) (h + n) k (λ i lo hi.
-      rw free_after (without_pages-from (cover (block_set a)) h n i (has_pages-to (cover (block_set a)) (h + n) k full i lo hi) (λ p q. omega arith)))
+  pub free_behind : (e k : ℕ) → h + n ≤ e → has_pages (cover (block_set a)) e k ≡ true → has_pages (cover (block_set y)) e k ≡ true
+  free_behind e k le full = has_pages-from (cover (block_set y)) e k (λ i lo hi.
+      rw free_after (without_pages-from (cover (block_set a)) h n i (has_pages-to (cover (block_set a)) e k full i lo hi) (λ p q. omega arith)))
 
--- the pages of a block from page h on, and the k behind it: whether all are free
-module _ (u : List Bool) (h n k : ℕ) (first : (i : ℕ) → h ≤ i → i < h + n → In u i) where
-  pub both_free : has_pages u (h + n) k ≡ true → has_pages u h (n + k) ≡ true
-  both_free full = has_pages-from u h (n + k) (λ i lo hi. elim (cases_lt i (h + n)) [ inl near ↦ first i lo near | inr far ↦ has_pages-to u (h + n) k full i far (omega arith) ])
+-- a run of which the pages before page z are free is free where those from there on are
+module _ (u : List Bool) (h n z k : ℕ) (from : h ≤ z) (size : z + k ≡ h + n) where
+  pub both_free : ((i : ℕ) → h ≤ i → i < z → In u i) → has_pages u z k ≡ true → has_pages u h n ≡ true
+  both_free first full = has_pages-from u h n (λ i lo hi. elim (cases_lt i z) [ inl near ↦ first i lo near | inr far ↦ has_pages-to u z k full i far (omega arith) ])
 
-  pub behind_free : has_pages u h (n + k) ≡ true → has_pages u (h + n) k ≡ true
-  behind_free full = has_pages-from u (h + n) k (λ i lo hi. has_pages-to u h (n + k) full i (omega arith) (omega arith))
+  pub behind_free : has_pages u h n ≡ true → has_pages u z k ≡ true
+  behind_free full = has_pages-from u z k (λ i lo hi. has_pages-to u h n full i (omega arith) (omega arith))
