@@ -1,5 +1,5 @@
 -- Parts of a block that has left come back, block by block of their cut: none joins another, as the buddy of each has a page that is taken.
-use Rattle.std.proofs.Common.{ℕ, ◌+◌, ◌-◌, ◌%◌, ◌^◌, ◌≡◌, ◌≢◌, ◌≤◌, ◌<◌, ◌⊎◌, inl, inr, refl, sym, ◌∙◌, ap, subst, arith, false, List, [], length, set, get_or-set_same, get_or-set_other, length-set}
+use Rattle.std.proofs.Common.{ℕ, ◌+◌, ◌-◌, ◌%◌, ◌^◌, ◌≡◌, ◌≢◌, ◌≤◌, ◌<◌, ◌⊎◌, inl, inr, refl, sym, ◌∙◌, ap, subst, arith, false, List, [], length, get_or-set_same, get_or-set_other}
 use Rattle.std.proofs.Math.Nat.{add-mod_right, pow-le-pow_right}
 use Rattle.std.proofs.lemmas.Nat.{pow_pos}
 use Rattle.std.proofs.lemmas.Bool.{both_ways, cases_eq, cases_lt, false≢true, false_from_ne_true}
@@ -8,17 +8,15 @@ use Rattle.zp_model.specs.declared.state.State.{State}
 use Rattle.zp_model.specs.declared.state.State.TheVariants.{Tail, Free}
 use Rattle.zp_model.specs.Block.{has, head, IsBlock, IsBuddy}
 use Rattle.zp_model.specs.BlockSet.{cover}
-use Rattle.zp_model.specs.Area.{Area, settle}
+use Rattle.zp_model.specs.Area.{Area}
 use Rattle.zp_model.specs.Frames.{Frames, IsClear}
 use Rattle.zp_model.specs.Rows.{state_at}
-use Rattle.zp_model.specs.RunLaws.{IsTakenRun}
 use Rattle.zp_model.specs.Runs.{fitting_order, give_run, with_pages}
-use Rattle.zp_model.specs.Take.{give}
 use Rattle.zp_model.proofs.Cuts.{fitting}
-use Rattle.zp_model.proofs.Heads.{two, aligned_down, half, head_aligned, head_le, head_of, head_room, head_same, head_self, lt_head}
-use Rattle.zp_model.proofs.Pages.{In}
+use Rattle.zp_model.proofs.Heads.{two, aligned_down, half, head_aligned, head_le, head_of, head_room, head_self, lt_head}
 use Rattle.zp_model.proofs.RunGiven.{give_block, give_more, given_in_parts, listed}
 use Rattle.zp_model.proofs.RunParts.{with_pages-to}
+use Rattle.zp_laws.proofs.Areas.{free-give_run}
 use Rattle.zp_area.specs.Blocks.{Blocks, block_set, added, noted}
 use Rattle.zp_area.specs.Chains.{IsJoinable}
 use Rattle.zp_area.specs.Given.{IsClearRun}
@@ -48,14 +46,6 @@ module _ (m : ℕ) (b : Blocks) (c k p : ℕ) (x : IsSound m b.rows.states b.kin
       ap (λ (s : List State). let v : Blocks = record (added m b c k) { rows = record (added m b c k).rows { states = s } } in v) (set-set b.rows.states c Tail (Free k)) in
       given_joined 0 m c k c k b (noted b c Tail) (added m b c k) x clear (joining_none m c k (noted b c Tail) (back_noted m c k b x clear)) (sym same, alone)
 
-pub free_given : (a : Area) (h n : ℕ) → (give_run a h n).free ≡ with_pages a.free h n
-unfolding give_run settle
-free_given a h n = refl
-
--- pages that are clear are not free
-out_of : (m : ℕ) (a : Blocks) (h n : ℕ) → AreClear (frames_in m a) h n → IsTakenRun (area_in m a) h n
-out_of m a h n x i lo hi = x.free i lo hi
-
 -- nothing has come back yet
 pub back_none : (a : Blocks) (h n : ℕ) → IsSound a.largest a.rows.states a.kinds a.rows.lists → IsGivenBack a a h (h - h)
 back_none a h n x =
@@ -79,7 +69,7 @@ module _ (a y : Blocks) (h n all c k p : ℕ) (x : IsSound a.largest a.rows.stat
 
   -- which pages are free now
   free_now : cover (block_set y) ≡ with_pages (cover (block_set a)) h n
-  free_now = ap (λ (r : Area). r.free) b.area ∙ free_given (area_in m a) h n
+  free_now = ap (λ (r : Area). r.free) b.area ∙ free-give_run (area_in m a) h n
 
   not_yet : (i : ℕ) → has (cover (block_set a)) i ≡ false → (h ≤ i → i < h + n → ⊥) → has (cover (block_set y)) i ≡ false
   not_yet i off apart = false_from_ne_true (has (cover (block_set y)) i) (λ e. elim (with_pages-to (cover (block_set a)) h n i (rw free_now at e)) [

@@ -4,32 +4,28 @@ use Rattle.std.proofs.lemmas.Nat.{pow_pos}
 use Rattle.std.proofs.lemmas.Bool.{both_ways, cases_eq, cases_lt, false_from_ne_true}
 use Rattle.std.proofs.lemmas.List.{get_or-drop}
 use Rattle.std.proofs.Math.Bool.{and-false}
-use Rattle.zp_model.specs.declared.state.State.{State}
-use Rattle.zp_model.specs.declared.state.State.TheVariants.{Tail, Free}
+use Rattle.zp_model.specs.declared.state.State.TheVariants.{Tail}
 use Rattle.zp_model.specs.Block.{has, head, is_max, IsBlock}
 use Rattle.zp_model.specs.BlockSet.{Starts, cover}
-use Rattle.zp_model.specs.Area.{Area, lists_count, settle}
-use Rattle.zp_model.specs.Frames.{Frames, restate, restated}
+use Rattle.zp_model.specs.Area.{Area, lists_count}
+use Rattle.zp_model.specs.Frames.{Frames, restated}
 use Rattle.zp_model.specs.Rows.{list_at, stands_in, state_at}
 use Rattle.zp_model.specs.Runs.{give_run, has_pages, leave_run, without_pages}
-use Rattle.zp_model.specs.Take.{leave}
 use Rattle.zp_model.proofs.Heads.{head_aligned, head_le, head_of, head_self, lt_head}
 use Rattle.zp_model.proofs.LowestRun.{has_pages-from, has_pages-to}
 use Rattle.zp_model.proofs.MaximalBlocks.{max-unique}
 use Rattle.zp_model.proofs.Pages.{In}
 use Rattle.zp_model.proofs.RunGiven.{leave_more, left_in_parts, listed}
 use Rattle.zp_model.proofs.RunParts.{with_pages-to, without_pages-from, without_pages-to}
-use Rattle.zp_laws.proofs.Areas.{free-leave}
+use Rattle.zp_laws.proofs.Areas.{free-give_run, free-leave, free-leave_run}
 use Rattle.zp_laws.proofs.Counting.{has-without_any, in_run-yes}
 use Rattle.zp_area.specs.Blocks.{Blocks, block_set, removed}
-use Rattle.zp_area.specs.NotedBlocks.{free_order}
 use Rattle.zp_area.proofs.NotedBlocks.{starts-to}
 use Rattle.zp_buddy.specs.Choices.{area_in, frames_in}
 use Rattle.zp_buddy.specs.Parts.{IsGivenBack, IsLeftBetween, IsLeftRun, MayComeBefore, MayComeBehind}
 use Rattle.zp_buddy.specs.Runs.{AreClear}
 use Rattle.zp_buddy.specs.Sound.{IsSound}
 use Rattle.zp_buddy.proofs.ClippedBlocks.{left_clipped}
-use Rattle.zp_buddy.proofs.PartsBack.{free_given}
 use Rattle.zp_buddy.proofs.Runs.{sound_listed}
 use Rattle.zp_buddy.proofs.Settled.{IsRestated, length-pages, restated_all, restated_same, starts_block}
 use Rattle.zp_buddy.proofs.SplitBlocks.{IsLeft}
@@ -85,7 +81,7 @@ module _ (a : Blocks) (x n o : ℕ) (s : IsSound a.largest a.rows.states a.kinds
   module _ (c : Blocks) (back : IsGivenBack b c g (x - g)) where
     still_out : (i : ℕ) → x ≤ i → i < g + 2 ^ o → has (cover (block_set c)) i ≡ false
     still_out i lo hi = false_from_ne_true (has (cover (block_set c)) i) (λ e.
-        elim (with_pages-to (cover (block_set b)) g (x - g) i (rw (ap (λ (r : Area). r.free) back.area ∙ free_given (area_in m b) g (x - g)) at e)) [
+        elim (with_pages-to (cover (block_set b)) g (x - g) i (rw (ap (λ (r : Area). r.free) back.area ∙ free-give_run (area_in m b) g (x - g)) at e)) [
           | inl old ↦ both_ways (has (cover (block_set b)) i) (no_page i (omega (arith, head_le x o)) hi) old
           | inr new ↦ absurd (omega (arith, new.1, head_le x o))
         ])
@@ -207,16 +203,12 @@ taking_begins a h e le x =
       ahead = λ lt i lo. refl;
     }
 
-free_left : (a : Area) (h n : ℕ) → (leave_run a h n).free ≡ without_pages a.free h n
-unfolding leave_run settle
-free_left a h n = refl
-
 module _ {a y : Blocks} {h e n : ℕ} (x : AreBehind a h e) (t : IsTakingOn a y h e n) (more : n < e) where
   abbrev left_now : IsLeftBetween a y h (n - h) h t.left.0
   left_now = t.left.1
 
   free_now : cover (block_set y) ≡ without_pages (cover (block_set a)) h (n - h)
-  free_now = ap (λ (r : Area). r.free) left_now.area ∙ free_left (area_in a.largest a) h (n - h)
+  free_now = ap (λ (r : Area). r.free) left_now.area ∙ free-leave_run (area_in a.largest a) h (n - h)
 
   -- the next page is free, and the one before it is not
   next_free : In (cover (block_set y)) n
@@ -315,7 +307,7 @@ left_on a y w h n k g z e s from here p q =
 -- the pages that have left are not free, and those behind them stay as they were
 module _ (a y : Blocks) (h n g z : ℕ) (x : IsLeftBetween a y h n g z) where
   free_after : cover (block_set y) ≡ without_pages (cover (block_set a)) h n
-  free_after = ap (λ (r : Area). r.free) x.area ∙ free_left (area_in a.largest a) h n
+  free_after = ap (λ (r : Area). r.free) x.area ∙ free-leave_run (area_in a.largest a) h n
 
   pub none_left : (i : ℕ) → h ≤ i → i < h + n → has (cover (block_set y)) i ≡ false
   none_left i lo hi = false_from_ne_true _ (λ w. (without_pages-to (cover (block_set a)) h n i (rw free_after at w)).1 lo hi)

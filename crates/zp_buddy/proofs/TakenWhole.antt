@@ -1,41 +1,23 @@
 -- A free block that leaves the free area whole.
-use Rattle.std.proofs.Common.{ℕ, suc, zero, ◌+◌, ◌-◌, ◌%◌, ◌^◌, ◌≡◌, ◌≢◌, ◌≤◌, ◌<◌, inl, inr, refl, sym, ◌∙◌, ap, subst, arith, true, false, List, [], length, set, get_or-set_same, get_or-set_other}
-use Rattle.std.proofs.lemmas.Nat.{pow_pos}
-use Rattle.std.proofs.lemmas.Bool.{cases_eq, false≢true, false_from_ne_true}
-use Rattle.std.proofs.lemmas.List.{get_or-drop, set-set}
+use Rattle.std.proofs.Common.{ℕ, ◌+◌, ◌-◌, ◌^◌, ◌≡◌, ◌≤◌, ◌<◌, refl, sym, ◌∙◌, ap, subst, arith, [], length}
+use Rattle.std.proofs.lemmas.Bool.{false_from_ne_true}
+use Rattle.std.proofs.lemmas.List.{get_or-drop}
 use Rattle.std.proofs.Math.Bool.{and-false}
-use Rattle.zp_model.specs.declared.state.State.{State}
-use Rattle.zp_model.specs.declared.state.State.TheVariants.{Tail, Free}
-use Rattle.zp_model.specs.Block.{has, head, is_max, size, without, IsBlock, IsBuddy}
+use Rattle.zp_model.specs.Block.{size, without, IsBlock}
 use Rattle.zp_model.specs.BlockSet.{Starts, cover}
-use Rattle.zp_model.specs.Area.{Area, lists_count}
-use Rattle.zp_model.specs.Frames.{Frames, IsClear, restated}
-use Rattle.zp_model.specs.Rows.{state_at}
-use Rattle.zp_model.specs.RunLaws.{give_halves, half_beside}
+use Rattle.zp_model.specs.Area.{lists_count}
+use Rattle.zp_model.specs.Frames.{Frames, IsClear}
 use Rattle.zp_model.specs.Runs.{IsFreeRun}
-use Rattle.zp_model.specs.Take.{give, leave}
-use Rattle.zp_model.proofs.FreeAround.{around_same}
-use Rattle.zp_model.proofs.Halving.{beside_buddy, left_by_halving}
-use Rattle.zp_model.proofs.Heads.{two}
 use Rattle.zp_model.proofs.LowestRun.{has_pages-to}
-use Rattle.zp_model.proofs.MaximalBlocks.{max-unique}
-use Rattle.zp_model.proofs.Normal.{run_in_block}
 use Rattle.zp_model.proofs.Pages.{In}
 use Rattle.zp_laws.proofs.Areas.{free-leave}
 use Rattle.zp_laws.proofs.Counting.{has-without_any, in_run-yes, size-without}
-use Rattle.zp_area.specs.Blocks.{Blocks, block_set, added, noted, removed}
-use Rattle.zp_area.specs.Chains.{IsJoinable, halves_added}
-use Rattle.zp_area.specs.OneSet.{IsOneSet}
-use Rattle.zp_area.proofs.Adding.{IsComing}
-use Rattle.zp_area.proofs.Growing.{buddy_unique}
-use Rattle.zp_area.proofs.NotedBlocks.{starts-from, starts-to}
+use Rattle.zp_area.specs.Blocks.{Blocks, block_set, removed}
+use Rattle.zp_area.specs.Chains.{halves_added}
 use Rattle.zp_buddy.specs.Choices.{area_in, frames_in}
 use Rattle.zp_buddy.specs.Held.{IsHeld}
 use Rattle.zp_buddy.specs.Sound.{IsSound}
-use Rattle.zp_buddy.proofs.Framed.{clear_is}
-use Rattle.zp_buddy.proofs.JoinBlocks.{IsGiven, back_noted, given_joined, joining_none}
-use Rattle.zp_buddy.proofs.Runs.{sound_listed}
-use Rattle.zp_buddy.proofs.Settled.{IsRestated, length-pages, restated_all, restated_same, start_in, starts_block}
+use Rattle.zp_buddy.proofs.Settled.{length-pages}
 use Rattle.zp_buddy.proofs.SplitBlocks.{IsLeft, left_split}
 
 -- a block of the set leaves it whole

@@ -1,7 +1,6 @@
 use Rattle.std.proofs.Common.{◌-◌, ◌≡◌, ◌∙◌, ap, arith}
-use Rattle.std.proofs.lemmas.Nat.{pow_pos}
 use Rattle.zp_model.specs.Runs.{fitting_order}
-use Rattle.zp_buddy.proofs.PartsBack.{before_begins, before_goes, before_may, before_room}
+use Rattle.zp_buddy.proofs.PartsBack.{before_begins, before_goes, before_may}
 use Rattle.zp_buddy.proofs.Settled.{length-pages}
 use Rattle.zp_buddy.proofs.parts.add_before.Goals.{After-fitting_order-order}
 use Rattle.zp_buddy.proofs.parts.add_before.Goals as goal

@@ -1,7 +1,6 @@
 use Rattle.std.proofs.Common.{◌-◌, ◌≡◌, ◌∙◌, ap, arith}
-use Rattle.std.proofs.lemmas.Nat.{pow_pos}
 use Rattle.zp_model.specs.Runs.{fitting_order}
-use Rattle.zp_buddy.proofs.PartsBack.{behind_begins, behind_goes, behind_may, behind_room}
+use Rattle.zp_buddy.proofs.PartsBack.{behind_begins, behind_goes, behind_may}
 use Rattle.zp_buddy.proofs.Settled.{length-pages}
 use Rattle.zp_buddy.proofs.parts.add_behind.Goals.{After-fitting_order-order}
 use Rattle.zp_buddy.proofs.parts.add_behind.Goals as goal

@@ -1,4 +1,4 @@
-use Rattle.std.proofs.Common.{◌+◌, ◌^◌, ◌∙◌, ap, arith, length, sym}
+use Rattle.std.proofs.Common.{◌^◌, ◌∙◌, ap, arith, length, sym}
 use Rattle.zp_model.specs.Area.{pageblocks_of}
 use Rattle.zp_model.specs.BlockSet.{Starts, cover}
 use Rattle.zp_model.specs.Runs.{IsFreeRun}
