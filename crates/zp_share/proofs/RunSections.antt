@@ -1,6 +1,6 @@
 -- One section of a share for a run of pages: what the zone's answer makes of the share, and that it is a reply to the request.
 use Rattle.std.specs.Prelude.{IfOk, Result, Ok, Err, slice_set}
-use Rattle.std.proofs.Common.{ℕ, ◌+◌, ◌-◌, ◌^◌, ◌≡◌, ◌≤◌, ◌<◌, refl, sym, ◌∙◌, ap, subst, arith, true, false, List, length, map, Option}
+use Rattle.std.proofs.Common.{ℕ, ◌+◌, ◌-◌, ◌≡◌, ◌≤◌, ◌<◌, refl, sym, ◌∙◌, ap, subst, arith, true, false, List, length, map, Option}
 use Rattle.std.proofs.lemmas.Bool.{and_from, and_parts, eq-eqb, le-leb, leb-true, ltb-true}
 use Rattle.std.proofs.lemmas.List.{length-map}
 use Rattle.std.proofs.lemmas.Nat.{pow_pos}
@@ -36,7 +36,7 @@ use Rattle.zp_share.specs.declared.page_use.PageUse.TheVariants.{Away, Lent}
 use Rattle.zp_share.specs.declared.zone_share.ZoneShare.TheInside.{Inside}
 use Rattle.zp_share.specs.PageUses.{UsesState, HasSameCached, IsCutLent, IsLentWhereGot, IsOneBlock, IsRunOff, held, is_cached_as, is_lent_run, use_at, uses_after_in, uses_by}
 use Rattle.zp_share.specs.Sections.{IsRunLent}
-use Rattle.zp_share.specs.ZoneShares.{IsNew, use_in}
+use Rattle.zp_share.specs.ZoneShares.{ZoneShareState, IsNew, use_in}
 use Rattle.zp_share.proofs.Closing.{IsRunUsed, IsWhole, away_by_none, held_at, share_of}
 use Rattle.zp_share.proofs.OneUse.{IsIn, in_at}
 use Rattle.zp_share.proofs.RunUses.{IsFreeing, block_back, lent_by, one_lent, run_from, run_lent, uses_end, uses_told}
@@ -214,6 +214,10 @@ freed_used z o v p n x a cached pages out =
       blocks = blocks;
       uses = sym (ap (uses_by o.uses.uses) blocks ∙ uses_told w o.uses.uses v.uses pages cached);
     }
+
+-- a run that is one lent block of the share is one of its parts
+pub one_inside : (o : Inside) (s : ZoneShareState) (p n k : ℕ) → IsWhole o → share_of o ≡ s → IsOneBlock s.seat.part.base s.uses p n k → IsOneBlock o.uses.base o.uses.uses p n k
+one_inside o s p n k x is b = subst (λ g. IsOneBlock g o.uses.uses p n k) (sym x.0) (subst (λ (t : ZoneShareState). IsOneBlock t.seat.part.base t.uses p n k) (sym is) b)
 
 -- a run that is one lent block is the seat's, as that block
 module _ (o : Inside) (x : IsWhole o) (p n k : ℕ) (b : IsOneBlock o.uses.base o.uses.uses p n k) where

@@ -1,17 +1,18 @@
 //! Runs of pages at any place, in one section each: a request to the zone, and the same change in the share.
-ghost use Rattle.std.specs.Prelude.{ℕ, ◌≡◌, IsTrue};
+ghost use Rattle.std.specs.Prelude.{ℕ, ◌≡◌, ◌<◌, IsTrue, true};
+ghost use Rattle.zp_model.specs.declared.constants.TheConstants.{ORDERS};
 ghost use Rattle.zp_model.specs.Runs.{may_alloc_run};
 ghost use Rattle.zp_model.specs.declared.request.Request.TheVariants as request;
 ghost use Rattle.zp_model.specs.declared.request.Reply.TheVariants as reply;
 ghost use Rattle.zp_zone.specs.NamedZone.{page_reply};
 ghost use Rattle.zp_zone.specs.Seats.{IsSeatOf};
-ghost use Rattle.zp_share.specs.PageUses.{is_lent_run};
+ghost use Rattle.zp_share.specs.PageUses.{IsOneBlock, is_lent_run};
 ghost use Rattle.zp_share.specs.Sections.{IsAsked, done_reply};
 ghost use Rattle.zp_share.specs.ZoneShares.{HasAtMost};
 
 use super::ZoneShare;
 use crate::page_use::PageUse;
-use zp_model::{Mark, PageNo, Refused, Reply, Request};
+use zp_model::{Mark, Order, PageNo, Refused, Reply, Request};
 use zp_zone::{Zone, page_reply};
 
 impl ZoneShare {
@@ -95,9 +96,49 @@ impl ZoneShare {
         ensures section { IsAsked (request.FreeRun page pages) (done_reply reply.Freed result) zone.old zone.new self.old self.new }
         ensures lists { (n : ℕ) → HasAtMost n self.old → HasAtMost n self.new }
     {
-        let Some(order) = self.uses.block_order(page, pages) else {
-            return self.free_parts(zone, page, pages);
-        };
+        if let Some(order) = self.uses.block_order(page, pages) {
+            return self.free_as_block(zone, page, pages, order);
+        }
+        if !self.is_lent_run(page, pages) {
+            return Err(Refused::NotLent);
+        }
+        self.free_parts(zone, page, pages)
+    }
+
+    /// The same of pages of which the caller knows that each is lent. Refused 30.
+    #[inline(always)]
+    pub fn free_lent_run(
+        &mut self,
+        zone: &mut Zone,
+        page: PageNo,
+        pages: u32,
+    ) -> Result<(), Refused>
+        requires seat { IsSeatOf zone.old self.old.seat }
+        requires lent { is_lent_run self.old.seat.part.base self.old.uses page pages ≡ true }
+        ensures section { IsAsked (request.FreeRun page pages) (done_reply reply.Freed result) zone.old zone.new self.old self.new }
+        ensures lists { (n : ℕ) → HasAtMost n self.old → HasAtMost n self.new }
+    {
+        if let Some(order) = self.uses.block_order(page, pages) {
+            return self.free_as_block(zone, page, pages, order);
+        }
+        self.free_parts(zone, page, pages)
+    }
+
+    /// Frees the lent block of this order that so many pages from this one on are.
+    #[inline(always)]
+    fn free_as_block(
+        &mut self,
+        zone: &mut Zone,
+        page: PageNo,
+        pages: u32,
+        order: Order,
+    ) -> Result<(), Refused>
+        requires seat { IsSeatOf zone.old self.old.seat }
+        requires below { order < ORDERS }
+        requires block { IsOneBlock self.old.seat.part.base self.old.uses page pages order }
+        ensures section { IsAsked (request.FreeRun page pages) (done_reply reply.Freed result) zone.old zone.new self.old self.new }
+        ensures lists { (n : ℕ) → HasAtMost n self.old → HasAtMost n self.new }
+    {
         if self.sections.are_full() {
             return Err(Refused::JournalFull);
         }
@@ -111,17 +152,15 @@ impl ZoneShare {
         Ok(())
     }
 
-    /// The same, from block to block.
+    /// Frees so many lent pages from this one on, from block to block.
     // (out of line: most runs that come back are one block)
     #[inline(never)]
     fn free_parts(&mut self, zone: &mut Zone, page: PageNo, pages: u32) -> Result<(), Refused>
         requires seat { IsSeatOf zone.old self.old.seat }
+        requires lent { is_lent_run self.old.seat.part.base self.old.uses page pages ≡ true }
         ensures section { IsAsked (request.FreeRun page pages) (done_reply reply.Freed result) zone.old zone.new self.old self.new }
         ensures lists { (n : ℕ) → HasAtMost n self.old → HasAtMost n self.new }
     {
-        if !self.lends_run(page, pages) {
-            return Err(Refused::NotLent);
-        }
         if self.sections.are_full() {
             return Err(Refused::JournalFull);
         }

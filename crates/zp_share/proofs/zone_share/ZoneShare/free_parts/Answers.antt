@@ -1,4 +1,4 @@
-use Rattle.std.proofs.Common.{◌≡◌, ◌==◌, ◌-◌, sym, ◌∙◌, ap, subst, refl, rules, true, false}
+use Rattle.std.proofs.Common.{◌≡◌, ◌==◌, sym, ◌∙◌, ap, subst, refl, rules, true, false}
 use Rattle.zp_model.specs.declared.request.Request.{Request}
 use Rattle.zp_model.specs.declared.request.Request.TheVariants as request
 use Rattle.zp_model.specs.declared.request.Reply.TheVariants as reply
@@ -16,7 +16,7 @@ use Rattle.zp_share.proofs.zone_share.ZoneShare.free_parts.Goals as goal
 pub free_run-requires-2-clause-has : goal.free_run-requires-2-clause-has
 free_run-requires-2-clause-has c =
     rw c.check.ensures.same.1
-    (seat_has_run c.args.zone.now c.self.inside c.self.invariant c.check.ensures.agrees c.args.page c.args.pages (rw c.check.ensures.same.0 at c.pages-pages.ensures.lawful) (ap (λ b. is_lent_run b c.self.inside.uses.uses c.args.page c.args.pages) c.self.invariant.0 ∙ ap (λ s. is_lent_run s.seat.part.base s.uses c.args.page c.args.pages) c.self.view_is ∙ sym c.lends_run.ensures ∙ c.if-not-lends_run.false))
+    (seat_has_run c.args.zone.now c.self.inside c.self.invariant c.check.ensures.agrees c.args.page c.args.pages (rw c.check.ensures.same.0 at c.pages-pages.ensures.lawful) (ap (λ b. is_lent_run b c.self.inside.uses.uses c.args.page c.args.pages) c.self.invariant.0 ∙ ap (λ s. is_lent_run s.seat.part.base s.uses c.args.page c.args.pages) c.self.view_is ∙ c.requires.lent))
 
 abbrev asked : After-add → Request
 asked c = request.FreeRun c.args.page c.args.pages
@@ -40,12 +40,11 @@ invariant_of-self c = (made c).0
 pub returns-clause-section : goal.returns-clause-section
 returns-clause-section c =
     let full : (c.args.self.now.sections.made == LAST_SECTION) ≡ false = ap (λ s. s.sections.made == LAST_SECTION) (sym c.self.view_is) ∙ sym c.are_full.ensures.full ∙ c.if-are_full.false in
-    let lent : is_lent_run c.args.self.now.seat.part.base c.args.self.now.uses c.args.page c.args.pages ≡ true = sym c.lends_run.ensures ∙ c.if-not-lends_run.false in
     let one = section_is (asked c) reply.Freed c.args.zone.now c.free_run-2.new.self c.self.inside (after c) c.args.self.now c.self.invariant c.self.view_is (made c).0 (made c).1
     refl (rw (c.check.ensures.same.0, c.check.ensures.same.1) at c.free_run-2.ensures.after) c.requires.seat c.free_run-2.ensures.fits c.check.ensures.known (c.check.ensures.agrees, c.free_run-2.ensures.agrees.1) in
     record {
       made =
-          subst (λ b. ComesOf (refusal b (c.args.self.now.sections.made == LAST_SECTION)) (asked c) reply.Freed c.args.zone.now c.free_run-2.new.self c.args.self.now (share_of (after c))) (sym lent)
+          subst (λ b. ComesOf (refusal b (c.args.self.now.sections.made == LAST_SECTION)) (asked c) reply.Freed c.args.zone.now c.free_run-2.new.self c.args.self.now (share_of (after c))) (sym c.requires.lent)
           (subst (λ b. ComesOf (refusal true b) (asked c) reply.Freed c.args.zone.now c.free_run-2.new.self c.args.self.now (share_of (after c))) (sym full) one);
       reply = tt;
       same = record { tie = search rules; worker = search rules };
