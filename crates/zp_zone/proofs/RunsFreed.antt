@@ -14,7 +14,7 @@ use Rattle.zp_model.specs.Block.{has, in_run}
 use Rattle.zp_model.specs.Frames.{Frames, IsClear, IsFramed, given}
 use Rattle.zp_model.specs.Lawful.{IsLawful, IsListedArea}
 use Rattle.zp_model.specs.RunLaws.{IsFitting, give_blocks}
-use Rattle.zp_model.specs.Runs.{block_around, cut, fitting_order, give_run, hand_out_blocks, hand_out_run, is_lent_run, is_within, may_free_run, meets, run_freed}
+use Rattle.zp_model.specs.Runs.{block_around, cut, fitting_order, give_run, hand_out_run, is_lent_run, is_within, may_free_run, meets, run_freed}
 use Rattle.zp_model.specs.Rows.{state_at}
 use Rattle.zp_model.specs.Step.{freed}
 use Rattle.zp_model.specs.Take.{give}

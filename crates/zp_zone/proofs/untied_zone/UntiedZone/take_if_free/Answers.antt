@@ -1,4 +1,4 @@
-use Rattle.std.proofs.Common.{◌+◌, ◌^◌, ◌≤◌, ◌≡◌, ◌<◌, ◌∙◌, ap, refl, sym}
+use Rattle.std.proofs.Common.{◌+◌, ◌^◌, ◌≤◌, ◌≡◌, ◌<◌, ◌∙◌, ap, refl, sym, length}
 use Rattle.zp_model.specs.Area.{kind_at}
 use Rattle.zp_model.specs.Frames.{Frames, with_area}
 use Rattle.zp_model.specs.PageblockType.{noted_type}
