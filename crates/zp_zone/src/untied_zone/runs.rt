@@ -9,7 +9,6 @@ ghost use Rattle.zp_model.specs.declared.constants.TheConstants.{MAX_PAGES};
 ghost use Rattle.zp_model.specs.Block.{IsBlock, head};
 ghost use Rattle.zp_model.specs.Zone.{Holding, holds, pages_of, workers_of};
 ghost use Rattle.zp_model.specs.Runs.{
-  IsFreeRun,
   block_around,
   has_pages,
   is_lent_run,
@@ -22,9 +21,8 @@ ghost use Rattle.zp_model.specs.declared.request.Request.TheVariants as request;
 ghost use Rattle.zp_model.specs.Run.{is_out};
 ghost use Rattle.zp_model.specs.Step.{step};
 ghost use Rattle.zp_zone.specs.NamedZone.{AreFresh, KeepsLentBut, KeepsOut, page_reply};
-ghost use Rattle.zp_zone.specs.RunsAt.{block_taken};
 
-use super::cuts::{fitting_order, give_cut, note_cut};
+use super::cuts::{give_cut, note_cut, note_taken};
 use super::parts::room_above;
 use super::{UntiedZone, is_out_to, place_of};
 use zp_model::{Mark, MigrateType, Order, PageAt, PageNo, Refused, State, Worker};
@@ -84,7 +82,8 @@ impl UntiedZone {
             return Err(Refused::NoBlock);
         };
         let page = PageNo::new(self.base + at.number());
-        self.take_free_run(worker, at, pages);
+        // the run that was found is free
+        let _taken = self.take_if_free(worker, at, pages);
         Ok(page)
     }
 
@@ -109,8 +108,9 @@ impl UntiedZone {
         self.take_parts_if_free(worker, at, pages)
     }
 
-    /// The same, from free block to free block.
-    #[inline(always)]
+    /// The same, by one call that takes the pages out of whatever free blocks they lie in.
+    // (out of line: most runs are a block)
+    #[inline(never)]
     fn take_parts_if_free(&mut self, worker: Worker, at: PageAt, pages: u32) -> bool
         requires worker { worker < workers_of self.old.plain }
         requires some { 0 < pages }
@@ -119,69 +119,13 @@ impl UntiedZone {
         ensures taken { result ≡ true → self.new ≡ record self.old { plain = run_taken self.old.plain worker at pages } }
         ensures left { result ≡ false → self.new ≡ self.old }
     {
-        // a clause of this call says how many pages there can be
-        let _pages = self.pages();
-        if !self.buddy.is_free_run(at, pages) {
-            return false;
-        }
-        self.take_free_run(worker, at, pages);
-        true
-    }
-
-    /// Takes so many pages from this one on, all of them free. Where they are one block, it is taken straight.
-    #[inline(always)]
-    fn take_free_run(&mut self, worker: Worker, at: PageAt, pages: u32)
-        requires worker { worker < workers_of self.old.plain }
-        requires some { 0 < pages }
-        requires inside { at + pages ≤ pages_of self.old.plain }
-        requires free { IsFreeRun self.old.plain.area at pages }
-        ensures { self.new ≡ record self.old { plain = run_taken self.old.plain worker at pages } }
-    {
-        self.lawful();
-        let order = fitting_order(self.largest(), at, pages);
-        if order.pages() == pages {
-            self.take_block_at(worker, at, order);
-            return;
-        }
-        self.take_run_at(worker, at, pages);
-    }
-
-    /// Takes so many pages from this one on, all of them free, block by block of the run's cut.
-    #[inline(never)]
-    fn take_run_at(&mut self, worker: Worker, at: PageAt, pages: u32)
-        requires worker { worker < workers_of self.old.plain }
-        requires inside { at + pages ≤ pages_of self.old.plain }
-        requires free { IsFreeRun self.old.plain.area at pages }
-        ensures { self.new ≡ record self.old { plain = run_taken self.old.plain worker at pages } }
-    {
-        self.lawful();
-        // a clause of this call says how many pages there can be
-        let _pages = self.pages();
-        let largest = self.largest();
-        let mut next = at.number();
-        let mut left = pages;
-        'tiles: while left > 0 {
-            let head = PageAt::at(next);
-            let order = fitting_order(largest, head, left);
-            self.take_block_at(worker, head, order);
-            let taken = order.pages();
-            next += taken;
-            left -= taken;
-        }
-    }
-
-    /// Takes the block of this order at a page, all its pages free. The type noted for it is its pageblock's.
-    fn take_block_at(&mut self, worker: Worker, at: PageAt, order: Order)
-        requires worker { worker < workers_of self.old.plain }
-        requires block { IsBlock self.old.plain.area.largest (pages_of self.old.plain) at order }
-        requires free { IsFreeRun self.old.plain.area at (2 ^ order) }
-        ensures { self.new ≡ record self.old { plain = block_taken self.old.plain worker at order } }
-    {
         // a clause of this call says that what is noted as free is free
         let _pages = self.buddy.pages();
-        self.buddy.take_at(at, order);
-        let noted = self.buddy.type_of(at).noted();
-        self.buddy.hold(at, State::Out(order, noted, worker));
+        if !self.buddy.take_pages(at, pages) {
+            return false;
+        }
+        note_taken(&mut self.buddy, worker, at.number(), pages);
+        true
     }
 
     /// Frees so many pages from this one on, each of them lent to the worker, by whatever blocks. What the blocks around the first and the last

@@ -1,6 +1,5 @@
-use Rattle.std.proofs.Common.{ℕ, ◌≡◌, ◌∙◌, sym, true}
-use Rattle.zp_model.specs.declared.state.State.{State}
-use Rattle.zp_model.specs.declared.state.State.TheVariants.{Tail, Free, Out, Posted}
+use Rattle.std.proofs.Common.{◌∙◌, sym}
+use Rattle.zp_model.specs.declared.state.State.TheVariants.{Tail, Out, Posted}
 use Rattle.zp_zone.proofs.BlockSteps.{IsAsked}
 use Rattle.zp_zone.proofs.PassedBlocks.{free_whole, heads_none, passed_free, passed_out, passed_posted}
 use Rattle.zp_zone.proofs.untied_zone.UntiedZone.block_headed.Goals.{After-holding}

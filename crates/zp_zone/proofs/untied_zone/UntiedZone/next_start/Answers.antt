@@ -1,4 +1,4 @@
-use Rattle.std.proofs.Common.{◌+◌, ◌-◌, ◌^◌, ◌≡◌, ◌≤◌, arith, max}
+use Rattle.std.proofs.Common.{◌-◌, ◌^◌, ◌≡◌, arith, max}
 use Rattle.std.proofs.lemmas.Nat.{pow_pos}
 use Rattle.zp_buddy.specs.Bare.{IsBareTo}
 use Rattle.zp_zone.specs.Kept.{plain_of}

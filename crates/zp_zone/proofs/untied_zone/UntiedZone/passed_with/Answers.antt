@@ -1,5 +1,4 @@
-use Rattle.std.proofs.Common.{◌+◌, ◌-◌, ◌≡◌, ◌<◌, false, arith}
-use Rattle.zp_zone.specs.Lowest.{IsPassed}
+use Rattle.std.proofs.Common.{◌+◌, ◌-◌, ◌≡◌, false, arith}
 use Rattle.zp_zone.proofs.LowestRuns.{passed_on}
 use Rattle.zp_zone.proofs.untied_zone.UntiedZone.passed_with.Goals as goal
 

@@ -1,4 +1,4 @@
-use Rattle.std.proofs.Common.{◌+◌, ◌^◌, ◌≡◌, ◌≤◌, ◌<◌, inl, inr, arith, refl}
+use Rattle.std.proofs.Common.{◌^◌, ◌≡◌, inl, inr, arith, refl}
 use Rattle.std.proofs.lemmas.Bool.{cases_lt}
 use Rattle.zp_model.specs.Block.{head}
 use Rattle.zp_model.proofs.Heads.{head_le, lt_head}

@@ -1,4 +1,4 @@
-use Rattle.std.proofs.Common.{◌-◌, ◌≡◌, ◌<◌, ◌+◌, arith}
+use Rattle.std.proofs.Common.{◌-◌, arith}
 use Rattle.zp_zone.proofs.LowestRuns.{rest_passed}
 use Rattle.zp_zone.proofs.untied_zone.UntiedZone.rest_of.Goals as goal
 
