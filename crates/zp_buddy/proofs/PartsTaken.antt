@@ -1,21 +1,25 @@
 -- Pages that are taken out of the free blocks in which they lie.
-use Rattle.std.proofs.Common.{ℕ, ◌+◌, ◌-◌, ◌^◌, ◌≡◌, ◌≤◌, ◌<◌, ◌⊎◌, inl, inr, refl, sym, ◌∙◌, ap, subst, arith, Bool, List, [], false, true, length, max, min, get_or-set_same, get_or-set_other}
+use Rattle.std.proofs.Common.{ℕ, ◌+◌, ◌-◌, ◌^◌, ◌≡◌, ◌≤◌, ◌<◌, ◌⊎◌, inl, inr, refl, sym, ◌∙◌, ap, subst, arith, Bool, List, [], Some, false, true, length, max, min, get_or-set_same, get_or-set_other}
 use Rattle.std.proofs.lemmas.Nat.{pow_pos}
 use Rattle.std.proofs.lemmas.Bool.{both_ways, cases_eq, cases_lt, false_from_ne_true}
 use Rattle.std.proofs.lemmas.List.{get_or-drop}
 use Rattle.std.proofs.Math.Bool.{and-false}
+use Rattle.zp_model.specs.declared.migrate_type.MigrateType.{MigrateType}
+use Rattle.zp_model.specs.declared.pageblock_type.PageblockType.{PageblockType}
+use Rattle.zp_model.specs.declared.pageblock_type.PageblockType.TheVariants as of
 use Rattle.zp_model.specs.declared.state.State.TheVariants.{Tail}
 use Rattle.zp_model.specs.Block.{has, head, is_max, IsBlock}
 use Rattle.zp_model.specs.BlockSet.{Starts, cover}
 use Rattle.zp_model.specs.Area.{Area, lists_count}
-use Rattle.zp_model.specs.Frames.{Frames, restated}
+use Rattle.zp_model.specs.Frames.{Frames, restated, with_area}
+use Rattle.zp_model.specs.PageblockType.{migrate_type, pageblock_type}
 use Rattle.zp_model.specs.Rows.{list_at, stands_in, state_at}
 use Rattle.zp_model.specs.Runs.{give_run, has_pages, leave_run, without_pages}
 use Rattle.zp_model.proofs.Heads.{head_aligned, head_le, head_of, head_self, lt_head}
 use Rattle.zp_model.proofs.LowestRun.{has_pages-from, has_pages-to}
 use Rattle.zp_model.proofs.MaximalBlocks.{max-unique}
 use Rattle.zp_model.proofs.Pages.{In}
-use Rattle.zp_model.proofs.RunGiven.{leave_more, left_in_parts, listed}
+use Rattle.zp_model.proofs.RunGiven.{leave_block, leave_more, left_in_parts, listed}
 use Rattle.zp_model.proofs.RunParts.{with_pages-to, without_pages-from, without_pages-to}
 use Rattle.zp_laws.proofs.Areas.{free-give_run, free-leave, free-leave_run}
 use Rattle.zp_laws.proofs.Counting.{has-without_any, in_run-yes}
@@ -323,3 +327,20 @@ module _ (u : List Bool) (h n z k : ℕ) (from : h ≤ z) (size : z + k ≡ h + 
 
   pub behind_free : has_pages u h n ≡ true → has_pages u z k ≡ true
   behind_free full = has_pages-from u z k (λ i lo hi. has_pages-to u h n full i (omega arith) (omega arith))
+
+-- a low part of a free block that has left is a run
+pub low_left : (a y : Blocks) (h k n : ℕ) → 2 ^ k ≡ n → y.largest ≡ a.largest → IsLeft a.largest h k a y → IsLeftRun a y h n
+low_left a y h k n size largest x = record {
+  largest = largest;
+  sound = x.sound;
+  pages = x.pages;
+  kinds = x.kinds;
+  after = x.after ∙ ap (with_area (frames_in a.largest a)) (leave_block (area_in a.largest a) h k ∙ ap (leave_run (area_in a.largest a) h) size);
+}
+
+-- the type of a pageblock whose migrate type it is
+pub type_from : (k : PageblockType) (t : MigrateType) → migrate_type k ≡ Some t → pageblock_type t ≡ k
+type_from of.Unmovable t e = grind arith
+type_from of.Reclaimable t e = grind arith
+type_from of.Movable t e = grind arith
+type_from of.Isolate t e = absurd cc

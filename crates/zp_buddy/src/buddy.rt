@@ -21,7 +21,7 @@ ghost use Rattle.zp_tree.specs.declared.constants.TheConstants.{WORD_LEVELS};
 ghost use Rattle.zp_buddy.specs.FallingRuns.{AreTails, falling_run};
 ghost use Rattle.zp_buddy.specs.Runs.{AreClear, gives, pages_taken, pages_left, run_length, run_pages};
 
-use crate::at::{free_block, is_free_run, take_whole};
+use crate::at::{free_block, take_whole};
 use crate::choice;
 use crate::clear::{is_block, is_clear_run};
 use crate::falling::give_falling;
@@ -175,14 +175,6 @@ impl Buddy {
         let _pages = self.area.pages();
         let group = (from / GROUP_PAGES) as usize;
         self.area.whole_until(group, (end / GROUP_PAGES) as usize) as u32 * GROUP_PAGES
-    }
-
-    /// Whether so many pages from this one on are all free, in isolated pageblocks too.
-    pub fn is_free_run(&self, at: PageAt, pages: u32) -> bool
-        requires { at + pages ≤ length self.now.area.free }
-        ensures { result ≡ has_pages self.now.area.free at pages }
-    {
-        is_free_run(&self.area, at, pages)
     }
 
     /// The order of the free block that so many pages from this one on are, where they are one.

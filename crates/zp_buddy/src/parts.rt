@@ -15,6 +15,7 @@ ghost use Rattle.zp_buddy.specs.Sound.{IsSound};
 
 use crate::at::is_free_run;
 use crate::cut::fitting_order;
+use crate::split::take_block;
 use zp_area::FreeArea;
 use zp_model::{Order, PageAt};
 
@@ -35,7 +36,7 @@ pub fn take_pages(area: &mut FreeArea, at: PageAt, pages: u32) -> bool
     let block_end = at.head(order).number() + order.pages();
     let end = at.number() + pages;
     if end <= block_end {
-        take_part(area, order, at, pages);
+        take_within(area, order, at, pages);
         return true;
     }
     if !is_free_run(area, PageAt::at(block_end), end - block_end) {
@@ -44,6 +45,29 @@ pub fn take_pages(area: &mut FreeArea, at: PageAt, pages: u32) -> bool
     take_part(area, order, at, block_end - at.number());
     take_blocks(area, block_end, end);
     true
+}
+
+/// Takes so many pages from this one on out of the free block of this order in which they lie. Where they are its low part of some order, that is
+/// split off, as a request's block is.
+#[inline(always)]
+fn take_within(area: &mut FreeArea, order: Order, at: PageAt, pages: u32)
+    requires some { 0 < pages }
+    requires block { Starts (block_set area.old) (head at order) order }
+    requires within { at + pages ≤ head at order + 2 ^ order }
+    requires sound { IsSound area.old.largest area.old.rows.states area.old.kinds area.old.rows.lists }
+    ensures { IsLeftRun area.old area.new at pages }
+{
+    // a clause of this call says that all that is kept is of one set of blocks
+    let _pages = area.pages();
+    let low = fitting_order(area.largest(), at, pages);
+    if low.pages() == pages && at.head(order) == at {
+        let pageblock = area.largest().pageblock_of(at);
+        if let Some(kind) = area.type_of(pageblock).migrate_type() {
+            take_block(area, at, order, kind, low);
+            return;
+        }
+    }
+    take_part(area, order, at, pages);
 }
 
 /// Takes the pages from this one up to `end`, all of them free, from free block to free block. The first heads one, as no page before it is free.
