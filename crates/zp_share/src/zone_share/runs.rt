@@ -89,8 +89,8 @@ impl ZoneShare {
     }
 
     /// Frees so many pages from this one on, by whatever blocks they are lent. Refused 20 where one of them is not lent, or there is none, and 30.
-    // (a run that is one lent block is seen as one by the one look that tells that it is lent)
-    #[inline(always)]
+    // (a run that is one lent block is seen as one by the one look that tells that it is lent. Not in line by force: `ZoneShare::section` is then too long to be
+    // so, and each section behind a lock clears room for a list of pages)
     pub fn free_run(&mut self, zone: &mut Zone, page: PageNo, pages: u32) -> Result<(), Refused>
         requires seat { IsSeatOf zone.old self.old.seat }
         ensures section { IsAsked (request.FreeRun page pages) (done_reply reply.Freed result) zone.old zone.new self.old self.new }
