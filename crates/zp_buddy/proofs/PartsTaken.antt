@@ -15,6 +15,7 @@ use Rattle.zp_model.specs.Frames.{Frames, restated, with_area}
 use Rattle.zp_model.specs.PageblockType.{migrate_type, pageblock_type}
 use Rattle.zp_model.specs.Rows.{list_at, stands_in, state_at}
 use Rattle.zp_model.specs.Runs.{give_run, has_pages, leave_run, without_pages}
+use Rattle.zp_model.specs.Take.{leave}
 use Rattle.zp_model.proofs.Heads.{head_aligned, head_le, head_of, head_self, lt_head}
 use Rattle.zp_model.proofs.LowestRun.{has_pages-from, has_pages-to}
 use Rattle.zp_model.proofs.MaximalBlocks.{max-unique}
@@ -337,6 +338,11 @@ low_left a y h k n size largest x = record {
   kinds = x.kinds;
   after = x.after ∙ ap (with_area (frames_in a.largest a)) (leave_block (area_in a.largest a) h k ∙ ap (leave_run (area_in a.largest a) h) size);
 }
+
+-- and pages that have left so, as many as a block has, are a low part
+pub left_low : (a y : Blocks) (h k n b e : ℕ) → 2 ^ k ≡ n → IsLeftBetween a y h n b e → frames_in a.largest y ≡ with_area (frames_in a.largest a) (leave (area_in a.largest a) h k)
+left_low a y h k n b e size x =
+    (left_run a y h n b e x).after ∙ ap (with_area (frames_in a.largest a)) (sym (leave_block (area_in a.largest a) h k ∙ ap (leave_run (area_in a.largest a) h) size))
 
 -- the type of a pageblock whose migrate type it is
 pub type_from : (k : PageblockType) (t : MigrateType) → migrate_type k ≡ Some t → pageblock_type t ≡ k

@@ -11,13 +11,14 @@ use Rattle.zp_model.specs.declared.pageblock_type.PageblockType.{PageblockType}
 use Rattle.zp_model.specs.declared.pageblock_type.PageblockType.TheVariants as of
 use Rattle.zp_model.specs.PageblockType.{is_isolate, noted_type, pageblock_type}
 use Rattle.zp_model.specs.declared.state.State.{State}
-use Rattle.zp_model.specs.Block.{has, size}
+use Rattle.zp_model.specs.Block.{IsBlock, has, size}
 use Rattle.zp_model.specs.BlockSet.{Starts, cover, lowest}
 use Rattle.zp_model.specs.Area.{available_blocks, lists_count, pageblock_pages}
 use Rattle.zp_model.specs.Frames.{Frames, IsClear, with_area}
-use Rattle.zp_model.specs.Runs.{is_within, without_pages}
+use Rattle.zp_model.specs.Runs.{IsFreeRun, is_within, without_pages}
 use Rattle.zp_model.specs.Take.{leave, retype, taken, blocks_at_hand}
 use Rattle.zp_model.proofs.Heads.{aligned_down}
+use Rattle.zp_model.proofs.LowestRun.{has_pages-from}
 use Rattle.zp_model.proofs.Pages.{In}
 use Rattle.zp_model.proofs.RunParts.{length-without_pages, within-from, within-to, without_block}
 use Rattle.zp_laws.proofs.Areas.{free-taken, free-leave}
@@ -156,6 +157,15 @@ may_return {m} {a} {free} {h} {o} k le x =
     let block = starts_block m a h o x.held.sound x.starts in
     let c = are_clear x in
     record { block = record { order = omega (arith, block.order, le); aligned = aligned_down k o h le block.aligned; inside = c.inside }; free = c.free; aside = c.aside }
+
+-- it was such a block of the zone, and its pages were free
+pub low_block : {m : ℕ} {a : Blocks} {free h o : ℕ} {y : Blocks} (k : ℕ) → k ≤ o → IsRunTaken m a free h o (2 ^ k) y → IsBlock m (length a.rows.states) h k
+low_block {m} {a} {free} {h} {o} k le x =
+    let block = starts_block m a h o x.held.sound x.starts in
+    record { order = omega (arith, block.order, le); aligned = aligned_down k o h le block.aligned; inside = omega (arith, block.inside, x.enough) }
+
+pub low_free : {m : ℕ} {a : Blocks} {free h o n : ℕ} {y : Blocks} → IsRunTaken m a free h o n y → IsFreeRun (area_in m a) h n
+low_free {m} {a} {free} {h} {o} {n} x = has_pages-from (cover (block_set a)) h n (gone x).filled
 
 -- the head of a block that may come back
 pub clear_head : (m : ℕ) (n : Blocks) (h k : ℕ) → IsClear (frames_in m n) h k → (h < length n.rows.states) × (has (cover (block_set n)) h ≡ false)

@@ -1,7 +1,7 @@
 //! Which pages are free, and taking a free block whole.
 //!
 //! In Linux: `is_free_buddy_page` and `del_page_from_free_list`.
-ghost use Rattle.std.specs.Prelude.{ℕ, ◌≡◌, ◌≤◌, ◌+◌, ◌%◌, ◌^◌, IfNone, IfSome, length};
+ghost use Rattle.std.specs.Prelude.{◌≡◌, ◌≤◌, ◌+◌, length};
 ghost use Rattle.zp_model.specs.BlockSet.{Starts, cover};
 ghost use Rattle.zp_model.specs.Frames.{with_area};
 ghost use Rattle.zp_model.specs.Runs.{IsFreeRun, has_pages};
@@ -30,21 +30,6 @@ pub fn is_free_run(area: &FreeArea, at: PageAt, pages: u32) -> bool
         next = page.head(order).number() + order.pages();
     }
     true
-}
-
-/// The order of the free block that so many pages from this one on are, where they are one.
-#[inline(always)]
-pub fn free_block(area: &FreeArea, at: PageAt, pages: u32) -> Option<Order>
-    ensures some { IfSome result (λ o. Starts (block_set area.now) at o × (2 ^ o ≡ pages)) }
-    ensures none { IfNone result ((k : ℕ) → 2 ^ k ≡ pages → Starts (block_set area.now) at k → ⊥) }
-{
-    let Some(order) = area.order_headed(at) else {
-        return None;
-    };
-    if order.pages() != pages {
-        return None;
-    }
-    Some(order)
 }
 
 /// Takes a free block out of the free area whole.

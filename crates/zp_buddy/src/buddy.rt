@@ -21,13 +21,13 @@ ghost use Rattle.zp_tree.specs.declared.constants.TheConstants.{WORD_LEVELS};
 ghost use Rattle.zp_buddy.specs.FallingRuns.{AreTails, falling_run};
 ghost use Rattle.zp_buddy.specs.Runs.{AreClear, gives, pages_taken, pages_left, run_length, run_pages};
 
-use crate::at::{free_block, take_whole};
+use crate::at::take_whole;
 use crate::choice;
 use crate::clear::{is_block, is_clear_run};
 use crate::falling::give_falling;
 use crate::join::join;
 use crate::opening::add_all_pages;
-use crate::parts::take_pages;
+use crate::parts::{take_low_part, take_pages};
 use crate::split::take_block;
 use crate::takes::{take, take_run};
 use std::alloc::{AllocError, Global};
@@ -177,13 +177,13 @@ impl Buddy {
         self.area.whole_until(group, (end / GROUP_PAGES) as usize) as u32 * GROUP_PAGES
     }
 
-    /// The order of the free block that so many pages from this one on are, where they are one.
+    /// The order of the free block that a page heads, where it heads one.
     #[inline(always)]
-    pub fn free_block(&self, at: PageAt, pages: u32) -> Option<Order>
-        ensures some { IfSome result (λ o. (state_at self.now.states at ≡ Free o) × (2 ^ o ≡ pages)) }
-        ensures none { IfNone result ((k : ℕ) → 2 ^ k ≡ pages → state_at self.now.states at ≡ Free k → ⊥) }
+    pub fn order_headed(&self, at: PageAt) -> Option<Order>
+        ensures some { IfSome result (λ o. state_at self.now.states at ≡ Free o) }
+        ensures none { IfNone result ((k : ℕ) → state_at self.now.states at ≡ Free k → ⊥) }
     {
-        free_block(&self.area, at, pages)
+        self.area.order_headed(at)
     }
 
     /// Takes a free block whole.
@@ -202,6 +202,28 @@ impl Buddy {
         // a clause of this call says that all that is kept is of one set of blocks
         let _pages = self.area.pages();
         take_whole(&mut self.area, at, order);
+        let pages = order.pages();
+        self.free -= pages;
+    }
+
+    /// Takes the low part of this order of the free block of order `found` that a page heads.
+    // (in line, as `take_whole` is)
+    #[inline(always)]
+    pub fn take_low_part(&mut self, at: PageAt, found: Order, order: Order)
+        requires free { state_at self.old.states at ≡ Free found }
+        requires down { order ≤ found }
+        ensures block { IsBlock self.old.area.largest (length self.old.area.free) at order }
+        ensures free { IsFreeRun self.old.area at (2 ^ order) }
+        ensures after { self.new ≡ with_area self.old (leave self.old.area at order) }
+
+        // What the calls after it can rest on.
+        ensures head { (at < length self.new.states) × (has self.new.area.free at ≡ false) }
+        ensures clear { IsClear self.new at order }
+        ensures kept { (h k : ℕ) → IsClear self.old h k → IsClear self.new h k }
+    {
+        // a clause of this call says that all that is kept is of one set of blocks
+        let _pages = self.area.pages();
+        take_low_part(&mut self.area, at, found, order);
         let pages = order.pages();
         self.free -= pages;
     }

@@ -7,9 +7,11 @@
 ghost use Rattle.std.specs.Prelude.{ℕ, ◌≡◌, ◌≤◌, ◌<◌, ◌+◌, ◌-◌, ◌^◌, true, false, length};
 ghost use Rattle.zp_model.specs.Block.{has, head};
 ghost use Rattle.zp_model.specs.BlockSet.{Starts, cover};
+ghost use Rattle.zp_model.specs.Frames.{with_area};
 ghost use Rattle.zp_model.specs.Runs.{IsFreeRun, has_pages};
+ghost use Rattle.zp_model.specs.Take.{leave};
 ghost use Rattle.zp_area.specs.Blocks.{block_set};
-ghost use Rattle.zp_buddy.specs.Choices.{area_in};
+ghost use Rattle.zp_buddy.specs.Choices.{area_in, frames_in};
 ghost use Rattle.zp_buddy.specs.Parts.{IsGivenBack, IsLeftBetween, IsLeftRun, MayComeBefore, MayComeBehind};
 ghost use Rattle.zp_buddy.specs.Sound.{IsSound};
 
@@ -47,8 +49,7 @@ pub fn take_pages(area: &mut FreeArea, at: PageAt, pages: u32) -> bool
     true
 }
 
-/// Takes so many pages from this one on out of the free block of this order in which they lie. Where they are its low part of some order, that is
-/// split off, as a request's block is.
+/// Takes so many pages from this one on out of the free block of this order in which they lie.
 #[inline(always)]
 fn take_within(area: &mut FreeArea, order: Order, at: PageAt, pages: u32)
     requires some { 0 < pages }
@@ -61,13 +62,33 @@ fn take_within(area: &mut FreeArea, order: Order, at: PageAt, pages: u32)
     let _pages = area.pages();
     let low = fitting_order(area.largest(), at, pages);
     if low.pages() == pages && at.head(order) == at {
-        let pageblock = area.largest().pageblock_of(at);
-        if let Some(kind) = area.type_of(pageblock).migrate_type() {
-            take_block(area, at, order, kind, low);
-            return;
-        }
+        take_low_part(area, at, order, low);
+        return;
     }
     take_part(area, order, at, pages);
+}
+
+/// Takes the low part of order `order` of the free block of order `found` that a page heads. It is split off, as a request's block is; in an isolated
+/// pageblock, of which no request gets a block, it leaves as pages at any place do.
+#[inline(always)]
+pub fn take_low_part(area: &mut FreeArea, at: PageAt, found: Order, order: Order)
+    requires down { order ≤ found }
+    requires free { Starts (block_set area.old) at found }
+    requires sound { IsSound area.old.largest area.old.rows.states area.old.kinds area.old.rows.lists }
+    ensures largest { area.new.largest ≡ area.old.largest }
+    ensures sound { IsSound area.old.largest area.new.rows.states area.new.kinds area.new.rows.lists }
+    ensures pages { length area.new.rows.states ≡ length area.old.rows.states }
+    ensures kinds { area.new.kinds ≡ area.old.kinds }
+    ensures after { frames_in area.old.largest area.new ≡ with_area (frames_in area.old.largest area.old) (leave (frames_in area.old.largest area.old).area at order) }
+{
+    // a clause of this call says that all that is kept is of one set of blocks
+    let _pages = area.pages();
+    let pageblock = area.largest().pageblock_of(at);
+    if let Some(kind) = area.type_of(pageblock).migrate_type() {
+        take_block(area, at, found, kind, order);
+        return;
+    }
+    take_part(area, found, at, order.pages());
 }
 
 /// Takes the pages from this one up to `end`, all of them free, from free block to free block. The first heads one, as no page before it is free.
