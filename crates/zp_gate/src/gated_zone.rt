@@ -11,6 +11,7 @@ ghost use Rattle.zp_model.specs.declared.request.Reply.TheVariants as reply;
 ghost use Rattle.zp_model.specs.Choose.{origin};
 ghost use Rattle.zp_zone.specs.NamedZone.{page_reply, told_reply};
 ghost use Rattle.zp_zone.specs.Seats.{IsSeatOf};
+ghost use Rattle.zp_share.specs.PageUses.{IsOneBlock, is_lent_run};
 ghost use Rattle.zp_share.specs.PlainShares.{lends_for};
 ghost use Rattle.zp_share.specs.Sections.{IsAsked, IsRefilled, MayAsk, done_reply};
 ghost use Rattle.zp_share.specs.Shares.{ShareState, key_of, share_at, with_zone_share};
@@ -288,7 +289,69 @@ impl GatedZone {
         answer
     }
 
-    /// Another request of a share to the zone. The block or the run that it names, if it names one, is lent.
+    /// The pages of a run back from a share of the zone, which are one lent block of this order.
+    #[tactic(auto, using(crate::proofs::Keeping::workers_stay, crate::proofs::Keeping::section_without))]
+    #[inline(always)]
+    pub(crate) fn free_run_as_block(
+        &mut self,
+        board: &Option<Board>,
+        share: &mut Share,
+        page: PageNo,
+        pages: u32,
+        order: Order,
+    ) -> Result<(), Refused>
+        requires board { IsTiedTo board.now self.old.board }
+        requires share { IsOneShare (key_of self.old.zone) share.old }
+        requires block { IsOneBlock (share_at share.old 0).seat.part.base (share_at share.old 0).uses page pages order }
+        ensures { IsSectionOf (request.FreeRun page pages) (done_reply reply.Freed result) self.old self.new share.old share.new }
+    {
+        if let None = &self.board {
+            return share.free_run_as_block(&mut self.zone, 0, page, pages, order);
+        }
+        self.free_run_as_block_published(board, share, page, pages, order)
+    }
+
+    /// The same with a board, out of line: a zone without one pays for one test alone.
+    #[tactic(auto, using(crate::proofs::Keeping::workers_stay))]
+    #[inline(never)]
+    fn free_run_as_block_published(
+        &mut self,
+        board: &Option<Board>,
+        share: &mut Share,
+        page: PageNo,
+        pages: u32,
+        order: Order,
+    ) -> Result<(), Refused>
+        requires board { IsTiedTo board.now self.old.board }
+        requires share { IsOneShare (key_of self.old.zone) share.old }
+        requires block { IsOneBlock (share_at share.old 0).seat.part.base (share_at share.old 0).uses page pages order }
+        ensures { IsSectionOf (request.FreeRun page pages) (done_reply reply.Freed result) self.old self.new share.old share.new }
+    {
+        let answer = share.free_run_as_block(&mut self.zone, 0, page, pages, order);
+        publish(&mut self.board, board, &self.zone, was_asked(&answer));
+        answer
+    }
+
+    /// The pages of a run back from a share of the zone, each of them lent, from block to block.
+    #[tactic(auto, using(crate::proofs::Keeping::workers_stay))]
+    pub(crate) fn free_lent_run(
+        &mut self,
+        board: &Option<Board>,
+        share: &mut Share,
+        page: PageNo,
+        pages: u32,
+    ) -> Result<(), Refused>
+        requires board { IsTiedTo board.now self.old.board }
+        requires share { IsOneShare (key_of self.old.zone) share.old }
+        requires lent { is_lent_run (share_at share.old 0).seat.part.base (share_at share.old 0).uses page pages ≡ true }
+        ensures { IsSectionOf (request.FreeRun page pages) (done_reply reply.Freed result) self.old self.new share.old share.new }
+    {
+        let answer = share.free_lent_run(&mut self.zone, 0, page, pages);
+        publish(&mut self.board, board, &self.zone, was_asked(&answer));
+        answer
+    }
+
+    /// Another request of a share to the zone. The block that it names, if it names one, is lent.
     #[tactic(auto, using(crate::proofs::Keeping::workers_stay, crate::proofs::Keeping::section_without))]
     #[inline(always)]
     pub(crate) fn section(
@@ -486,7 +549,7 @@ impl GatedZone {
     }
 }
 
-/// One request of a share to a zone. The block or the run that it names, if it names one, is lent.
+/// One request of a share to a zone. The block that it names, if it names one, is lent.
 #[inline(always)]
 fn asked(zone: &mut Zone, share: &mut Share, call: ZoneCall) -> Result<Given, Refused>
     requires one { length share.old.zones ≡ 1 }
@@ -512,7 +575,6 @@ fn asked(zone: &mut Zone, share: &mut Share, call: ZoneCall) -> Result<Given, Re
             Ok(_) => Ok(Given::Done),
             Err(refused) => Err(refused),
         },
-        ZoneCall::FreeRun(page, pages) => done(share.free_lent_run(zone, 0, page, pages)),
     }
 }
 

@@ -1,6 +1,5 @@
 //! Runs of pages at any place, in one section each: a request to the zone, and the same change in the share.
-ghost use Rattle.std.specs.Prelude.{ℕ, ◌≡◌, ◌<◌, IsTrue, true};
-ghost use Rattle.zp_model.specs.declared.constants.TheConstants.{ORDERS};
+ghost use Rattle.std.specs.Prelude.{ℕ, ◌≡◌, IfNone, IfSome, IsTrue, true};
 ghost use Rattle.zp_model.specs.Runs.{may_alloc_run};
 ghost use Rattle.zp_model.specs.declared.request.Request.TheVariants as request;
 ghost use Rattle.zp_model.specs.declared.request.Reply.TheVariants as reply;
@@ -22,17 +21,20 @@ impl ZoneShare {
     pub fn is_lent_run(&self, page: PageNo, pages: u32) -> bool
         ensures { result ≡ is_lent_run self.now.seat.part.base self.now.uses page pages }
     {
-        self.lends_run(page, pages)
-    }
-
-    /// The same, in line: most runs are one block, at which one look is enough.
-    #[inline(always)]
-    pub fn lends_run(&self, page: PageNo, pages: u32) -> bool
-        ensures { result ≡ is_lent_run self.now.seat.part.base self.now.uses page pages }
-    {
         // the invariant is at hand where a field is
         let _ = &self.seat;
         self.uses.is_lent_run(page, pages)
+    }
+
+    /// The order of the lent block that so many pages from this one on are, where they are one. One look tells.
+    #[inline(always)]
+    pub fn lent_block(&self, page: PageNo, pages: u32) -> Option<Order>
+        ensures some { IfSome result (IsOneBlock self.now.seat.part.base self.now.uses page pages) }
+        ensures none { IfNone result ((k : ℕ) → IsOneBlock self.now.seat.part.base self.now.uses page pages k → ⊥) }
+    {
+        // the invariant is at hand where a field is
+        let _ = &self.seat;
+        self.uses.block_order(page, pages)
     }
 
     /// Allocates the lowest run of so many pages outside isolated pageblocks that begins at a multiple of two to the power `align`, held to this mark:
@@ -96,37 +98,18 @@ impl ZoneShare {
         ensures section { IsAsked (request.FreeRun page pages) (done_reply reply.Freed result) zone.old zone.new self.old self.new }
         ensures lists { (n : ℕ) → HasAtMost n self.old → HasAtMost n self.new }
     {
-        if let Some(order) = self.uses.block_order(page, pages) {
-            return self.free_as_block(zone, page, pages, order);
+        if let Some(order) = self.lent_block(page, pages) {
+            return self.free_run_as_block(zone, page, pages, order);
         }
         if !self.is_lent_run(page, pages) {
             return Err(Refused::NotLent);
         }
-        self.free_parts(zone, page, pages)
+        self.free_lent_run(zone, page, pages)
     }
 
-    /// The same of pages of which the caller knows that each is lent. Refused 30.
+    /// The same of pages of which the caller knows that they are one lent block, of this order. Refused 30.
     #[inline(always)]
-    pub fn free_lent_run(
-        &mut self,
-        zone: &mut Zone,
-        page: PageNo,
-        pages: u32,
-    ) -> Result<(), Refused>
-        requires seat { IsSeatOf zone.old self.old.seat }
-        requires lent { is_lent_run self.old.seat.part.base self.old.uses page pages ≡ true }
-        ensures section { IsAsked (request.FreeRun page pages) (done_reply reply.Freed result) zone.old zone.new self.old self.new }
-        ensures lists { (n : ℕ) → HasAtMost n self.old → HasAtMost n self.new }
-    {
-        if let Some(order) = self.uses.block_order(page, pages) {
-            return self.free_as_block(zone, page, pages, order);
-        }
-        self.free_parts(zone, page, pages)
-    }
-
-    /// Frees the lent block of this order that so many pages from this one on are.
-    #[inline(always)]
-    fn free_as_block(
+    pub fn free_run_as_block(
         &mut self,
         zone: &mut Zone,
         page: PageNo,
@@ -134,11 +117,12 @@ impl ZoneShare {
         order: Order,
     ) -> Result<(), Refused>
         requires seat { IsSeatOf zone.old self.old.seat }
-        requires below { order < ORDERS }
         requires block { IsOneBlock self.old.seat.part.base self.old.uses page pages order }
         ensures section { IsAsked (request.FreeRun page pages) (done_reply reply.Freed result) zone.old zone.new self.old self.new }
         ensures lists { (n : ℕ) → HasAtMost n self.old → HasAtMost n self.new }
     {
+        // a clause of this call says how large an order can be
+        let _number = order.number();
         if self.sections.are_full() {
             return Err(Refused::JournalFull);
         }
@@ -152,10 +136,15 @@ impl ZoneShare {
         Ok(())
     }
 
-    /// Frees so many lent pages from this one on, from block to block.
+    /// The same of pages of which the caller knows that each is lent: they are freed from block to block. Refused 30.
     // (out of line: most runs that come back are one block)
     #[inline(never)]
-    fn free_parts(&mut self, zone: &mut Zone, page: PageNo, pages: u32) -> Result<(), Refused>
+    pub fn free_lent_run(
+        &mut self,
+        zone: &mut Zone,
+        page: PageNo,
+        pages: u32,
+    ) -> Result<(), Refused>
         requires seat { IsSeatOf zone.old self.old.seat }
         requires lent { is_lent_run self.old.seat.part.base self.old.uses page pages ≡ true }
         ensures section { IsAsked (request.FreeRun page pages) (done_reply reply.Freed result) zone.old zone.new self.old self.new }

@@ -10,8 +10,8 @@ use Rattle.zp_share.specs.Sections.{ComesOf}
 use Rattle.zp_share.specs.ZoneShares.{answered_in}
 use Rattle.zp_share.proofs.Closing.{IsRunUsed, IsWhole, run_parts_answered, section_is, share_of}
 use Rattle.zp_share.proofs.RunSections.{freed_used, seat_has_run}
-use Rattle.zp_share.proofs.zone_share.ZoneShare.free_parts.Goals.{After-add}
-use Rattle.zp_share.proofs.zone_share.ZoneShare.free_parts.Goals as goal
+use Rattle.zp_share.proofs.zone_share.ZoneShare.free_lent_run.Goals.{After-add}
+use Rattle.zp_share.proofs.zone_share.ZoneShare.free_lent_run.Goals as goal
 
 pub free_run-requires-2-clause-has : goal.free_run-requires-2-clause-has
 free_run-requires-2-clause-has c =
