@@ -6,7 +6,7 @@ use Rattle.zp_laws.proofs.AddingUp.{pages_add_up}
 use Rattle.zp_laws.proofs.HandedOut.{times-parts}
 use Rattle.zp_open_room.specs.Rooms.{AddsUp, RoomState}
 
-nothing_posted : List (List PostedBlock)
+abbrev nothing_posted : List (List PostedBlock)
 nothing_posted = [] ∷ []
 
 no_posted_pages : (z : PlainZone) → z.posted ≡ nothing_posted → posted_pages z ≡ 0
