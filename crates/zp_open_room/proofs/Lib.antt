@@ -1,2 +1,3 @@
+pub mod Given
 pub mod Posted
 pub mod Totals

@@ -14,7 +14,7 @@ use zp_zone::Told;
 
 impl OpenRoom {
     /// A block of this order for this type, held to this mark: its first page. Refused 10 or 11.
-    #[tactic(auto, using(crate::proofs::Posted::alloc_posted))]
+    #[tactic(auto, using(crate::proofs::Posted::alloc_posted, crate::proofs::Given::block_is_out))]
     pub fn get_block(
         &mut self,
         order: Order,
@@ -23,25 +23,29 @@ impl OpenRoom {
     ) -> Result<PageNo, Refused>
         ensures reply { page_reply result ≡ (step self.old.zone.plain self.old.worker (request.Alloc order kind mark)).reply }
         ensures after { self.new ≡ record self.old { zone = asked self.old.worker (request.Alloc order kind mark) self.old.zone } }
+        ensures out { IfOk result (λ page. IsTrue (is_out self.new.zone.plain self.new.worker page order)) }
     {
         self.zone.alloc(&mut self.seat, order, kind, mark)
     }
 
     /// As `get_block`, and tells where the block came from.
-    #[tactic(auto, using(crate::proofs::Posted::alloc_posted))]
+    #[tactic(auto, using(crate::proofs::Posted::alloc_posted, crate::proofs::Given::block_is_out))]
     pub fn get_told(&mut self, order: Order, kind: MigrateType, mark: Mark) -> Result<Told, Refused>
         ensures reply { told_reply result ≡ (step self.old.zone.plain self.old.worker (request.Alloc order kind mark)).reply }
         ensures told { IfOk result (λ t. origin self.old.zone.plain.area order kind ≡ Some t.origin) }
         ensures after { self.new ≡ record self.old { zone = asked self.old.worker (request.Alloc order kind mark) self.old.zone } }
+        ensures out { IfOk result (λ t. IsTrue (is_out self.new.zone.plain self.new.worker t.page order)) }
     {
         self.zone.alloc_told(&mut self.seat, order, kind, mark)
     }
 
     /// The lowest block of this order, of whatever type. The type noted for it is its pageblock's. Refused 11.
-    #[tactic(auto, using(crate::proofs::Posted::alloc_low_posted))]
+    #[tactic(auto, using(crate::proofs::Posted::alloc_low_posted, crate::proofs::Given::block_is_out))]
     pub fn get_low(&mut self, order: Order) -> Result<Block, Refused>
         ensures reply { block_reply result ≡ (step self.old.zone.plain self.old.worker (request.AllocLow order)).reply }
         ensures after { self.new ≡ record self.old { zone = asked self.old.worker (request.AllocLow order) self.old.zone } }
+        ensures order { IfOk result (λ block. block.order ≡ order) }
+        ensures out { IfOk result (λ block. IsTrue (is_out self.new.zone.plain self.new.worker block.page block.order)) }
     {
         self.zone.alloc_low(&mut self.seat, order)
     }
