@@ -33,7 +33,7 @@ use Rattle.zp_laws.proofs.RunSteps.{lent-to, run_freed_lawful}
 use Rattle.zp_laws.proofs.RunsByBlocks.{freed_in_block}
 use Rattle.zp_zone.proofs.RunsFreed.{IsFreeingRun, freeing_begins, freeing_goes}
 use Rattle.zp_zone.proofs.RunsGiven.{lent_all}
-use Rattle.zp_zone.proofs.RunsTaken.{cut_first}
+use Rattle.zp_zone.proofs.RunsNoted.{cut_first}
 use Rattle.zp_share.specs.declared.page_use.PageUse.{PageUse}
 use Rattle.zp_share.specs.declared.page_use.PageUse.TheVariants.{Away, Lent, Cached}
 use Rattle.zp_share.specs.PageUses.{AreUncached, AreWholeBlocks, HasSameCached, IsCutLent, IsOneBlock, IsPartFreed, held, is_cached_as, is_lent_as, is_lent_page, is_lent_run, lent_as, use_at, uses_by}
