@@ -312,7 +312,6 @@ impl GatedZone {
     }
 
     /// The same with a board, out of line: a zone without one pays for one test alone.
-    #[tactic(auto, using(crate::proofs::Keeping::workers_stay))]
     #[inline(never)]
     fn free_run_as_block_published(
         &mut self,
@@ -333,7 +332,6 @@ impl GatedZone {
     }
 
     /// The pages of a run back from a share of the zone, each of them lent, from block to block.
-    #[tactic(auto, using(crate::proofs::Keeping::workers_stay))]
     pub(crate) fn free_lent_run(
         &mut self,
         board: &Option<Board>,

@@ -218,6 +218,11 @@ one_found base p n at us (Some k) from place inside e = record {
   lent = ap (λ g. is_lent_as k (use_at us g)) (sym place ∙ sym e.0) ∙ e.1;
 }
 
+-- and then the run is lent
+pub found_lent : (base p n : ℕ) (us : List PageUse) (got : Option ℕ) → IfSome got (λ k. k < ORDERS) → IfSome got (IsOneBlock base us p n) → IfSome got (λ _. is_lent_run base us p n ≡ true)
+found_lent base p n us None small x = tt
+found_lent base p n us (Some k) small x = one_lent base p n k us small x
+
 pub none_found : (base p n at : ℕ) (us : List PageUse) (got : Option ℕ) → at ≡ p - base →
     IfNone got ((k : ℕ) → head at k ≡ at → 2 ^ k ≡ n → is_lent_as k (use_at us at) ≡ false) → IfNone got ((k : ℕ) → IsOneBlock base us p n k → ⊥)
 none_found base p n at us None place e = λ k x. both_ways _ (e k (ap (λ g. head g k) place ∙ x.aligned ∙ sym place) x.size) (ap (λ g. is_lent_as k (use_at us g)) place ∙ x.lent)

@@ -1,5 +1,5 @@
 //! A worker's share of a row of zones.
-ghost use Rattle.std.specs.Prelude.{ℕ, ◌≡◌, ◌<◌, ◌≤◌, ◌==◌, map, length, All, IfOk, IfErr, IfNone, IfSome, IsSome, IsTrue, Some, ◌↔◌, slice_index_or};
+ghost use Rattle.std.specs.Prelude.{ℕ, ◌≡◌, ◌<◌, ◌≤◌, ◌==◌, map, length, All, IfOk, IfErr, IfNone, IfSome, IsSome, IsTrue, Some, true, ◌↔◌, slice_index_or};
 ghost use Rattle.zp_model.specs.Zone.{workers_of};
 ghost use Rattle.zp_model.specs.Rows.{front};
 ghost use Rattle.zp_model.specs.declared.refused.Refused.TheVariants.{Memory};
@@ -165,6 +165,7 @@ impl Share {
     pub fn lent_block(&self, zone: usize, page: PageNo, pages: u32) -> Option<Order>
         requires { zone < length self.now.zones }
         ensures some { IfSome result (IsOneBlock (share_at self.now zone).seat.part.base (share_at self.now zone).uses page pages) }
+        ensures lent { IfSome result (λ _. is_lent_run (share_at self.now zone).seat.part.base (share_at self.now zone).uses page pages ≡ true) }
         ensures none { IfNone result ((k : ℕ) → IsOneBlock (share_at self.now zone).seat.part.base (share_at self.now zone).uses page pages k → ⊥) }
     {
         self.zones[zone].lent_block(page, pages)

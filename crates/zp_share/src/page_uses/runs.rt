@@ -86,8 +86,8 @@ impl PageUses {
     /// The order of the lent block that so many pages from this absolute one on are, where they are the zone's, and one.
     #[inline(always)]
     pub fn block_order(&self, page: PageNo, pages: u32) -> Option<Order>
-        ensures below { IfSome result (λ o. o < ORDERS) }
         ensures some { IfSome result (IsOneBlock self.now.base self.now.uses page pages) }
+        ensures lent { IfSome result (λ _. is_lent_run self.now.base self.now.uses page pages ≡ true) }
         ensures none { IfNone result ((k : ℕ) → IsOneBlock self.now.base self.now.uses page pages k → ⊥) }
     {
         let Some(at) = self.run_place(page, pages) else {

@@ -30,6 +30,7 @@ impl ZoneShare {
     #[inline(always)]
     pub fn lent_block(&self, page: PageNo, pages: u32) -> Option<Order>
         ensures some { IfSome result (IsOneBlock self.now.seat.part.base self.now.uses page pages) }
+        ensures lent { IfSome result (λ _. is_lent_run self.now.seat.part.base self.now.uses page pages ≡ true) }
         ensures none { IfNone result ((k : ℕ) → IsOneBlock self.now.seat.part.base self.now.uses page pages k → ⊥) }
     {
         // the invariant is at hand where a field is

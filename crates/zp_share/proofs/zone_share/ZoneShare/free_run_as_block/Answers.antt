@@ -16,8 +16,9 @@ use Rattle.zp_share.proofs.RunUses.{one_lent}
 use Rattle.zp_share.proofs.zone_share.ZoneShare.free_run_as_block.Goals.{After-add}
 use Rattle.zp_share.proofs.zone_share.ZoneShare.free_run_as_block.Goals as goal
 
-below : (k : ℕ) → k ≤ LARGEST_ORDER → k < ORDERS
-below k le = omega (arith, le)
+-- as an order has it
+below : (k n : ℕ) → n ≡ k → n ≤ LARGEST_ORDER → k < ORDERS
+below k n is le = omega (arith, is, le)
 
 pub free_run_as_block-requires-clause-has : goal.free_run_as_block-requires-clause-has
 free_run_as_block-requires-clause-has c = one_run c.self.inside c.self.invariant c.args.page c.args.pages c.args.order (one_inside c.self.inside c.args.self.now c.args.page c.args.pages c.args.order c.self.invariant c.self.view_is c.requires.block)
@@ -42,7 +43,7 @@ made c =
     let zone = c.free_run_as_block.ensures in
     let block = one_inside c.self.inside c.args.self.now c.args.page c.args.pages c.args.order c.self.invariant c.self.view_is c.requires.block in
     run_parts_answered c.args.zone.now.plain (asked c) reply.Freed c.self.inside (after c) c.worker-worker.result c.self.invariant
-    (one_used c.args.zone.now c.self.inside c.set.new.self c.args.page c.args.pages c.args.order c.self.invariant zone.agrees.0 c.pages-pages.ensures.lawful zone.known (below c.args.order c.number-_number.ensures.within) block c.set.ensures)
+    (one_used c.args.zone.now c.self.inside c.set.new.self c.args.page c.args.pages c.args.order c.self.invariant zone.agrees.0 c.pages-pages.ensures.lawful zone.known (below c.args.order c.number-number.result c.number-number.ensures.same c.number-number.ensures.within) block c.set.ensures)
     zone.seat (ap (λ u. u.base) c.set.ensures) refl refl c.add.ensures c.worker-worker.ensures
 
 pub invariant_of-self : goal.invariant_of-self
@@ -53,7 +54,7 @@ returns-clause-section c =
     let zone = c.free_run_as_block.ensures in
     let full : (c.args.self.now.sections.made == LAST_SECTION) ≡ false = ap (λ s. s.sections.made == LAST_SECTION) (sym c.self.view_is) ∙ sym c.are_full.ensures.full ∙ c.if-are_full.false in
     let lent : is_lent_run c.args.self.now.seat.part.base c.args.self.now.uses c.args.page c.args.pages ≡ true =
-    one_lent c.args.self.now.seat.part.base c.args.page c.args.pages c.args.order c.args.self.now.uses (below c.args.order c.number-_number.ensures.within) c.requires.block in
+    one_lent c.args.self.now.seat.part.base c.args.page c.args.pages c.args.order c.args.self.now.uses (below c.args.order c.number-number.result c.number-number.ensures.same c.number-number.ensures.within) c.requires.block in
     let one = section_is (asked c) reply.Freed c.args.zone.now c.free_run_as_block.new.self c.self.inside (after c) c.args.self.now c.self.invariant c.self.view_is (made c).0 (made c).1
     refl zone.after c.requires.seat zone.fits zone.known zone.agrees in
     record {
@@ -70,7 +71,7 @@ pub returns-then-are_full-clause-section : goal.returns-then-are_full-clause-sec
 returns-then-are_full-clause-section c =
     let full : (c.args.self.now.sections.made == LAST_SECTION) ≡ true = ap (λ s. s.sections.made == LAST_SECTION) (sym c.self.view_is) ∙ sym c.are_full.ensures.full ∙ c.if-are_full.true in
     let lent : is_lent_run c.args.self.now.seat.part.base c.args.self.now.uses c.args.page c.args.pages ≡ true =
-    one_lent c.args.self.now.seat.part.base c.args.page c.args.pages c.args.order c.args.self.now.uses (below c.args.order c.number-_number.ensures.within) c.requires.block in
+    one_lent c.args.self.now.seat.part.base c.args.page c.args.pages c.args.order c.args.self.now.uses (below c.args.order c.number-number.result c.number-number.ensures.same c.number-number.ensures.within) c.requires.block in
     let comes : Bool → Bool → Type 0 = λ l f. ComesOf (refusal l f) (request.FreeRun c.args.page c.args.pages) (reply.Refused JournalFull) c.args.zone.now c.args.zone.now c.args.self.now c.args.self.now in
     record {
       made = subst (λ l. comes l (c.args.self.now.sections.made == LAST_SECTION)) (sym lent) (subst (comes true) (sym full) (refl, record { zone = refl; share = refl }));
