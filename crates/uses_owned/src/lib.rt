@@ -9,6 +9,7 @@ mod handing_over;
 mod huge_page;
 mod huge_pool;
 mod low_block;
+mod open_room;
 mod page_pool;
 mod two_pages;
 
@@ -19,5 +20,6 @@ pub use handing_over::{receive, relay, send};
 pub use huge_page::{Run, give_run, take_huge_page};
 pub use huge_pool::HugePool;
 pub use low_block::take_below;
+pub use open_room::pass_through;
 pub use page_pool::PagePool;
 pub use two_pages::take_two;

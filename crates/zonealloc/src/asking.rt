@@ -1,5 +1,5 @@
-//! The one road from a worker's handle to a zone: the handle lends the worker, which makes the request. The two most frequent ones,
-//! allocating and freeing a block, have functions of their own.
+//! The one road from a worker's handle to a zone: the handle lends the worker, which makes the request. The most frequent
+//! ones, which allocate and free a block or a run, have functions of their own.
 ghost use Rattle.std.specs.Prelude.{IfErr, IfOk, IsTrue, OnOk};
 ghost use Rattle.zp_model.specs.declared.request.Request.TheVariants as request;
 ghost use Rattle.zp_model.specs.declared.request.Reply.TheVariants as reply;
@@ -94,6 +94,28 @@ pub fn ask_alloc_run(
     let held = worker.slot.held();
     match held.alloc_run(zone as usize, pages, align, mark) {
         Ok(page) => Ok(page),
+        Err(why) => Err(call_error(why)),
+    }
+}
+
+/// Frees a run of pages of the worker in a handle; else the number of why it was not freed.
+#[tactic(auto, using(crate::proofs::Answering::ask_denied))]
+#[inline(always)]
+pub fn ask_free_run(
+    worker: &mut WorkerHandle,
+    zone: u32,
+    page: PageNo,
+    pages: u32,
+) -> Result<(), u32>
+    ensures granted { OnOk result (IsOfBoth (IsGrantedAt zone (request.FreeRun page pages) reply.Freed) worker.old.slot.value worker.new.slot.value) }
+    ensures denied { IfErr result (λ n. IsAskDenied zone (request.FreeRun page pages) n worker.old.slot.value worker.new.slot.value) }
+{
+    if !worker.is_live() {
+        return Err(BAD_HANDLE);
+    }
+    let held = worker.slot.held();
+    match held.free_run(zone as usize, page, pages) {
+        Ok(()) => Ok(()),
         Err(why) => Err(call_error(why)),
     }
 }

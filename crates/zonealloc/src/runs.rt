@@ -6,7 +6,7 @@ ghost use Rattle.zonealloc.specs.Calls.{Asks, AsksAllocRun, HasNoZone, IsCall, I
 ghost use Rattle.zonealloc.specs.Numbers.{IsNoAlignment, IsNoMark};
 
 use crate::answers::{BAD_ARGUMENT, DONE, alignment_of, mark_of};
-use crate::asking::{ask, ask_alloc_run};
+use crate::asking::{ask, ask_alloc_run, ask_free_run};
 use crate::handles::WorkerHandle;
 use zp_gate::{Given, ZoneCall};
 use zp_model::PageNo;
@@ -75,9 +75,8 @@ pub extern "C" fn zonealloc_free_run(
     ensures denied { IsDenied ⊥ (HasNoZone zone) IsRefusedOrBusy result worker.old.slot.value }
     ensures lent { IsLentDenied zone (request.FreeRun page pages) (Unit {0}) result worker.old.slot.value }
 {
-    match ask(worker, zone, ZoneCall::FreeRun(PageNo::new(page), pages)) {
-        Ok(Given::Done) => DONE,
-        Ok(_) => unreachable!(),
+    match ask_free_run(worker, zone, PageNo::new(page), pages) {
+        Ok(()) => DONE,
         Err(why) => why,
     }
 }

@@ -123,7 +123,7 @@ migrate_type-of Unmovable = refl
 migrate_type-of Reclaimable = refl
 migrate_type-of Movable = refl
 
-pub type-from : (s : PageblockType) (f : MigrateType) → migrate_type s ≡ Some f → s ≡ pageblock_type f
+type-from : (s : PageblockType) (f : MigrateType) → migrate_type s ≡ Some f → s ≡ pageblock_type f
 type-from of.Unmovable f e = grind arith
 type-from of.Reclaimable f e = grind arith
 type-from of.Movable f e = grind arith

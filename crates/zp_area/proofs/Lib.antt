@@ -14,7 +14,6 @@ pub mod Halves
 pub mod Splitting
 pub mod CountedLists
 pub mod Growing
-pub mod Towards
 pub mod Holding
 pub mod NoBlocks
 pub mod RelistedBy

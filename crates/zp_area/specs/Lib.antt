@@ -10,4 +10,3 @@ pub mod Available
 pub mod Claims
 pub mod KeptSets
 pub mod Standing
-pub mod Towards

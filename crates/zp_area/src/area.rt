@@ -40,7 +40,7 @@ ghost use Rattle.zp_area.specs.Available.{choosable};
 ghost use Rattle.zp_area.specs.Claims.{IsLargestClaimable, IsOtherType};
 ghost use Rattle.zp_area.specs.Standing.{AreFirstTaken, IsFirstTaken, IsListedBlock, first_head};
 
-mod towards;
+mod removal;
 
 use crate::available::{count_isolated, largest_seen, tell_added, tell_type};
 use crate::counting::pageblocks_of_type;

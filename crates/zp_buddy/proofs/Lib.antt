@@ -17,8 +17,11 @@ pub mod GiveRuns
 pub mod TurnedRuns
 pub mod HeldNotes
 pub mod TakenBehind
-pub mod TakenTowards
+pub mod ClippedBlocks
+pub mod TakenWhole
 pub mod FallingRuns
 pub mod LastOrders
 pub mod GivingAs
 pub mod Groups
+pub mod PartsBack
+pub mod PartsTaken

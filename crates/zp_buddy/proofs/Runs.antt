@@ -1,6 +1,6 @@
 -- Pages that are taken one by one off a block: they rise, and leave what the run of them leaves. Of a run the lower half goes first, and what is chosen then is the
 -- higher one.
-use Rattle.std.proofs.Common.{ℕ, suc, zero, ◌+◌, ◌-◌, ◌/◌, ◌^◌, ◌≡◌, ◌≤◌, ◌<◌, ◌↔◌, inl, inr, refl, sym, ◌∙◌, ap, arith, Bool, true, false, not, ◌&&◌, List, [], ◌∷◌, ◌++◌, length, min, slice_index_or, unwrap_or, get_or-take, length-take-le, Option, Some, None}
+use Rattle.std.proofs.Common.{ℕ, suc, zero, ◌+◌, ◌-◌, ◌/◌, ◌^◌, ◌≡◌, ◌≤◌, ◌<◌, ◌↔◌, inl, inr, refl, sym, ◌∙◌, ap, arith, Bool, true, not, ◌&&◌, List, [], ◌∷◌, ◌++◌, length, min, slice_index_or, unwrap_or, get_or-take, length-take-le, Option, Some, None}
 use Rattle.std.specs.List.{filter, range_with_len}
 use Rattle.std.specs.Option.{option_or}
 use Rattle.std.proofs.lemmas.Bool.{and_parts, and_from, cases_eq, cases_lt, eqb-true, eq-eqb, false≢true}

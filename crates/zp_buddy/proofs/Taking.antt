@@ -11,13 +11,14 @@ use Rattle.zp_model.specs.declared.pageblock_type.PageblockType.{PageblockType}
 use Rattle.zp_model.specs.declared.pageblock_type.PageblockType.TheVariants as of
 use Rattle.zp_model.specs.PageblockType.{is_isolate, noted_type, pageblock_type}
 use Rattle.zp_model.specs.declared.state.State.{State}
-use Rattle.zp_model.specs.Block.{has, size}
+use Rattle.zp_model.specs.Block.{IsBlock, has, size}
 use Rattle.zp_model.specs.BlockSet.{Starts, cover, lowest}
 use Rattle.zp_model.specs.Area.{available_blocks, lists_count, pageblock_pages}
 use Rattle.zp_model.specs.Frames.{Frames, IsClear, with_area}
-use Rattle.zp_model.specs.Runs.{is_within, without_pages}
+use Rattle.zp_model.specs.Runs.{IsFreeRun, is_within, without_pages}
 use Rattle.zp_model.specs.Take.{leave, retype, taken, blocks_at_hand}
 use Rattle.zp_model.proofs.Heads.{aligned_down}
+use Rattle.zp_model.proofs.LowestRun.{has_pages-from}
 use Rattle.zp_model.proofs.Pages.{In}
 use Rattle.zp_model.proofs.RunParts.{length-without_pages, within-from, within-to, without_block}
 use Rattle.zp_laws.proofs.Areas.{free-taken, free-leave}
@@ -98,36 +99,57 @@ size-left u h n le f =
     parts : (u r : Bool) → (r ≡ true → u ≡ true) → one_if u ≡ one_if (u && not r) + one_if r
     parts u r f = grind arith
 
-module _ {m : ℕ} {a : Blocks} {free h o n : ℕ} {y : Blocks} (x : IsRunTaken m a free h o n y) where
-  filled : (i : ℕ) → h ≤ i → i < h + n → In (cover (block_set a)) i
-  filled i lo hi = x.held.sound.normal.inside h o x.starts i lo (omega (arith, x.enough))
+-- n pages from h on, all of them free, have left an area with so many free pages
+pub record AreGone (m : ℕ) (a : Blocks) (free h n : ℕ) (y : Blocks) : Type 0 where
+  pub held : IsHeld m a free
+  pub inside : h + n ≤ length (cover (block_set a))
+  pub filled : (i : ℕ) → h ≤ i → i < h + n → In (cover (block_set a)) i
+  pub left : cover (block_set y) ≡ without_pages (cover (block_set a)) h n
+  pub sides : drop (lists_count m) y.rows.lists ≡ drop (lists_count m) a.rows.lists
 
-  run_inside : h + n ≤ length (cover (block_set a))
-  run_inside = omega (arith, (starts_block m a h o x.held.sound x.starts).inside, length-pages a.rows.states, x.enough)
-
+module _ {m : ℕ} {a : Blocks} {free h n : ℕ} {y : Blocks} (x : AreGone m a free h n y) where
   -- the free pages are so many less
-  pub fewer : free ≡ size (cover (block_set y)) + n
-  fewer = x.held.counted ∙ size-left (cover (block_set a)) h n run_inside filled ∙ ap (λ u. size u + n) (sym x.left)
+  pub fewer_pages : free ≡ size (cover (block_set y)) + n
+  fewer_pages = x.held.counted ∙ size-left (cover (block_set a)) h n x.inside x.filled ∙ ap (λ u. size u + n) (sym x.left)
 
   length-left : length (cover (block_set y)) ≡ length (cover (block_set a))
   length-left = ap length x.left ∙ length-without_pages (cover (block_set a)) h n
 
   -- the pages are clear
-  pub are_clear : AreClear (frames_in m y) h n
-  are_clear = record {
-    inside = rw length-left run_inside;
+  pub gone_clear : AreClear (frames_in m y) h n
+  gone_clear = record {
+    inside = rw length-left x.inside;
     free = λ i lo hi. rw x.left (has-left_any (cover (block_set a)) h n i ∙ rw (within-from h n i lo hi) (and-false _));
     aside = λ r i lo hi. rw x.sides (false_from_ne_true _ (λ on.
-        x.held.sound.aside (lists_count m + r) i (omega arith) (rw (get_or-drop (lists_count m) a.rows.lists r []) at on) (filled i lo hi)));
+        x.held.sound.aside (lists_count m + r) i (omega arith) (rw (get_or-drop (lists_count m) a.rows.lists r []) at on) (x.filled i lo hi)));
   }
 
   -- and each block that might come back before still may
-  pub still_may : (g j : ℕ) → IsClear (frames_in m a) g j → IsClear (frames_in m y) g j
-  still_may g j c = record {
+  pub gone_still : (g j : ℕ) → IsClear (frames_in m a) g j → IsClear (frames_in m y) g j
+  gone_still g j c = record {
     block = rw length-left c.block;
     free = λ i lo hi. rw x.left (has-left_any (cover (block_set a)) h n i ∙ rw (c.free i lo hi) refl);
     aside = λ r i lo hi. rw x.sides (c.aside r i lo hi);
   }
+
+module _ {m : ℕ} {a : Blocks} {free h o n : ℕ} {y : Blocks} (x : IsRunTaken m a free h o n y) where
+  gone : AreGone m a free h n y
+  gone = record {
+    held = x.held;
+    inside = omega (arith, (starts_block m a h o x.held.sound x.starts).inside, length-pages a.rows.states, x.enough);
+    filled = λ i lo hi. x.held.sound.normal.inside h o x.starts i lo (omega (arith, x.enough));
+    left = x.left;
+    sides = x.sides;
+  }
+
+  pub fewer : free ≡ size (cover (block_set y)) + n
+  fewer = fewer_pages gone
+
+  pub are_clear : AreClear (frames_in m y) h n
+  are_clear = gone_clear gone
+
+  pub still_may : (g j : ℕ) → IsClear (frames_in m a) g j → IsClear (frames_in m y) g j
+  still_may = gone_still gone
 
 -- a run with as many pages as a block may come back as one
 pub may_return : {m : ℕ} {a : Blocks} {free h o : ℕ} {y : Blocks} (k : ℕ) → k ≤ o → IsRunTaken m a free h o (2 ^ k) y → IsClear (frames_in m y) h k
@@ -135,6 +157,15 @@ may_return {m} {a} {free} {h} {o} k le x =
     let block = starts_block m a h o x.held.sound x.starts in
     let c = are_clear x in
     record { block = record { order = omega (arith, block.order, le); aligned = aligned_down k o h le block.aligned; inside = c.inside }; free = c.free; aside = c.aside }
+
+-- it was such a block of the zone, and its pages were free
+pub low_block : {m : ℕ} {a : Blocks} {free h o : ℕ} {y : Blocks} (k : ℕ) → k ≤ o → IsRunTaken m a free h o (2 ^ k) y → IsBlock m (length a.rows.states) h k
+low_block {m} {a} {free} {h} {o} k le x =
+    let block = starts_block m a h o x.held.sound x.starts in
+    record { order = omega (arith, block.order, le); aligned = aligned_down k o h le block.aligned; inside = omega (arith, block.inside, x.enough) }
+
+pub low_free : {m : ℕ} {a : Blocks} {free h o n : ℕ} {y : Blocks} → IsRunTaken m a free h o n y → IsFreeRun (area_in m a) h n
+low_free {m} {a} {free} {h} {o} {n} x = has_pages-from (cover (block_set a)) h n (gone x).filled
 
 -- the head of a block that may come back
 pub clear_head : (m : ℕ) (n : Blocks) (h k : ℕ) → IsClear (frames_in m n) h k → (h < length n.rows.states) × (has (cover (block_set n)) h ≡ false)

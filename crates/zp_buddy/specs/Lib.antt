@@ -1,5 +1,6 @@
 pub mod Sound
 pub mod Opened
+pub mod Parts
 pub mod Choices
 pub mod Held
 pub mod Runs

@@ -1,7 +1,7 @@
-//! Which pages are free, and taking a block at whatever place out of the free block in which it lies.
+//! Which pages are free, and taking a free block whole.
 //!
-//! In Linux: `is_free_buddy_page` and `take_page_off_buddy`; `alloc_contig_range` takes such blocks out of the free area too.
-ghost use Rattle.std.specs.Prelude.{ℕ, ◌≡◌, ◌≤◌, ◌+◌, ◌%◌, ◌^◌, IfNone, IfSome, length};
+//! In Linux: `is_free_buddy_page` and `del_page_from_free_list`.
+ghost use Rattle.std.specs.Prelude.{◌≡◌, ◌≤◌, ◌+◌, length};
 ghost use Rattle.zp_model.specs.BlockSet.{Starts, cover};
 ghost use Rattle.zp_model.specs.Frames.{with_area};
 ghost use Rattle.zp_model.specs.Runs.{IsFreeRun, has_pages};
@@ -32,21 +32,6 @@ pub fn is_free_run(area: &FreeArea, at: PageAt, pages: u32) -> bool
     true
 }
 
-/// The order of the free block that so many pages from this one on are, where they are one.
-#[inline(always)]
-pub fn free_block(area: &FreeArea, at: PageAt, pages: u32) -> Option<Order>
-    ensures some { IfSome result (λ o. Starts (block_set area.now) at o × (2 ^ o ≡ pages)) }
-    ensures none { IfNone result ((k : ℕ) → 2 ^ k ≡ pages → Starts (block_set area.now) at k → ⊥) }
-{
-    let Some(order) = area.order_headed(at) else {
-        return None;
-    };
-    if order.pages() != pages {
-        return None;
-    }
-    Some(order)
-}
-
 /// Takes a free block out of the free area whole.
 #[inline(always)]
 pub fn take_whole(area: &mut FreeArea, at: PageAt, order: Order)
@@ -61,25 +46,4 @@ pub fn take_whole(area: &mut FreeArea, at: PageAt, order: Order)
     // a clause of this call says that all that is kept is of one set of blocks
     let _pages = area.pages();
     area.remove(at, order);
-}
-
-/// Takes the block of order `order` at a page, each page of which is free, out of the free block in which it lies.
-#[inline(always)]
-pub fn take_at(area: &mut FreeArea, at: PageAt, order: Order)
-    requires aligned { at % 2 ^ order ≡ 0 }
-    requires within { order ≤ area.old.largest }
-    requires free { IsFreeRun (area_in area.old.largest area.old) at (2 ^ order) }
-    requires sound { IsSound area.old.largest area.old.rows.states area.old.kinds area.old.rows.lists }
-    ensures largest { area.new.largest ≡ area.old.largest }
-    ensures sound { IsSound area.old.largest area.new.rows.states area.new.kinds area.new.rows.lists }
-    ensures pages { length area.new.rows.states ≡ length area.old.rows.states }
-    ensures kinds { area.new.kinds ≡ area.old.kinds }
-    ensures after { frames_in area.old.largest area.new ≡ with_area (frames_in area.old.largest area.old) (leave (frames_in area.old.largest area.old).area at order) }
-{
-    // a clause of this call says that all that is kept is of one set of blocks
-    let _pages = area.pages();
-    let Some(found) = area.order_around(at) else {
-        unreachable!()
-    };
-    area.split_towards(at, found, order);
 }

@@ -1,7 +1,7 @@
 //! The buddy allocator of one zone.
 //!
 //! In Linux: the `free_area` of a `struct zone`, `__rmqueue` and `__free_one_page`.
-ghost use Rattle.std.specs.Prelude.{ℕ, ◌≡◌, ◌<◌, ◌≤◌, ◌+◌, ◌++◌, ◌∷◌, [], ◌^◌, ◌*◌, ◌%◌, ◌↔◌, false, length, map, min, slice_get, slice_index_or, slice_set, IfNone, IfOk, IfSome, IsTrue, None};
+ghost use Rattle.std.specs.Prelude.{ℕ, ◌≡◌, ◌<◌, ◌≤◌, ◌+◌, ◌++◌, ◌∷◌, [], ◌^◌, ◌*◌, ◌%◌, ◌↔◌, false, length, map, min, slice_get, slice_index_or, slice_set, true, IfNone, IfOk, IfSome, IsTrue, None};
 ghost use Rattle.std.specs.List.{range_with_len};
 ghost use Rattle.zp_model.specs.Choose.{origin};
 ghost use Rattle.zp_model.specs.Block.{IsBlock, has, in_run, size};
@@ -13,7 +13,7 @@ ghost use Rattle.zp_model.specs.declared.pageblock_type.PageblockType.TheVariant
 ghost use Rattle.zp_model.specs.declared.state.State.TheVariants.{Free};
 ghost use Rattle.zp_model.specs.BlockSet.{largest_in, max_blocks};
 ghost use Rattle.zp_model.specs.Area.{available, list_number, free_list, kind_at, pageblock_pages, pageblocks_of, size_in};
-ghost use Rattle.zp_model.specs.Runs.{IsFreeRun, has_pages};
+ghost use Rattle.zp_model.specs.Runs.{IsFreeRun, has_pages, leave_run};
 ghost use Rattle.zp_model.specs.Take.{leave, retype, take_answer, take_after, take_low_answer, take_low_after};
 ghost use Rattle.zp_model.specs.declared.constants.TheConstants.{LARGEST_BLOCK_PAGES, LARGEST_ORDER, MAX_PAGES};
 ghost use Rattle.zp_buddy.specs.Bare.{AreAtHand, HasBlockFrom, IsBareTo};
@@ -21,12 +21,13 @@ ghost use Rattle.zp_tree.specs.declared.constants.TheConstants.{WORD_LEVELS};
 ghost use Rattle.zp_buddy.specs.FallingRuns.{AreTails, falling_run};
 ghost use Rattle.zp_buddy.specs.Runs.{AreClear, gives, pages_taken, pages_left, run_length, run_pages};
 
-use crate::at::{free_block, is_free_run, take_at, take_whole};
+use crate::at::take_whole;
 use crate::choice;
 use crate::clear::{is_block, is_clear_run};
 use crate::falling::give_falling;
 use crate::join::join;
 use crate::opening::add_all_pages;
+use crate::parts::{take_low_part, take_pages};
 use crate::split::take_block;
 use crate::takes::{take, take_run};
 use std::alloc::{AllocError, Global};
@@ -176,21 +177,13 @@ impl Buddy {
         self.area.whole_until(group, (end / GROUP_PAGES) as usize) as u32 * GROUP_PAGES
     }
 
-    /// Whether so many pages from this one on are all free, in isolated pageblocks too.
-    pub fn is_free_run(&self, at: PageAt, pages: u32) -> bool
-        requires { at + pages ≤ length self.now.area.free }
-        ensures { result ≡ has_pages self.now.area.free at pages }
-    {
-        is_free_run(&self.area, at, pages)
-    }
-
-    /// The order of the free block that so many pages from this one on are, where they are one.
+    /// The order of the free block that a page heads, where it heads one.
     #[inline(always)]
-    pub fn free_block(&self, at: PageAt, pages: u32) -> Option<Order>
-        ensures some { IfSome result (λ o. (state_at self.now.states at ≡ Free o) × (2 ^ o ≡ pages)) }
-        ensures none { IfNone result ((k : ℕ) → 2 ^ k ≡ pages → state_at self.now.states at ≡ Free k → ⊥) }
+    pub fn order_headed(&self, at: PageAt) -> Option<Order>
+        ensures some { IfSome result (λ o. state_at self.now.states at ≡ Free o) }
+        ensures none { IfNone result ((k : ℕ) → state_at self.now.states at ≡ Free k → ⊥) }
     {
-        free_block(&self.area, at, pages)
+        self.area.order_headed(at)
     }
 
     /// Takes a free block whole.
@@ -213,10 +206,14 @@ impl Buddy {
         self.free -= pages;
     }
 
-    /// Takes the block of this order at a page, each page of which is free, of whatever type and in isolated pageblocks too.
-    pub fn take_at(&mut self, at: PageAt, order: Order)
-        requires block { IsBlock self.old.area.largest (length self.old.area.free) at order }
-        requires free { IsFreeRun self.old.area at (2 ^ order) }
+    /// Takes the low part of this order of the free block of order `found` that a page heads.
+    // (in line, as `take_whole` is)
+    #[inline(always)]
+    pub fn take_low_part(&mut self, at: PageAt, found: Order, order: Order)
+        requires free { state_at self.old.states at ≡ Free found }
+        requires down { order ≤ found }
+        ensures block { IsBlock self.old.area.largest (length self.old.area.free) at order }
+        ensures free { IsFreeRun self.old.area at (2 ^ order) }
         ensures after { self.new ≡ with_area self.old (leave self.old.area at order) }
 
         // What the calls after it can rest on.
@@ -224,9 +221,30 @@ impl Buddy {
         ensures clear { IsClear self.new at order }
         ensures kept { (h k : ℕ) → IsClear self.old h k → IsClear self.new h k }
     {
-        take_at(&mut self.area, at, order);
+        // a clause of this call says that all that is kept is of one set of blocks
+        let _pages = self.area.pages();
+        take_low_part(&mut self.area, at, found, order);
         let pages = order.pages();
         self.free -= pages;
+    }
+
+    /// Takes so many pages from this one on, where all of them are free, of whatever type and in isolated pageblocks too: whether they are.
+    pub fn take_pages(&mut self, at: PageAt, pages: u32) -> bool
+        requires some { 0 < pages }
+        requires inside { at + pages ≤ length self.old.area.free }
+        ensures when { result ≡ has_pages self.old.area.free at pages }
+        ensures after { result ≡ true → self.new ≡ with_area self.old (leave_run self.old.area at pages) }
+        ensures left { result ≡ false → self.new ≡ self.old }
+
+        // What the calls after it can rest on.
+        ensures clear { result ≡ true → AreClear self.new at pages }
+        ensures kept { (h k : ℕ) → IsClear self.old h k → IsClear self.new h k }
+    {
+        if !take_pages(&mut self.area, at, pages) {
+            return false;
+        }
+        self.free -= pages;
+        true
     }
 
     /// Whether this is a block of which no page is free or on a further list.

@@ -5,11 +5,14 @@ mod at;
 mod buddy;
 mod choice;
 mod clear;
+mod cut;
 mod falling;
 mod join;
 mod opening;
+mod parts;
 mod split;
 mod takes;
 
 pub use buddy::Buddy;
+pub use cut::fitting_order;
 pub use zp_area::LinkedPage;

@@ -4,7 +4,7 @@ use Rattle.zp_model.specs.declared.refused.Refused.{Refused}
 use Rattle.zp_model.specs.declared.request.Request.{Request}
 use Rattle.zp_model.specs.declared.request.Reply.{Reply}
 use Rattle.zp_gate.specs.declared.call.ZoneCall.{ZoneCall}
-use Rattle.zp_gate.specs.declared.call.ZoneCall.TheVariants.{AllocLow, Post, Collect, Isolate, Release, AllocRunAt, FreeRun}
+use Rattle.zp_gate.specs.declared.call.ZoneCall.TheVariants.{AllocLow, Post, Collect, Isolate, Release, AllocRunAt}
 use Rattle.zp_gate.specs.declared.call.Given.{Given}
 use Rattle.zp_gate.specs.declared.call.Given.TheVariants.{Block, Done}
 
@@ -15,7 +15,6 @@ request_of Collect = Request.Collect
 request_of (Isolate n) = Request.Isolate n
 request_of (Release n t) = Request.Release n t
 request_of (AllocRunAt p n) = Request.AllocRunAt p n
-request_of (FreeRun p n) = Request.FreeRun p n
 
 -- the reply that gives this to a call. Of a run at a page no more is given than that it is the caller's: it begins at that page
 abbrev pub reply_of : ZoneCall → Given → Reply
@@ -24,7 +23,6 @@ reply_of (Post p k w) Done = Reply.Posted
 reply_of (Isolate n) Done = Reply.Isolated
 reply_of (Release n t) Done = Reply.Released
 reply_of (AllocRunAt p n) Done = Reply.Page p
-reply_of (FreeRun p n) Done = Reply.Freed
 reply_of c Done = Reply.Drained
 
 -- a call's answer as a reply

@@ -30,7 +30,7 @@ use crate::try_lock::{Busy, TryLock, Visit};
 use std::alloc::Global;
 use std::marker::Model;
 use std::sync::Arc;
-use zp_model::{Mark, MigrateType, Order, PageNo, Refused, Request};
+use zp_model::{Mark, MigrateType, Order, PageNo, Refused};
 use zp_share::{ListConfig, Share};
 use zp_zone::{Seat, Told};
 
@@ -185,8 +185,42 @@ impl GatedShare {
         answer.map_err(CallError::Refused)
     }
 
-    /// Another request to the zone. Whether the zone has the worker to whom a block is posted, and whether the block or the run that is named
-    /// is lent, is tested before anybody enters. Refused 20, and as the zone refuses it.
+    /// Frees so many lent pages from this one on, by whatever blocks they are lent. Whether they are is tested before anybody enters: of pages that are
+    /// one block one look tells it, and the order with which they are freed. Refused 20 or 30.
+    #[inline(always)]
+    pub(crate) fn free_run(&mut self, page: PageNo, pages: u32) -> Result<(), CallError>
+        ensures { IsSection (request.FreeRun page pages) (λ _. reply.Freed) result self.old self.new }
+    {
+        let Some(order) = self.share.lent_block(0, page, pages) else {
+            return self.free_parts(page, pages);
+        };
+        let lock = &*self.lock;
+        let mut visitor = lock.enter().map_err(CallError::Busy)?;
+        let zone = visitor.slot_mut(&lock.table.shared, 0);
+        let answer = zone.free_run_as_block(&lock.board, &mut self.share, page, pages, order);
+        lock.leave(visitor);
+        answer.map_err(CallError::Refused)
+    }
+
+    /// The same, from block to block.
+    // (out of line: most runs that come back are one block)
+    #[inline(never)]
+    fn free_parts(&mut self, page: PageNo, pages: u32) -> Result<(), CallError>
+        ensures { IsSection (request.FreeRun page pages) (λ _. reply.Freed) result self.old self.new }
+    {
+        if !self.share.is_lent_run(0, page, pages) {
+            return Err(CallError::Refused(Refused::NotLent));
+        }
+        let lock = &*self.lock;
+        let mut visitor = lock.enter().map_err(CallError::Busy)?;
+        let zone = visitor.slot_mut(&lock.table.shared, 0);
+        let answer = zone.free_lent_run(&lock.board, &mut self.share, page, pages);
+        lock.leave(visitor);
+        answer.map_err(CallError::Refused)
+    }
+
+    /// Another request to the zone. Whether the zone has the worker to whom a block is posted, and whether the block that is posted is lent, is
+    /// tested before anybody enters. Refused 20, and as the zone refuses it.
     #[tactic(auto, using(crate::proofs::Keeping::share_stays))]
     #[inline(always)]
     pub(crate) fn section(&mut self, call: ZoneCall) -> Result<Given, CallError>
@@ -221,17 +255,13 @@ impl GatedShare {
         }
     }
 
-    /// Whether the block that is named, if one is, or each page of the run that is to be freed is lent.
+    /// Whether the block that is named, if one is, is lent.
     #[inline(always)]
     fn lends_for(&self, call: &ZoneCall) -> bool
         ensures { result ≡ lends_for (request_of call.now) (plain_share (share_at self.now.share 0)) }
     {
         match call {
             ZoneCall::Post(page, order, _) => self.share.is_lent(0, *page, *order),
-            ZoneCall::FreeRun(page, pages) => {
-                let request = Request::FreeRun(*page, *pages);
-                self.share.lends_for(0, &request)
-            }
             _ => true,
         }
     }

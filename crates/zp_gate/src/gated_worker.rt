@@ -139,6 +139,17 @@ impl GatedWorker {
         share.alloc_run(pages, align, mark)
     }
 
+    /// Frees so many lent pages from this one on, by whatever blocks they are lent. Refused 20 or 30.
+    #[inline(always)]
+    pub fn free_run(&mut self, zone: usize, page: PageNo, pages: u32) -> Result<(), CallError>
+        ensures { IsSectionAt zone (request.FreeRun page pages) (λ _. reply.Freed) result self.old self.new }
+    {
+        let Some(share) = self.shares.get_mut(zone) else {
+            return Err(CallError::NoZone);
+        };
+        share.free_run(page, pages)
+    }
+
     /// Another request to the zone at a place, whatever is asked.
     #[inline(always)]
     pub fn section(&mut self, zone: usize, call: ZoneCall) -> Result<Given, CallError>

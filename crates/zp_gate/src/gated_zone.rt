@@ -1,5 +1,5 @@
 //! What stands behind a lock. Each call is exact here: what it does not name stays.
-ghost use Rattle.std.specs.Prelude.{ℕ, ◌≡◌, ◌<◌, ◌≤◌, ◌==◌, [], All, IfErr, IfNone, IfOk, IfSome, IsTrue, OnOk, Ok, Err, Some, false, length};
+ghost use Rattle.std.specs.Prelude.{ℕ, ◌≡◌, ◌<◌, ◌≤◌, ◌==◌, [], All, IfErr, IfNone, IfOk, IfSome, IsTrue, OnOk, Ok, Err, Some, false, true, length};
 ghost use Rattle.std.specs.List.{count_by};
 ghost use Rattle.zp_model.specs.declared.refused.Refused.TheVariants.{Memory};
 ghost use Rattle.zp_model.specs.declared.constants.TheConstants.{LARGEST_ORDER};
@@ -11,9 +11,11 @@ ghost use Rattle.zp_model.specs.declared.request.Reply.TheVariants as reply;
 ghost use Rattle.zp_model.specs.Choose.{origin};
 ghost use Rattle.zp_zone.specs.NamedZone.{page_reply, told_reply};
 ghost use Rattle.zp_zone.specs.Seats.{IsSeatOf};
+ghost use Rattle.zp_share.specs.PageUses.{IsOneBlock, is_lent_run};
+ghost use Rattle.zp_share.specs.PlainShares.{lends_for};
 ghost use Rattle.zp_share.specs.Sections.{IsAsked, IsRefilled, MayAsk, done_reply};
 ghost use Rattle.zp_share.specs.Shares.{ShareState, key_of, share_at, with_zone_share};
-ghost use Rattle.zp_share.specs.ZoneShares.{cached_of};
+ghost use Rattle.zp_share.specs.ZoneShares.{cached_of, plain_share};
 ghost use Rattle.zp_model.specs.Run.{IsHistory};
 ghost use Rattle.zp_counts.specs.CountBoards.{last_reading};
 ghost use mathlib.Core.List.{IsPrefix};
@@ -287,7 +289,67 @@ impl GatedZone {
         answer
     }
 
-    /// Another request of a share to the zone.
+    /// The pages of a run back from a share of the zone, which are one lent block of this order.
+    #[tactic(auto, using(crate::proofs::Keeping::workers_stay, crate::proofs::Keeping::section_without))]
+    #[inline(always)]
+    pub(crate) fn free_run_as_block(
+        &mut self,
+        board: &Option<Board>,
+        share: &mut Share,
+        page: PageNo,
+        pages: u32,
+        order: Order,
+    ) -> Result<(), Refused>
+        requires board { IsTiedTo board.now self.old.board }
+        requires share { IsOneShare (key_of self.old.zone) share.old }
+        requires block { IsOneBlock (share_at share.old 0).seat.part.base (share_at share.old 0).uses page pages order }
+        ensures { IsSectionOf (request.FreeRun page pages) (done_reply reply.Freed result) self.old self.new share.old share.new }
+    {
+        if let None = &self.board {
+            return share.free_run_as_block(&mut self.zone, 0, page, pages, order);
+        }
+        self.free_run_as_block_published(board, share, page, pages, order)
+    }
+
+    /// The same with a board, out of line: a zone without one pays for one test alone.
+    #[inline(never)]
+    fn free_run_as_block_published(
+        &mut self,
+        board: &Option<Board>,
+        share: &mut Share,
+        page: PageNo,
+        pages: u32,
+        order: Order,
+    ) -> Result<(), Refused>
+        requires board { IsTiedTo board.now self.old.board }
+        requires share { IsOneShare (key_of self.old.zone) share.old }
+        requires block { IsOneBlock (share_at share.old 0).seat.part.base (share_at share.old 0).uses page pages order }
+        ensures { IsSectionOf (request.FreeRun page pages) (done_reply reply.Freed result) self.old self.new share.old share.new }
+    {
+        let answer = share.free_run_as_block(&mut self.zone, 0, page, pages, order);
+        publish(&mut self.board, board, &self.zone, was_asked(&answer));
+        answer
+    }
+
+    /// The pages of a run back from a share of the zone, each of them lent, from block to block.
+    pub(crate) fn free_lent_run(
+        &mut self,
+        board: &Option<Board>,
+        share: &mut Share,
+        page: PageNo,
+        pages: u32,
+    ) -> Result<(), Refused>
+        requires board { IsTiedTo board.now self.old.board }
+        requires share { IsOneShare (key_of self.old.zone) share.old }
+        requires lent { is_lent_run (share_at share.old 0).seat.part.base (share_at share.old 0).uses page pages ≡ true }
+        ensures { IsSectionOf (request.FreeRun page pages) (done_reply reply.Freed result) self.old self.new share.old share.new }
+    {
+        let answer = share.free_lent_run(&mut self.zone, 0, page, pages);
+        publish(&mut self.board, board, &self.zone, was_asked(&answer));
+        answer
+    }
+
+    /// Another request of a share to the zone. The block that it names, if it names one, is lent.
     #[tactic(auto, using(crate::proofs::Keeping::workers_stay, crate::proofs::Keeping::section_without))]
     #[inline(always)]
     pub(crate) fn section(
@@ -299,6 +361,7 @@ impl GatedZone {
         requires board { IsTiedTo board.now self.old.board }
         requires share { IsOneShare (key_of self.old.zone) share.old }
         requires may { MayAsk (workers_of self.old.zone.plain) share.old.batch (request_of call) (share_at share.old 0) }
+        requires lent { lends_for (request_of call) (plain_share (share_at share.old 0)) ≡ true }
         ensures { IsSectionOf (request_of call) (answer_of call result) self.old self.new share.old share.new }
     {
         if let None = &self.board {
@@ -319,6 +382,7 @@ impl GatedZone {
         requires board { IsTiedTo board.now self.old.board }
         requires share { IsOneShare (key_of self.old.zone) share.old }
         requires may { MayAsk (workers_of self.old.zone.plain) share.old.batch (request_of call) (share_at share.old 0) }
+        requires lent { lends_for (request_of call) (plain_share (share_at share.old 0)) ≡ true }
         ensures { IsSectionOf (request_of call) (answer_of call result) self.old self.new share.old share.new }
     {
         let answer = asked(&mut self.zone, share, call);
@@ -483,12 +547,13 @@ impl GatedZone {
     }
 }
 
-/// One request of a share to a zone.
+/// One request of a share to a zone. The block that it names, if it names one, is lent.
 #[inline(always)]
 fn asked(zone: &mut Zone, share: &mut Share, call: ZoneCall) -> Result<Given, Refused>
     requires one { length share.old.zones ≡ 1 }
     requires seat { IsSeatOf zone.old (share_at share.old 0).seat }
     requires may { MayAsk (workers_of zone.old.plain) share.old.batch (request_of call) (share_at share.old 0) }
+    requires lent { lends_for (request_of call) (plain_share (share_at share.old 0)) ≡ true }
     ensures asked { IsAsked (request_of call) (answer_of call result) zone.old zone.new (share_at share.old 0) (share_at share.new 0) }
     ensures share { share.new ≡ with_zone_share 0 (share_at share.new 0) share.old }
 {
@@ -508,7 +573,6 @@ fn asked(zone: &mut Zone, share: &mut Share, call: ZoneCall) -> Result<Given, Re
             Ok(_) => Ok(Given::Done),
             Err(refused) => Err(refused),
         },
-        ZoneCall::FreeRun(page, pages) => done(share.free_run(zone, 0, page, pages)),
     }
 }
 

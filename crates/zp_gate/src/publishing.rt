@@ -15,8 +15,6 @@ use zp_zone::Zone;
 pub const LAST_PLACE: u64 = u64::MAX;
 
 /// A board with the counts of a zone of which nothing was asked, and the right to publish on it, where there is to be one. Refused 6.
-// (a call of its own, as it takes of the stack and hardly any row has boards)
-#[inline(never)]
 pub(crate) fn board_of(
     alloc: Global,
     zone: &Zone,

@@ -8,7 +8,7 @@ use Rattle.zp_model.specs.declared.constants.TheConstants.{LARGEST_ORDER}
 use Rattle.zp_model.specs.Runs.{cut, fitting_order}
 use Rattle.zp_model.specs.RunLaws.{IsFitting}
 use Rattle.zp_model.proofs.Cuts.{cut_length, fitting}
-use Rattle.zp_zone.proofs.RunsTaken.{cut_first}
+use Rattle.zp_zone.proofs.RunsNoted.{cut_first}
 use Rattle.zp_kernel.specs.declared.held.Held.{Held}
 use Rattle.zp_kernel.specs.Frames.{Frames, frame_behind, is_clear, piece, with_cut, with_pieces}
 

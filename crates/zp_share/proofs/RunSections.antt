@@ -1,20 +1,26 @@
 -- One section of a share for a run of pages: what the zone's answer makes of the share, and that it is a reply to the request.
-use Rattle.std.specs.Prelude.{IfOk, Result, Ok, Err}
+use Rattle.std.specs.Prelude.{IfOk, Result, Ok, Err, slice_set}
 use Rattle.std.proofs.Common.{ℕ, ◌+◌, ◌-◌, ◌≡◌, ◌≤◌, ◌<◌, refl, sym, ◌∙◌, ap, subst, arith, true, false, List, length, map, Option}
-use Rattle.std.proofs.lemmas.Bool.{and_parts, leb-true, ltb-true}
+use Rattle.std.proofs.lemmas.Bool.{and_from, and_parts, eq-eqb, le-leb, leb-true, ltb-true}
 use Rattle.std.proofs.lemmas.List.{length-map}
+use Rattle.std.proofs.lemmas.Nat.{pow_pos}
 use Rattle.zp_model.specs.declared.mark.Mark.{Mark}
 use Rattle.zp_model.specs.declared.refused.Refused.{Refused}
+use Rattle.zp_model.specs.declared.constants.TheConstants.{ORDERS}
 use Rattle.zp_model.specs.declared.request.Request.{Request}
 use Rattle.zp_model.specs.declared.request.Reply.{Reply}
 use Rattle.zp_model.specs.Area.{Area, kind_at}
+use Rattle.zp_model.specs.Block.{head}
 use Rattle.zp_model.specs.Books as books
 use Rattle.zp_model.specs.Books.{blocks_after_in, has_run as part_has_run, own, type_of_page}
 use Rattle.zp_model.specs.Lawful.{IsLawful}
 use Rattle.zp_model.specs.PageblockType.{noted_type}
-use Rattle.zp_model.specs.Runs.{hand_out_run, is_within, run_freed, run_taken}
+use Rattle.zp_model.specs.Runs.{hand_out_run, is_within, may_free_run, run_freed, run_taken}
 use Rattle.zp_model.specs.Step.{Outcome, step}
-use Rattle.zp_model.specs.Zone.{PlainZone, Holding, pages_of}
+use Rattle.zp_model.specs.Zone.{PlainZone, Holding, holding_at, is_of, pages_of, workers_of}
+use Rattle.zp_model.proofs.Covers.{some_below-decides}
+use Rattle.zp_model.proofs.Heads.{head_aligned, head_of, lt_pow}
+use Rattle.zp_model.proofs.LowestRun.{all-from}
 use Rattle.zp_model.proofs.RunParts.{within-from}
 use Rattle.zp_laws.proofs.Areas.{kinds-leave_run, largest-leave_run}
 use Rattle.zp_laws.proofs.KeepingRuns.{IsFree, run_taken_rest}
@@ -26,14 +32,14 @@ use Rattle.zp_zone.specs.Asking.{IsGivenRun}
 use Rattle.zp_zone.specs.NamedZone.{page_reply}
 use Rattle.zp_zone.specs.Seats.{ZoneState, SeatState, Agrees, asked, has, has_run}
 use Rattle.zp_share.specs.declared.page_use.PageUse.{PageUse}
-use Rattle.zp_share.specs.declared.page_use.PageUse.TheVariants.{Away}
+use Rattle.zp_share.specs.declared.page_use.PageUse.TheVariants.{Away, Lent}
 use Rattle.zp_share.specs.declared.zone_share.ZoneShare.TheInside.{Inside}
-use Rattle.zp_share.specs.PageUses.{UsesState, HasSameCached, IsCutLent, IsLentWhereGot, IsRunOff, held, is_cached_as, is_lent_run, use_at, uses_after_in, uses_by}
+use Rattle.zp_share.specs.PageUses.{UsesState, HasSameCached, IsCutLent, IsLentWhereGot, IsOneBlock, IsRunOff, held, is_cached_as, is_lent_run, use_at, uses_after_in, uses_by}
 use Rattle.zp_share.specs.Sections.{IsRunLent}
-use Rattle.zp_share.specs.ZoneShares.{IsNew, use_in}
+use Rattle.zp_share.specs.ZoneShares.{ZoneShareState, IsNew, use_in}
 use Rattle.zp_share.proofs.Closing.{IsRunUsed, IsWhole, away_by_none, held_at, share_of}
 use Rattle.zp_share.proofs.OneUse.{IsIn, in_at}
-use Rattle.zp_share.proofs.RunUses.{run_from, run_lent, uses_told}
+use Rattle.zp_share.proofs.RunUses.{IsFreeing, block_back, lent_by, one_lent, run_from, run_lent, uses_end, uses_told}
 
 -- a run of n pages at p was free in zone z, and has gone out, which leaves y
 pub record IsRunGot (z y : PlainZone) (p n : ℕ) : Type 0 where
@@ -208,3 +214,54 @@ freed_used z o v p n x a cached pages out =
       blocks = blocks;
       uses = sym (ap (uses_by o.uses.uses) blocks ∙ uses_told w o.uses.uses v.uses pages cached);
     }
+
+-- a run that is one lent block of the share is one of its parts
+pub one_inside : (o : Inside) (s : ZoneShareState) (p n k : ℕ) → IsWhole o → share_of o ≡ s → IsOneBlock s.seat.part.base s.uses p n k → IsOneBlock o.uses.base o.uses.uses p n k
+one_inside o s p n k x is b = subst (λ g. IsOneBlock g o.uses.uses p n k) (sym x.0) (subst (λ (t : ZoneShareState). IsOneBlock t.seat.part.base t.uses p n k) (sym is) b)
+
+-- a run that is one lent block is the seat's, as that block
+module _ (o : Inside) (x : IsWhole o) (p n k : ℕ) (b : IsOneBlock o.uses.base o.uses.uses p n k) where
+  one_block : IsOneBlock o.seat.part.base o.uses.uses p n k
+  one_block = subst (λ g. IsOneBlock g o.uses.uses p n k) x.0 b
+
+  pub one_place : IsIn o.uses.base o.uses.uses p
+  one_place = record { from = b.from; below = omega (arith, b.inside, b.size, pow_pos k) }
+
+  one_in : IsIn o.seat.part.base o.uses.uses p
+  one_in = subst (λ g. IsIn g o.uses.uses p) x.0 one_place
+
+  pub one_has : has o.seat p k ≡ true
+  one_has =
+      let w : ℕ = o.seat.worker in
+      let t = lent_by k (use_at o.uses.uses (p - o.seat.part.base)) one_block.lent in
+      let used : use_in (share_of o) p ≡ Lent k t.0 = sym (in_at o.seat.part.base p o.uses.uses one_in) ∙ t.1 in
+      held_at (share_of o) p k x.1 one_in ∙ ap (λ u. is_of w k (held w u)) used ∙ and_from _ _ (eq-eqb k k refl) (eq-eqb w w refl)
+
+  pub one_run : has_run o.seat p n ≡ true
+  unfolding part_has_run
+  one_run =
+      let w : ℕ = o.seat.worker in
+      let base : ℕ = o.seat.part.base in
+      let blocks : List (Option Holding) = o.seat.part.blocks in
+      let pages : length blocks ≡ length o.uses.uses = ap length x.1.blocks ∙ length-map o.uses.uses (held w) in
+      let room : k < length blocks = omega (arith, lt_pow k, one_block.size, one_block.inside, pages) in
+      let at : is_of w k (holding_at blocks (p - base)) ≡ true = (and_parts _ _ one_has).1 in
+      and_from _ _ (and_from _ _ (le-leb base p one_block.from) (le-leb 1 n (omega (arith, one_block.size, pow_pos k))))
+      (all-from (books.has_page w o.seat.part) (p - base) n (λ i lo hi.
+      let same : head i k ≡ p - base = head_of (head (p - base) k) i k (head_aligned (p - base) k) (omega (arith, one_block.aligned, lo)) (omega (arith, one_block.aligned, one_block.size, hi)) ∙ one_block.aligned in
+      (some_below-decides (λ j. is_of w j (holding_at blocks (head i j))) (length blocks)).1 (k, room, ap (λ g. is_of w k (holding_at blocks g)) same ∙ at)))
+
+-- a run that comes back as one block is what it is to the zone once its first page is away
+pub one_used : (z : ZoneState) (o : Inside) (v : UsesState) (p n k : ℕ) → IsWhole o → Agrees z o.seat → IsLawful z.plain → o.seat.worker < workers_of z.plain → k < ORDERS → IsOneBlock o.uses.base o.uses.uses p n k →
+    v ≡ record o.uses { uses = slice_set o.uses.uses (p - o.uses.base) Away } → IsRunUsed z.plain (Request.FreeRun p n) Reply.Freed o.seat.part.base o.seat.worker o.uses.uses v.uses
+one_used z o v p n k x a l known small b gone =
+    let w : ℕ = o.seat.worker in
+    let base : o.uses.base ≡ z.plain.base = same_base z o x a in
+    let y : IsOneBlock z.plain.base o.uses.uses p n k = subst (λ g. IsOneBlock g o.uses.uses p n k) base b in
+    let out : own w z.plain.out ≡ map (held w) o.uses.uses = same_out z o x a in
+    let may : may_free_run z.plain w p n ≡ true = run_lent z.plain w p n z.plain.base o.uses.uses out l refl (one_lent z.plain.base p n k o.uses.uses small y) in
+    let set : v.uses ≡ slice_set o.uses.uses (p - z.plain.base) Away = ap (λ u. u.uses) gone ∙ ap (λ g. slice_set o.uses.uses (p - g) Away) base in
+    let back : IsFreeing z.plain w (p - z.plain.base) n (p - z.plain.base + n) (p - z.plain.base + n) o.uses.uses v.uses =
+    block_back z.plain w p n (p - z.plain.base) k o.uses.uses v.uses l out known may refl (omega (arith, y.inside, y.size, pow_pos k)) y.lent y.size set in
+    freed_used z o v p n x a back.cached back.pages
+    (ap (λ g. own w (run_freed z.plain w (p - g) n).out) base ∙ uses_end z.plain w (p - z.plain.base) n (p - z.plain.base + n) (p - z.plain.base + n) o.uses.uses v.uses back refl)

@@ -1,5 +1,5 @@
 -- Runs of pages among those of a worker: how they go out as the blocks of their cut, and come back block by block.
-use Rattle.std.specs.Prelude.{slice_set}
+use Rattle.std.specs.Prelude.{slice_set, IfNone, IfSome}
 use Rattle.std.specs.List.{range_with_len}
 use Rattle.std.specs.Option.{is_some}
 use Rattle.std.proofs.Common.{ℕ, ◌+◌, ◌-◌, ◌^◌, ◌≡◌, ◌==◌, ◌≤◌, ◌<◌, inl, inr, refl, sym, ◌∙◌, ap, arith, true, false, List, [], ◌∷◌, length, map, Option, Some, None}
@@ -33,10 +33,10 @@ use Rattle.zp_laws.proofs.RunSteps.{lent-to, run_freed_lawful}
 use Rattle.zp_laws.proofs.RunsByBlocks.{freed_in_block}
 use Rattle.zp_zone.proofs.RunsFreed.{IsFreeingRun, freeing_begins, freeing_goes}
 use Rattle.zp_zone.proofs.RunsGiven.{lent_all}
-use Rattle.zp_zone.proofs.RunsTaken.{cut_first}
+use Rattle.zp_zone.proofs.RunsNoted.{cut_first}
 use Rattle.zp_share.specs.declared.page_use.PageUse.{PageUse}
 use Rattle.zp_share.specs.declared.page_use.PageUse.TheVariants.{Away, Lent, Cached}
-use Rattle.zp_share.specs.PageUses.{AreUncached, AreWholeBlocks, HasSameCached, IsCutLent, IsPartFreed, held, is_cached_as, is_lent_as, is_lent_page, is_lent_run, lent_as, use_at, uses_by}
+use Rattle.zp_share.specs.PageUses.{AreUncached, AreWholeBlocks, HasSameCached, IsCutLent, IsOneBlock, IsPartFreed, held, is_cached_as, is_lent_as, is_lent_page, is_lent_run, lent_as, use_at, uses_by}
 
 -- what goes out in zones that have the same blocks out leaves the same blocks out
 out_alike : (w : ℕ) (kind : ℕ → MigrateType) (bs : List (ℕ × ℕ)) (z y : PlainZone) → z.out ≡ y.out → (hand_out_blocks z w kind bs).out ≡ (hand_out_blocks y w kind bs).out
@@ -199,6 +199,34 @@ pub run_from : (base p n : ℕ) (us : List PageUse) → base ≤ p → 1 ≤ n �
 unfolding is_lent_run
 run_from base p n us from some inside each =
     and_from _ _ (and_from _ _ (and_from _ _ (le-leb base p from) (le-leb 1 n some)) (le-leb (p - base + n) (length us) inside)) (all-from (is_lent_page us) (p - base) n each)
+
+-- a run that is one lent block is lent
+pub one_lent : (base p n k : ℕ) (us : List PageUse) → k < ORDERS → IsOneBlock base us p n k → is_lent_run base us p n ≡ true
+one_lent base p n k us small x =
+    let lent : is_lent_as k (use_at us (head (p - base) k)) ≡ true = ap (λ g. is_lent_as k (use_at us g)) x.aligned ∙ x.lent in
+    run_from base p n us x.from (omega (arith, x.size, pow_pos k)) x.inside (λ i lo hi. block_lent us (p - base) k i small lent (omega (arith, x.aligned, lo)) (omega (arith, x.aligned, x.size, hi)))
+
+-- the order that is found of the block that a run is, if it is one, is told at its place
+pub one_found : (base p n at : ℕ) (us : List PageUse) (got : Option ℕ) → base ≤ p → at ≡ p - base → at + n ≤ length us →
+    IfSome got (λ k. (head at k ≡ at) × (is_lent_as k (use_at us (head at k)) ≡ true) × (2 ^ k ≡ n)) → IfSome got (IsOneBlock base us p n)
+one_found base p n at us None from place inside e = tt
+one_found base p n at us (Some k) from place inside e = record {
+  from = from;
+  inside = omega (arith, place, inside);
+  size = e.2;
+  aligned = ap (λ g. head g k) (sym place) ∙ e.0 ∙ place;
+  lent = ap (λ g. is_lent_as k (use_at us g)) (sym place ∙ sym e.0) ∙ e.1;
+}
+
+-- and then the run is lent
+pub found_lent : (base p n : ℕ) (us : List PageUse) (got : Option ℕ) → IfSome got (λ k. k < ORDERS) → IfSome got (IsOneBlock base us p n) → IfSome got (λ _. is_lent_run base us p n ≡ true)
+found_lent base p n us None small x = tt
+found_lent base p n us (Some k) small x = one_lent base p n k us small x
+
+pub none_found : (base p n at : ℕ) (us : List PageUse) (got : Option ℕ) → at ≡ p - base →
+    IfNone got ((k : ℕ) → head at k ≡ at → 2 ^ k ≡ n → is_lent_as k (use_at us at) ≡ false) → IfNone got ((k : ℕ) → IsOneBlock base us p n k → ⊥)
+none_found base p n at us None place e = λ k x. both_ways _ (e k (ap (λ g. head g k) place ∙ x.aligned ∙ sym place) x.size) (ap (λ g. is_lent_as k (use_at us g)) place ∙ x.lent)
+none_found base p n at us (Some k) place e = tt
 
 pub run_parts : (base p n : ℕ) (us : List PageUse) → is_lent_run base us p n ≡ true →
     (base ≤ p) × (1 ≤ n) × (p - base + n ≤ length us) × ((i : ℕ) → p - base ≤ i → i < p - base + n → is_lent_page us i ≡ true)

@@ -63,6 +63,14 @@ is_lent_page us i = some_below (λ k. is_lent_as k (use_at us (head i k))) ORDER
 unfoldable pub is_lent_run : ℕ → List PageUse → ℕ → ℕ → Bool
 is_lent_run base us p n = leb base p && leb 1 n && leb (p - base + n) (length us) && list_all (is_lent_page us) (range_with_len (p - base) n)
 
+-- n pages from an absolute page on are the zone's, and one lent block, of order k
+pub record IsOneBlock (base : ℕ) (us : List PageUse) (p n k : ℕ) : Type 0 where
+  pub from : base ≤ p
+  pub inside : p - base + n ≤ length us
+  pub size : 2 ^ k ≡ n
+  pub aligned : head (p - base) k ≡ p - base
+  pub lent : is_lent_as k (use_at us (p - base)) ≡ true
+
 -- what a page is where this block is out there in the worker's name: a page on a list stays on it, and any other block out is lent
 abbrev pub lent_as : PageUse → Option Holding → PageUse
 lent_as (Cached t) o = Cached t

@@ -12,7 +12,7 @@ use Rattle.zp_share.specs.declared.sections_made.TheConstants.{LAST_SECTION}
 use Rattle.zp_share.specs.declared.page_use.PageUse.{PageUse}
 use Rattle.zp_share.specs.declared.page_use.PageUse.TheVariants.{Away, Lent, Cached}
 use Rattle.zp_model.specs.Zone.{PlainZone}
-use Rattle.zp_share.specs.PageUses.{use_of, is_lent_as, is_lent_run, uses_after, uses_after_in}
+use Rattle.zp_share.specs.PageUses.{use_of, is_lent_as, is_lent_run, uses_after_in}
 
 pub record SectionsState : Type 0 where
   -- how many were made, and the last one
@@ -91,27 +91,20 @@ lists_after (Request.Refill t m n) (Reply.Pages ps) ls = slice_set ls (type_numb
 lists_after (Request.Drain t ps) Reply.Drained ls = slice_set ls (type_number t) (without_back (length ps) (list_at ls (type_number t)))
 lists_after r q ls = ls
 
--- the share, when its request is answered so: one section more
-abbrev pub share_after : Request → Reply → PlainZoneShare → PlainZoneShare
-share_after r q s =
+-- the share, when its request is answered so and leaves its pages these uses: one section more
+abbrev pub share_after : List PageUse → Request → Reply → PlainZoneShare → PlainZoneShare
+share_after uses r q s =
     record {
       worker = s.worker;
       base = s.base;
-      uses = uses_after s.base r q s.uses;
+      uses = uses;
       cached = lists_after r q s.cached;
       sections = record { made = s.sections.made + 1; last = Some (record { worker = s.worker; request = r; reply = q }) };
     }
 
--- and when any request of its is answered so in the zone z as it was
+-- and when that was in the zone z as it was, whatever its request is for
 abbrev pub share_after_in : PlainZone → Request → Reply → PlainZoneShare → PlainZoneShare
-share_after_in z r q s =
-    record {
-      worker = s.worker;
-      base = s.base;
-      uses = uses_after_in z s.base s.worker r q s.uses;
-      cached = lists_after r q s.cached;
-      sections = record { made = s.sections.made + 1; last = Some (record { worker = s.worker; request = r; reply = q }) };
-    }
+share_after_in z r q s = share_after (uses_after_in z s.base s.worker r q s.uses) r q s
 
 -- the front of a type's list is lent
 abbrev pub taken_at : MigrateType → List ℕ → PlainZoneShare → PlainZoneShare

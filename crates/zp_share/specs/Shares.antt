@@ -103,21 +103,25 @@ is_section (Reply.Refused NotLent) = false
 is_section (Reply.Refused JournalFull) = false
 is_section q = true
 
--- the share after a request to zone i that was answered so: one section more, or as it was
+-- the share after an answer of zone i: where that is a section, what the share has of the zone is x now, and else all is as it was
+abbrev pub with_section : ℕ → Reply → ZoneShareState → ShareState → ShareState
+with_section i q x s = cond (is_section q) (with_zone_share i x s) s
+
+-- after a request to zone i for no run that was answered so: one section more, or as it was
 abbrev pub noted_at : ℕ → Request → Reply → ShareState → ShareState
-noted_at i r q s = cond (is_section q) (with_zone_share i (answered r q (share_at s i)) s) s
+noted_at i r q s = with_section i q (answered r q (share_at s i)) s
 
 -- and after any request to it, in the zone z as it was
 abbrev pub noted_in : PlainZone → ℕ → Request → Reply → ShareState → ShareState
-noted_in z i r q s = cond (is_section q) (with_zone_share i (answered_in z r q (share_at s i)) s) s
+noted_in z i r q s = with_section i q (answered_in z r q (share_at s i)) s
 
 -- zone z has the first page and the largest order of this key
 pub record IsKeyedBy (k : ZoneKey) (z : PlainZone) : Type 0 where
   pub base : z.base ≡ k.base
   pub largest : z.area.largest ≡ k.largest
 
--- the share after a request to zone i, which has this key, that was answered so. What a run makes of it hangs on the zone's first page, its largest order and
--- the types of its pageblocks
+-- the share after a request to zone i, which has this key, that was answered so. What a run makes of it hangs on the zone's largest order and the types
+-- of its pageblocks
 abbrev pub IsNotedAt : ZoneKey → ℕ → Request → Reply → ShareState → ShareState → Type 0
 IsNotedAt k i (Request.AllocRun n a m) q s t = (z : PlainZone) × IsKeyedBy k z × (t ≡ noted_in z i (Request.AllocRun n a m) q s)
 IsNotedAt k i (Request.AllocRunAt p n) q s t = (z : PlainZone) × IsKeyedBy k z × (t ≡ noted_in z i (Request.AllocRunAt p n) q s)

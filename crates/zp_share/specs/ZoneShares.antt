@@ -16,7 +16,7 @@ use Rattle.zp_model.specs.Step.{step}
 use Rattle.zp_zone.specs.Seats.{ZoneState, SeatState, asked, replied, replied_in}
 use Rattle.zp_share.specs.declared.page_use.PageUse.{PageUse}
 use Rattle.zp_share.specs.declared.page_use.PageUse.TheVariants.{Away}
-use Rattle.zp_share.specs.PageUses.{UsesState, IsPlace, held, is_cached_as}
+use Rattle.zp_share.specs.PageUses.{UsesState, IsPlace, held, is_cached_as, uses_after}
 use Rattle.zp_share.specs.PlainShares.{SectionsState, PlainZoneShare, used_as, lends, list_of, share_after, share_after_in, opening_own}
 
 pub record ZoneShareState : Type 0 where
@@ -31,6 +31,10 @@ pub record ZoneShareState : Type 0 where
 -- without what ties it to the zone
 abbrev pub plain_share : ZoneShareState → PlainZoneShare
 plain_share s = record { worker = s.seat.worker; base = s.seat.part.base; uses = s.uses; cached = s.cached; sections = s.sections }
+
+-- and with it: the share of this seat
+abbrev pub tied_by : SeatState → PlainZoneShare → ZoneShareState
+tied_by seat s = record { seat = seat; uses = s.uses; cached = s.cached; sections = s.sections }
 
 -- what an absolute page is to the worker
 abbrev pub use_in : ZoneShareState → ℕ → PageUse
@@ -87,17 +91,13 @@ pub record SharesIn (z : ZoneState) (s : ZoneShareState) : Type 0 where
   pub sections : s.sections.made ≡ length (made_by s.seat.worker z.entries)
   pub last : s.sections.last ≡ last_of (made_by s.seat.worker z.entries)
 
--- the share, when its request is answered so
+-- the share, when its request, which is for no run, is answered so
 abbrev pub answered : Request → Reply → ZoneShareState → ZoneShareState
-answered r q s =
-    let after : PlainZoneShare = share_after r q (plain_share s) in
-    record { seat = replied r q s.seat; uses = after.uses; cached = after.cached; sections = after.sections }
+answered r q s = tied_by (replied r q s.seat) (share_after (uses_after s.seat.part.base r q s.uses) r q (plain_share s))
 
 -- and when any request of its is answered so in the zone z as it was
 abbrev pub answered_in : PlainZone → Request → Reply → ZoneShareState → ZoneShareState
-answered_in z r q s =
-    let after : PlainZoneShare = share_after_in z r q (plain_share s) in
-    record { seat = replied_in z r q s.seat; uses = after.uses; cached = after.cached; sections = after.sections }
+answered_in z r q s = tied_by (replied_in z r q s.seat) (share_after_in z r q (plain_share s))
 
 -- one section: the request is a step of the lent zone, the share changes as the reply says, and the two agree before and after
 pub record IsSection (r : Request) (q : Reply) (z y : ZoneState) (s t : ZoneShareState) : Type 0 where
@@ -134,6 +134,4 @@ pub record IsLeft (z y : ZoneState) (s t : ZoneShareState) : Type 0 where
 
 -- a share of a seat with which no request was made, in a zone of so many pages
 abbrev pub opening_share : SeatState → ℕ → ZoneShareState
-opening_share seat pages =
-    let own : PlainZoneShare = opening_own seat.worker seat.part.base pages in
-    record { seat = seat; uses = own.uses; cached = own.cached; sections = own.sections }
+opening_share seat pages = tied_by seat (opening_own seat.worker seat.part.base pages)

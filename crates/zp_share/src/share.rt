@@ -1,5 +1,5 @@
 //! A worker's share of a row of zones.
-ghost use Rattle.std.specs.Prelude.{◌≡◌, ◌<◌, ◌≤◌, ◌==◌, map, length, All, IfOk, IfErr, IfSome, IsSome, IsTrue, Some, ◌↔◌, slice_index_or};
+ghost use Rattle.std.specs.Prelude.{ℕ, ◌≡◌, ◌<◌, ◌≤◌, ◌==◌, map, length, All, IfOk, IfErr, IfNone, IfSome, IsSome, IsTrue, Some, true, ◌↔◌, slice_index_or};
 ghost use Rattle.zp_model.specs.Zone.{workers_of};
 ghost use Rattle.zp_model.specs.Rows.{front};
 ghost use Rattle.zp_model.specs.declared.refused.Refused.TheVariants.{Memory};
@@ -7,6 +7,7 @@ ghost use Rattle.zp_model.specs.declared.constants.TheConstants.{LONGEST_LIST};
 ghost use Rattle.zp_zone.specs.Seats.{SeatState, IsSeatOf, IsUnused};
 ghost use Rattle.zp_model.specs.Bounds.{AreLists};
 ghost use Rattle.std.specs.Option.{option_copied};
+ghost use Rattle.zp_share.specs.PageUses.{IsOneBlock, is_lent_run};
 ghost use Rattle.zp_share.specs.PlainShares.{back, lends_for, lent_kind, put, putting, refused_full, taken};
 ghost use Rattle.zp_share.specs.Sections.{IsBack};
 ghost use Rattle.zp_share.specs.ZoneShares.{ZoneShareState, IsShare, SharesIn, use_in, is_lent, cached_of, opening_share, plain_share};
@@ -149,6 +150,25 @@ impl Share {
         ensures { result ≡ lends_for request.now (plain_share (share_at self.now zone)) }
     {
         self.zones[zone].lends_for(request)
+    }
+
+    /// Whether so many pages from this one of this zone on, one at least, are lent, by whatever blocks.
+    pub fn is_lent_run(&self, zone: usize, page: PageNo, pages: u32) -> bool
+        requires { zone < length self.now.zones }
+        ensures { result ≡ is_lent_run (share_at self.now zone).seat.part.base (share_at self.now zone).uses page pages }
+    {
+        self.zones[zone].is_lent_run(page, pages)
+    }
+
+    /// The order of the lent block that so many pages from this one of this zone on are, where they are one. One look tells.
+    #[inline(always)]
+    pub fn lent_block(&self, zone: usize, page: PageNo, pages: u32) -> Option<Order>
+        requires { zone < length self.now.zones }
+        ensures some { IfSome result (IsOneBlock (share_at self.now zone).seat.part.base (share_at self.now zone).uses page pages) }
+        ensures lent { IfSome result (λ _. is_lent_run (share_at self.now zone).seat.part.base (share_at self.now zone).uses page pages ≡ true) }
+        ensures none { IfNone result ((k : ℕ) → IsOneBlock (share_at self.now zone).seat.part.base (share_at self.now zone).uses page pages k → ⊥) }
+    {
+        self.zones[zone].lent_block(page, pages)
     }
 
     /// The reply to a request for which no section can be made: 20 where the block that it names is not lent, else 30.

@@ -13,6 +13,7 @@ pub mod Tied
 pub mod NewSeats
 pub mod BlockSteps
 pub mod RetypeSteps
+pub mod RunsNoted
 pub mod RunsTaken
 pub mod RunsFreed
 pub mod FallingDrains

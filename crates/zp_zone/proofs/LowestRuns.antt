@@ -10,13 +10,13 @@ use Rattle.zp_model.specs.declared.mark.Mark.{Mark}
 use Rattle.zp_model.specs.declared.refused.Refused.TheVariants.{BelowMark, NoBlock}
 use Rattle.zp_model.specs.declared.request.Reply.{Reply}
 use Rattle.zp_model.specs.Area.{available, is_isolated}
-use Rattle.zp_model.specs.Block.{has, is_max}
+use Rattle.zp_model.specs.Block.{has, head, is_max}
 use Rattle.zp_model.specs.Mark.{pages_at_hand}
 use Rattle.zp_model.specs.Runs.{has_pages, is_above_by, is_run_for, lowest_run, may_alloc_run, run_taken}
 use Rattle.zp_model.specs.Step.{Outcome, alloc_run, refuse}
 use Rattle.zp_model.specs.PageblockType.{is_isolate}
 use Rattle.zp_model.specs.Zone.{PlainZone, pages_of}
-use Rattle.zp_model.proofs.Heads.{head_room, number_around, two}
+use Rattle.zp_model.proofs.Heads.{head_of, number_around, two}
 use Rattle.zp_model.proofs.LowestRun.{available-to, has_pages-from, has_pages-to, lowest_found, lowest_none, lowest_some}
 use Rattle.zp_model.proofs.Maximal.{Max, max-normal, maximal-apart}
 use Rattle.zp_model.proofs.MaximalBlocks.{each_page_in_one_block, max_has}
@@ -26,7 +26,7 @@ use Rattle.zp_model.proofs.RunBlocks.{large_near}
 use Rattle.zp_model.proofs.RunParts.{within-from, within-to}
 use Rattle.zp_laws.proofs.KeepingRuns.{IsFree}
 use Rattle.zp_buddy.specs.Bare.{AreAtHand, IsBareTo}
-use Rattle.zp_zone.specs.Lowest.{IsBetween, IsFirstMultiple, IsNextStart, IsPassed, IsPassedFor, serves}
+use Rattle.zp_zone.specs.Lowest.{IsFirstMultiple, IsNextStart, IsPassed, IsPassedFor, serves}
 
 -- the multiple is found by rounding up
 pub first_multiple : (base h a : ℕ) → IsFirstMultiple base h a ((base + h + (2 ^ a - 1)) / 2 ^ a * 2 ^ a - base)
@@ -59,53 +59,42 @@ shifted base h a based room few =
     rw (step, whole) (first_multiple base h a)
 
 module _ (z : PlainZone) where
-  -- no free block goes past the end of another one
-  pub free_between : (h k : ℕ) → is_max z.area.largest z.area.free h k ≡ true → IsBetween z (h + 2 ^ k)
-  free_between h k e g j x lt = elim (cases_lt (h + 2 ^ k) (g + 2 ^ j)) [
-    | inl past ↦
-        let same = maximal-apart z.area.largest (In z.area.free) g j h k (h + 2 ^ k - 1) (is_max-to z.area.largest z.area.free g j x) (is_max-to z.area.largest z.area.free h k e)
-        (omega (arith, pow_pos k)) (omega arith) (omega (arith, pow_pos k)) (omega (arith, pow_pos k)) in
-        let size : 2 ^ j ≡ 2 ^ k = ap (λ o. 2 ^ o) same.1 in
-        absurd (omega (arith, same.0, size))
-    | inr le ↦ le
-  ]
-
-  -- none goes past the end of pages that are not free
-  pub used_between : (h n : ℕ) → IsBetween z h → ((i : ℕ) → h ≤ i → i < h + n → has z.area.free i ≡ false) → IsBetween z (h + n)
-  used_between h n b none g j x lt = elim (cases_lt g h) [
-    | inl before ↦ omega (arith, b g j x before)
-    | inr from ↦ absurd (both_ways _ (none g from lt) (max_has z.area.largest z.area.free g j x))
-  ]
-
-  -- none goes past a multiple of the largest block's pages
-  pub border_between : (h : ℕ) → z.area.largest ≤ LARGEST_ORDER → h % LARGEST_BLOCK_PAGES ≡ 0 → IsBetween z h
-  border_between h few al g k e lt =
-      let y = is_max-to z.area.largest z.area.free g k e in
-      omega (arith, head_room g k LARGEST_ORDER (omega (arith, y.order, few)) y.aligned)
-
-  -- where none goes past the page before it, a free page heads a free block
-  pub free_heads : (h : ℕ) → IsBetween z h → has z.area.free h ≡ true → (k : ℕ) × (is_max z.area.largest z.area.free h k ≡ true)
-  free_heads h b e =
-      let x = each_page_in_one_block z.area.largest z.area.free h e in
-      let r = in_run-to x.0 x.1 h x.2.1 in
-      elim (cases_lt x.0 h) [
-        | inl before ↦ absurd (omega (arith, b x.0 x.1 x.2.0 before, r.1))
-        | inr from ↦ let same : x.0 ≡ h = omega (arith, r.0) in (x.1, rw same at x.2.0)
-      ]
-
   -- pages that are not free are passed
-  pub used_passed : (h n : ℕ) → 0 < n → h + n ≤ pages_of z → IsBetween z h → ((i : ℕ) → h ≤ i → i < h + n → has z.area.free i ≡ false) → IsPassed z h n false
-  used_passed h n some inside b none = record {
+  pub used_passed : (h n : ℕ) → 0 < n → h + n ≤ pages_of z → ((i : ℕ) → h ≤ i → i < h + n → has z.area.free i ≡ false) → IsPassed z h n false
+  used_passed h n some inside none = record {
     some = some;
     inside = inside;
     alike = λ i lo hi. false_from_ne_true _ (λ e. both_ways _ (none i lo hi) (available-to z.area.largest z.area.kinds z.area.free i e).0);
-    between = used_between h n b none;
   }
+
+  -- so is what there is of such pages from one of them on
+  pub rest_passed : {n : ℕ} {b : Bool} → (g h d : ℕ) → h ≡ g + d → d < n → IsPassed z g n b → IsPassed z h (n - d) b
+  rest_passed g h d e lt p = record {
+    some = omega arith;
+    inside = omega (arith, p.inside);
+    alike = λ i lo hi. p.alike i (omega arith) (omega arith);
+  }
+
+  -- and such pages side by side
+  pub passed_on : {n c : ℕ} {b : Bool} → (h : ℕ) → IsPassed z h n b → IsPassed z (h + n) c b → IsPassed z h (n + c) b
+  passed_on {n} {c} {b} h p q = record {
+    some = omega (arith, p.some);
+    inside = omega (arith, q.inside);
+    alike = λ i lo hi. elim (cases_lt i (h + n)) [ inl before ↦ p.alike i lo before | inr on ↦ q.alike i on (omega arith) ];
+  }
+
+  -- and a page that lies in no free block is passed alone
+  pub alone_passed : (h : ℕ) → h < pages_of z → ((k : ℕ) → k ≤ z.area.largest → (j : ℕ) → is_max z.area.largest z.area.free (head h k) j ≡ true → head h k + 2 ^ j ≤ h) → IsPassed z h 1 false
+  alone_passed h inside none = used_passed h 1 (omega arith) (omega (arith, inside)) (λ i lo hi. let same : i ≡ h = omega arith in rw same (false_from_ne_true _ (λ e.
+      let x = each_page_in_one_block z.area.largest z.area.free h e in
+      let r = in_run-to x.0 x.1 h x.2.1 in
+      let y = is_max-to z.area.largest z.area.free x.0 x.1 x.2.0 in
+      let at : head h x.1 ≡ x.0 = head_of x.0 h x.1 y.aligned r.0 r.1 in
+      absurd (omega (arith, at, none x.1 y.order x.1 (rw at x.2.0), r.1)))))
 
 -- before page next no run of n pages begins below start, and the pages from start on serve, but are too few
 pub record IsSearching (z : PlainZone) (n a start next : ℕ) : Type 0 where
   pub inside : next ≤ pages_of z
-  pub between : IsBetween z next
   pub aligned : (z.base + start) % 2 ^ a ≡ 0
   pub few : next < start + n
   pub serve : (i : ℕ) → start ≤ i → i < next → serves z i ≡ true
@@ -149,12 +138,24 @@ module _ (z : PlainZone) (n a : ℕ) where
     ];
   }
 
+  -- it is none of the pages before the first free block either
+  pub start_comes_free : (k h e d l s : ℕ) → k ≤ z.area.largest → 2 ^ (k + 1) ≤ n + 1 → 0 < n → IsBareTo z.area k h e → IsBareTo z.area 0 h d → l ≡ max (max h d) (e - (2 ^ k - 1)) → IsFirstMultiple z.base l a s → IsNextStart z n a h s
+  start_comes_free k h e d l s le some more bare none is m =
+      let one : 2 ^ 0 ≡ 1 = refl in
+      let twice : 2 ^ (0 + 1) ≡ 2 = refl in
+      elim (cases_lt (max h d) (e - (2 ^ k - 1))) [
+        | inl by ↦ start_comes k h e l s le some bare (omega arith) (inr (omega (arith, by, is, pow_pos k))) m
+        | inr not ↦ elim (cases_lt h d) [
+          | inl up ↦ start_comes 0 h d l s (omega arith) (omega (arith, twice, more)) none (omega arith) (inr (omega (arith, up, is, not, one))) m
+          | inr stays ↦ start_comes k h e l s le some bare (omega arith) (inl (omega (arith, stays, is, not))) m
+        ]
+      ]
+
   -- pages that are alike are passed
   pub passed_for : {c : ℕ} {b : Bool} → (s h : ℕ) → 0 < n → h < s + n → IsPassed z h c b → IsPassedFor z n a s h c b
   passed_for {c} {b} s h some lt p = record {
     some = p.some;
     inside = p.inside;
-    between = p.between;
     serve = λ on i lo hi. p.alike i lo hi ∙ on;
     none = λ out g from to. elim (cases_lt g h) [
       | inl before ↦ broken g h (omega arith) (omega (arith, from, lt)) (p.alike h (omega arith) (omega (arith, p.some)) ∙ out)
@@ -163,24 +164,20 @@ module _ (z : PlainZone) (n a : ℕ) where
   }
 
   -- whole groups at hand are passed
-  pub whole_passed : (s h e : ℕ) → z.area.largest ≤ LARGEST_ORDER → h < e → e ≤ pages_of z → e % LARGEST_BLOCK_PAGES ≡ 0 → AreAtHand z.area h e → IsPassedFor z n a s h (e - h) true
-  whole_passed s h e few lt inside al all =
-      let end : h + (e - h) ≡ e = omega arith in
-      record {
-        some = omega arith;
-        inside = omega arith;
-        between = rw end (border_between z e few al);
-        serve = λ on i lo hi. all i lo (omega arith);
-        none = λ out. absurd (true≢false out);
-      }
+  pub whole_passed : (s h e : ℕ) → h < e → e ≤ pages_of z → AreAtHand z.area h e → IsPassedFor z n a s h (e - h) true
+  whole_passed s h e lt inside all = record {
+    some = omega arith;
+    inside = omega arith;
+    serve = λ on i lo hi. all i lo (omega arith);
+    none = λ out. absurd (true≢false out);
+  }
 
   -- a group that is not whole is passed where no multiple lies inside it: the runs that begin before it have all of it
-  pub group_passed : (s h v : ℕ) → z.area.largest ≤ LARGEST_ORDER → h % LARGEST_BLOCK_PAGES ≡ 0 → h + LARGEST_BLOCK_PAGES ≤ s + n → s + n ≤ pages_of z → IsFirstMultiple z.base (h + 1) a v → LARGEST_BLOCK_PAGES ≤ v - h →
+  pub group_passed : (s h v : ℕ) → h + LARGEST_BLOCK_PAGES ≤ s + n → s + n ≤ pages_of z → IsFirstMultiple z.base (h + 1) a v → LARGEST_BLOCK_PAGES ≤ v - h →
       (AreAtHand z.area h (h + LARGEST_BLOCK_PAGES) → ⊥) → IsPassedFor z n a s h LARGEST_BLOCK_PAGES false
-  group_passed s h v few al room inside m far out = record {
+  group_passed s h v room inside m far out = record {
     some = omega arith;
     inside = omega (arith, room, inside);
-    between = border_between z (h + LARGEST_BLOCK_PAGES) few (omega (arith, al));
     serve = λ on. absurd (true≢false (sym on));
     none = λ _ g from to. elim (cases_lt h g) [
       | inl behind ↦ askew (h + 1) v g m (omega arith) (omega (arith, far, to))
@@ -192,7 +189,6 @@ module _ (z : PlainZone) (n a : ℕ) where
   pub search_begins : (s : ℕ) → 0 < n → IsNextStart z n a 0 s → IsSearching z n a s 0
   search_begins s some m = record {
     inside = omega arith;
-    between = λ g k e lt. absurd (omega arith);
     aligned = m.aligned;
     few = omega arith;
     serve = λ i lo hi. absurd (omega arith);
@@ -200,14 +196,13 @@ module _ (z : PlainZone) (n a : ℕ) where
   }
 
   module _ {start next : ℕ} (x : IsSearching z n a start next) where
-    -- the pages before the last border before the start need not be looked at
-    pub search_skips : (v : ℕ) → 0 < n → z.area.largest ≤ LARGEST_ORDER → start + n ≤ pages_of z → v ≡ max next (start / LARGEST_BLOCK_PAGES * LARGEST_BLOCK_PAGES) → IsSearching z n a start v
-    search_skips v some few room e = elim (cases_lt next (start / LARGEST_BLOCK_PAGES * LARGEST_BLOCK_PAGES)) [
+    -- the pages before the start need not be looked at
+    pub search_skips : (v : ℕ) → 0 < n → start + n ≤ pages_of z → v ≡ max next start → IsSearching z n a start v
+    search_skips v some room e = elim (cases_lt next start) [
       | inl up ↦
-          let same : start / LARGEST_BLOCK_PAGES * LARGEST_BLOCK_PAGES ≡ v = omega (arith, e) in
+          let same : start ≡ v = omega (arith, e) in
           rw (← same) (record {
             inside = omega arith;
-            between = border_between z (start / LARGEST_BLOCK_PAGES * LARGEST_BLOCK_PAGES) few (omega arith);
             aligned = x.aligned;
             few = omega arith;
             serve = λ i lo hi. absurd (omega arith);
@@ -220,7 +215,6 @@ module _ (z : PlainZone) (n a : ℕ) where
     pub search_leaves : {c : ℕ} → (s : ℕ) → 0 < n → IsPassedFor z n a start next c false → IsNextStart z n a (next + c) s → IsSearching z n a s (next + c)
     search_leaves {c} s some p m = record {
       inside = p.inside;
-      between = p.between;
       aligned = m.aligned;
       few = omega (arith, m.from);
       serve = λ i lo hi. absurd (omega (arith, m.from));
@@ -234,7 +228,6 @@ module _ (z : PlainZone) (n a : ℕ) where
     pub search_grows : {c : ℕ} → IsPassedFor z n a start next c true → next + c < start + n → IsSearching z n a start (next + c)
     search_grows p few = record {
       inside = p.inside;
-      between = p.between;
       aligned = x.aligned;
       few = few;
       serve = λ i lo hi. elim (cases_lt i next) [ inl before ↦ x.serve i lo before | inr on ↦ p.serve refl i on hi ];

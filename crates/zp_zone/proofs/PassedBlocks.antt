@@ -26,9 +26,9 @@ use Rattle.zp_laws.proofs.HandedOut.{count_posted}
 use Rattle.zp_laws.proofs.Held.{IsHolding, held-not_free, held_block}
 use Rattle.zp_laws.proofs.Keeping.{AllPosted, count-front, one_place, posted-has}
 use Rattle.zp_zone.specs.Kept.{IsPostedAside, holding_of, plain_of, posted_block}
-use Rattle.zp_zone.specs.Lowest.{IsBetween, IsPassed, serves}
+use Rattle.zp_zone.specs.Lowest.{IsPassed, serves}
 use Rattle.zp_zone.proofs.BlockSteps.{IsAsked}
-use Rattle.zp_zone.proofs.LowestRuns.{free_between, free_heads, used_passed}
+use Rattle.zp_zone.proofs.LowestRuns.{used_passed}
 use Rattle.zp_zone.proofs.Noted.{blocks_at, posted-head, posted_at, posted_of}
 
 -- a free page serves where its pageblock is not isolated
@@ -47,7 +47,6 @@ free_passed z h k e =
       alike = λ i lo hi.
           serves_open z i (x.inside i lo hi)
           ∙ ap (λ b. not (is_isolate (get_or z.area.kinds b Movable))) (number_around h i k z.area.largest x.order x.aligned lo hi);
-      between = free_between z h k e;
     }
 
 -- a block whose head stands on a list of posted ones is one of the zone, and counts for each of its pages
@@ -71,7 +70,7 @@ standing_counts s (x ∷ xs) h i r e =
       | inr later ↦ omega (arith, f, standing_counts s xs h i r later)
     ]
 
-module _ (f : Frames) (base min h : ℕ) (x : IsAsked f base min) (b : IsBetween (plain_of f base min) h) where
+module _ (f : Frames) (base min h : ℕ) (x : IsAsked f base min) where
   -- a free block
   pub passed_free : (k : ℕ) → state_at f.states h ≡ Free k → IsPassed (plain_of f base min) h (2 ^ k) (not (is_isolate (kind_at f.area.largest f.area.kinds h)))
   passed_free k e = free_passed (plain_of f base min) h k ((x.framed.noted h k).0 e)
@@ -81,7 +80,7 @@ module _ (f : Frames) (base min h : ℕ) (x : IsAsked f base min) (b : IsBetween
   passed_out k w t e =
       let y : Holding = record { order = k; kind = t; worker = w } in
       let held : IsHolding (plain_of f base min) w h k = record { holding = y; at = get_or-map holding_of f.states h Tail ∙ ap holding_of e; order = refl; worker = refl } in
-      used_passed (plain_of f base min) h (2 ^ k) (pow_pos k) (held_block (plain_of f base min) w h k x.lawful held).inside b
+      used_passed (plain_of f base min) h (2 ^ k) (pow_pos k) (held_block (plain_of f base min) w h k x.lawful held).inside
       (λ i lo hi. held-not_free (plain_of f base min) w h k i x.lawful held (in_run-from h k i lo hi))
 
   -- a posted block
@@ -94,7 +93,7 @@ module _ (f : Frames) (base min h : ℕ) (x : IsAsked f base min) (b : IsBetween
       let blocks : AllPosted f.area.largest (length f.area.free) (blocks_at f.states (list_at f.sides w)) = rw (posted_at f base min w) at (x.lawful.posted w) in
       let block = standing_all (λ (p : PostedBlock). IsBlock f.area.largest (length f.area.free) p.head p.order) f.states (list_at f.sides w) h blocks stands in
       let inside : h + 2 ^ k ≤ length f.area.free = rw (head, order) at block.inside in
-      used_passed z h (2 ^ k) (pow_pos k) inside b (λ i lo hi. false_from_ne_true _ (λ full.
+      used_passed z h (2 ^ k) (pow_pos k) inside (λ i lo hi. false_from_ne_true _ (λ full.
       let counted = standing_counts f.states (list_at f.sides w) h i (rw order (in_run-from h k i lo hi)) stands in
       let times = posted-has (posted_of f.states f.sides) w i (on_some w stands) in
       let here : count_posted (get_or (posted_of f.states f.sides) w []) i ≡ count_posted (blocks_at f.states (list_at f.sides w)) i =
@@ -108,11 +107,13 @@ module _ (f : Frames) (base min h : ℕ) (x : IsAsked f base min) (b : IsBetween
         | inr ge ↦ absurd (false≢true (rw (get_or_past f.sides w [] ge) at e))
       ]
 
-  -- a page that heads no block
-  pub passed_alone : h < length f.area.free → state_at f.states h ≡ Tail → IsPassed (plain_of f base min) h 1 false
-  passed_alone lt e =
-      let used : has f.area.free h ≡ false = false_from_ne_true _ (λ full. let y = free_heads (plain_of f base min) h b full in other y.0 (sym e ∙ (x.framed.noted h y.0).1 y.1)) in
-      used_passed (plain_of f base min) h 1 (omega arith) (omega arith) b (λ i lo hi. let same : i ≡ h = omega arith in rw same used)
+  -- a free block is as large as is noted of it
+  pub free_whole : (k j : ℕ) → state_at f.states h ≡ Free k → is_max f.area.largest f.area.free h j ≡ true → 2 ^ k ≡ 2 ^ j
+  free_whole k j e m = same (sym e ∙ (x.framed.noted h j).1 m)
     where
-      other : (k : ℕ) → Tail ≡ Free k → ⊥
-      other k q = cc
+      same : Free k ≡ Free j → 2 ^ k ≡ 2 ^ j
+      same q = cc
+
+  -- and no other note is that of one
+  pub heads_none : (s : State) → state_at f.states h ≡ s → ((k : ℕ) → s ≡ Free k → ⊥) → (j : ℕ) → is_max f.area.largest f.area.free h j ≡ true → ⊥
+  heads_none s e other j m = other j (sym e ∙ (x.framed.noted h j).1 m)

@@ -14,7 +14,7 @@ use Rattle.zp_model.specs.Block.{has, in_run}
 use Rattle.zp_model.specs.Frames.{Frames, IsClear, IsFramed, given}
 use Rattle.zp_model.specs.Lawful.{IsLawful, IsListedArea}
 use Rattle.zp_model.specs.RunLaws.{IsFitting, give_blocks}
-use Rattle.zp_model.specs.Runs.{block_around, cut, fitting_order, give_run, hand_out_blocks, hand_out_run, is_lent_run, is_within, may_free_run, meets, run_freed}
+use Rattle.zp_model.specs.Runs.{block_around, cut, fitting_order, give_run, hand_out_run, is_lent_run, is_within, may_free_run, meets, run_freed}
 use Rattle.zp_model.specs.Rows.{state_at}
 use Rattle.zp_model.specs.Step.{freed}
 use Rattle.zp_model.specs.Take.{give}
@@ -39,7 +39,7 @@ use Rattle.zp_zone.specs.Kept.{IsKept, IsPostedAside, holding_of, plain_of}
 use Rattle.zp_zone.specs.RunsAt.{IsGivenRun, IsNotedRun}
 use Rattle.zp_zone.proofs.BlockSteps.{IsAsked, held_clear, not_out, other_out}
 use Rattle.zp_zone.proofs.Noted.{IsBeside, IsOffAll, aside_noted, aside_restated, kept_by, off_apart, pages_same, plain-noted, plain-with_area}
-use Rattle.zp_zone.proofs.RunsTaken.{cut_first}
+use Rattle.zp_zone.proofs.RunsNoted.{cut_first}
 
 -- the block (h, k) of pages that are neither free nor out comes back to f
 module _ (f : Frames) (h k : ℕ) (framed : IsFramed f) (clear : IsClear f h k) (unheld : (i : ℕ) → has f.area.free i ≡ true → holding_of (state_at f.states i) ≡ None)
@@ -188,57 +188,6 @@ giving_ends f y h n next left none x =
       beside = x.beside;
     }
 
--- of the run (h, n) the blocks before page next are noted in f as out to w for type t, which is y then
-pub record IsNotingRun (f y : Frames) (w : ℕ) (t : MigrateType) (h n next left : ℕ) : Type 0 where
-  pub area : y.area ≡ f.area
-  pub plain : (base min : ℕ) → hand_out_blocks (plain_of y base min) w (λ g. t) (cut f.area.largest next left) ≡ hand_out_run (plain_of f base min) w (λ g. t) h n
-  pub sides : y.sides ≡ f.sides
-  pub pages : length y.states ≡ length f.states
-  pub beside : IsPostedAside y.sides y.states
-  pub clear : AreClear f next left
-
-pub noting_begins : (f : Frames) (w : ℕ) (t : MigrateType) (h n : ℕ) → AreClear f h n → IsPostedAside f.sides f.states → IsNotingRun f f w t h n h n
-noting_begins f w t h n clear beside = record { area = refl; plain = λ base min. refl; sides = refl; pages = refl; beside = beside; clear = clear }
-
-module _ {f y : Frames} {w : ℕ} {t : MigrateType} {h n next left : ℕ} (x : IsNotingRun f y w t h n next left) (some : 0 < left) where
-  note_fits : IsFitting f.area.largest next left (fitting_order f.area.largest next left)
-  note_fits = fitting f.area.largest next left (omega arith)
-
-  pub note_size : 2 ^ fitting_order f.area.largest next left ≤ left
-  note_size = note_fits.inside
-
-  pub note_unfree : has y.area.free next ≡ false
-  note_unfree = rw x.area (x.clear.free next (omega arith) (omega arith))
-
-  pub noting_goes : IsNotingRun f (record y { states = set y.states next (Out (fitting_order f.area.largest next left) t w) }) w t h n
-      (next + 2 ^ fitting_order f.area.largest next left) (left - 2 ^ fitting_order f.area.largest next left)
-  noting_goes =
-      let k : ℕ = fitting_order f.area.largest next left in
-      let off : IsOffAll y.sides next = λ r. rw x.sides (x.clear.aside r next (omega arith) (omega arith)) in
-      let bs : List (ℕ × ℕ) = cut f.area.largest (next + 2 ^ fitting_order f.area.largest next left) (left - 2 ^ fitting_order f.area.largest next left) in
-      record {
-        area = x.area;
-        plain = λ base min.
-            ap (λ (z : PlainZone). hand_out_blocks z w (λ g. t) bs) (plain-noted y base min next (Out k t w) (off_apart y.sides next off))
-            ∙ ap (λ (cs : List (ℕ × ℕ)). hand_out_blocks (plain_of y base min) w (λ g. t) cs) (sym (cut_first f.area.largest next left some)) ∙ x.plain base min;
-        sides = x.sides;
-        pages = length-set y.states next (Out k t w) ∙ x.pages;
-        beside = aside_noted y.sides y.states next (Out k t w) x.beside off (λ v. refl);
-        clear = record {
-          inside = omega (arith, note_fits.inside, x.clear.inside);
-          free = λ i lo hi. x.clear.free i (omega arith) (omega (arith, note_fits.inside));
-          aside = λ r i lo hi. x.clear.aside r i (omega arith) (omega (arith, note_fits.inside));
-        };
-      }
-
-pub noting_ends : (f y : Frames) (w : ℕ) (t : MigrateType) (h n next left : ℕ) → left ≡ 0 → IsNotingRun f y w t h n next left → IsNotedRun f y w t h n
-noting_ends f y w t h n next left none x = record {
-  plain = λ base min. ap (λ l. hand_out_blocks (plain_of y base min) w (λ g. t) (cut f.area.largest next l)) (sym none) ∙ x.plain base min;
-  sides = x.sides;
-  pages = x.pages;
-  beside = x.beside;
-}
-
 -- what is lent behind a part that has come back, where a block ends between them, is lent still
 pub still_lent : (z : PlainZone) (w h n k : ℕ) (b : ℕ × Holding) → IsLawful z → 1 ≤ n → w < workers_of z → is_lent_run z w h (n + k) ≡ true → block_around z w (h + n - 1) ≡ Some b →
     b.0 + 2 ^ b.1.order ≡ h + n → is_lent_run (run_freed z w h n) w (h + n) k ≡ true
@@ -369,7 +318,7 @@ module _ {f : Frames} {base min w g h n : ℕ} {c : Holding} (p : IsPart f base 
       aside = λ r i lo hi. rw given.sides (part_clear.aside r i lo (omega (arith, part_from)));
     }
 
-    module _ (f3 : Frames) (before : IsNotedRun f2 f3 w c.kind g (h - g)) where
+    module _ (f3 : Frames) (before : IsNotedRun f2 f3 w (λ q. c.kind) g (h - g)) where
       noted_area : f3.area ≡ f2.area
       noted_area = ap (λ (z : PlainZone). z.area) (before.plain 0 0) ∙ (out_rest w (λ q. c.kind) (cut f2.area.largest g (h - g)) (plain_of f2 0 0)).area
 
@@ -382,7 +331,7 @@ module _ {f : Frames} {base min w g h n : ℕ} {c : Holding} (p : IsPart f base 
         aside = λ r i lo hi. rw (before.sides, given.sides) (part_clear.aside r i (omega (arith, part_from)) (omega arith));
       }
 
-      module _ (f4 : Frames) (behind : IsNotedRun f3 f4 w c.kind (h + n) (g + 2 ^ c.order - (h + n))) where
+      module _ (f4 : Frames) (behind : IsNotedRun f3 f4 w (λ q. c.kind) (h + n) (g + 2 ^ c.order - (h + n))) where
         pub part_plain : plain_of f4 base min ≡ run_freed (plain_of f base min) w h n
         part_plain =
             behind.plain base min

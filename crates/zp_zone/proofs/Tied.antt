@@ -67,7 +67,7 @@ seat_after s t u v k z r view e f agree d g =
     (λ i. let x : SeatState = record { tie = ap (λ (y : Held Part). y.tie) g i; worker = v; part = mine i } in x) ∙ ap (λ x. replied_in z r (step z x.worker r).reply x) view
 
 -- what the seat has is what is out in its worker's name in the zone, where they agree
-has_in : (s : SeatState) (k : Kept Books) (z : PlainZone) (p o : ℕ) → s.part ≡ part s.worker k.whole → k.whole.plain ≡ z → has s p o ≡ is_out z s.worker p o
+pub has_in : (s : SeatState) (k : Kept Books) (z : PlainZone) (p o : ℕ) → s.part ≡ part s.worker k.whole → k.whole.plain ≡ z → has s p o ≡ is_out z s.worker p o
 has_in s k z p o a e = has_out s k.whole p o a ∙ ap (λ x. is_out x s.worker p o) e
 
 -- a request by which blocks out stay out leaves the seat's own

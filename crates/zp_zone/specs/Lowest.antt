@@ -1,7 +1,7 @@
 -- The lowest run of free pages, block by block from a zone's first page on: what is known at the end of each block (this profile).
 use Rattle.std.specs.Prelude.{ℕ, ◌+◌, ◌%◌, ◌^◌, ◌≡◌, ◌≤◌, ◌<◌, Bool, true, false}
 use Rattle.zp_model.specs.Area.{available}
-use Rattle.zp_model.specs.Block.{has, is_max}
+use Rattle.zp_model.specs.Block.{has}
 use Rattle.zp_model.specs.Runs.{is_run_for}
 use Rattle.zp_model.specs.Zone.{PlainZone, pages_of}
 
@@ -9,22 +9,16 @@ use Rattle.zp_model.specs.Zone.{PlainZone, pages_of}
 abbrev pub serves : PlainZone → ℕ → Bool
 serves z i = has (available z.area.largest z.area.kinds z.area.free) i
 
--- no free block has pages both before page h and from it on
-abbrev pub IsBetween : PlainZone → ℕ → Type 0
-IsBetween z h = (g k : ℕ) → is_max z.area.largest z.area.free g k ≡ true → g < h → g + 2 ^ k ≤ h
-
--- the n pages from h on all serve, or none of them does, and no free block goes past them
+-- the n pages from h on all serve, or none of them does
 pub record IsPassed (z : PlainZone) (h n : ℕ) (serving : Bool) : Type 0 where
   pub some : 0 < n
   pub inside : h + n ≤ pages_of z
   pub alike : (i : ℕ) → h ≤ i → i < h + n → serves z i ≡ serving
-  pub between : IsBetween z (h + n)
 
--- the c pages from h on all serve, or no run of n pages that begins at s or behind it begins before their end; and no free block goes past them
+-- the c pages from h on all serve, or no run of n pages that begins at s or behind it begins before their end
 pub record IsPassedFor (z : PlainZone) (n a s h c : ℕ) (serving : Bool) : Type 0 where
   pub some : 0 < c
   pub inside : h + c ≤ pages_of z
-  pub between : IsBetween z (h + c)
   pub serve : serving ≡ true → (i : ℕ) → h ≤ i → i < h + c → serves z i ≡ true
   pub none : serving ≡ false → (g : ℕ) → s ≤ g → g < h + c → is_run_for z n a g ≡ false
 

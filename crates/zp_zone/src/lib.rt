@@ -15,5 +15,5 @@ pub use page::ZonePage;
 pub use pageblock::Pageblock;
 pub use seat::Seat;
 pub use told::Told;
-pub use untied_zone::fitting_order;
 pub use zone::{Zone, page_reply};
+pub use zp_buddy::fitting_order;

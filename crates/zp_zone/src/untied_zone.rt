@@ -28,7 +28,6 @@ mod turned;
 use crate::config::{ZoneBounds, ZoneConfig, checked_name};
 use crate::page::ZonePage;
 use crate::pageblock::Pageblock;
-pub use cuts::fitting_order;
 use std::alloc::Global;
 use std::marker::Model;
 use zp_buddy::Buddy;

@@ -8,7 +8,7 @@ ghost use Rattle.zp_model.specs.Books.{own, type_of_page};
 ghost use Rattle.zp_model.specs.Runs.{fitting_order, run_freed};
 ghost use Rattle.zp_model.specs.Zone.{pages_of, workers_of};
 ghost use Rattle.zp_share.specs.declared.page_use.PageUse.TheVariants.{Lent};
-ghost use Rattle.zp_share.specs.PageUses.{AreUncached, HasSameCached, IsCutLent, IsLentWhereGot, IsPartFreed, IsRunOff, AreWholeBlocks, held, is_lent_as, is_lent_page, is_lent_run, use_at, uses_by};
+ghost use Rattle.zp_share.specs.PageUses.{AreUncached, HasSameCached, IsCutLent, IsLentWhereGot, IsOneBlock, IsPartFreed, IsRunOff, AreWholeBlocks, held, is_lent_as, is_lent_page, is_lent_run, use_at, uses_by};
 
 use super::PageUses;
 use crate::packed_use::PackedUse;
@@ -22,10 +22,7 @@ impl PageUses {
     pub fn is_lent_run(&self, page: PageNo, pages: u32) -> bool
         ensures { result ≡ is_lent_run self.now.base self.now.uses page pages }
     {
-        let Some(from) = self.run_place(page, pages) else {
-            return false;
-        };
-        if let Some(_order) = self.order_of_run(from, pages) {
+        if let Some(_order) = self.block_order(page, pages) {
             return true;
         }
         self.are_lent(page, pages)
@@ -84,6 +81,19 @@ impl PageUses {
         // a clause of this call says how large an order can be
         let _number = order.number();
         Some(order)
+    }
+
+    /// The order of the lent block that so many pages from this absolute one on are, where they are the zone's, and one.
+    #[inline(always)]
+    pub fn block_order(&self, page: PageNo, pages: u32) -> Option<Order>
+        ensures some { IfSome result (IsOneBlock self.now.base self.now.uses page pages) }
+        ensures lent { IfSome result (λ _. is_lent_run self.now.base self.now.uses page pages ≡ true) }
+        ensures none { IfNone result ((k : ℕ) → IsOneBlock self.now.base self.now.uses page pages k → ⊥) }
+    {
+        let Some(at) = self.run_place(page, pages) else {
+            return None;
+        };
+        self.order_of_run(at, pages)
     }
 
     /// The order of the lent block that so many pages from this one on are, where they are one.
@@ -196,32 +206,7 @@ impl PageUses {
 
     /// So many pages from this one on, all of them lent, are the worker's no more, by whatever blocks. What the blocks around the first and the last
     /// of them have beyond the run stays lent.
-    #[inline(always)]
     pub fn free_run(&mut self, zone: &Zone, worker: Worker, page: PageNo, pages: u32)
-        requires base { self.old.base ≡ zone.now.plain.base }
-        requires known { worker < workers_of zone.now.plain }
-        requires held { own worker zone.now.plain.out ≡ map (held worker) self.old.uses }
-        requires lent { is_lent_run self.old.base self.old.uses page pages ≡ true }
-        ensures base { self.new.base ≡ self.old.base }
-        ensures held { own worker (run_freed zone.now.plain worker (page - self.old.base) pages).out ≡ map (held worker) self.new.uses }
-        ensures cached { HasSameCached self.old.uses self.new.uses }
-        ensures pages { length self.new.uses ≡ length self.old.uses }
-    {
-        // a clause of this call says that what is out in the worker's name is what the uses say
-        let _pages = zone.pages();
-        let first = page.number() - self.base as u32;
-        let at = first as usize;
-        if let Some(_order) = self.order_of_run(at, pages) {
-            self.set_at(at, PageUse::Away);
-            return;
-        }
-        self.free_parts(zone, worker, page, pages);
-    }
-
-    /// The same, from block to block.
-    // (out of line: most runs that come back are one block)
-    #[inline(never)]
-    fn free_parts(&mut self, zone: &Zone, worker: Worker, page: PageNo, pages: u32)
         requires base { self.old.base ≡ zone.now.plain.base }
         requires known { worker < workers_of zone.now.plain }
         requires held { own worker zone.now.plain.out ≡ map (held worker) self.old.uses }

@@ -1,12 +1,13 @@
 //! The requests of a share to the lent zone at a place of the row: each is one section, a request on the zone and the same change in
 //! the share.
-ghost use Rattle.std.specs.Prelude.{◌≡◌, ◌<◌, ◌≤◌, length, [], IsTrue};
+ghost use Rattle.std.specs.Prelude.{◌≡◌, ◌<◌, ◌≤◌, length, [], IsTrue, true};
 ghost use Rattle.zp_model.specs.Runs.{may_alloc_run};
 ghost use Rattle.zp_model.specs.Zone.{workers_of};
 ghost use Rattle.zp_model.specs.declared.request.Request.TheVariants as request;
 ghost use Rattle.zp_model.specs.declared.request.Reply.TheVariants as reply;
 ghost use Rattle.zp_zone.specs.NamedZone.{page_reply, block_reply, isolate_reply, release_reply};
 ghost use Rattle.zp_zone.specs.Seats.{IsSeatOf};
+ghost use Rattle.zp_share.specs.PageUses.{IsOneBlock, is_lent_run};
 ghost use Rattle.zp_share.specs.PlainShares.{back};
 ghost use Rattle.zp_share.specs.Sections.{IsAsked, IsRefilled, MayAsk, done_reply, list_reply};
 ghost use Rattle.zp_share.specs.ZoneShares.{cached_of};
@@ -246,5 +247,41 @@ impl Share {
         ensures others { self.new ≡ with_zone_share place (share_at self.new place) self.old }
     {
         self.zones[place].free_run(zone, page, pages)
+    }
+
+    /// The same of pages of which the caller knows that they are one lent block, of this order. Refused 30.
+    #[inline(always)]
+    pub fn free_run_as_block(
+        &mut self,
+        zone: &mut Zone,
+        place: usize,
+        page: PageNo,
+        pages: u32,
+        order: Order,
+    ) -> Result<(), Refused>
+        requires place { place < length self.old.zones }
+        requires seat { IsSeatOf zone.old (share_at self.old place).seat }
+        requires block { IsOneBlock (share_at self.old place).seat.part.base (share_at self.old place).uses page pages order }
+        ensures section { IsAsked (request.FreeRun page pages) (done_reply reply.Freed result) zone.old zone.new (share_at self.old place) (share_at self.new place) }
+        ensures others { self.new ≡ with_zone_share place (share_at self.new place) self.old }
+    {
+        self.zones[place].free_run_as_block(zone, page, pages, order)
+    }
+
+    /// The same of pages of which the caller knows that each is lent: they are freed from block to block. Refused 30.
+    pub fn free_lent_run(
+        &mut self,
+        zone: &mut Zone,
+        place: usize,
+        page: PageNo,
+        pages: u32,
+    ) -> Result<(), Refused>
+        requires place { place < length self.old.zones }
+        requires seat { IsSeatOf zone.old (share_at self.old place).seat }
+        requires lent { is_lent_run (share_at self.old place).seat.part.base (share_at self.old place).uses page pages ≡ true }
+        ensures section { IsAsked (request.FreeRun page pages) (done_reply reply.Freed result) zone.old zone.new (share_at self.old place) (share_at self.new place) }
+        ensures others { self.new ≡ with_zone_share place (share_at self.new place) self.old }
+    {
+        self.zones[place].free_lent_run(zone, page, pages)
     }
 }

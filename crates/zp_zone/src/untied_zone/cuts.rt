@@ -2,28 +2,17 @@
 //!
 //! In Linux: the loop of `__free_pages_memory`, and of `free_contig_range` where it frees by orders.
 ghost use Rattle.std.specs.Prelude.{ℕ, ◌≡◌, ◌≤◌, ◌<◌, ◌+◌, None, true};
+ghost use Rattle.zp_model.specs.Area.{kind_at};
 ghost use Rattle.zp_model.specs.Block.{has};
 ghost use Rattle.zp_model.specs.Lawful.{IsListedArea};
+ghost use Rattle.zp_model.specs.PageblockType.{noted_type};
 ghost use Rattle.zp_model.specs.Rows.{state_at};
-ghost use Rattle.zp_model.specs.Runs.{fitting_order};
 ghost use Rattle.zp_buddy.specs.Runs.{AreClear};
 ghost use Rattle.zp_zone.specs.Kept.{IsPostedAside, holding_of};
 ghost use Rattle.zp_zone.specs.RunsAt.{IsGivenRun, IsNotedRun};
 
-use zp_buddy::Buddy;
-use zp_model::{Largest, MigrateType, Order, PageAt, State, Worker};
-
-/// The order of the first block of the cut of so many pages from this one on: the largest that may begin them. It is told by the zeros that its
-/// place and their number have behind and in front.
-#[inline(always)]
-pub fn fitting_order(largest: Largest, at: PageAt, pages: u32) -> Order
-    requires { 0 < pages }
-    ensures { result ≡ fitting_order largest at pages }
-{
-    let aligned = at.number().trailing_zeros();
-    let fits = 31 - pages.leading_zeros();
-    Order::at(aligned.min(fits).min(u32::from(largest.number())) as u8)
-}
+use zp_buddy::{Buddy, fitting_order};
+use zp_model::{MigrateType, Order, PageAt, State, Worker};
 
 /// Frees so many pages from this one on, which are neither free nor out nor posted, block by block of the run's cut: what freeing them at once
 /// leaves.
@@ -56,7 +45,7 @@ pub fn give_cut(buddy: &mut Buddy, from: u32, pages: u32)
 pub fn note_cut(buddy: &mut Buddy, worker: Worker, kind: MigrateType, from: u32, pages: u32)
     requires clear { AreClear buddy.old from pages }
     requires beside { IsPostedAside buddy.old.sides buddy.old.states }
-    ensures { IsNotedRun buddy.old buddy.new worker kind from pages }
+    ensures { IsNotedRun buddy.old buddy.new worker (λ g. kind) from pages }
 {
     // a clause of this call says how many pages there can be
     let _pages = buddy.pages();
@@ -66,6 +55,28 @@ pub fn note_cut(buddy: &mut Buddy, worker: Worker, kind: MigrateType, from: u32,
     'tiles: while left > 0 {
         let head = PageAt::at(next);
         let order = fitting_order(largest, head, left);
+        buddy.hold(head, State::Out(order, kind, worker));
+        let noted = order.pages();
+        next += noted;
+        left -= noted;
+    }
+}
+
+/// Notes so many clear pages from this one on as out to a worker, block by block of the run's cut, each for its own pageblock's type.
+pub fn note_taken(buddy: &mut Buddy, worker: Worker, from: u32, pages: u32)
+    requires clear { AreClear buddy.old from pages }
+    requires beside { IsPostedAside buddy.old.sides buddy.old.states }
+    ensures { IsNotedRun buddy.old buddy.new worker (λ g. noted_type (kind_at buddy.old.area.largest buddy.old.area.kinds g)) from pages }
+{
+    // a clause of this call says how many pages there can be
+    let _pages = buddy.pages();
+    let largest = buddy.largest();
+    let mut next = from;
+    let mut left = pages;
+    'tiles: while left > 0 {
+        let head = PageAt::at(next);
+        let order = fitting_order(largest, head, left);
+        let kind = buddy.type_of(head).noted();
         buddy.hold(head, State::Out(order, kind, worker));
         let noted = order.pages();
         next += noted;

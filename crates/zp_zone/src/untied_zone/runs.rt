@@ -6,7 +6,7 @@
 //! In Linux: `alloc_contig_range`, and `memblock_reserve` while a kernel boots.
 ghost use Rattle.std.specs.Prelude.{ℕ, ◌≡◌, ◌≤◌, ◌<◌, ◌+◌, ◌-◌, ◌^◌, IfNone, IfOk, IfSome, IsTrue, Some, None, false, true};
 ghost use Rattle.zp_model.specs.declared.constants.TheConstants.{MAX_PAGES};
-ghost use Rattle.zp_model.specs.Block.{IsBlock, head};
+ghost use Rattle.zp_model.specs.Block.{IsBlock, head, is_max};
 ghost use Rattle.zp_model.specs.Zone.{Holding, holds, pages_of, workers_of};
 ghost use Rattle.zp_model.specs.Runs.{
   IsFreeRun,
@@ -19,13 +19,14 @@ ghost use Rattle.zp_model.specs.Runs.{
   run_taken,
 };
 ghost use Rattle.zp_model.specs.declared.request.Request.TheVariants as request;
+ghost use Rattle.zp_model.specs.Run.{is_out};
 ghost use Rattle.zp_model.specs.Step.{step};
 ghost use Rattle.zp_zone.specs.NamedZone.{AreFresh, KeepsLentBut, KeepsOut, page_reply};
-ghost use Rattle.zp_zone.specs.RunsAt.{block_taken};
 
-use super::cuts::{fitting_order, give_cut, note_cut};
+use super::cuts::{give_cut, note_cut, note_taken};
 use super::parts::room_above;
 use super::{UntiedZone, is_out_to, place_of};
+use zp_buddy::fitting_order;
 use zp_model::{Mark, MigrateType, Order, PageAt, PageNo, Refused, State, Worker};
 
 impl UntiedZone {
@@ -83,11 +84,13 @@ impl UntiedZone {
             return Err(Refused::NoBlock);
         };
         let page = PageNo::new(self.base + at.number());
-        self.take_free_run(worker, at, pages);
+        // the run that was found is free
+        let _taken = self.take_if_free(worker, at, pages);
         Ok(page)
     }
 
-    /// Takes so many pages from this one on, where all of them are free: whether they are. Where they are a free block, that is taken straight.
+    /// Takes so many pages from this one on, where all of them are free: whether they are. Where they are a free block, or its low part of some order,
+    /// one look at the first page tells it, and that is taken straight.
     #[inline(always)]
     fn take_if_free(&mut self, worker: Worker, at: PageAt, pages: u32) -> bool
         requires worker { worker < workers_of self.old.plain }
@@ -99,17 +102,25 @@ impl UntiedZone {
     {
         // a clause of this call says that what is noted as free is free
         let _pages = self.buddy.pages();
-        if let Some(order) = self.buddy.free_block(at, pages) {
-            self.buddy.take_whole(at, order);
-            let noted = self.buddy.type_of(at).noted();
-            self.buddy.hold(at, State::Out(order, noted, worker));
-            return true;
+        if let Some(found) = self.buddy.order_headed(at) {
+            if found.pages() == pages {
+                self.buddy.take_whole(at, found);
+                let noted = self.buddy.type_of(at).noted();
+                self.buddy.hold(at, State::Out(found, noted, worker));
+                return true;
+            }
+            let order = fitting_order(self.buddy.largest(), at, pages);
+            if order.pages() == pages && order.number() <= found.number() {
+                self.take_low(worker, at, found, order);
+                return true;
+            }
         }
         self.take_parts_if_free(worker, at, pages)
     }
 
-    /// The same, from free block to free block.
-    #[inline(always)]
+    /// The same, by one call that takes the pages out of whatever free blocks they lie in.
+    // (out of line: most runs are a block, or a low part of one)
+    #[inline(never)]
     fn take_parts_if_free(&mut self, worker: Worker, at: PageAt, pages: u32) -> bool
         requires worker { worker < workers_of self.old.plain }
         requires some { 0 < pages }
@@ -118,67 +129,28 @@ impl UntiedZone {
         ensures taken { result ≡ true → self.new ≡ record self.old { plain = run_taken self.old.plain worker at pages } }
         ensures left { result ≡ false → self.new ≡ self.old }
     {
-        // a clause of this call says how many pages there can be
-        let _pages = self.pages();
-        if !self.buddy.is_free_run(at, pages) {
+        // a clause of this call says that what is noted as free is free
+        let _pages = self.buddy.pages();
+        if !self.buddy.take_pages(at, pages) {
             return false;
         }
-        self.take_free_run(worker, at, pages);
+        note_taken(&mut self.buddy, worker, at.number(), pages);
         true
     }
 
-    /// Takes so many pages from this one on, all of them free. Where they are one block, it is taken straight.
-    #[inline(always)]
-    fn take_free_run(&mut self, worker: Worker, at: PageAt, pages: u32)
-        requires worker { worker < workers_of self.old.plain }
-        requires some { 0 < pages }
-        requires inside { at + pages ≤ pages_of self.old.plain }
-        requires free { IsFreeRun self.old.plain.area at pages }
-        ensures { self.new ≡ record self.old { plain = run_taken self.old.plain worker at pages } }
-    {
-        self.lawful();
-        let order = fitting_order(self.largest(), at, pages);
-        if order.pages() == pages {
-            self.take_block_at(worker, at, order);
-            return;
-        }
-        self.take_run_at(worker, at, pages);
-    }
-
-    /// Takes so many pages from this one on, all of them free, block by block of the run's cut.
+    /// Takes the low part of this order of the free block of order `found` that a page heads. It is out, with its pageblock's type noted.
+    // (out of line: most runs are a whole block)
     #[inline(never)]
-    fn take_run_at(&mut self, worker: Worker, at: PageAt, pages: u32)
+    fn take_low(&mut self, worker: Worker, at: PageAt, found: Order, order: Order)
         requires worker { worker < workers_of self.old.plain }
-        requires inside { at + pages ≤ pages_of self.old.plain }
-        requires free { IsFreeRun self.old.plain.area at pages }
-        ensures { self.new ≡ record self.old { plain = run_taken self.old.plain worker at pages } }
-    {
-        self.lawful();
-        // a clause of this call says how many pages there can be
-        let _pages = self.pages();
-        let largest = self.largest();
-        let mut next = at.number();
-        let mut left = pages;
-        'tiles: while left > 0 {
-            let head = PageAt::at(next);
-            let order = fitting_order(largest, head, left);
-            self.take_block_at(worker, head, order);
-            let taken = order.pages();
-            next += taken;
-            left -= taken;
-        }
-    }
-
-    /// Takes the block of this order at a page, all its pages free. The type noted for it is its pageblock's.
-    fn take_block_at(&mut self, worker: Worker, at: PageAt, order: Order)
-        requires worker { worker < workers_of self.old.plain }
-        requires block { IsBlock self.old.plain.area.largest (pages_of self.old.plain) at order }
-        requires free { IsFreeRun self.old.plain.area at (2 ^ order) }
-        ensures { self.new ≡ record self.old { plain = block_taken self.old.plain worker at order } }
+        requires free { is_max self.old.plain.area.largest self.old.plain.area.free at found ≡ true }
+        requires down { order ≤ found }
+        ensures free { IsFreeRun self.old.plain.area at (2 ^ order) }
+        ensures after { self.new ≡ record self.old { plain = run_taken self.old.plain worker at (2 ^ order) } }
     {
         // a clause of this call says that what is noted as free is free
         let _pages = self.buddy.pages();
-        self.buddy.take_at(at, order);
+        self.buddy.take_low_part(at, found, order);
         let noted = self.buddy.type_of(at).noted();
         self.buddy.hold(at, State::Out(order, noted, worker));
     }
@@ -204,6 +176,25 @@ impl UntiedZone {
             return;
         }
         self.free_parts(worker, at, pages);
+    }
+
+    /// As `free_run`, of a run that is one block out to the worker, of this order.
+    pub fn free_run_as_block(&mut self, worker: Worker, page: PageNo, pages: u32, order: Order)
+        requires worker { worker < workers_of self.old.plain }
+        requires lent { may_free_run self.old.plain worker page pages ≡ true }
+        requires block { IsTrue (is_out self.old.plain worker page order) }
+        requires size { 2 ^ order ≡ pages }
+        ensures after { self.new ≡ record self.old { plain = (step self.old.plain worker (request.FreeRun page pages)).zone } }
+
+        // What the calls after it can rest on.
+        ensures gone { AreFresh self.new.plain page pages }
+        ensures kept { KeepsLentBut worker page pages self.old.plain self.new.plain }
+    {
+        self.lawful();
+        // the number of pages is named for the clauses alone
+        let _ = pages;
+        let at = PageAt::at(page.number() - self.base);
+        self.free_whole(worker, at, order);
     }
 
     /// The order of the block out to the worker that so many pages from this one on are, where they are one.
@@ -238,12 +229,39 @@ impl UntiedZone {
         'parts: while next < end {
             self.lawful();
             let place = PageAt::at(next);
-            let freed = self.free_in_block(worker, place, end - next);
+            let freed = self.free_first(worker, place, end - next);
             next += freed;
         }
     }
 
-    /// Frees the first of so many pages that are lent to the worker, those of the block around this page. How many they are.
+    /// Frees the first of so many pages that are lent to the worker, those of the block around this page. How many they are. Most head a block that
+    /// ends among the pages, which comes back whole.
+    #[inline(always)]
+    fn free_first(&mut self, worker: Worker, at: PageAt, pages: u32) -> u32
+        requires worker { worker < workers_of self.old.plain }
+        requires some { 0 < pages }
+        requires lent { is_lent_run self.old.plain worker at pages ≡ true }
+        ensures after { self.new ≡ record self.old { plain = run_freed self.old.plain worker at result } }
+        ensures some { 0 < result }
+        ensures most { result ≤ pages }
+        ensures ends { result < pages → (b : ℕ × Holding) × (block_around self.old.plain worker (at + result - 1) ≡ Some b) × (b.0 + 2 ^ b.1.order ≡ at + result) }
+    {
+        self.lawful();
+        // a clause of this call says how many pages there can be
+        let _pages = self.pages();
+        if let Some(order) = self.headed_order(worker, at) {
+            let count = order.pages();
+            if count <= pages {
+                self.free_whole(worker, at, order);
+                return count;
+            }
+        }
+        self.free_in_block(worker, at, pages)
+    }
+
+    /// The same of a block that has pages beside them: those stay out to the worker.
+    // (out of line: at most the first and the last block of a run have such pages)
+    #[inline(never)]
     fn free_in_block(&mut self, worker: Worker, at: PageAt, pages: u32) -> u32
         requires worker { worker < workers_of self.old.plain }
         requires some { 0 < pages }
@@ -260,15 +278,11 @@ impl UntiedZone {
             unreachable!()
         };
         let head = at.head(order);
-        let end = head.number() + order.pages();
-        let count = pages.min(end - at.number());
-        if count == order.pages() {
-            self.free_whole(worker, head, order);
-            return count;
-        }
         let State::Out(_, kind, _) = self.buddy.holding(head) else {
             unreachable!()
         };
+        let end = head.number() + order.pages();
+        let count = pages.min(end - at.number());
         self.free_part_of(worker, head, order, kind, at, count);
         count
     }

@@ -2,7 +2,7 @@
 //! same step.
 //!
 //! In Linux: `alloc_contig_range` and `free_contig_range`.
-ghost use Rattle.std.specs.Prelude.{◌≡◌, ◌<◌, IfOk, IsTrue};
+ghost use Rattle.std.specs.Prelude.{◌≡◌, ◌<◌, ◌^◌, IfOk, IsTrue};
 ghost use Rattle.zp_model.specs.declared.request.Request.TheVariants as request;
 ghost use Rattle.zp_model.specs.declared.request.Reply.TheVariants as reply;
 ghost use Rattle.zp_model.specs.Zone.{workers_of};
@@ -10,12 +10,12 @@ ghost use Rattle.zp_model.specs.Runs.{may_alloc_run};
 ghost use Rattle.zp_model.specs.Step.{step};
 ghost use Rattle.zp_zone.specs.Asking.{IsGivenRun};
 ghost use Rattle.zp_zone.specs.NamedZone.{page_reply};
-ghost use Rattle.zp_zone.specs.Seats.{IsSeatOf, KeepsSeats, Agrees, AreNewTo, KeepsBlocks, KeepsPagesBut, asked, replied_in, has_run};
+ghost use Rattle.zp_zone.specs.Seats.{IsSeatOf, KeepsSeats, Agrees, AreNewTo, KeepsBlocks, KeepsPagesBut, asked, replied_in, has, has_run};
 
 use super::Zone;
 use crate::seat::Seat;
 use std::marker::Brand;
-use zp_model::{Mark, PageNo, Refused};
+use zp_model::{Mark, Order, PageNo, Refused};
 
 impl Zone {
     /// The lowest run of so many pages outside isolated pageblocks that begins at an absolute page which is a multiple of two to the power
@@ -96,6 +96,30 @@ impl Zone {
         self.untied.lawful();
         let worker = seat.enter::<Brand, _>(&mut self.keeper, &self.untied, &(page, pages));
         self.untied.free_run(worker, page, pages);
+        self.untied.lawful();
+    }
+
+    /// As `free_run`, of a run that is one block of the seat, of this order: no page is looked at to find the block. It is never refused.
+    pub fn free_run_as_block(&mut self, seat: &mut Seat, page: PageNo, pages: u32, order: Order)
+        requires seat { IsSeatOf self.old seat.old }
+        requires has { IsTrue (has_run seat.old page pages) }
+        requires block { IsTrue (has seat.old page order) }
+        requires size { 2 ^ order ≡ pages }
+        ensures after { self.new ≡ asked seat.old.worker (request.FreeRun page pages) self.old }
+        ensures seat { seat.new ≡ replied_in self.old.plain (request.FreeRun page pages) reply.Freed seat.old }
+        ensures known { seat.old.worker < workers_of self.old.plain }
+        ensures agrees { Agrees self.old seat.old × Agrees self.new seat.new }
+
+        // What the calls after it can rest on.
+        ensures worker { seat.new.worker ≡ seat.old.worker }
+        ensures fits { IsSeatOf self.new seat.new }
+        ensures seats { KeepsSeats self.old self.new }
+        ensures gone { AreNewTo seat.new page pages }
+        ensures kept { KeepsPagesBut page pages seat.old seat.new }
+    {
+        self.untied.lawful();
+        let worker = seat.enter::<Brand, _>(&mut self.keeper, &self.untied, &(page, pages));
+        self.untied.free_run_as_block(worker, page, pages, order);
         self.untied.lawful();
     }
 }

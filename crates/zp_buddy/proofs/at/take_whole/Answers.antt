@@ -1,5 +1,5 @@
 use Rattle.std.proofs.Common.{refl}
-use Rattle.zp_buddy.proofs.TakenTowards.{left_whole}
+use Rattle.zp_buddy.proofs.TakenWhole.{left_whole}
 use Rattle.zp_buddy.proofs.at.take_whole.Goals as goal
 
 pub returns : goal.returns

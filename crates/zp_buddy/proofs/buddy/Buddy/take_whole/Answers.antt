@@ -1,4 +1,4 @@
-use Rattle.std.proofs.Common.{◌+◌, ◌^◌, ◌∙◌, ap, arith, length, sym}
+use Rattle.std.proofs.Common.{◌^◌, ◌∙◌, ap, arith, length, sym}
 use Rattle.zp_model.specs.Area.{pageblocks_of}
 use Rattle.zp_model.specs.BlockSet.{Starts, cover}
 use Rattle.zp_model.specs.Runs.{IsFreeRun}
@@ -9,7 +9,7 @@ use Rattle.zp_area.proofs.OneBlock.{around_covered}
 use Rattle.zp_buddy.specs.Choices.{area_in}
 use Rattle.zp_buddy.proofs.Settled.{length-pages, starts_block}
 use Rattle.zp_buddy.proofs.Taking.{clear_head}
-use Rattle.zp_buddy.proofs.TakenTowards.{IsOutAt, clear_at, fewer_at, still_at}
+use Rattle.zp_buddy.proofs.TakenWhole.{IsOutAt, clear_at, fewer_at, still_at}
 use Rattle.zp_buddy.proofs.buddy.Buddy.take_whole.Goals.{After-take_whole}
 use Rattle.zp_buddy.proofs.buddy.Buddy.take_whole.Goals as goal
 

@@ -11,7 +11,7 @@ use Rattle.zp_zone.specs.NamedZone.{NamedZone}
 use Rattle.zp_zone.proofs.BlockSteps.{named}
 use Rattle.zp_zone.proofs.LowestRuns.{free_run, lowest_free, marked, may_alloc_run-to, run_below, run_got, run_none}
 use Rattle.zp_zone.proofs.RunsGiven.{free_fresh, taken_keeps, taken_lends}
-use Rattle.zp_zone.proofs.untied_zone.UntiedZone.alloc_run.Goals.{After-new-page, After-room_above-room, In-Some, In_default}
+use Rattle.zp_zone.proofs.untied_zone.UntiedZone.alloc_run.Goals.{After-new-page, After-take_if_free-taken, After-room_above-room, In-Some, In_default}
 use Rattle.zp_zone.proofs.untied_zone.UntiedZone.alloc_run.Goals as goal
 
 -- the mark's test
@@ -55,11 +55,17 @@ returns-in_default-clause-after c =
 free : (c : In-Some) → IsFree c.args.self.now.plain c.in-Some.at c.args.pages
 free c = lowest_free c.args.self.now.plain c.args.pages c.args.align c.in-Some.at (sym c.in-Some.ensures)
 
-pub take_free_run-requires-clause-inside : goal.take_free_run-requires-clause-inside
-take_free_run-requires-clause-inside c = (free (goal.at.take_free_run-requires-clause-inside c).In-Some).inside
+pub take_if_free-taken-requires-clause-some : goal.take_if_free-taken-requires-clause-some
+take_if_free-taken-requires-clause-some c = (may_alloc_run-to c.args.pages c.args.align c.requires.may).0
 
-pub take_free_run-requires-clause-free : goal.take_free_run-requires-clause-free
-take_free_run-requires-clause-free c = free_run c.args.self.now.plain c.in-Some.at c.args.pages (free (goal.at.take_free_run-requires-clause-free c).In-Some)
+pub take_if_free-taken-requires-clause-inside : goal.take_if_free-taken-requires-clause-inside
+take_if_free-taken-requires-clause-inside c = (free (goal.at.take_if_free-taken-requires-clause-inside c).In-Some).inside
+
+-- so it was taken
+taken : (c : After-take_if_free-taken) → c.take_if_free-taken.new.self ≡ (let z : NamedZone = record c.args.self.now { plain = run_taken c.args.self.now.plain c.args.worker c.in-Some.at c.args.pages } in z)
+taken c =
+    let run = free (goal.at.After-take_if_free-taken c).In-Some in
+    c.take_if_free-taken.ensures.taken (c.take_if_free-taken.ensures.when ∙ free_run c.args.self.now.plain c.in-Some.at c.args.pages run)
 
 page : (c : After-new-page) → c.new-page.result ≡ c.args.self.now.plain.base + c.in-Some.at
 page c = omega (arith, c.new-page.ensures, c.number.ensures.same, ap (λ (z : NamedZone). z.plain.base) c.self.view_is)
@@ -76,11 +82,11 @@ returns-clause-reply c =
 
 pub returns-clause-after : goal.returns-clause-after
 returns-clause-after c =
-    c.take_free_run.ensures ∙ ap (λ (o : Outcome). let z : NamedZone = record c.args.self.now { plain = o.zone } in z) (sym (got (goal.at.returns-clause-after c).In-Some c.if-room-pages.false))
+    taken (goal.at.returns-clause-after c).After-take_if_free-taken ∙ ap (λ (o : Outcome). let z : NamedZone = record c.args.self.now { plain = o.zone } in z) (sym (got (goal.at.returns-clause-after c).In-Some c.if-room-pages.false))
 
 pub returns-clause-lent : goal.returns-clause-lent
 returns-clause-lent c =
-    rw (c.take_free_run.ensures, page (goal.at.returns-clause-lent c).After-new-page)
+    rw (taken (goal.at.returns-clause-lent c).After-take_if_free-taken, page (goal.at.returns-clause-lent c).After-new-page)
     (taken_lends c.args.self.now.plain c.lawful.ensures c.args.worker c.in-Some.at c.args.pages c.requires.worker (free (goal.at.returns-clause-lent c).In-Some) (may_alloc_run-to c.args.pages c.args.align c.requires.may).0)
 
 pub returns-clause-fresh : goal.returns-clause-fresh
@@ -89,4 +95,4 @@ returns-clause-fresh c =
 
 pub returns-clause-kept : goal.returns-clause-kept
 returns-clause-kept c =
-    rw c.take_free_run.ensures (taken_keeps c.args.self.now.plain c.lawful.ensures c.args.worker c.in-Some.at c.args.pages c.requires.worker (free (goal.at.returns-clause-kept c).In-Some))
+    rw (taken (goal.at.returns-clause-kept c).After-take_if_free-taken) (taken_keeps c.args.self.now.plain c.lawful.ensures c.args.worker c.in-Some.at c.args.pages c.requires.worker (free (goal.at.returns-clause-kept c).In-Some))

@@ -7,7 +7,6 @@ use Rattle.zp_model.specs.Runs.{block_around}
 use Rattle.zp_model.specs.Zone.{Holding, pages_of}
 use Rattle.zp_model.proofs.Heads.{head_le, lt_head}
 use Rattle.zp_model.proofs.Pages.{in_run-from}
-use Rattle.zp_laws.proofs.Around.{IsAround, around-from}
 use Rattle.zp_laws.proofs.Held.{IsHolding, held-to}
 use Rattle.zp_laws.proofs.KeepingRuns.{IsLent}
 use Rattle.zp_laws.proofs.RunSteps.{lent-to, lent_inside}
@@ -41,30 +40,6 @@ pub unreachable-requires-in_default-holding : goal.unreachable-requires-in_defau
 unreachable-requires-in_default-holding c =
     not_noted c.self.inside.buddy c.self.inside.base c.self.inside.min c.args.worker (head c.args.at c.in-Some.order) c.in-Some.order (held (goal.at.unreachable-requires-in_default-holding c).In-Some)
     (λ j v t e. c.in_default-holding.not-Out j t v (c.holding.ensures ∙ ap (state_at c.self.inside.buddy.states) c.head-head.ensures ∙ e))
-
--- the block around a page, as it is kept
-kept : (c : In-Some) (i : ℕ) (x : Holding) → IsAround (plain_of c.self.inside.buddy c.self.inside.base c.self.inside.min).out c.args.worker i (head c.args.at c.in-Some.order, x) →
-    block_around c.args.self.now.plain c.args.worker i ≡ Some (head c.args.at c.in-Some.order, x)
-kept c i x y =
-    rw (← c.self.view_is) (around-from (plain_of c.self.inside.buddy c.self.inside.base c.self.inside.min) c.self.invariant.lawful c.args.worker i (head c.args.at c.in-Some.order, x) y)
-
--- a block that is freed whole ends where its pages do
-pub returns-then-count-pages-clause-ends : goal.returns-then-count-pages-clause-ends
-returns-then-count-pages-clause-ends c = λ less.
-    let y = held (goal.at.returns-then-count-pages-clause-ends c).In-Some in
-    let g : ℕ = head c.args.at c.in-Some.order in
-    let order : y.holding.order ≡ c.in-Some.order = y.order in
-    let size : 2 ^ y.holding.order ≡ 2 ^ c.in-Some.order = ap (λ k. 2 ^ k) order in
-    let past = lt_head c.args.at c.in-Some.order in
-    let ends : g + 2 ^ c.in-Some.order ≡ c.args.at + c.min-count.result = omega (arith, past, c.head-head.ensures, c.pages.ensures.pages) in (
-      (g, y.holding),
-      kept (goal.at.returns-then-count-pages-clause-ends c).In-Some (c.args.at + c.min-count.result - 1) y.holding (record {
-        at = y.at;
-        worker = y.worker;
-        page = in_run-from g y.holding.order (c.args.at + c.min-count.result - 1) (omega (arith, head_le c.args.at c.in-Some.order, past, size, ends)) (omega (arith, pow_pos c.in-Some.order, past, size, ends));
-      }),
-      omega (arith, size, ends),
-    )
 
 -- what is noted of it
 noted : (c : In-Out) → state_at c.self.inside.buddy.states (head c.args.at c.in-Some.order) ≡ Out c.in-Out.field-0 c.in-Out.kind c.in-Out.field-2

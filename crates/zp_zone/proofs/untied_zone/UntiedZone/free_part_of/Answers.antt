@@ -65,7 +65,7 @@ note_cut-requires-clause-clear c =
 pub note_cut-requires-clause-beside : goal.note_cut-requires-clause-beside
 note_cut-requires-clause-beside c = c.give_cut.ensures.beside
 
-before : (c : After-note_cut) → IsNotedRun c.give_cut.new.buddy c.note_cut.new.buddy c.args.worker c.args.kind c.args.head (c.args.at - c.args.head)
+before : (c : After-note_cut) → IsNotedRun c.give_cut.new.buddy c.note_cut.new.buddy c.args.worker (λ q. c.args.kind) c.args.head (c.args.at - c.args.head)
 before c = rw (c.number-first.ensures.same, c.number-from.ensures.same) at c.note_cut.ensures
 
 pub note_cut-requires-2-clause-clear : goal.note_cut-requires-2-clause-clear
@@ -77,7 +77,7 @@ note_cut-requires-2-clause-clear c =
 pub note_cut-requires-2-clause-beside : goal.note_cut-requires-2-clause-beside
 note_cut-requires-2-clause-beside c = c.note_cut.ensures.beside
 
-behind : (c : After-note_cut-2) → IsNotedRun c.note_cut.new.buddy c.note_cut-2.new.buddy c.args.worker c.args.kind (c.args.at + c.args.pages) (c.args.head + 2 ^ c.args.order - (c.args.at + c.args.pages))
+behind : (c : After-note_cut-2) → IsNotedRun c.note_cut.new.buddy c.note_cut-2.new.buddy c.args.worker (λ q. c.args.kind) (c.args.at + c.args.pages) (c.args.head + 2 ^ c.args.order - (c.args.at + c.args.pages))
 behind c = rw (c.number-first.ensures.same, c.number-from.ensures.same, c.pages.ensures.pages) at c.note_cut-2.ensures
 
 pub invariant_of-self : goal.invariant_of-self

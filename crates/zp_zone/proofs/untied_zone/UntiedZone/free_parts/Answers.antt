@@ -24,27 +24,27 @@ pub at-place-requires : goal.at-place-requires
 at-place-requires c =
     omega (arith, freeing_inside _ _ _ _ _ _ _ c.lawful-in-parts.ensures c.parts.invariant.freeing (omega arith), c.pages-pages.ensures.pages, c.pages-pages.ensures.within)
 
-pub free_in_block-freed-requires-clause-worker : goal.free_in_block-freed-requires-clause-worker
-free_in_block-freed-requires-clause-worker c = rw c.parts.invariant.freeing.workers c.requires.worker
+pub free_first-freed-requires-clause-worker : goal.free_first-freed-requires-clause-worker
+free_first-freed-requires-clause-worker c = rw c.parts.invariant.freeing.workers c.requires.worker
 
-pub free_in_block-freed-requires-clause-lent : goal.free_in_block-freed-requires-clause-lent
-free_in_block-freed-requires-clause-lent c = rw c.at-place.ensures (c.parts.invariant.freeing.lent (omega arith))
+pub free_first-freed-requires-clause-lent : goal.free_first-freed-requires-clause-lent
+free_first-freed-requires-clause-lent c = rw c.at-place.ensures (c.parts.invariant.freeing.lent (omega arith))
 
 pub overflow_add-next : goal.overflow_add-next
 overflow_add-next c =
-    omega (arith, c.free_in_block-freed.ensures.most, freeing_inside _ _ _ _ _ _ _ c.lawful-in-parts.ensures c.parts.invariant.freeing (omega arith), c.pages-pages.ensures.pages, c.pages-pages.ensures.within)
+    omega (arith, c.free_first-freed.ensures.most, freeing_inside _ _ _ _ _ _ _ c.lawful-in-parts.ensures c.parts.invariant.freeing (omega arith), c.pages-pages.ensures.pages, c.pages-pages.ensures.within)
 
 pub parts-preserved : goal.parts-preserved
 parts-preserved c =
     let x = c.parts.invariant in
-    rw (c.free_in_block-freed.ensures.after, c.at-place.ensures) (record {
+    rw (c.free_first-freed.ensures.after, c.at-place.ensures) (record {
       name = x.name;
-      freeing = freeing_goes _ _ _ _ _ _ _ c.free_in_block-freed.result c.lawful-in-parts.ensures c.requires.worker x.freeing (omega arith) c.free_in_block-freed.ensures.some c.free_in_block-freed.ensures.most
-          (rw c.at-place.ensures at c.free_in_block-freed.ensures.ends);
+      freeing = freeing_goes _ _ _ _ _ _ _ c.free_first-freed.result c.lawful-in-parts.ensures c.requires.worker x.freeing (omega arith) c.free_first-freed.ensures.some c.free_first-freed.ensures.most
+          (rw c.at-place.ensures at c.free_first-freed.ensures.ends);
     })
 
 pub parts-smaller : goal.parts-smaller
-parts-smaller c = omega (arith, c.free_in_block-freed.ensures.some)
+parts-smaller c = omega (arith, c.free_first-freed.ensures.some)
 
 pub returns : goal.returns
 returns c =

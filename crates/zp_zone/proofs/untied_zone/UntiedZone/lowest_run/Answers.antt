@@ -16,14 +16,11 @@ returns-in_err-last c =
     let few : c.pages.result < c.args.pages = elim (cases_lt c.pages.result c.args.pages) [ inl lt ↦ lt | inr le ↦ absurd (c.in_err-last.ensures le) ] in
     c.from_residual.ensures ∙ sym (none_fits c.args.self.now.plain c.args.pages c.args.align (omega (arith, size (goal.at.returns-in_err-last c).After-pages)))
 
--- the pages before `next` have been passed, after it has gone on to a border
+-- the pages before `next` have been passed, after it has gone on to `start`
 skipped : (c : After-at) → IsSearching c.args.self.now.plain c.args.pages c.args.align c.passes.start c.max-next.result
 skipped c =
     search_skips c.args.self.now.plain c.args.pages c.args.align c.passes.invariant c.max-next.result (may_alloc_run-to c.args.pages c.args.align c.requires).0
-    (omega (arith, c.number-largest.ensures.same, c.number-largest.ensures.within.1, c.largest.ensures)) (omega (arith, size (goal.at.After-at c).After-pages, c.in_ok-last.ensures, c.passes-test.true)) c.max-next.ensures
-
-pub pages_at-passed-requires-clause-between : goal.pages_at-passed-requires-clause-between
-pages_at-passed-requires-clause-between c = rw c.at.ensures (skipped (goal.at.pages_at-passed-requires-clause-between c).After-at).between
+    (omega (arith, size (goal.at.After-at c).After-pages, c.in_ok-last.ensures, c.passes-test.true)) c.max-next.ensures
 
 -- the pages from there on
 passed : (c : After-pages_at-passed) → IsPassedFor c.args.self.now.plain c.args.pages c.args.align c.passes.start c.max-next.result c.pages_at-passed.result.count c.pages_at-passed.result.serve

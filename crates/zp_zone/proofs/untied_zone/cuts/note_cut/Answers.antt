@@ -1,12 +1,12 @@
 use Rattle.std.proofs.Common.{◌^◌, ◌≡◌, ◌≤◌, arith}
 use Rattle.std.proofs.lemmas.Nat.{pow_pos}
 use Rattle.zp_model.specs.Runs.{fitting_order}
-use Rattle.zp_zone.proofs.RunsFreed.{note_size, note_unfree, noting_begins, noting_ends, noting_goes}
+use Rattle.zp_zone.proofs.RunsNoted.{note_size, note_unfree, noting_begins, noting_ends, noting_goes}
 use Rattle.zp_zone.proofs.untied_zone.cuts.note_cut.Goals.{After-fitting_order-order}
 use Rattle.zp_zone.proofs.untied_zone.cuts.note_cut.Goals as goal
 
 pub tiles-init : goal.tiles-init
-tiles-init c = noting_begins c.args.buddy.now c.args.worker c.args.kind c.args.from c.args.pages c.requires.clear c.requires.beside
+tiles-init c = noting_begins c.args.buddy.now c.args.worker (λ g. c.args.kind) c.args.from c.args.pages c.requires.clear c.requires.beside
 
 pub at-head-requires : goal.at-head-requires
 at-head-requires c = omega (arith, c.tiles.invariant.clear.inside, c.pages-pages.ensures.framed.pages, c.pages-pages.ensures.pages, c.pages-pages.ensures.within)
@@ -43,4 +43,4 @@ tiles-smaller c = omega (arith, c.pages-noted.ensures.pages, pow_pos c.fitting_o
 pub returns : goal.returns
 returns c =
     let none : c.tiles.left ≡ 0 = omega arith in
-    noting_ends c.args.buddy.now c.tiles.buddy c.args.worker c.args.kind c.args.from c.args.pages c.tiles.next c.tiles.left none c.tiles.invariant
+    noting_ends c.args.buddy.now c.tiles.buddy c.args.worker (λ g. c.args.kind) c.args.from c.args.pages c.tiles.next c.tiles.left none c.tiles.invariant

@@ -1,0 +1,19 @@
+//! The cut of a run of pages: the aligned blocks that tile it, each as large as its place and the rest of the run allow.
+//!
+//! In Linux: the loop of `__free_pages_memory`.
+ghost use Rattle.std.specs.Prelude.{◌≡◌, ◌<◌};
+ghost use Rattle.zp_model.specs.Runs.{fitting_order};
+
+use zp_model::{Largest, Order, PageAt};
+
+/// The order of the first block of the cut of so many pages from this one on: the largest that may begin them. It is told by the zeros that its
+/// place and their number have behind and in front.
+#[inline(always)]
+pub fn fitting_order(largest: Largest, at: PageAt, pages: u32) -> Order
+    requires { 0 < pages }
+    ensures { result ≡ fitting_order largest at pages }
+{
+    let aligned = at.number().trailing_zeros();
+    let fits = 31 - pages.leading_zeros();
+    Order::at(aligned.min(fits).min(u32::from(largest.number())) as u8)
+}

@@ -1,0 +1,3 @@
+pub mod Given
+pub mod Posted
+pub mod Totals
