@@ -2,13 +2,13 @@ use Rattle.std.proofs.Common.{ℕ, ◌+◌, ◌-◌, ◌≤◌, ◌<◌}
 use Rattle.zp_model.specs.Block.{head}
 use Rattle.zp_model.specs.BlockSet.{Starts}
 use Rattle.zp_area.specs.Blocks.{block_set}
-use Rattle.zp_area.proofs.area.FreeArea.order_around.Given as goal
+use Rattle.zp_area.proofs.area.FreeArea.order_over.Given as goal
 
--- no block of an order below `number` has the page
+-- no block of the order or more, but of one below `number`, has the page
 abbrev pub invariant-orders : goal.invariant-orders
 invariant-orders l = record {
-  most : l.number ≤ l.largest + 1;
-  none : (k : ℕ) → k < l.number → Starts (block_set l.self) (head l.at k) k → ⊥;
+  from : l.fn.order ≤ l.number;
+  none : (k : ℕ) → l.fn.order ≤ k → k < l.number → Starts (block_set l.self) (head l.at k) k → ⊥;
 }
 
 abbrev pub decreases-orders : goal.decreases-orders
