@@ -1,14 +1,22 @@
-use Rattle.std.proofs.Common.{ℕ, Option, None, Some, IfNone, arith}
-use Rattle.std.proofs.lemmas.Bool.{false_from_ne_true}
+use Rattle.std.proofs.Common.{◌≡◌, inl, inr, arith}
+use Rattle.std.proofs.lemmas.Bool.{cases_eq, false_from_ne_true}
+use Rattle.zp_model.specs.Block.{head}
 use Rattle.zp_model.proofs.Covers.{cover-to}
+use Rattle.zp_model.proofs.Heads.{head_self}
 use Rattle.zp_area.specs.Blocks.{block_set}
 use Rattle.zp_area.proofs.area.FreeArea.order_around.Goals as goal
 
-none_from : (r : Option ℕ) (P Q : Type 0) → (P → Q) → IfNone r P → IfNone r Q
-none_from None P Q f x = f x
-none_from (Some o) P Q f x = x
+pub returns-in-Some-clause-some : goal.returns-in-Some-clause-some
+returns-in-Some-clause-some c =
+    let st = c.in-Some.ensures.some in
+    rw (head_self c.args.at c.in-Some.headed (c.pages-pages.ensures.one.blocks.block c.args.at c.in-Some.headed st).aligned) st
 
-pub returns-clause-none : goal.returns-clause-none
-returns-clause-none c = none_from c.order_over.result _ _ (λ none. false_from_ne_true _ (λ on.
+pub returns-in_default-order_above-clause-none : goal.returns-in_default-order_above-clause-none
+returns-in_default-order_above-clause-none c = false_from_ne_true _ (λ on.
     let w = cover-to (block_set c.args.self.now) c.args.at on in
-    none w.0 (omega (arith, c.zero.ensures)) w.1)) c.order_over.ensures.none
+    elim (cases_eq w.0 0) [
+      | inl zero ↦
+          let own : head c.args.at w.0 ≡ c.args.at = rw zero (head_self c.args.at 0 (omega arith)) in
+          c.in_default.ensures.none w.0 (rw own at w.1)
+      | inr ne ↦ c.in_default-order_above.ensures.none w.0 (omega (arith, c.zero.ensures)) w.1
+    ])

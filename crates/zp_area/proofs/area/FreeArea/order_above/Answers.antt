@@ -3,7 +3,7 @@ use Rattle.std.proofs.Math.Nat.{pow-le-pow_right}
 use Rattle.std.proofs.lemmas.Bool.{cases_lt}
 use Rattle.zp_model.specs.Block.{head}
 use Rattle.zp_model.proofs.Heads.{head_le, head_of, lt_head}
-use Rattle.zp_area.proofs.area.FreeArea.order_over.Goals as goal
+use Rattle.zp_area.proofs.area.FreeArea.order_above.Goals as goal
 
 -- what the head heads has the page, as it is no smaller than the run around the page
 pub returns-then-number-clause-some : goal.returns-then-number-clause-some
