@@ -21,44 +21,8 @@ use crate::split::take_block;
 use zp_area::FreeArea;
 use zp_model::{Order, PageAt};
 
-/// Takes so many pages from this one on, where all of them are free: whether they are.
+/// Takes so many pages from this one on, where all of them are free: whether they are. Most lie in one free block.
 pub fn take_pages(area: &mut FreeArea, at: PageAt, pages: u32) -> bool
-    requires some { 0 < pages }
-    requires inside { at + pages ≤ length area.old.rows.states }
-    requires sound { IsSound area.old.largest area.old.rows.states area.old.kinds area.old.rows.lists }
-    ensures when { result ≡ has_pages (cover (block_set area.old)) at pages }
-    ensures taken { result ≡ true → IsLeftRun area.old area.new at pages }
-    ensures left { result ≡ false → area.new ≡ area.old }
-{
-    let order = fitting_order(area.largest(), at, pages);
-    if order.pages() == pages {
-        take_block_at(area, at, order)
-    } else {
-        take_run(area, at, pages)
-    }
-}
-
-/// Takes the block of this order at a page, where all of its pages are free: whether they are. One free block has them all then.
-#[inline(always)]
-fn take_block_at(area: &mut FreeArea, at: PageAt, order: Order) -> bool
-    requires aligned { at % 2 ^ order ≡ 0 }
-    requires within { order ≤ area.old.largest }
-    requires sound { IsSound area.old.largest area.old.rows.states area.old.kinds area.old.rows.lists }
-    ensures when { result ≡ has_pages (cover (block_set area.old)) at (2 ^ order) }
-    ensures taken { result ≡ true → IsLeftRun area.old area.new at (2 ^ order) }
-    ensures left { result ≡ false → area.new ≡ area.old }
-{
-    // a clause of this call says that all that is kept is of one set of blocks
-    let _pages = area.pages();
-    let Some(found) = area.order_over(at, order) else {
-        return false;
-    };
-    area.split_towards(at, found, order);
-    true
-}
-
-/// The same of pages that may lie in many free blocks. Most lie in one.
-fn take_run(area: &mut FreeArea, at: PageAt, pages: u32) -> bool
     requires some { 0 < pages }
     requires inside { at + pages ≤ length area.old.rows.states }
     requires sound { IsSound area.old.largest area.old.rows.states area.old.kinds area.old.rows.lists }
@@ -82,6 +46,27 @@ fn take_run(area: &mut FreeArea, at: PageAt, pages: u32) -> bool
     }
     take_part(area, order, at, block_end - at.number());
     take_blocks(area, block_end, end);
+    true
+}
+
+/// Takes the block of this order at a page that heads no free block, where all of its pages are free: whether they are. One larger free block has
+/// them all then.
+#[inline(always)]
+pub fn take_inside(area: &mut FreeArea, at: PageAt, order: Order) -> bool
+    requires aligned { at % 2 ^ order ≡ 0 }
+    requires within { order ≤ area.old.largest }
+    requires beside { (k : ℕ) → Starts (block_set area.old) at k → ⊥ }
+    requires sound { IsSound area.old.largest area.old.rows.states area.old.kinds area.old.rows.lists }
+    ensures when { result ≡ has_pages (cover (block_set area.old)) at (2 ^ order) }
+    ensures taken { result ≡ true → IsLeftRun area.old area.new at (2 ^ order) }
+    ensures left { result ≡ false → area.new ≡ area.old }
+{
+    // a clause of this call says that all that is kept is of one set of blocks
+    let _pages = area.pages();
+    let Some(found) = area.order_above(at, order) else {
+        return false;
+    };
+    area.split_towards(at, found, order);
     true
 }
 
