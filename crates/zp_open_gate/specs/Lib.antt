@@ -1,0 +1,3 @@
+pub mod Rooms
+pub mod Locks
+pub mod Visits
