@@ -2,8 +2,12 @@
 //! another puts back. Whoever finds somebody in gets an error at once.
 #![tactic(auto)]
 
+mod open_row;
 mod room_key;
 mod try_lock;
 mod visit_view;
+mod visited;
 
+pub use open_row::OpenRow;
 pub use try_lock::{Busy, Visit};
+pub use visited::{NotVisited, Visited};
