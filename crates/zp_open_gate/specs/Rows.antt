@@ -1,5 +1,6 @@
 -- What is known of the zones of a row (this profile).
-use Rattle.std.specs.Prelude.{ℕ, ◌≡◌, ◌<◌, ◌⊎◌, List, [], All, length, slice_index_or, take}
+use Rattle.std.specs.Prelude.{ℕ, ◌≡◌, ◌<◌, ◌≤◌, ◌+◌, ◌⊎◌, List, [], All, length, slice_index_or, take}
+use Rattle.zp_model.specs.Area.{pageblocks_of}
 use Rattle.zp_model.specs.declared.refused.Refused.{Refused}
 use Rattle.zp_model.specs.declared.refused.Refused.TheVariants.{Memory}
 use Rattle.zp_zone.specs.Making.{IsRefusedWithin, IsWideGood, Wanted, wanted}
@@ -22,6 +23,17 @@ no_room = record { name = []; base = 0; pages = 0; min = 0; largest = 0 }
 
 abbrev pub key_at : RowState → ℕ → RoomKey
 key_at r i = slice_index_or r i no_room
+
+-- the row has a zone at this place
+abbrev pub HasZone : RowState → ℕ → Type 0
+HasZone r i = i < length r
+
+-- the zone with this key has this page, by its absolute number; and the pageblock of this number
+abbrev pub HasPage : RoomKey → ℕ → Type 0
+HasPage k p = (k.base ≤ p) × (p < k.base + k.pages)
+
+abbrev pub HasPageblock : RoomKey → ℕ → Type 0
+HasPageblock k n = n < pageblocks_of k.largest k.pages
 
 -- that of a zone which is made with this config
 abbrev pub key_for : ZoneConfig → RoomKey

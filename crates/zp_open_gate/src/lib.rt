@@ -4,10 +4,12 @@
 
 mod open_row;
 mod room_key;
+mod shared;
 mod try_lock;
 mod visit_view;
 mod visited;
 
 pub use open_row::OpenRow;
+pub use shared::{row_crosses, row_is_shared};
 pub use try_lock::{Busy, Visit};
 pub use visited::{NotVisited, Visited};

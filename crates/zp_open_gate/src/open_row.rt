@@ -6,7 +6,11 @@ ghost use Rattle.zp_open_gate.specs.Locks.{IsIn};
 ghost use Rattle.zp_open_gate.specs.Rows.{key_at, lock_key};
 
 mod blocks;
+mod extent;
 mod opening;
+mod pageblocks;
+mod reports;
+mod runs;
 
 use crate::try_lock::{TryLock, Visitor};
 use crate::visited::NotVisited;

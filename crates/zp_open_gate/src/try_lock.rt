@@ -1,5 +1,6 @@
 //! A lock that nobody waits for, with a room behind it. A visitor enters where nobody is in, makes one call of the room, and leaves.
-ghost use Rattle.std.specs.Prelude.{◌≡◌, IfErr, IfOk};
+ghost use Rattle.std.specs.Prelude.{◌≡◌, ◌≤◌, IfErr, IfOk};
+ghost use Rattle.zp_model.specs.declared.constants.TheConstants.{MAX_PAGES};
 ghost use Rattle.zp_model.specs.declared.refused.Refused.TheVariants.{Memory};
 ghost use Rattle.zp_open_gate.specs.Rooms.{IsKnownAs};
 ghost use Rattle.zp_open_gate.specs.Locks.{IsIn, MayLeave, first_held};
@@ -9,7 +10,7 @@ use crate::visit_view::VisitView;
 use atomic_table::{Play, Seat as Place, Table, TableRule};
 use std::alloc::Global;
 use std::marker::Model;
-use zp_model::Refused;
+use zp_model::{Largest, Refused};
 use zp_open_room::OpenRoom;
 
 /// The rule of a lock.
@@ -77,18 +78,26 @@ const FREE: u64 = 0;
 
 const TAKEN: u64 = 1;
 
-/// A room that one caller at a time may enter.
+/// A room that one caller at a time may enter, and what never changes of it, which is told beside the lock.
 #[derive(Drop)]
 pub struct TryLock {
     pub(crate) table: Table<OpenRoom, VisitView, RoomKey, Gated, Global>,
+    pub(crate) base: u32,
+    pub(crate) pages: u32,
+    pub(crate) largest: Largest,
     ghost words: { table.shared.table_id.words ≡ 1 },
     ghost slots: { table.shared.table_id.slots ≡ 1 },
+    ghost first: { base ≡ table.shared.key.base },
+    ghost length: { pages ≡ table.shared.key.pages },
+    ghost order: { largest ≡ table.shared.key.largest },
+    ghost few: { pages ≤ MAX_PAGES },
 }
 
 impl TryLock {
     /// A free lock with this room behind it. Refused 6.
     pub(crate) fn new(alloc: Global, room: OpenRoom, key: &RoomKey) -> Result<TryLock, Refused>
-        requires { IsKnownAs key.now room }
+        requires known { IsKnownAs key.now room }
+        requires few { key.now.pages ≤ MAX_PAGES }
         ensures key { IfOk result (λ l. l.table.shared.key ≡ key.now) }
         ensures why { IfErr result (λ e. e ≡ Memory) }
     {
@@ -98,7 +107,12 @@ impl TryLock {
             return Err(Refused::Memory);
         };
         match Table::new(alloc, &[FREE], slots, key) {
-            Ok((table, _place)) => Ok(TryLock { table }),
+            Ok((table, _place)) => Ok(TryLock {
+                table,
+                base: key.base,
+                pages: key.pages,
+                largest: key.largest,
+            }),
             Err(_) => Err(Refused::Memory),
         }
     }
