@@ -13,3 +13,6 @@ pub use open_row::OpenRow;
 pub use shared::{row_crosses, row_is_shared};
 pub use try_lock::{Busy, Visit};
 pub use visited::{NotVisited, Visited};
+
+#[cfg(test)]
+mod tests;
