@@ -14,6 +14,7 @@ pub mod Halves
 pub mod Splitting
 pub mod CountedLists
 pub mod Growing
+pub mod Towards
 pub mod Holding
 pub mod NoBlocks
 pub mod RelistedBy
@@ -27,6 +28,7 @@ pub mod Scattered
 pub mod OnePageblock
 pub mod SplitPages
 pub mod Indexing
+pub mod Halving
 pub mod NotedClaims
 pub mod Claimable
 pub mod ClearedPageblocks

@@ -10,3 +10,4 @@ pub mod Available
 pub mod Claims
 pub mod KeptSets
 pub mod Standing
+pub mod Towards

@@ -10,10 +10,11 @@
 //! The invariant says that all of these are of one set of blocks, those noted as free. Which blocks they are is the concern of `zp_buddy`.
 //!
 //! `split_off` takes the head off its list, writes the tree once, puts each high half in front of its list, lowers `free_in` once, and
-//! marks the pageblock as changed. `take_first_pages` splits for each power of two of its pages, the largest first: the half that is left
-//! between two of them goes on no list, and `free_in` is lowered and the pageblock marked once for all. `join_up` raises `free_in`, takes each
-//! free buddy off its list, writes the tree when the block has grown, puts its head in front of its list, and marks the pageblock. Most blocks
-//! are taken whole or have no free buddy, and go a way without a loop.
+//! marks the pageblock as changed. `split_towards` does so with the halves beside a page, at any place of the block. `take_first_pages` splits
+//! for each power of two of its pages, the largest first: the half that is left between two of them goes on no list, and `free_in` is lowered
+//! and the pageblock marked once for all. `join_up` raises `free_in`, takes each free buddy off its list, writes the tree when the block has
+//! grown, puts its head in front of its list, and marks the pageblock. Most blocks are taken whole or have no free buddy, and go a way
+//! without a loop.
 //!
 //! Cost: each split or join is one list operation of a constant number of steps, at most as many as the largest order. `retype` steps over
 //! the pages of one pageblock. Where 64 pageblocks are marked, a change that marks one more looks at another one first.
@@ -41,6 +42,7 @@ ghost use Rattle.zp_area.specs.Claims.{IsLargestClaimable, IsOtherType};
 ghost use Rattle.zp_area.specs.Standing.{AreFirstTaken, IsFirstTaken, IsListedBlock, first_head};
 
 mod removal;
+mod towards;
 
 use crate::available::{count_isolated, largest_seen, tell_added, tell_type};
 use crate::counting::pageblocks_of_type;

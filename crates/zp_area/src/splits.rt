@@ -6,14 +6,17 @@ ghost use Rattle.zp_model.specs.declared.constants.TheConstants.{LARGEST_ORDER};
 ghost use Rattle.zp_model.specs.declared.state.State.TheVariants.{Free, Tail};
 ghost use Rattle.zp_model.specs.Rows.{IsLoose, IsOn, front, list_at, with_state};
 ghost use Rattle.zp_model.specs.Area.{kind_at, list_number, pageblock_pages};
-ghost use Rattle.zp_model.specs.Block.{IsBlock};
-ghost use Rattle.zp_area.specs.Blocks.{put_in_front, removed, taken_off};
+ghost use Rattle.zp_model.specs.Block.{IsBlock, head};
+ghost use Rattle.zp_model.specs.BlockSet.{Starts};
+ghost use Rattle.zp_model.specs.RunLaws.{half_beside};
+ghost use Rattle.zp_area.specs.Blocks.{block_set, put_in_front, removed, taken_off};
 ghost use Rattle.zp_area.specs.Chains.{halves_added, pages_split_off, split_off};
 ghost use Rattle.zp_area.specs.Given.{IsClearRun};
 ghost use Rattle.zp_area.specs.KeptSets.{set_of};
 ghost use Rattle.zp_area.specs.OneSet.{IsKept, IsOneSet};
 ghost use Rattle.zp_area.specs.Available.{choosable};
 ghost use Rattle.zp_area.specs.Standing.{IsListedBlock};
+ghost use Rattle.zp_area.specs.Towards.{split_towards};
 ghost use Rattle.zp_model.specs.PageblockType.{is_isolate};
 
 use crate::free_lists::list_of;
@@ -141,6 +144,56 @@ pub fn split_off(
         pages /= 2;
         list -= PAGEBLOCK_TYPES;
         put_half(lists, list, at, order, pages);
+    }
+    free_in[pageblock] -= to.pages();
+}
+
+/// The half of the double of the aligned run of this order around a page in which the page does not lie.
+#[inline(always)]
+pub fn half_beside(at: PageAt, order: Order) -> PageAt
+    ensures { result ≡ half_beside at order }
+{
+    at.head(order).buddy(order)
+}
+
+/// Takes the block of order `from` around a page, in a pageblock of this type, which is not isolated, out of the set, and the halves beside the
+/// page down to order `to` into it. The tree changes once, and so does the number of free pages of the pageblock.
+#[inline(always)]
+pub fn split_towards(
+    blocks: &mut KeptBlocks,
+    pageblock: usize,
+    kind: PageblockType,
+    at: PageAt,
+    from: Order,
+    to: Order,
+)
+    requires kept { IsKept blocks.old.largest (set_of blocks.old) blocks.old.free_in.items }
+    requires here { pageblock ≡ at / pageblock_pages blocks.old.largest }
+    requires block { Starts (block_set (set_of blocks.old)) (head at from) from }
+    requires typed { kind ≡ kind_at blocks.old.largest blocks.old.kinds.items at }
+    requires open { is_isolate kind ≡ false }
+    requires told { blocks.old.tree ≡ choosable blocks.old.largest (set_of blocks.old) }
+    requires down { to < from }
+    ensures kept { IsKept blocks.old.largest (record (set_of blocks.old) { rows = blocks.new.lists }) blocks.new.free_in.items }
+    ensures told { blocks.new.tree ≡ choosable blocks.old.largest (record (set_of blocks.old) { rows = blocks.new.lists }) }
+    ensures stays { (blocks.new.largest ≡ blocks.old.largest) × (blocks.new.kinds ≡ blocks.old.kinds) }
+    ensures numbers { blocks.new.free_in.items ≡ slice_set blocks.old.free_in.items pageblock (slice_index blocks.old.free_in.items pageblock - 2 ^ to) }
+    ensures after { record (set_of blocks.old) { rows = blocks.new.lists } ≡ split_towards blocks.old.largest (set_of blocks.old) at from to }
+{
+    let KeptBlocks {
+        lists,
+        tree,
+        free_in,
+        ..
+    } = blocks;
+    let mut list = list_of(from, kind);
+    take_out(lists, list, at.head(from), false);
+    tree.split_towards(at, from, to);
+    let mut order = from;
+    'halves: while to.number() < order.number() {
+        order = order.lower();
+        list -= PAGEBLOCK_TYPES;
+        lists.push_front_noted(list, half_beside(at, order), State::Free(order));
     }
     free_in[pageblock] -= to.pages();
 }

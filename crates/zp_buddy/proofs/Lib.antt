@@ -18,6 +18,7 @@ pub mod TurnedRuns
 pub mod HeldNotes
 pub mod TakenBehind
 pub mod ClippedBlocks
+pub mod TakenTowards
 pub mod TakenWhole
 pub mod FallingRuns
 pub mod LastOrders

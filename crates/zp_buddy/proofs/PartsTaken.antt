@@ -1,14 +1,12 @@
 -- Pages that are taken out of the free blocks in which they lie.
-use Rattle.std.proofs.Common.{ℕ, ◌+◌, ◌-◌, ◌^◌, ◌≡◌, ◌≤◌, ◌<◌, ◌⊎◌, inl, inr, refl, sym, ◌∙◌, ap, subst, arith, Bool, List, [], Some, false, true, length, max, min, get_or-set_same, get_or-set_other}
-use Rattle.std.proofs.lemmas.Nat.{pow_pos}
+use Rattle.std.proofs.Common.{ℕ, ◌+◌, ◌-◌, ◌^◌, ◌≡◌, ◌≤◌, ◌<◌, ◌⊎◌, inl, inr, refl, sym, ◌∙◌, ap, subst, arith, Bool, List, [], Some, false, true, length, max, min}
 use Rattle.std.proofs.lemmas.Bool.{both_ways, cases_eq, cases_lt, false_from_ne_true}
 use Rattle.std.proofs.lemmas.List.{get_or-drop}
 use Rattle.std.proofs.Math.Bool.{and-false}
 use Rattle.zp_model.specs.declared.migrate_type.MigrateType.{MigrateType}
 use Rattle.zp_model.specs.declared.pageblock_type.PageblockType.{PageblockType}
 use Rattle.zp_model.specs.declared.pageblock_type.PageblockType.TheVariants as of
-use Rattle.zp_model.specs.declared.state.State.TheVariants.{Tail}
-use Rattle.zp_model.specs.Block.{has, head, is_max, IsBlock}
+use Rattle.zp_model.specs.Block.{has, head, IsBlock}
 use Rattle.zp_model.specs.BlockSet.{Starts, cover}
 use Rattle.zp_model.specs.Area.{Area, lists_count}
 use Rattle.zp_model.specs.Frames.{Frames, restated, with_area}
@@ -16,16 +14,14 @@ use Rattle.zp_model.specs.PageblockType.{migrate_type, pageblock_type}
 use Rattle.zp_model.specs.Rows.{list_at, stands_in, state_at}
 use Rattle.zp_model.specs.Runs.{give_run, has_pages, leave_run, without_pages}
 use Rattle.zp_model.specs.Take.{leave}
-use Rattle.zp_model.proofs.Heads.{head_aligned, head_le, head_of, head_self, lt_head}
+use Rattle.zp_model.proofs.Heads.{head_aligned, head_head, head_le, head_of, head_room, head_self, lt_head}
 use Rattle.zp_model.proofs.LowestRun.{has_pages-from, has_pages-to}
-use Rattle.zp_model.proofs.MaximalBlocks.{max-unique}
 use Rattle.zp_model.proofs.Pages.{In}
 use Rattle.zp_model.proofs.RunGiven.{leave_block, leave_more, left_in_parts, listed}
 use Rattle.zp_model.proofs.RunParts.{with_pages-to, without_pages-from, without_pages-to}
 use Rattle.zp_laws.proofs.Areas.{free-give_run, free-leave, free-leave_run}
 use Rattle.zp_laws.proofs.Counting.{has-without_any, in_run-yes}
-use Rattle.zp_area.specs.Blocks.{Blocks, block_set, removed}
-use Rattle.zp_area.proofs.NotedBlocks.{starts-to}
+use Rattle.zp_area.specs.Blocks.{Blocks, block_set}
 use Rattle.zp_buddy.specs.Choices.{area_in, frames_in}
 use Rattle.zp_buddy.specs.Parts.{IsGivenBack, IsLeftBetween, IsLeftRun, MayComeBefore, MayComeBehind}
 use Rattle.zp_buddy.specs.Runs.{AreClear}
@@ -34,124 +30,138 @@ use Rattle.zp_buddy.proofs.ClippedBlocks.{left_clipped}
 use Rattle.zp_buddy.proofs.Runs.{sound_listed}
 use Rattle.zp_buddy.proofs.Settled.{IsRestated, length-pages, restated_all, restated_same, starts_block}
 use Rattle.zp_buddy.proofs.SplitBlocks.{IsLeft}
-use Rattle.zp_buddy.proofs.TakenWhole.{left_whole}
+use Rattle.zp_buddy.proofs.TakenTowards.{IsTakenTowards}
 
--- pages (x, n) of the block of order o around page x: the block leaves a
-module _ (a : Blocks) (x n o : ℕ) (s : IsSound a.largest a.rows.states a.kinds a.rows.lists) (st : Starts (block_set a) (head x o) o) (some : 0 < n) (within : x + n ≤ head x o + 2 ^ o) where
+-- pages (x, n) of the run of order k around page x, which lies in the block of order o around it: the run leaves a, which is b then
+module _ (a b : Blocks) (x n k o : ℕ) (s : IsSound a.largest a.rows.states a.kinds a.rows.lists) (st : Starts (block_set a) (head x o) o) (down : k ≤ o) (some : 0 < n)
+    (within : x + n ≤ head x k + 2 ^ k) (largest : b.largest ≡ a.largest) (gone : IsTakenTowards a.largest a (head x k) k o b) where
   abbrev m : ℕ
   m = a.largest
 
   abbrev g : ℕ
-  g = head x o
+  g = head x k
 
-  abbrev b : Blocks
-  b = removed m a g o
+  left : IsLeft m g k a b
+  left = gone.left
 
-  left : IsLeft m g o a b
-  left = left_whole m a g o s st
+  -- the block in which the run lies
+  abbrev f : ℕ
+  f = head x o
 
-  block : IsBlock m (length a.rows.states) g o
-  block = starts_block m a g o s st
+  around : head g o ≡ f
+  around = head_head x k o down
+
+  room : g + 2 ^ k ≤ f + 2 ^ o
+  room = omega (arith, around, head_room g k o down (head_aligned x k))
+
+  from : f ≤ g
+  from = omega (arith, around, head_le g o)
+
+  block : IsBlock m (length a.rows.states) f o
+  block = starts_block m a f o s st
+
+  full : (i : ℕ) → g ≤ i → i < g + 2 ^ k → In (cover (block_set a)) i
+  full i lo hi = s.normal.inside f o st i (omega (arith, from)) (omega (arith, room))
 
   pub sound_left : IsSound m b.rows.states b.kinds b.rows.lists
   sound_left = left.sound
 
-  no_page : (i : ℕ) → g ≤ i → i < g + 2 ^ o → has (cover (block_set b)) i ≡ false
+  no_page : (i : ℕ) → g ≤ i → i < g + 2 ^ k → has (cover (block_set b)) i ≡ false
   no_page i lo hi =
       ap (λ (f : Frames). has f.area.free i) left.after
-      ∙ ap (λ u. has u i) (free-leave (area_in m a) g o)
-      ∙ has-without_any (cover (block_set a)) g o i
-      ∙ rw (in_run-yes g o i lo hi) (and-false _)
+      ∙ ap (λ u. has u i) (free-leave (area_in m a) g k)
+      ∙ has-without_any (cover (block_set a)) g k i
+      ∙ rw (in_run-yes g k i lo hi) (and-false _)
 
-  no_side : (r i : ℕ) → g ≤ i → i < g + 2 ^ o → stands_in i (list_at (frames_in m b).sides r) ≡ false
+  no_side : (r i : ℕ) → g ≤ i → i < g + 2 ^ k → stands_in i (list_at (frames_in m b).sides r) ≡ false
   no_side r i lo hi = rw (ap (λ (f : Frames). f.sides) left.after) (false_from_ne_true _ (λ on.
-      s.aside (lists_count m + r) i (omega arith) (rw (get_or-drop (lists_count m) a.rows.lists r []) at on) (s.normal.inside g o st i lo hi)))
+      s.aside (lists_count m + r) i (omega arith) (rw (get_or-drop (lists_count m) a.rows.lists r []) at on) (full i lo hi)))
 
-  now_clear : (h k : ℕ) → g ≤ h → h + k ≤ g + 2 ^ o → AreClear (frames_in m b) h k
-  now_clear h k lo hi = record {
-    inside = omega (arith, length-pages b.rows.states, left.pages, block.inside);
+  now_clear : (h l : ℕ) → g ≤ h → h + l ≤ g + 2 ^ k → AreClear (frames_in m b) h l
+  now_clear h l lo hi = record {
+    inside = omega (arith, length-pages b.rows.states, left.pages, block.inside, room);
     free = λ i p q. no_page i (omega arith) (omega arith);
     aside = λ r i p q. no_side r i (omega arith) (omega arith);
   }
 
   pub may_before : MayComeBefore b g x
   may_before = record {
-    clear = now_clear g (x - g) (omega arith) (omega (arith, head_le x o));
-    order = o;
-    within = block.order;
+    clear = subst (λ q. AreClear (frames_in q b) g (x - g)) (sym largest) (now_clear g (x - g) (omega arith) (omega (arith, head_le x k, lt_head x k)));
+    order = k;
+    within = omega (arith, block.order, largest);
     from = refl;
-    taken = no_page x (head_le x o) (lt_head x o);
+    taken = no_page x (head_le x k) (lt_head x k);
   }
 
   module _ (c : Blocks) (back : IsGivenBack b c g (x - g)) where
-    still_out : (i : ℕ) → x ≤ i → i < g + 2 ^ o → has (cover (block_set c)) i ≡ false
+    low : c.largest ≡ m
+    low = back.largest ∙ largest
+
+    area_back : area_in m c ≡ give_run (area_in m b) g (x - g)
+    area_back = subst (λ q. area_in q c ≡ give_run (area_in q b) g (x - g)) largest back.area
+
+    sides_back : (frames_in m c).sides ≡ (frames_in m b).sides
+    sides_back = subst (λ q. (frames_in q c).sides ≡ (frames_in q b).sides) largest back.sides
+
+    still_out : (i : ℕ) → x ≤ i → i < g + 2 ^ k → has (cover (block_set c)) i ≡ false
     still_out i lo hi = false_from_ne_true (has (cover (block_set c)) i) (λ e.
-        elim (with_pages-to (cover (block_set b)) g (x - g) i (rw (ap (λ (r : Area). r.free) back.area ∙ free-give_run (area_in m b) g (x - g)) at e)) [
-          | inl old ↦ both_ways (has (cover (block_set b)) i) (no_page i (omega (arith, head_le x o)) hi) old
-          | inr new ↦ absurd (omega (arith, new.1, head_le x o))
+        elim (with_pages-to (cover (block_set b)) g (x - g) i (rw (ap (λ (r : Area). r.free) area_back ∙ free-give_run (area_in m b) g (x - g)) at e)) [
+          | inl old ↦ both_ways (has (cover (block_set b)) i) (no_page i (omega (arith, head_le x k)) hi) old
+          | inr new ↦ absurd (omega (arith, new.1, head_le x k))
         ])
 
-    pub may_behind : MayComeBehind c (x + n) (g + 2 ^ o)
+    pub may_behind : MayComeBehind c (x + n) (g + 2 ^ k)
     may_behind = record {
-      clear = subst (λ q. AreClear (frames_in q c) (x + n) (g + 2 ^ o - (x + n))) (sym back.largest) (record {
-        inside = omega (arith, length-pages c.rows.states, back.pages, left.pages, block.inside);
+      clear = subst (λ q. AreClear (frames_in q c) (x + n) (g + 2 ^ k - (x + n))) (sym low) (record {
+        inside = omega (arith, length-pages c.rows.states, back.pages, left.pages, block.inside, room);
         free = λ i p q. still_out i (omega arith) (omega arith);
-        aside = λ r i p q. rw back.sides (no_side r i (omega (arith, head_le x o)) (omega arith));
+        aside = λ r i p q. rw sides_back (no_side r i (omega (arith, head_le x k)) (omega arith));
       });
       last = x + n - 1;
       next = omega arith;
-      order = o;
-      within = omega (arith, block.order, back.largest);
-      to = let same : head (x + n - 1) o ≡ g = head_of g (x + n - 1) o (head_aligned x o) (omega (arith, head_le x o)) (omega arith) in omega (arith, same);
+      order = k;
+      within = omega (arith, block.order, low);
+      to = let same : head (x + n - 1) k ≡ g = head_of g (x + n - 1) k (head_aligned x k) (omega (arith, head_le x k)) (omega arith) in omega (arith, same);
       taken = still_out (x + n - 1) (omega arith) (omega arith);
     }
 
-    module _ (d : Blocks) (behind : IsGivenBack c d (x + n) (g + 2 ^ o - (x + n))) where
+    module _ (d : Blocks) (behind : IsGivenBack c d (x + n) (g + 2 ^ k - (x + n))) where
       abbrev rest : ℕ
-      rest = g + 2 ^ o - (x + n)
-
-      whole : is_max m (cover (block_set a)) g o ≡ true
-      whole = (max-unique m (Starts (block_set a)) (cover (block_set a)) s.normal g o).0 st
+      rest = g + 2 ^ k - (x + n)
 
       area : area_in m d ≡ leave_run (area_in m a) x n
       area =
-          subst (λ q. area_in q d ≡ give_run (area_in q c) (x + n) rest) back.largest behind.area
-          ∙ ap (λ (r : Area). give_run r (x + n) rest) back.area
+          subst (λ q. area_in q d ≡ give_run (area_in q c) (x + n) rest) low behind.area
+          ∙ ap (λ (r : Area). give_run r (x + n) rest) area_back
           ∙ ap (λ (f : Frames). give_run (give_run f.area g (x - g)) (x + n) rest) left.after
-          ∙ left_clipped (area_in m a) g o x n (listed (area_in m a) (sound_listed m a s)) whole (head_le x o) some within
+          ∙ left_clipped (area_in m a) g k x n (listed (area_in m a) (sound_listed m a s)) (omega (arith, block.order)) (head_aligned x k) full (head_le x k) some within
 
       -- what is noted of a page
-      noted_left : (i : ℕ) → IsRestated (state_at a.rows.states i) (state_at b.rows.states i)
-      noted_left i = elim (cases_eq i g) [
-        | inl same ↦ rw (same, get_or-set_same a.rows.states g Tail Tail (omega (arith, block.inside, pow_pos o)), starts-to a.rows.states g o st) refl
-        | inr ne ↦ rw (get_or-set_other a.rows.states g i Tail Tail ne) (restated_same _)
-      ]
-
       noted_first : (i : ℕ) → IsRestated (state_at a.rows.states i) (state_at c.rows.states i)
-      noted_first i = elim (back.noted i) [ inl old ↦ rw old (noted_left i) | inr new ↦ rw new.3 refl ]
+      noted_first i = elim (back.noted i) [ inl old ↦ rw old (gone.restates i) | inr new ↦ rw new.3 refl ]
 
       noted_last : (i : ℕ) → IsRestated (state_at a.rows.states i) (state_at d.rows.states i)
       noted_last i = elim (behind.noted i) [ inl old ↦ rw old (noted_first i) | inr new ↦ rw new.3 refl ]
 
-      same_outside : (i : ℕ) → (i < g) ⊎ (g + 2 ^ o ≤ i) → state_at d.rows.states i ≡ state_at a.rows.states i
+      same_outside : (i : ℕ) → (i < f) ⊎ (f + 2 ^ o ≤ i) → state_at d.rows.states i ≡ state_at a.rows.states i
       same_outside i out =
-          let off : (g ≤ i → i < g + 2 ^ o → ⊥) = λ p q. elim out [ inl lo ↦ omega arith | inr hi ↦ omega arith ] in
+          let off : (g ≤ i → i < g + 2 ^ k → ⊥) = λ p q. elim out [ inl lo ↦ omega (arith, from) | inr hi ↦ omega (arith, room) ] in
           elim (behind.noted i) [
-            | inr new ↦ absurd (off (omega (arith, new.0, head_le x o)) (omega (arith, new.1)))
+            | inr new ↦ absurd (off (omega (arith, new.0, head_le x k)) (omega (arith, new.1)))
             | inl last ↦ elim (back.noted i) [
-              | inr new ↦ absurd (off (omega (arith, new.0)) (omega (arith, new.1, head_le x o)))
-              | inl first ↦ last ∙ first ∙ get_or-set_other a.rows.states g i Tail Tail (λ e. off (omega (arith, e)) (omega (arith, e, pow_pos o)))
+              | inr new ↦ absurd (off (omega (arith, new.0)) (omega (arith, new.1, head_le x k)))
+              | inl first ↦ last ∙ first ∙ gone.outside i (elim out [ inl lo ↦ inl (omega (arith, around)) | inr hi ↦ inr (omega (arith, around)) ])
             ]
           ]
 
-      pub left_between : IsLeftBetween a d x n g (g + 2 ^ o)
+      pub left_between : IsLeftBetween a d x n f (f + 2 ^ o)
       left_between = record {
-        largest = behind.largest ∙ back.largest;
-        sound = subst (λ q. IsSound q d.rows.states d.kinds d.rows.lists) back.largest behind.sound;
+        largest = behind.largest ∙ low;
+        sound = subst (λ q. IsSound q d.rows.states d.kinds d.rows.lists) low behind.sound;
         pages = behind.pages ∙ back.pages ∙ left.pages;
         kinds = behind.kinds ∙ back.kinds ∙ left.kinds;
         area = area;
-        sides = subst (λ q. (frames_in q d).sides ≡ (frames_in q c).sides) back.largest behind.sides ∙ back.sides ∙ ap (λ (f : Frames). f.sides) left.after;
+        sides = subst (λ q. (frames_in q d).sides ≡ (frames_in q c).sides) low behind.sides ∙ sides_back ∙ ap (λ (f : Frames). f.sides) left.after;
         noted = noted_last;
         outside = same_outside;
       }

@@ -27,7 +27,7 @@ use crate::clear::{is_block, is_clear_run};
 use crate::falling::give_falling;
 use crate::join::join;
 use crate::opening::add_all_pages;
-use crate::parts::{take_low_part, take_pages};
+use crate::parts::{take_inside, take_low_part, take_pages};
 use crate::split::take_block;
 use crate::takes::{take, take_run};
 use std::alloc::{AllocError, Global};
@@ -226,6 +226,32 @@ impl Buddy {
         take_low_part(&mut self.area, at, found, order);
         let pages = order.pages();
         self.free -= pages;
+    }
+
+    /// Takes the block of this order at a page that heads no free block, where all of its pages are free, of whatever type and in an isolated pageblock
+    /// too: whether they are.
+    // (in line, as `take_whole` is)
+    #[inline(always)]
+    pub fn take_inside(&mut self, at: PageAt, order: Order) -> bool
+        requires block { IsBlock self.old.area.largest (length self.old.area.free) at order }
+        requires beside { (k : ℕ) → state_at self.old.states at ≡ Free k → ⊥ }
+        ensures when { result ≡ has_pages self.old.area.free at (2 ^ order) }
+        ensures after { result ≡ true → self.new ≡ with_area self.old (leave_run self.old.area at (2 ^ order)) }
+        ensures left { result ≡ false → self.new ≡ self.old }
+
+        // What the calls after it can rest on.
+        ensures head { result ≡ true → (at < length self.new.states) × (has self.new.area.free at ≡ false) }
+        ensures clear { result ≡ true → IsClear self.new at order }
+        ensures kept { (h k : ℕ) → IsClear self.old h k → IsClear self.new h k }
+    {
+        // a clause of this call says that all that is kept is of one set of blocks
+        let _pages = self.area.pages();
+        if !take_inside(&mut self.area, at, order) {
+            return false;
+        }
+        let pages = order.pages();
+        self.free -= pages;
+        true
     }
 
     /// Takes so many pages from this one on, where all of them are free, of whatever type and in isolated pageblocks too: whether they are.

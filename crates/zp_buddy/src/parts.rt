@@ -1,10 +1,10 @@
 //! Taking pages at whatever place out of the free blocks in which they lie.
 //!
-//! Each of these blocks leaves the free area whole; then what it has before and behind the taken pages comes back, block by block of its cut. None of
-//! these joins another: the buddy of each has a page that is taken.
+//! Of each of these blocks the least aligned run that has its taken pages is split off, so that the halves beside the run stay free; then what the run
+//! has before and behind the pages comes back, block by block of its cut. None of these joins another: the buddy of each has a page that is taken.
 //!
 //! In Linux: `take_page_off_buddy`, with `break_down_buddy_pages`; `alloc_contig_range` takes such pages out of the free area too.
-ghost use Rattle.std.specs.Prelude.{ℕ, ◌≡◌, ◌≤◌, ◌<◌, ◌+◌, ◌-◌, ◌^◌, true, false, length};
+ghost use Rattle.std.specs.Prelude.{ℕ, ◌≡◌, ◌≤◌, ◌<◌, ◌+◌, ◌-◌, ◌%◌, ◌^◌, true, false, length};
 ghost use Rattle.zp_model.specs.Block.{has, head};
 ghost use Rattle.zp_model.specs.BlockSet.{Starts, cover};
 ghost use Rattle.zp_model.specs.Frames.{with_area};
@@ -16,7 +16,7 @@ ghost use Rattle.zp_buddy.specs.Parts.{IsGivenBack, IsLeftBetween, IsLeftRun, Ma
 ghost use Rattle.zp_buddy.specs.Sound.{IsSound};
 
 use crate::at::is_free_run;
-use crate::cut::fitting_order;
+use crate::cut::{covering_order, fitting_order};
 use crate::split::take_block;
 use zp_area::FreeArea;
 use zp_model::{Order, PageAt};
@@ -38,7 +38,7 @@ pub fn take_pages(area: &mut FreeArea, at: PageAt, pages: u32) -> bool
     let block_end = at.head(order).number() + order.pages();
     let end = at.number() + pages;
     if end <= block_end {
-        take_within(area, order, at, pages);
+        take_part(area, order, at, pages);
         return true;
     }
     if !is_free_run(area, PageAt::at(block_end), end - block_end) {
@@ -49,23 +49,25 @@ pub fn take_pages(area: &mut FreeArea, at: PageAt, pages: u32) -> bool
     true
 }
 
-/// Takes so many pages from this one on out of the free block of this order in which they lie.
+/// Takes the block of this order at a page that heads no free block, where all of its pages are free: whether they are. One larger free block has
+/// them all then.
 #[inline(always)]
-fn take_within(area: &mut FreeArea, order: Order, at: PageAt, pages: u32)
-    requires some { 0 < pages }
-    requires block { Starts (block_set area.old) (head at order) order }
-    requires within { at + pages ≤ head at order + 2 ^ order }
+pub fn take_inside(area: &mut FreeArea, at: PageAt, order: Order) -> bool
+    requires aligned { at % 2 ^ order ≡ 0 }
+    requires within { order ≤ area.old.largest }
+    requires beside { (k : ℕ) → Starts (block_set area.old) at k → ⊥ }
     requires sound { IsSound area.old.largest area.old.rows.states area.old.kinds area.old.rows.lists }
-    ensures { IsLeftRun area.old area.new at pages }
+    ensures when { result ≡ has_pages (cover (block_set area.old)) at (2 ^ order) }
+    ensures taken { result ≡ true → IsLeftRun area.old area.new at (2 ^ order) }
+    ensures left { result ≡ false → area.new ≡ area.old }
 {
     // a clause of this call says that all that is kept is of one set of blocks
     let _pages = area.pages();
-    let low = fitting_order(area.largest(), at, pages);
-    if low.pages() == pages && at.head(order) == at {
-        take_low_part(area, at, order, low);
-        return;
-    }
-    take_part(area, order, at, pages);
+    let Some(found) = area.order_above(at, order) else {
+        return false;
+    };
+    area.split_towards(at, found, order);
+    true
 }
 
 /// Takes the low part of order `order` of the free block of order `found` that a page heads. It is split off, as a request's block is; in an isolated
@@ -117,7 +119,8 @@ fn take_blocks(area: &mut FreeArea, from: u32, end: u32)
     }
 }
 
-/// Takes so many pages from this one on out of the free block of this order in which they lie.
+/// Takes so many pages from this one on out of the free block of this order in which they lie: the least aligned run that has them all is split off,
+/// and then what it has before and behind them comes back.
 fn take_part(area: &mut FreeArea, order: Order, at: PageAt, pages: u32)
     requires some { 0 < pages }
     requires block { Starts (block_set area.old) (head at order) order }
@@ -127,11 +130,12 @@ fn take_part(area: &mut FreeArea, order: Order, at: PageAt, pages: u32)
 {
     // a clause of this call says that all that is kept is of one set of blocks
     let _pages = area.pages();
-    let head = at.head(order);
+    let run = covering_order(area.largest(), at, pages, order);
+    let head = at.head(run);
     let taken = at.number();
     let behind = taken + pages;
-    let end = head.number() + order.pages();
-    area.remove(head, order);
+    let end = head.number() + run.pages();
+    area.split_towards(head, order, run);
     add_before(area, head.number(), taken);
     add_behind(area, behind, end);
 }

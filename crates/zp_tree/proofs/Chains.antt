@@ -9,7 +9,7 @@ use Rattle.zp_model.proofs.Heads.{two, aligned_down}
 use Rattle.zp_tree.specs.declared.buddies.TheConstants.{BUDDIES}
 use Rattle.zp_tree.specs.declared.constants.TheConstants.{PLACES, WORD_LEVELS}
 use Rattle.zp_tree.specs.Blocks.{buddy}
-use Rattle.zp_tree.specs.Words.{node, IsPlace, IsMarked, IsChain, IsHalved, IsUnpaired}
+use Rattle.zp_tree.specs.Words.{node, IsPlace, IsMarked, IsChain, IsHalved, IsPaired, IsUnpaired}
 use Rattle.zp_tree.proofs.Nodes.{node_is, node_within}
 use Rattle.zp_tree.proofs.WordBits.{set_bit, set_marks, set_keeps_none}
 use Rattle.zp_tree.proofs.BuddyPlaces.{buddy_place, buddy_node, place_inside}
@@ -109,6 +109,12 @@ pub with_chain : (w v p f t : ℕ) → IsPlace p f → IsChain p t f v → IsHal
 with_chain w v p f t x h = record {
   halves = λ k from to. let e = high_half p k f x to in let o : bit_at v (node (p + 2 ^ k) k) ≡ 1 = rw (← e) (h.buddies k from to) in omega (arith, bit_at_or w v (node (p + 2 ^ k) k), o, bit_at-lt w (node (p + 2 ^ k) k));
   others = λ q k y ne. let z = h.others q k y (λ a from to. ne (a ∙ high_half p k f x to) from to) in omega (arith, bit_at_or w v (node q k), z);
+}
+
+pub with_chain_around : (w v p f t : ℕ) → IsChain p f t v → IsPaired w (bit_or w v) p f t
+with_chain_around w v p f t h = record {
+  buddies = λ k from to. omega (arith, bit_at_or w v (node (buddy p k) k), h.buddies k from to, bit_at-lt w (node (buddy p k) k));
+  others = λ q k y ne. omega (arith, bit_at_or w v (node q k), h.others q k y ne);
 }
 
 pub without_chain : (w v p f t : ℕ) → p < PLACES → t ≤ WORD_LEVELS → v < 2 ^ 64 → IsChain p f t v → IsUnpaired w (bit_and w (bit_not w64 v)) p f t

@@ -44,7 +44,7 @@ pub none_starts : (m : ℕ) (s : List (Option ℕ)) (p k i j : ℕ) → IsBlockS
 none_starts m s p k i j x a lo hi st = none_in m s p k i j i x a st lo hi (omega arith) (omega (arith, pow_pos j))
 
 -- the pages of a block are of one group
-same_group : (m : ℕ) (s : List (Option ℕ)) (p k i : ℕ) → IsBlock m (length s) p k → m ≤ GROUP_ORDER → p ≤ i → i < p + 2 ^ k → i / GROUP_PAGES ≡ p / GROUP_PAGES
+pub same_group : (m : ℕ) (s : List (Option ℕ)) (p k i : ℕ) → IsBlock m (length s) p k → m ≤ GROUP_ORDER → p ≤ i → i < p + 2 ^ k → i / GROUP_PAGES ≡ p / GROUP_PAGES
 same_group m s p k i b le lo hi = number_around p i k GROUP_ORDER (omega (arith, b.order, le)) b.aligned lo hi
 
 changed_set : (s : List (Option ℕ)) (p k : ℕ) → p < length s → ((j : ℕ) → Starts s p j → ⊥) → IsChangedIn s (with_block s p k) (p / GROUP_PAGES) k
@@ -78,7 +78,7 @@ group_of_block : (m pages : ℕ) (ls hs rs : List ℕ) (x : ℕ) (s : List (Opti
 group_of_block m pages ls hs rs x s p k t st = omega (arith, (t.set.block p k st).inside, pow_pos k, t.room, t.pages_of)
 
 -- the tree after a block went, by what is left
-lowered_tree : (m pages : ℕ) (ls hs rs ms gs ts : List ℕ) (x y : ℕ) (s r : List (Option ℕ)) (p k : ℕ) → IsTreeOf m pages ls hs rs x s → Starts s p k → IsWords ms gs → length gs ≡ length hs → length r ≡ length s → IsBlockSet m r → IsMarkedBy ms gs r → IsInside gs r →
+pub lowered_tree : (m pages : ℕ) (ls hs rs ms gs ts : List ℕ) (x y : ℕ) (s r : List (Option ℕ)) (p k : ℕ) → IsTreeOf m pages ls hs rs x s → Starts s p k → IsWords ms gs → length gs ≡ length hs → length r ≡ length s → IsBlockSet m r → IsMarkedBy ms gs r → IsInside gs r →
     IsChangedIn s r (p / GROUP_PAGES) k → IsLowered ms gs rs ts x y (p / GROUP_PAGES) k → IsTreeOf m pages ms gs ts y r
 lowered_tree m pages ls hs rs ms gs ts x y s r p k t st w n len b marked inside c l =
     let lt : y < length hs = elim l.stale [ inl e ↦ omega (arith, e, t.stale) | inr e ↦ omega (arith, e, group_of_block m pages ls hs rs x s p k t st) ] in
@@ -90,7 +90,7 @@ pub record IsLeft (ms gs rs : List ℕ) (x p : ℕ) : Type 0 where
   pub down : IsRankBound ms gs (p / GROUP_PAGES) (slice_index rs (p / GROUP_PAGES))
   pub near : x ≢ p / GROUP_PAGES → IsNearRank ms gs x (slice_index rs x)
 
-left : (m pages : ℕ) (ls hs rs ms gs : List ℕ) (x : ℕ) (s r : List (Option ℕ)) (p k : ℕ) → IsTreeOf m pages ls hs rs x s → Starts s p k → IsMarkedBy ms gs r → IsInside gs r → IsChangedIn s r (p / GROUP_PAGES) k → IsLeft ms gs rs x p
+pub left : (m pages : ℕ) (ls hs rs ms gs : List ℕ) (x : ℕ) (s r : List (Option ℕ)) (p k : ℕ) → IsTreeOf m pages ls hs rs x s → Starts s p k → IsMarkedBy ms gs r → IsInside gs r → IsChangedIn s r (p / GROUP_PAGES) k → IsLeft ms gs rs x p
 left m pages ls hs rs ms gs x s r p k t st marked inside c = record {
   down = rank_bound ms gs rs s r x p k t.ranked c st marked;
   near = λ ne. near_rank ms gs r x x (slice_index rs x) marked inside (other_group s r (p / GROUP_PAGES) k x x (slice_index rs x) c ne (t.ranked x));

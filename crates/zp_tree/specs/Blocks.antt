@@ -4,6 +4,7 @@ use Rattle.std.specs.Prelude.{ℕ, suc, zero, ◌+◌, ◌-◌, ◌*◌, ◌/◌
 use Rattle.std.specs.List.{range_with_len}
 use Rattle.zp_model.specs.Block.{IsBlock, head, in_run}
 use Rattle.zp_model.specs.BlockSet.{Starts, is_covered}
+use Rattle.zp_model.specs.RunLaws.{half_beside}
 use Rattle.zp_tree.specs.declared.constants.TheConstants.{GROUP_ORDER, GROUP_PAGES}
 
 -- each block lies in the zone and has an order of at most m, and no two have a page in common
@@ -34,6 +35,16 @@ high_halves s h k (suc d) = high_halves (with_block s (h + 2 ^ (k + d)) (k + d))
 -- the set with the high halves of the block (h, o) down to order k in its place: its low part of order k is in no block
 abbrev pub split_set : List (Option ℕ) → ℕ → ℕ → ℕ → List (Option ℕ)
 split_set s h o k = high_halves (without_block s h) h k (o - k)
+
+-- the set with the d halves in which page h does not lie, of the runs around it of orders k + d down to k + 1, in this order
+abbrev pub with_halves_beside : List (Option ℕ) → ℕ → ℕ → ℕ → List (Option ℕ)
+with_halves_beside s h k zero = s
+with_halves_beside s h k (suc d) = with_halves_beside (with_block s (half_beside h (k + d)) (k + d)) h k d
+
+-- the set without the block of order o around page h, and with the halves that halving it down to the run of order k around the page leaves: that
+-- run is in no block
+abbrev pub split_towards_set : List (Option ℕ) → ℕ → ℕ → ℕ → List (Option ℕ)
+split_towards_set s h o k = with_halves_beside (without_block s (head h o)) h k (o - k)
 
 -- the other half of the double of the run of order k around page h
 abbrev pub buddy : ℕ → ℕ → ℕ

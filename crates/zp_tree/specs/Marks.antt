@@ -49,6 +49,14 @@ pub record IsJoinedUp (ls hs ms gs : List ℕ) (p f t : ℕ) : Type 0 where
   pub buddies : (j : ℕ) → f ≤ j → j < t → mark ms gs (buddy p j) j ≡ 0
   pub others : (i j : ℕ) → IsInGroups hs i j → (i ≡ head p t → j ≡ t → ⊥) → (i ≡ buddy p j → f ≤ j → j < t → ⊥) → mark ms gs i j ≡ mark ls hs i j
 
+-- the words after the block of order f around page p was split towards the page, down to order t, and the run of that order around it taken
+pub record IsSplitTowards (ls hs ms gs : List ℕ) (p f t : ℕ) : Type 0 where
+  pub words : IsWords ms gs
+  pub size : length gs ≡ length hs
+  pub here : mark ms gs (head p f) f ≡ 0
+  pub buddies : (j : ℕ) → t ≤ j → j < f → mark ms gs (buddy p j) j ≡ 1
+  pub others : (i j : ℕ) → IsInGroups hs i j → (i ≡ head p f → j ≡ f → ⊥) → (i ≡ buddy p j → t ≤ j → j < f → ⊥) → mark ms gs i j ≡ mark ls hs i j
+
 -- some words after n of them, from word a on, were emptied
 pub record AreEmptied (ws vs : List ℕ) (a n : ℕ) : Type 0 where
   pub size : length vs ≡ length ws

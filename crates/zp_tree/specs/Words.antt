@@ -41,6 +41,11 @@ pub record IsUnpaired (w v p f t : ℕ) : Type 0 where
   pub buddies : (k : ℕ) → f ≤ k → k < t → bit_at v (node (buddy p k) k) ≡ 0
   pub others : (q k : ℕ) → IsPlace q k → (q ≡ buddy p k → f ≤ k → k < t → ⊥) → bit_at v (node q k) ≡ bit_at w (node q k)
 
+-- v is the word w with the buddies of the runs around place p, from level f to below level t
+pub record IsPaired (w v p f t : ℕ) : Type 0 where
+  pub buddies : (k : ℕ) → f ≤ k → k < t → bit_at v (node (buddy p k) k) ≡ 1
+  pub others : (q k : ℕ) → IsPlace q k → (q ≡ buddy p k → f ≤ k → k < t → ⊥) → bit_at v (node q k) ≡ bit_at w (node q k)
+
 -- v has the bits of the nodes d levels below node n of the word w, and no others
 pub record IsRow (w n d v : ℕ) : Type 0 where
   pub bits : (i : ℕ) → i < 2 ^ d → bit_at v i ≡ bit_at w (n * 2 ^ d + i)

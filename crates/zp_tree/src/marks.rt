@@ -2,7 +2,7 @@
 ghost use Rattle.std.specs.Prelude.{◌≡◌, ◌≤◌, ◌<◌, ◌+◌, ◌^◌, ℕ, List, cond, length};
 ghost use Rattle.zp_model.specs.Block.{head};
 ghost use Rattle.zp_tree.specs.declared.constants.TheConstants.{WORD_LEVELS, MOST_GROUPS};
-ghost use Rattle.zp_tree.specs.Marks.{mark, AreEmptied, IsWords, IsInGroups, IsGroupCleared, IsRemarked, IsJoinedUp, IsSplitUp};
+ghost use Rattle.zp_tree.specs.Marks.{mark, AreEmptied, IsWords, IsInGroups, IsGroupCleared, IsRemarked, IsJoinedUp, IsSplitTowards, IsSplitUp};
 
 use crate::constants::{PLACES, WORD_LEVELS};
 use crate::groups::first_word;
@@ -90,6 +90,58 @@ fn split_high(high: &mut Metered<Word>, at: PageAt, from: u8, to: u8)
         .without(place, level)
         .with_halves(place, level, to - WORD_LEVELS);
     high.write(group, new);
+}
+
+/// Clears the bit of the block of order `from` around a page, and sets those of the halves beside the page that are left where it is split
+/// down to order `to`: the buddies of the runs around the page. One word is written, and a second one where the chain goes from a high word
+/// into a low one.
+#[inline]
+pub fn split_marks_around(
+    low: &mut Metered<Word>,
+    high: &mut Metered<Word>,
+    at: PageAt,
+    from: Order,
+    to: Order,
+)
+    requires words { IsWords low.old high.old }
+    requires inside { IsInGroups high.old (head at from) from }
+    requires down { to ≤ from }
+    ensures { IsSplitTowards low.old high.old low.new high.new at from to }
+{
+    let mut meter = Meter::new();
+    let top = from.number();
+    let least = to.number();
+    let word = low_word(at);
+    if least >= WORD_LEVELS {
+        split_high_around(high, at, top, least);
+        return;
+    }
+    let place = low_place(at);
+    let old = low.read(word, &mut meter);
+    if top < WORD_LEVELS {
+        let left = old.without_around(place, top);
+        low.write(word, left.with_buddies(place, least, top));
+        return;
+    }
+    low.write(word, old.with_buddies(place, least, WORD_LEVELS));
+    split_high_around(high, at, top, WORD_LEVELS);
+}
+
+/// The same in a high word alone, for the orders of these numbers.
+#[inline(always)]
+fn split_high_around(high: &mut Metered<Word>, at: PageAt, from: u8, to: u8)
+    requires inside { IsInGroups high.old (head at from) from }
+    requires down { to ≤ from }
+    requires high { WORD_LEVELS ≤ to }
+    ensures { (ls : List ℕ) → IsWords ls high.old → IsSplitTowards ls high.old ls high.new at from to }
+{
+    let mut meter = Meter::new();
+    let group = group_of(at);
+    let place = high_place(at);
+    let level = from - WORD_LEVELS;
+    let old = high.read(group, &mut meter);
+    let left = old.without_around(place, level);
+    high.write(group, left.with_buddies(place, to - WORD_LEVELS, level));
 }
 
 /// Clears the bits of the buddies of the runs around a page, of orders `from` to below `to`, and sets that of the block of order `to`

@@ -5,7 +5,7 @@
 ghost use Rattle.std.specs.Prelude.{◌≡◌, ◌≤◌, ◌<◌, ◌+◌, ◌*◌, ◌^◌, cond, length};
 ghost use Rattle.zp_model.specs.Block.{head};
 ghost use Rattle.zp_tree.specs.declared.constants.TheConstants.{PLACES, WORD_LEVELS};
-ghost use Rattle.zp_tree.specs.Words.{node, IsPlace, IsMarked, IsChain, IsHalved, IsUnpaired, IsRow, IsLargestIn, IsFirstOf, IsFirst, IsUnion};
+ghost use Rattle.zp_tree.specs.Words.{node, IsPlace, IsMarked, IsChain, IsHalved, IsPaired, IsUnpaired, IsRow, IsLargestIn, IsFirstOf, IsFirst, IsUnion};
 
 use crate::buddies::BUDDIES;
 use crate::constants::{PLACES, WORD_LEVELS};
@@ -106,6 +106,18 @@ impl Word {
         }
     }
 
+    /// Without the block of this level around a place.
+    #[inline]
+    pub fn without_around(self, place: u32, level: u8) -> Word
+        requires place { place < PLACES }
+        requires level { level ≤ WORD_LEVELS }
+        ensures { IsMarked self result (head place level) level 0 }
+    {
+        Word {
+            bits: self.bits & !(1 << ((PLACES + place) >> level)),
+        }
+    }
+
     /// With the block of this level at a place, or without it.
     #[inline(always)]
     pub fn put(self, place: u32, level: u8, is_set: bool) -> Word
@@ -129,6 +141,20 @@ impl Word {
         let halves = chain(place, to, from);
         Word {
             bits: self.bits | halves,
+        }
+    }
+
+    /// With the buddies of the runs around a place, from level `from` to below level `to`.
+    #[inline]
+    pub fn with_buddies(self, place: u32, from: u8, to: u8) -> Word
+        requires place { place < PLACES }
+        requires up { from ≤ to }
+        requires levels { to ≤ WORD_LEVELS }
+        ensures { IsPaired self result place from to }
+    {
+        let buddies = chain(place, from, to);
+        Word {
+            bits: self.bits | buddies,
         }
     }
 

@@ -1,7 +1,7 @@
 //! The block that a page heads or lies in, and taking a block out of the set whole, whatever the type of its pageblock.
 //!
 //! In Linux: `is_free_buddy_page`, `buddy_order` and `del_page_from_free_list`.
-ghost use Rattle.std.specs.Prelude.{ℕ, ◌≡◌, ◌≤◌, ◌-◌, ◌^◌, cond, true, false, IfNone, IfSome};
+ghost use Rattle.std.specs.Prelude.{ℕ, ◌≡◌, ◌≤◌, ◌<◌, ◌-◌, ◌^◌, cond, true, false, IfNone, IfSome};
 ghost use Rattle.zp_model.specs.PageblockType.{is_isolate};
 ghost use Rattle.zp_model.specs.Block.{has, head};
 ghost use Rattle.zp_model.specs.BlockSet.{Starts, cover};
@@ -32,8 +32,7 @@ impl FreeArea {
         }
     }
 
-    /// The order of the block in which a page lies, where it lies in one: of the aligned heads around it one alone heads a block of its order.
-    /// The page itself is looked at first, and tells the order of a block that it heads. At most as many pages are looked at as there are orders.
+    /// The order of the block in which a page lies, where it lies in one. Most pages that are asked for head theirs.
     pub fn order_around(&self, at: PageAt) -> Option<Order>
         ensures none { IfNone result (has (cover (block_set self.now)) at ≡ false) }
         ensures some { IfSome result (λ o. Starts (block_set self.now) (head at o) o) }
@@ -43,12 +42,28 @@ impl FreeArea {
         if let Some(headed) = self.order_headed(at) {
             return Some(headed);
         }
+        let Some(order) = self.order_above(at, Order::zero()) else {
+            return None;
+        };
+        Some(order)
+    }
+
+    /// The order of the block, of a higher order than this, in which a page lies, where it lies in one: of the aligned heads around the page one alone
+    /// heads such a block, and tells its order. At most as many pages are looked at as there are orders.
+    pub fn order_above(&self, at: PageAt, order: Order) -> Option<Order>
+        ensures none { IfNone result ((k : ℕ) → order < k → Starts (block_set self.now) (head at k) k → ⊥) }
+        ensures some { IfSome result (λ o. (order < o) × Starts (block_set self.now) (head at o) o) }
+    {
+        // a clause of this call says that all that is kept is of one set of blocks
+        let _pages = self.pages();
         let largest = self.largest().number();
-        let mut number = 1;
+        let mut number = order.number() + 1;
         'orders: while number <= largest {
-            let order = Order::at(number);
-            if self.is_free(at.head(order), order) {
-                return Some(order);
+            let head = at.head(Order::at(number));
+            if let Some(found) = self.order_headed(head) {
+                if found.number() >= number {
+                    return Some(found);
+                }
             }
             number += 1;
         }

@@ -114,6 +114,11 @@ impl UntiedZone {
                 self.take_low(worker, at, found, order);
                 return true;
             }
+        } else {
+            let order = fitting_order(self.buddy.largest(), at, pages);
+            if order.pages() == pages {
+                return self.take_inside(worker, at, order);
+            }
         }
         self.take_parts_if_free(worker, at, pages)
     }
@@ -153,6 +158,28 @@ impl UntiedZone {
         self.buddy.take_low_part(at, found, order);
         let noted = self.buddy.type_of(at).noted();
         self.buddy.hold(at, State::Out(order, noted, worker));
+    }
+
+    /// Takes the block of this order at a page that heads no free block, where all of its pages are free: whether they are. It is out, with its
+    /// pageblock's type noted.
+    // (out of line: most runs are a whole block)
+    #[inline(never)]
+    fn take_inside(&mut self, worker: Worker, at: PageAt, order: Order) -> bool
+        requires worker { worker < workers_of self.old.plain }
+        requires block { IsBlock self.old.plain.area.largest (pages_of self.old.plain) at order }
+        requires beside { (k : ℕ) → is_max self.old.plain.area.largest self.old.plain.area.free at k ≡ true → ⊥ }
+        ensures when { result ≡ has_pages self.old.plain.area.free at (2 ^ order) }
+        ensures taken { result ≡ true → self.new ≡ record self.old { plain = run_taken self.old.plain worker at (2 ^ order) } }
+        ensures left { result ≡ false → self.new ≡ self.old }
+    {
+        // a clause of this call says that what is noted as free is free
+        let _pages = self.buddy.pages();
+        if !self.buddy.take_inside(at, order) {
+            return false;
+        }
+        let noted = self.buddy.type_of(at).noted();
+        self.buddy.hold(at, State::Out(order, noted, worker));
+        true
     }
 
     /// Frees so many pages from this one on, each of them lent to the worker, by whatever blocks. What the blocks around the first and the last

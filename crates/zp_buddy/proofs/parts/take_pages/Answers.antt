@@ -27,7 +27,7 @@ returns-then-end-block_end-clause-when c =
     (omega (arith, c.number.ensures.same, c.number-2.ensures.same, c.pages.ensures.pages, c.head.ensures))))
 
 pub returns-then-end-block_end-clause-taken : goal.returns-then-end-block_end-clause-taken
-returns-then-end-block_end-clause-taken c = λ yes. c.take_within.ensures
+returns-then-end-block_end-clause-taken c = λ yes. left_run c.args.area.now c.take_part.new.area c.args.at c.args.pages (head c.args.at c.in-Some.order) (head c.args.at c.in-Some.order + 2 ^ c.in-Some.order) c.take_part.ensures
 
 -- where the block ends
 end : (c : After-number-2) → c.number.result + c.pages.result ≡ head c.args.at c.in-Some.order + 2 ^ c.in-Some.order
@@ -47,14 +47,14 @@ take_blocks-requires-clause-free c =
     let z = c.number.result + c.pages.result in
     let s = (goal.at.take_blocks-requires-clause-free c).After-number-2 in
     let full : has_pages (cover (block_set c.args.area.now)) z (c.number-2.result + c.args.pages - z) ≡ true = rw c.at.ensures at (sym c.is_free_run.ensures ∙ c.if-not-is_free_run.false) in
-    free_behind c.args.area.now c.take_part.new.area c.args.at (z - c.number-3.result) (head c.args.at c.in-Some.order) (head c.args.at c.in-Some.order + 2 ^ c.in-Some.order) c.take_part.ensures z
+    free_behind c.args.area.now c.take_part-2.new.area c.args.at (z - c.number-3.result) (head c.args.at c.in-Some.order) (head c.args.at c.in-Some.order + 2 ^ c.in-Some.order) c.take_part-2.ensures z
     (c.number-2.result + c.args.pages - z) (omega (arith, c.number-3.ensures.same, end s, lt_head c.args.at c.in-Some.order)) full
 
 pub take_blocks-requires-clause-before : goal.take_blocks-requires-clause-before
 take_blocks-requires-clause-before c =
     let z = c.number.result + c.pages.result in
     let s = (goal.at.take_blocks-requires-clause-before c).After-number-2 in
-    none_left c.args.area.now c.take_part.new.area c.args.at (z - c.number-3.result) (head c.args.at c.in-Some.order) (head c.args.at c.in-Some.order + 2 ^ c.in-Some.order) c.take_part.ensures (z - 1)
+    none_left c.args.area.now c.take_part-2.new.area c.args.at (z - c.number-3.result) (head c.args.at c.in-Some.order) (head c.args.at c.in-Some.order + 2 ^ c.in-Some.order) c.take_part-2.ensures (z - 1)
     (omega (arith, end s, lt_head c.args.at c.in-Some.order)) (omega (arith, c.number-3.ensures.same, end s, lt_head c.args.at c.in-Some.order))
 
 pub returns-clause-when : goal.returns-clause-when
@@ -70,8 +70,8 @@ returns-clause-taken c = λ yes.
     let g = head c.args.at c.in-Some.order in
     let s = (goal.at.returns-clause-taken c).After-number-2 in
     let a = c.args.area.now in
-    let one : IsLeftBetween a c.take_part.new.area c.args.at (z - c.number-3.result) g z = subst (λ e. IsLeftBetween a c.take_part.new.area c.args.at (z - c.number-3.result) g e) (sym (end s)) c.take_part.ensures in
-    let all = left_on a c.take_part.new.area c.take_blocks.new.area c.args.at (z - c.number-3.result) (c.number-2.result + c.args.pages - z) g z c.take_blocks.ensures.0 c.requires.sound
+    let one : IsLeftBetween a c.take_part-2.new.area c.args.at (z - c.number-3.result) g z = subst (λ e. IsLeftBetween a c.take_part-2.new.area c.args.at (z - c.number-3.result) g e) (sym (end s)) c.take_part-2.ensures in
+    let all = left_on a c.take_part-2.new.area c.take_blocks.new.area c.args.at (z - c.number-3.result) (c.number-2.result + c.args.pages - z) g z c.take_blocks.ensures.0 c.requires.sound
     (omega (arith, end s)) (omega (arith, c.number-3.ensures.same, end s, lt_head c.args.at c.in-Some.order)) one c.take_blocks.ensures.1 in
     let size : z - c.number-3.result + (c.number-2.result + c.args.pages - z) ≡ c.args.pages = omega (arith, c.number-3.ensures.same, c.number-2.ensures.same, end s, lt_head c.args.at c.in-Some.order) in
     subst (λ n. IsLeftRun a c.take_blocks.new.area c.args.at n) size (left_run a c.take_blocks.new.area c.args.at (z - c.number-3.result + (c.number-2.result + c.args.pages - z)) g (max z c.take_blocks.ensures.0) all)

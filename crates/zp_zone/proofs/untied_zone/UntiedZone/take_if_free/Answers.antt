@@ -3,7 +3,8 @@ use Rattle.zp_model.specs.Area.{kind_at}
 use Rattle.zp_model.specs.Frames.{Frames, with_area}
 use Rattle.zp_model.specs.PageblockType.{noted_type}
 use Rattle.zp_model.specs.Runs.{IsFreeRun, leave_run, run_taken}
-use Rattle.zp_model.specs.Zone.{workers_of}
+use Rattle.zp_model.specs.Zone.{pages_of, workers_of}
+use Rattle.zp_model.proofs.Cuts.{fitting}
 use Rattle.zp_zone.specs.Kept.{plain_of}
 use Rattle.zp_zone.specs.NamedZone.{NamedZone}
 use Rattle.zp_zone.specs.RunsAt.{IsNotedRun}
@@ -58,3 +59,13 @@ returns-then-pages-clause-taken c = λ _.
 
 pub take_low-requires-clause-free : goal.take_low-requires-clause-free
 take_low-requires-clause-free c = rw (← c.self.view_is) ((c.pages-pages.ensures.framed.noted c.args.at c.in-Some.found).0 c.in-Some.ensures.some)
+
+pub take_inside-requires-clause-block : goal.take_inside-requires-clause-block
+take_inside-requires-clause-block c =
+    let x = fitting c.largest-in_default.result c.args.at c.args.pages (omega (arith, c.requires.some)) in
+    let room : c.args.at + 2 ^ c.fitting_order-order-in_default.result ≤ pages_of c.args.self.now.plain = omega (arith, c.requires.inside, c.if-pages-3.true, c.pages-in_default.ensures.pages) in
+    rw (← c.self.view_is) (record {
+      order = omega (arith, x.order, c.fitting_order-order-in_default.ensures, c.largest-in_default.ensures);
+      aligned = rw c.fitting_order-order-in_default.ensures x.aligned;
+      inside = rw (← c.self.view_is) at room;
+    })

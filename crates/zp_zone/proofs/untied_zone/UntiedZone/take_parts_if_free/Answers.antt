@@ -1,8 +1,8 @@
-use Rattle.std.proofs.Common.{◌+◌, ◌≡◌, ◌≤◌, ◌<◌, ◌∙◌, ap, refl, rules, sym, length, true}
+use Rattle.std.proofs.Common.{◌+◌, ◌≤◌, ◌<◌, ◌∙◌, ap, refl, sym, length}
 use Rattle.zp_model.specs.Area.{kind_at}
-use Rattle.zp_model.specs.Frames.{Frames, with_area}
+use Rattle.zp_model.specs.Frames.{Frames}
 use Rattle.zp_model.specs.PageblockType.{noted_type}
-use Rattle.zp_model.specs.Runs.{IsFreeRun, has_pages, leave_run, run_taken}
+use Rattle.zp_model.specs.Runs.{run_taken}
 use Rattle.zp_model.specs.Zone.{workers_of}
 use Rattle.zp_zone.specs.Kept.{plain_of}
 use Rattle.zp_zone.specs.NamedZone.{NamedZone}

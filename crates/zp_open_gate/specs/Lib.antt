@@ -1,0 +1,4 @@
+pub mod Rooms
+pub mod Locks
+pub mod Visits
+pub mod Rows
