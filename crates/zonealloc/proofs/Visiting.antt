@@ -16,12 +16,8 @@ use Rattle.zonealloc.specs.Calls.{put_number}
 use Rattle.zonealloc.specs.OpenCalls.{HasNoOpenZone, IsAskedAt, IsOpenDenied, IsPutBackCall, IsVisitCall, IsVisitedAt, unvisited_number}
 use Rattle.zonealloc.proofs.Answering.{none_is, refusal_small}
 
--- the answer of a visit is none that was not made, so the row has the zone
-err : {A : Type 0} → NotVisited → Result A NotVisited
-err e = Err e
-
-ok_no : {A : Type 0} (a : A) (e : NotVisited) → Ok a ≡ err e → ⊥
-ok_no a e is = cc
+abbrev err : (A : Type 0) → NotVisited → Result A NotVisited
+err A e = Err e
 
 -- the row is the one in the handle
 here : (i : ℕ) (x : RowState) (b : Option RowState) → b ≡ Some x → HasNoOpenZone i b → length x ≤ i
@@ -35,7 +31,7 @@ module _ (asks : Request → Type 0) (told : Reply → Type 0) (kept : Type 0) (
         same = same;
         done = λ z. (r, q, is, says, (x, v, at, has, visit));
         refused = λ some low. absurd (omega (arith, some, zero));
-        kept = λ some. absurd (omega (arith, some, zero));
+        unwritten = λ some. absurd (omega (arith, some, zero));
       }
 
   -- refused
@@ -46,7 +42,7 @@ module _ (asks : Request → Type 0) (told : Reply → Type 0) (kept : Type 0) (
         same = same;
         done = λ z. absurd (omega (arith, z, number, small));
         refused = λ some low. (r, e, is, sym number, (x, v, at, has, visit));
-        kept = λ some. k;
+        unwritten = λ some. k;
       }
 
 unvisited_from : (e : NotVisited) → 40 ≤ unvisited_number e
@@ -61,19 +57,19 @@ unvisited_call asks told kept i b a e code same k number =
       same = same;
       done = λ z. absurd (omega (arith, z, number, from));
       refused = λ some low. absurd (omega (arith, low, number, from));
-      kept = λ some. k;
+      unwritten = λ some. k;
     }
 
 module _ (unnamed : Type 0) (i : ℕ) (others : ℕ → Type 0) (code : ℕ) (b : Option RowState) (x : RowState) (named : ¬ unnamed) (at : b ≡ Some x) where
   pub visited_denied : i < length x → code < 40 → (code ≡ 0) ⊎ others code → IsOpenDenied unnamed i others code b
   visited_denied has low how =
       record {
-        argument = (λ is. absurd (omega (arith, is, low)), λ y. elim y [ inl no ↦ absurd (named no) | inr out ↦ absurd (let past = here i x b at out in omega (arith, past, has)) ]);
+        argument = (λ is. absurd (omega (arith, is, low)), λ y. elim y [ inl bad ↦ absurd (named bad) | inr out ↦ absurd (let past = here i x b at out in omega (arith, past, has)) ]);
         handle = (λ is. absurd (omega (arith, is, low)), λ y. absurd (none_is (sym at ∙ y.1)));
         codes = elim how [ inl zero ↦ inl zero | inr other ↦ inr (inr (inr other)) ];
       }
 
-  pub unvisited_denied : {A : Type 0} (e : NotVisited) → (err {A = A} e ≡ err NoZone) ↔ (length x ≤ i) → others 42 → code ≡ unvisited_number e → IsOpenDenied unnamed i others code b
+  pub unvisited_denied : {A : Type 0} (e : NotVisited) → (err A e ≡ err A NoZone) ↔ (length x ≤ i) → others 42 → code ≡ unvisited_number e → IsOpenDenied unnamed i others code b
   unvisited_denied NoZone zone other number =
       record {
         argument = (λ is. inr (x, at, zone.0 refl), λ y. number);
@@ -84,7 +80,7 @@ module _ (unnamed : Type 0) (i : ℕ) (others : ℕ → Type 0) (code : ℕ) (b 
       record {
         argument = (
           λ is. absurd (omega (arith, is, number)),
-          λ y. elim y [ inl no ↦ absurd (named no) | inr out ↦ absurd (let f : err {A = A} (Busy w) ≡ err NoZone = zone.1 (here i x b at out) in cc) ],
+          λ y. elim y [ inl bad ↦ absurd (named bad) | inr out ↦ absurd (let f : err A (Busy w) ≡ err A NoZone = zone.1 (here i x b at out) in cc) ],
         );
         handle = (λ is. absurd (omega (arith, is, number)), λ y. absurd (none_is (sym at ∙ y.1)));
         codes = inr (inr (inr (subst others (sym number) other)));

@@ -52,7 +52,7 @@ pub record IsVisitCall (asks : Request → Type 0) (told : Reply → Type 0) (ke
   pub same : a ≡ b
   pub done : code ≡ 0 → (r : Request) × (q : Reply) × asks r × told q × IsAskedAt i r q b
   pub refused : 1 ≤ code → code < 40 → (r : Request) × (e : Refused) × asks r × (refused_number e ≡ code) × IsAskedAt i r (Reply.Refused e) b
-  pub kept : 1 ≤ code → kept
+  pub unwritten : 1 ≤ code → kept
 
 -- the requests, by the numbers that C names
 abbrev pub AsksBlock : ℕ → ℕ → ℕ → Request → Type 0

@@ -52,13 +52,6 @@ impl OpenCaller {
     pub fn is_alone(&self) -> bool {
         Arc::strong_count(&self.row) == 1
     }
-
-    /// The row, where this was its last caller.
-    pub fn into_row(self) -> Option<OpenRow>
-        ensures { IfSome result (λ r. r ≡ self) }
-    {
-        Arc::into_inner(self.row)
-    }
 }
 
 impl Deref for OpenCaller {
