@@ -14,7 +14,7 @@ use Rattle.zonealloc.specs.Zones.{IsConfig, spec_key, wanted_zone}
 use Rattle.zonealloc.proofs.Unopened.{unopened}
 
 -- what an open row knows of a zone is a part of what one with workers knows
-part : ZoneKey → RoomKey
+abbrev part : ZoneKey → RoomKey
 part k = record { name = k.name; base = k.base; pages = k.pages; min = k.min; largest = k.largest }
 
 parts : {A : Type 0} (key : A → RoomKey) (whole : A → ZoneKey) → ((a : A) → key a ≡ part (whole a)) → (xs : List A) → map key xs ≡ map part (map whole xs)
