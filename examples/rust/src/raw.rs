@@ -115,7 +115,11 @@ extern "C" {
     pub fn zonealloc_reader(worker: &mut Handle, zone: u32, reader: &mut Handle) -> u32;
     pub fn zonealloc_read(reader: &mut Handle, reading: &mut Reading) -> u32;
     pub fn zonealloc_end_reader(reader: &mut Handle) -> u32;
+}
 
+// open rows have no type here yet
+#[allow(dead_code)]
+extern "C" {
     pub fn zonealloc_open(row: &mut Handle, zones: *const ZoneSpec, n_zones: usize) -> u32;
     pub fn zonealloc_close(row: &mut Handle) -> u32;
     pub fn zonealloc_cache(row: &mut Handle, cache: &mut Handle) -> u32;
