@@ -1,5 +1,5 @@
 -- The keys of the zones that C describes and of their configs, and why they come to no open row.
-use Rattle.std.proofs.Common.{ℕ, ◌≡◌, ◌∙◌, List, [], ◌∷◌, All, ap, inl, inr, map, refl, sym}
+use Rattle.std.proofs.Common.{◌≡◌, ◌∙◌, List, [], ◌∷◌, All, ap, inl, inr, map, refl, sym}
 use Rattle.zp_model.specs.declared.refused.Refused.{Refused}
 use Rattle.zp_model.specs.Refused.{refused_number}
 use Rattle.zp_share.specs.Shares.{ZoneKey}

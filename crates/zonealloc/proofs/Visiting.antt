@@ -1,19 +1,16 @@
 -- What a call of a cache comes to, by what the row's own call came to.
-use Rattle.std.proofs.Common.{ℕ, ◌≡◌, ◌≢◌, ◌<◌, ◌≤◌, ◌⊎◌, ◌↔◌, length, refl, sym, ap, ◌∙◌, subst, inl, inr, arith}
-use Rattle.std.specs.Prelude.{Bool, Option, None, Some, Result, Ok, Err}
+use Rattle.std.proofs.Common.{ℕ, ◌≡◌, ◌<◌, ◌≤◌, ◌⊎◌, ◌↔◌, length, refl, sym, ◌∙◌, subst, inl, inr, arith}
+use Rattle.std.specs.Prelude.{Option, Some, Result, Err}
 use Rattle.zp_model.specs.declared.request.Request.{Request}
 use Rattle.zp_model.specs.declared.request.Reply.{Reply}
 use Rattle.zp_model.specs.declared.refused.Refused.{Refused}
 use Rattle.zp_model.specs.Refused.{refused_number}
-use Rattle.zp_model.specs.declared.refused.Refused.TheVariants.{NotLent}
-use Rattle.zp_open_room.specs.Rooms.{RoomState}
 use Rattle.zp_open_gate.specs.declared.visit_view.VisitView.{VisitView}
 use Rattle.zp_open_gate.specs.declared.visited.NotVisited.{NotVisited}
 use Rattle.zp_open_gate.specs.declared.visited.NotVisited.TheVariants.{Busy, NoZone}
 use Rattle.zp_open_gate.specs.Rows.{RowState, key_at}
-use Rattle.zp_open_gate.specs.Visits.{IsAsked, IsOfVisit, IsPut}
-use Rattle.zonealloc.specs.Calls.{put_number}
-use Rattle.zonealloc.specs.OpenCalls.{HasNoOpenZone, IsAskedAt, IsOpenDenied, IsPutBackCall, IsVisitCall, IsVisitedAt, unvisited_number}
+use Rattle.zp_open_gate.specs.Visits.{IsAsked, IsOfVisit}
+use Rattle.zonealloc.specs.OpenCalls.{HasNoOpenZone, IsOpenDenied, IsVisitCall, unvisited_number}
 use Rattle.zonealloc.proofs.Answering.{none_is, refusal_small}
 
 abbrev err : (A : Type 0) → NotVisited → Result A NotVisited

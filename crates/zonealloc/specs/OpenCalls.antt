@@ -10,7 +10,6 @@ use Rattle.zp_model.specs.Mark.{level_of}
 use Rattle.zp_model.specs.MigrateType.{type_number}
 use Rattle.zp_model.specs.Refused.{refused_number}
 use Rattle.zp_open_room.specs.Rooms.{RoomState}
-use Rattle.zp_open_room.specs.declared.room_totals.RoomTotals.{RoomTotals}
 use Rattle.zp_open_gate.specs.declared.visit_view.VisitView.{VisitView}
 use Rattle.zp_open_gate.specs.declared.visited.NotVisited.{NotVisited}
 use Rattle.zp_open_gate.specs.declared.visited.NotVisited.TheVariants.{Busy, NoZone}
