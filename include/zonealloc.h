@@ -1,7 +1,8 @@
 /* A zoned page allocator. docs/c.md tells how to begin.
  *
- * Three kinds of handle. A ROW is 1 to 64 zones, the lowest first. A WORKER is one worker's share of a row: its own lists of single pages, and
- * what is lent to it. A READER reads the counts of one zone that has a board. A handle begins as zeros and is then written by these calls alone. It may be moved; it is never used as two copies.
+ * Five kinds of handle. A ROW is 1 to 64 zones, the lowest first. A WORKER is one worker's share of a row: its own lists of single pages, and
+ * what is lent to it. A READER reads the counts of one zone that has a board. An OPEN ROW is a row whose blocks are lent to nobody: what one
+ * CACHE of it gets any other puts back. A cache is what a thread, a processor or a handler has of an open row, and there may be any number. A handle begins as zeros and is then written by these calls alone. It may be moved; it is never used as two copies.
  *
  * Who may call at the same time. Each handle is in one call at a time. Beside that:
  *   OWN    the handle is all that is looked at, and of a reader the board: no lock.
@@ -9,14 +10,15 @@
  *          the lock round these calls is the caller's choice: a lock of his own for each zone of a row, or none and the call made again.
  *          A lock that was forgotten makes calls fail, and breaks nothing.
  *   ALONE  no other call on this row or on a worker of it meanwhile. (A reader may read.)
- * A worker's handle leads to its row, so no call takes two handles, and no worker can be used with a row that is not its own.
+ * A worker's handle leads to its row, and so does a cache's: no worker and no cache can be used with a row that is not its own.
  *
  * Each call answers ZONE_OK or a number. Above its declaration stand all the numbers that it may answer, with when: where more than one
  * holds, the first of them is answered. With any other number than ZONE_OK it has changed nothing, its results included, but where its text
  * says what it has. What C cannot tell is the caller's: no pointer is null, a buffer is as long as is said, no two arguments overlap.
  *
  * Pages are absolute numbers, pageblocks and zones are counted from 0. The archive calls rattle_alloc and rattle_dealloc in the two makings,
- * zonealloc_dismiss and zonealloc_unmake, zonealloc_reader and zonealloc_end_reader, and nowhere else: see docs/c.md. */
+ * zonealloc_dismiss and zonealloc_unmake, zonealloc_reader and zonealloc_end_reader, zonealloc_open and zonealloc_close, zonealloc_cache and
+ * zonealloc_uncache, and nowhere else: see docs/c.md. */
 #ifndef ZONEALLOC_H
 #define ZONEALLOC_H
 #define ZONEALLOC_VERSION "1.0"
@@ -35,6 +37,8 @@ extern "C" {
 typedef struct zone_row { uint32_t live; unsigned char *at; } zone_row_t;
 typedef struct zone_worker { uint32_t live; unsigned char *at; } zone_worker_t;
 typedef struct zone_reader { uint32_t live; unsigned char *at; } zone_reader_t;
+typedef struct zone_open { uint32_t live; unsigned char *at; } zone_open_t;
+typedef struct zone_cache { uint32_t live; unsigned char *at; } zone_cache_t;
 #define ZONE_NONE { 0, NULL }
 
 enum { ZONE_ZONES = 64, ZONE_WORKERS = 32, ZONE_ORDERS = 11, ZONE_TYPES = 3, ZONE_PAGEBLOCK_TYPES = 4, ZONE_INFO_LINE = 160 };
@@ -70,13 +74,14 @@ enum {
     ZONE_NOT_ISOLATED = 15,
     ZONE_BAD_RUN = 16,            /* the run has no page, or is not wholly the zone's */
     ZONE_NOT_FREE = 17,           /* one of the run's pages is not free */
-    ZONE_NOT_LENT = 20,           /* the block is not lent to this worker with this order; or a page of the run is not lent to it */
+    ZONE_NOT_LENT = 20,           /* the block is not lent to this worker with this order; or a page of the run is not lent to it. Of an open
+                                   * row: the block is not out with this order, or a page of the run is not out */
     ZONE_LIST_FULL = 21,          /* of put: drain the list of the page's type first */
     ZONE_ENDED = 30,              /* the worker made the last of 2^64 - 1 requests to the zone */
     ZONE_BAD_ARGUMENT = 40,       /* an order, alignment, type, mark, zone, worker, page or count out of its range */
-    ZONE_BAD_HANDLE = 41,         /* nothing is in the handle; of make: something is */
+    ZONE_BAD_HANDLE = 41,         /* nothing is in the handle; of make and open: something is */
     ZONE_BUSY = 42,               /* another is in the zone */
-    ZONE_HAS_WORKERS = 43,        /* a worker was not dismissed */
+    ZONE_HAS_WORKERS = 43,        /* a worker was not dismissed; of close: a cache was not ended */
     ZONE_LIST_EMPTY = 44,         /* of take: refill first */
     ZONE_LIST_NOT_EMPTY = 45,     /* of refill: take first */
     ZONE_NO_LISTS = 46,           /* of refill and put: the row was made with batch 0, so use alloc and free */
@@ -371,6 +376,80 @@ uint32_t zonealloc_read(zone_reader_t *reader, zone_reading_t *reading);
 /* OWN. Ends a reader. It gives memory back.
  *   ZONE_BAD_HANDLE        nothing is in the handle */
 uint32_t zonealloc_end_reader(zone_reader_t *reader);
+
+/* --- open rows: whoever has a cache puts back what any other got --- */
+
+/* ALONE. Fills an empty open row. Each zone begins at the end of the one before it, or above that.
+ *   ZONE_BAD_HANDLE        the row's handle is not empty
+ *   ZONE_BAD_ARGUMENT      not 1 to 64 zones
+ *   ZONE_BAD_BASE          a zone begins before the end of the one before it
+ *   ZONE_BAD_NAME          zone by zone: its name is longer than 8 bytes, or no text
+ *   ZONE_BAD_ARGUMENT      then: its largest order is not 1 to 10
+ *   ZONE_BAD_NAME          once more zone by zone, the first of what its line above says: the name
+ *   ZONE_BAD_BASE          then: the first page
+ *   ZONE_BAD_PAGES         then: the pages
+ *   ZONE_BAD_MARK          then: the least mark
+ *   ZONE_NO_MEMORY         memory was refused, which may be before the names are read */
+uint32_t zonealloc_open(zone_open_t *row, const zone_spec_t *zones, size_t n_zones);
+/* ALONE. Gives back the row's memory, whatever is out.
+ *   ZONE_BAD_HANDLE        nothing is in the handle
+ *   ZONE_HAS_WORKERS       a cache of the row was not ended */
+uint32_t zonealloc_close(zone_open_t *row);
+/* OWN. Fills an empty cache of the row. It takes memory.
+ *   ZONE_BAD_HANDLE        nothing is in the row's handle, or something in the cache's
+ *   ZONE_NO_MEMORY */
+uint32_t zonealloc_cache(zone_open_t *row, zone_cache_t *cache);
+/* OWN. Ends a cache. What was got by it stays out, and any other puts it back. It gives memory back.
+ *   ZONE_BAD_HANDLE        nothing is in the handle */
+uint32_t zonealloc_uncache(zone_cache_t *cache);
+/* ZONE. A block of 2^order pages, which is then out: its first page.
+ *   ZONE_BAD_ARGUMENT      the order is above 10, the type or the mark above 2
+ *   ZONE_BAD_HANDLE        nothing is in the handle
+ *   ZONE_BAD_ARGUMENT      the row has no such zone
+ *   ZONE_BUSY              another is in the zone
+ *   ZONE_BELOW_MARK        so many pages less would be below the mark: ask the zone below
+ *   ZONE_NO_BLOCK          no free block is so large, as ever where the order is above the zone's largest: ask the zone below */
+uint32_t zonealloc_get_block(zone_cache_t *cache, uint32_t zone, uint32_t order, uint32_t type, uint32_t mark, uint32_t *page);
+/* ZONE. Gives back a block that is out, whoever got it.
+ *   ZONE_BAD_ARGUMENT      the order is above 10
+ *   ZONE_BAD_HANDLE        nothing is in the handle
+ *   ZONE_BAD_ARGUMENT      the row has no such zone
+ *   ZONE_BUSY              another is in the zone
+ *   ZONE_NOT_LENT          no block of this order is out at this page. A page outside the zone never is */
+uint32_t zonealloc_put_block(zone_cache_t *cache, uint32_t zone, uint32_t page, uint32_t order);
+/* ZONE. The lowest run of so many free pages outside isolated pageblocks whose first page is a multiple of 2^align: its first page. Its pages are
+ * then out as aligned blocks, as those of zonealloc_alloc_run are lent.
+ *   ZONE_BAD_ARGUMENT      the pages are 0, the alignment is above 24, or the mark above 2
+ *   ZONE_BAD_HANDLE        nothing is in the handle
+ *   ZONE_BAD_ARGUMENT      the row has no such zone
+ *   ZONE_BUSY              another is in the zone
+ *   ZONE_BELOW_MARK        so many pages less would be below the mark: ask the zone below
+ *   ZONE_NO_BLOCK          there is no such run: ask the zone below */
+uint32_t zonealloc_get_run(zone_cache_t *cache, uint32_t zone, uint32_t pages, uint32_t align, uint32_t mark, uint32_t *page);
+/* ZONE. So many pages from this one on, in isolated pageblocks too. They are then out as those of zonealloc_get_run are. It is held to no mark.
+ *   ZONE_BAD_HANDLE        nothing is in the handle
+ *   ZONE_BAD_ARGUMENT      the row has no such zone
+ *   ZONE_BUSY              another is in the zone
+ *   ZONE_BAD_RUN           the pages are 0, or one of them is outside the zone
+ *   ZONE_NOT_FREE          one of the pages is not free */
+uint32_t zonealloc_get_run_at(zone_cache_t *cache, uint32_t zone, uint32_t page, uint32_t pages);
+/* ZONE. Gives back so many pages from this one on, each of which is out, whoever got them and by whatever blocks. What a block at an end of the run
+ * has beyond it stays out, as aligned blocks of the type that it had.
+ *   ZONE_BAD_HANDLE        nothing is in the handle
+ *   ZONE_BAD_ARGUMENT      the row has no such zone
+ *   ZONE_BUSY              another is in the zone
+ *   ZONE_NOT_LENT          one of the pages is not out, as one outside the zone never is; or the pages are 0 */
+uint32_t zonealloc_put_run(zone_cache_t *cache, uint32_t zone, uint32_t page, uint32_t pages);
+/* ZONE. Free blocks of each order, free pages, and the level; posted is 0.
+ *   ZONE_BAD_HANDLE        nothing is in the handle
+ *   ZONE_BAD_ARGUMENT      the row has no such zone
+ *   ZONE_BUSY              another is in the zone */
+uint32_t zonealloc_open_counts(zone_cache_t *cache, uint32_t zone, zone_counts_t *counts);
+/* ZONE. Where the pages of a zone are: free, or out, which is told as lent; posted and cached are 0. At any time, whatever caches there are.
+ *   ZONE_BAD_HANDLE        nothing is in the handle
+ *   ZONE_BAD_ARGUMENT      the row has no such zone
+ *   ZONE_BUSY              another is in the zone */
+uint32_t zonealloc_open_gather(zone_open_t *row, uint32_t zone, zone_totals_t *totals);
 
 #ifdef __cplusplus
 }

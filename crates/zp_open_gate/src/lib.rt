@@ -2,6 +2,7 @@
 //! another puts back. Whoever finds somebody in gets an error at once.
 #![tactic(auto)]
 
+mod open_caller;
 mod open_row;
 mod room_key;
 mod shared;
@@ -9,8 +10,9 @@ mod try_lock;
 mod visit_view;
 mod visited;
 
+pub use open_caller::OpenCaller;
 pub use open_row::OpenRow;
-pub use shared::{row_crosses, row_is_shared};
+pub use shared::{caller_crosses, row_crosses, row_is_shared};
 pub use try_lock::{Busy, Visit};
 pub use visited::{NotVisited, Visited};
 

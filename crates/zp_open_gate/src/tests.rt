@@ -228,6 +228,30 @@ fn two_threads_put_back_what_the_other_got(rt: HostRuntime) {
     expect_totals(&rt, row, PAGES, 0);
 }
 
+/// A caller puts back what another got, who has ended.
+#[test]
+fn callers_put_back_what_another_got(rt: HostRuntime) {
+    let Ok(row) = row_of(rt.alloc(), "Normal", PAGES) else {
+        assert!(rt; false, "the row can be made");
+        return;
+    };
+    let Ok(first) = OpenCaller::new(rt.alloc(), row) else {
+        assert!(rt; false, "the row has a caller");
+        return;
+    };
+    assert!(rt; first.is_alone());
+    let Ok(second) = first.another() else {
+        assert!(rt; false, "the row has two callers");
+        return;
+    };
+    assert!(rt; !first.is_alone() && !second.is_alone());
+    let pages = pages_got(&*first);
+    drop(first);
+    assert!(rt; second.is_alone());
+    assert_eq!(rt; pages_put(&*second, &pages), BLOCKS);
+    expect_totals(&rt, &*second, PAGES, 0);
+}
+
 #[test]
 fn a_zone_that_somebody_is_in_is_busy(rt: HostRuntime) {
     let Ok(row) = row_of(rt.alloc(), "Normal", PAGES) else {

@@ -116,3 +116,19 @@ extern "C" {
     pub fn zonealloc_read(reader: &mut Handle, reading: &mut Reading) -> u32;
     pub fn zonealloc_end_reader(reader: &mut Handle) -> u32;
 }
+
+// open rows have no type here yet
+#[allow(dead_code)]
+extern "C" {
+    pub fn zonealloc_open(row: &mut Handle, zones: *const ZoneSpec, n_zones: usize) -> u32;
+    pub fn zonealloc_close(row: &mut Handle) -> u32;
+    pub fn zonealloc_cache(row: &mut Handle, cache: &mut Handle) -> u32;
+    pub fn zonealloc_uncache(cache: &mut Handle) -> u32;
+    pub fn zonealloc_get_block(cache: &mut Handle, zone: u32, order: u32, kind: u32, mark: u32, page: &mut u32) -> u32;
+    pub fn zonealloc_put_block(cache: &mut Handle, zone: u32, page: u32, order: u32) -> u32;
+    pub fn zonealloc_get_run(cache: &mut Handle, zone: u32, pages: u32, align: u32, mark: u32, page: &mut u32) -> u32;
+    pub fn zonealloc_get_run_at(cache: &mut Handle, zone: u32, page: u32, pages: u32) -> u32;
+    pub fn zonealloc_put_run(cache: &mut Handle, zone: u32, page: u32, pages: u32) -> u32;
+    pub fn zonealloc_open_counts(cache: &mut Handle, zone: u32, counts: &mut RawCounts) -> u32;
+    pub fn zonealloc_open_gather(row: &mut Handle, zone: u32, totals: &mut Totals) -> u32;
+}

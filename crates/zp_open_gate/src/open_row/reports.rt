@@ -53,6 +53,18 @@ impl OpenRow {
         Ok(Visited { answer, visit })
     }
 
+    /// What `counts` and `level` return, of one moment.
+    pub fn counts_and_level(&self, zone: usize) -> Result<Visited<(Counts, Level)>, NotVisited>
+        ensures zone { (result ≡ Err NoZone) ↔ (length self.now ≤ zone) }
+        ensures told { IfOk result (λ v. IsSeen (key_at self.now zone) v.visit (λ y. (v.answer.0 ≡ counts_of y.zone.plain.area.largest y.zone.plain.area.free) × (v.answer.1 ≡ level_of y.zone.plain))) }
+    {
+        let (lock, mut visitor) = self.enter(zone)?;
+        let room = visitor.slot_mut(&lock.table.shared, 0);
+        let answer = (room.counts(), room.level());
+        let visit = lock.leave(visitor);
+        Ok(Visited { answer, visit })
+    }
+
     /// The zone's info line, with its line feed.
     pub fn info_line(&self, zone: usize) -> Result<Visited<TextBuffer<INFO_LINE>>, NotVisited>
         ensures zone { (result ≡ Err NoZone) ↔ (length self.now ≤ zone) }
