@@ -125,7 +125,7 @@ static void note_put(uint32_t page, uint32_t pages)
     note(page, pages, 0);
 }
 
-static void gets(zone_cache_t *cache, uint32_t order)
+static void get_some(zone_cache_t *cache, uint32_t order)
 {
     uint32_t page = 7, answer = zonealloc_get_block(cache, 0, order, below(3), ZONE_ANY, &page);
     if (answer == ZONE_OK) {
@@ -201,7 +201,7 @@ static void one_thread(void)
         zone_cache_t *cache = &caches[below(CACHES)];
         uint32_t page = BASE - 8 + below(PAGES + 16), pages = below(20);
         switch (below(8)) {
-        case 0: case 1: gets(cache, below(LARGEST + 1)); break;
+        case 0: case 1: get_some(cache, below(LARGEST + 1)); break;
         case 2: gets_run(cache, pages + 1, below(4)); break;
         case 3: gets_run_at(cache, page, pages); break;
         case 4: puts_run(cache, page, pages); break;

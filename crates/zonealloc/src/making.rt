@@ -147,6 +147,8 @@ fn opened(
 }
 
 /// The configs of the zones; else the number of why the first zone that has none has none, or 6.
+// (in line: a call of its own would deepen the stack of a making)
+#[inline(always)]
 pub fn configs_of<'a>(alloc: Global, zones: &'a [ZoneSpec]) -> Result<Vec<ZoneConfig<'a>>, u32>
     ensures keys { IfOk result (λ cs. (n : ℕ) → map (key_for n) cs.items ≡ map (spec_key n) zones.now) }
     ensures wanted { IfOk result (λ cs. (n : ℕ) → map (wanted_by n) cs.items ≡ map (wanted_zone n) zones.now) }
